@@ -1,0 +1,101 @@
+-- The call: `faceting_subdim` as document 01 defines it, by recursion on the rank. It ties "Orbits", "Recursion on rank", "Search" and "Splitting, figures, compounds" together.
+use mathlib.Core.Bool.{Bool, true, false}
+use mathlib.Core.List.{List, [], _∷_, map, flatMap}
+use Prim.Native.Nat.{ℕ, zero, suc, Ordering}
+use lib.Dec.{ltb}
+use lib.ListN.{length, getD}
+use Rattle.definitions.specs.Lists.{comparePairs, sortBy}
+use Rattle.definitions.specs.Outcome.{Outcome, refused, answered, andThen, refuseIf}
+use Rattle.definitions.specs.Vectors.{Vec}
+use Rattle.definitions.specs.Subspace.{Subspace, flatten}
+use Rattle.definitions.specs.Orbits.{Row, Orbit, image, hyperplaneOrbits}
+use Rattle.definitions.specs.Figures.{Figure, moveEnds, figureOf, partsOf, labelIrc}
+use Rattle.definitions.specs.Search.{Facet, Table, EntryLimits, Found, search}
+use Rattle.definitions.specs.Recursion.{Rules, Bounds, Entry, Answer, Call, Inner, InnerCalls, edgeCall, innerCall, innerCalls, moveSorted, tableOf}
+
+-- What a call above rank 2 has before its search: its rank − 3, its number of points and its rows, its inner calls, and what is left of the budget.
+pub record Prepared : Type 0 where
+  pub more : ℕ
+  pub points : ℕ
+  pub rows : List Row
+  pub inner : List Inner
+  pub left : ℕ
+
+-- "each call finding all its orbits, then refitting and calling orbit by orbit, then searching": all but the search. More orbits than the bound are refused with 13.
+unfoldable pub prepare : ℕ → Rules → Call → Subspace → List Vec → List Row → ℕ → Outcome Prepared
+prepare more rules call plane points rows budget =
+    let flat = map (flatten plane) points in
+    let orbits = hyperplaneOrbits (rules .tolerance) (rules .lengths) more points flat rows in
+    refuseIf (ltb (rules .bounds .orbits) (length orbits)) 13 (λ u.
+    andThen (innerCalls (innerCall (suc more) rules call flat rows) (rules .bounds .facets) orbits 0 budget) (λ (done : InnerCalls).
+    answered (record { more = more; points = length points; rows = rows; inner = done .calls; left = done .left })))
+
+-- the table that the call searches
+unfoldable pub tableFor : Prepared → Table
+tableFor p = tableOf (p .rows) (p .inner)
+
+-- ---- entries
+
+-- "A possible facet's edge ends are this call's vertex numbers, its other ranks being those of the inner entry."
+unfoldable pub possibleFacets : Inner → List Figure
+possibleFacets i = map (λ (e : Entry). moveEnds (λ (v : ℕ). getD (i .orbit .vertices) v 0) (e .figure)) (i .answer .entries)
+
+-- one facet split: each part with the facet's orbit
+unfoldable pub splitIn : Inner → Facet → List Facet
+splitIn i f =
+    let items = length (getD (map (λ (e : Entry). e .list) (i .answer .entries)) (f .1) []) in
+    map (λ (part : ℕ). (f .0, part)) (partsOf (i .answer .compounds) items (f .1))
+
+-- what is said of the orbit with a number, or nothing where there is none
+unfoldable pub atOrbit : {A : Type 0} → (Inner → List A) → List Inner → ℕ → List A
+atOrbit says inner orbit = getD (map says inner) orbit []
+
+-- "A compound facet is replaced by its two components": each facet of a list at its own place
+unfoldable pub split : Prepared → List Facet → List Facet
+split p list = flatMap (λ (f : Facet). atOrbit (λ (i : Inner). splitIn i f) (p .inner) (f .0)) list
+
+-- "Its facets are all row images of the split facets"
+unfoldable pub facetImages : Prepared → Facet → List Figure
+facetImages p f =
+    let figure = getD (atOrbit possibleFacets (p .inner) (f .0)) (f .1) [] in
+    map (λ (row : Row). moveSorted (image row) figure) (p .rows)
+
+-- the entry of an emitted list: the list split, and the figure of the split list
+unfoldable pub entryOf : Prepared → List Facet → Entry
+entryOf p list =
+    let parts = split p list in
+    record { list = parts; figure = figureOf (p .more) (p .points) (flatMap (facetImages p) parts) }
+
+unfoldable pub compareEntries : Entry → Entry → Ordering
+compareEntries d e = comparePairs (d .list) (e .list)
+
+-- "Entries are sorted by split list"
+unfoldable pub entriesOf : Prepared → List (List Facet) → List Entry
+entriesOf p lists = sortBy compareEntries (map (entryOf p) lists)
+
+-- ---- the call
+
+unfoldable pub entryLimits : Rules → EntryLimits
+entryLimits rules = record { limit = rules .entryLimit; bound = rules .bounds .entries }
+
+-- the answer, once the search has ended: "then `label_irc`"
+unfoldable pub finish : Prepared → Found → Answer
+finish p found =
+    let entries = entriesOf p (found .lists) in
+    record {
+      counts = map (λ (i : Inner). i .orbit .count) (p .inner);
+      entries = entries;
+      possible = map possibleFacets (p .inner);
+      compounds = labelIrc (map (λ (e : Entry). e .list) entries);
+      left = found .left;
+    }
+
+unfoldable pub searchFrom : Rules → Prepared → Outcome Found
+searchFrom rules p = search (tableFor p) (entryLimits rules) (p .left)
+
+-- The call at rank 2 + n. "the call is repeated on it with rank − 1"
+unfoldable pub faceting : ℕ → Rules → Call
+faceting zero rules = edgeCall
+faceting (suc more) rules = λ plane points rows budget.
+    andThen (prepare more rules (faceting more rules) plane points rows budget) (λ (p : Prepared).
+    andThen (searchFrom rules p) (λ (found : Found). answered (finish p found)))

@@ -1,0 +1,259 @@
+-- Document 01, "Job and answer bytes": from the job's bytes and the two buffers' lengths to the return code and the whole answer buffer. Leans on Faceting.
+use mathlib.Core.Bool.{Bool, true, false, cond, not, _&&_, _||_}
+use mathlib.Core.List.{List, [], _∷_, _++_, map, flatMap}
+use mathlib.Core.Option.{Option, some, none}
+use Prim.Native.Nat.{ℕ, zero, suc, _+_, _-_, _*_, _/_, _%_}
+use lib.Dec.{leb, ltb, eqb, isEq}
+use lib.IntN.{ℤ, pos, negℤ}
+use lib.ListN.{length, getD, take, drop, replicate}
+use lib.Ieee.{Float, nan, inf, fin, binary64, ofBits, lt, le}
+use Rattle.definitions.specs.Lists.{Pair, compareNats, allOf, countFrom, sortNats}
+use Rattle.definitions.specs.Outcome.{Outcome, refused, answered, andThen, refuseIf}
+use Rattle.definitions.specs.Vectors.{Vec, zero64}
+use Rattle.definitions.specs.Subspace.{Subspace}
+use Rattle.definitions.specs.Orbits.{Row, Limits}
+use Rattle.definitions.specs.Figures.{Figure, Elements, Compound, rankOf}
+use Rattle.definitions.specs.Recursion.{Bounds, Rules, Entry, Answer}
+use Rattle.definitions.specs.Faceting.{faceting}
+
+abbrev pub Bytes : Type 0
+Bytes = List ℕ
+
+-- ---- numbers in bytes: "Little-endian."
+
+unfoldable pub little : Bytes → ℕ
+little [] = 0
+little (b ∷ bs) = b + 256 * little bs
+
+-- the number in so many bytes from a place on
+unfoldable pub numberAt : Bytes → ℕ → ℕ → ℕ
+numberAt bytes at many = little (take many (drop at bytes))
+
+unfoldable pub floatAt : Bytes → ℕ → Float
+floatAt bytes at = ofBits binary64 (numberAt bytes at 8)
+
+-- so many f64 from a place on
+unfoldable pub floatsAt : Bytes → ℕ → ℕ → Vec
+floatsAt bytes at many = map (λ (i : ℕ). floatAt bytes (at + 8 * i)) (countFrom 0 many)
+
+-- so many vectors of d f64 from a place on
+unfoldable pub vectorsAt : Bytes → ℕ → ℕ → ℕ → List Vec
+vectorsAt bytes at d many = map (λ (i : ℕ). floatsAt bytes (at + 8 * d * i) d) (countFrom 0 many)
+
+-- ---- the job
+
+-- the job's fields, read where they would stand whether or not the job is long enough
+pub record Job : Type 0 where
+  pub rank : ℕ
+  pub d : ℕ
+  pub n : ℕ
+  pub rowCount : ℕ
+  pub flags : ℕ
+  pub shortest : Option Float
+  pub longest : Option Float
+  pub entryLimit : Option ℕ
+  pub budget : ℕ
+  pub offset : Vec
+  pub basis : List Vec
+  pub points : List Vec
+  pub rows : List Row
+  pub size : ℕ
+
+-- "u8 flags (bits 0, 1, 2: min, max, entry limit m present)": bit k, of weight 2 ^ k
+unfoldable pub flagSet : ℕ → ℕ → Bool
+flagSet flags weight = eqb 1 (flags / weight % 2)
+
+unfoldable pub present : {A : Type 0} → Bool → A → Option A
+present true a = some a
+present false a = none
+
+-- "Job: mark "FCT", u16 version 1, u8 rank, u8 d, u8 n, u16 row count, u8 flags ..; present ones in that order (f64, f64, u32); u32 budget; offset (d f64),
+-- basis (rank − 1 vectors), n points, rows of n bytes."
+unfoldable pub readJob : Bytes → Job
+readJob bytes =
+    let rank = getD bytes 5 0 in
+    let d = getD bytes 6 0 in
+    let n = getD bytes 7 0 in
+    let rowCount = numberAt bytes 8 2 in
+    let flags = getD bytes 10 0 in
+    let hasMin = flagSet flags 1 in
+    let hasMax = flagSet flags 2 in
+    let hasLimit = flagSet flags 4 in
+    let maxAt = 11 + cond hasMin 8 0 in
+    let limitAt = maxAt + cond hasMax 8 0 in
+    let budgetAt = limitAt + cond hasLimit 4 0 in
+    let offsetAt = budgetAt + 4 in
+    let basisAt = offsetAt + 8 * d in
+    let pointsAt = basisAt + 8 * d * (rank - 1) in
+    let rowsAt = pointsAt + 8 * d * n in
+    record {
+      rank = rank;
+      d = d;
+      n = n;
+      rowCount = rowCount;
+      flags = flags;
+      shortest = present hasMin (floatAt bytes 11);
+      longest = present hasMax (floatAt bytes maxAt);
+      entryLimit = present hasLimit (numberAt bytes limitAt 4);
+      budget = numberAt bytes budgetAt 4;
+      offset = floatsAt bytes offsetAt d;
+      basis = vectorsAt bytes basisAt d (rank - 1);
+      points = vectorsAt bytes pointsAt d n;
+      rows = map (λ (i : ℕ). take n (drop (rowsAt + n * i) bytes)) (countFrom 0 rowCount);
+      size = rowsAt + n * rowCount;
+    }
+
+-- ---- refusals
+
+unfoldable pub between : ℕ → ℕ → ℕ → Bool
+between lowest highest x = leb lowest x && leb x highest
+
+-- finite, and not beyond a whole number in size
+unfoldable pub within : ℕ → Float → Bool
+within most nan = false
+within most (inf s) = false
+within most (fin s m e) = le (fin false m e) (fin false most (pos 0))
+
+unfoldable pub allWithin : ℕ → Vec → Bool
+allWithin most = allOf (within most)
+
+-- a limit on lengths that is finite, not "below 0" nor "above 131,072"
+unfoldable pub limitGood : Option Float → Bool
+limitGood none = true
+limitGood (some x) = within 131072 x && le zero64 x
+
+-- "A float not finite, a point or offset number beyond 65,536 in size, a basis number beyond 1, or a min or max below 0 or above 131,072"
+unfoldable pub floatsGood : Job → Bool
+floatsGood job =
+    limitGood (job .shortest) && limitGood (job .longest)
+    && allWithin 65536 (job .offset) && allOf (allWithin 1) (job .basis) && allOf (allWithin 65536) (job .points)
+
+unfoldable pub sameNats : List ℕ → List ℕ → Bool
+sameNats a b = isEq (compareNats a b)
+
+unfoldable pub isPermutation : ℕ → Row → Bool
+isPermutation n row = sameNats (sortNats row) (countFrom 0 n)
+
+-- "Workspace under 0, 524,288 or 4,194,304 bytes for rank 2, 3, 4"
+unfoldable pub workspaceFor : ℕ → ℕ
+workspaceFor rank = cond (eqb rank 2) 0 (cond (eqb rank 3) 524288 4194304)
+
+-- a refusal's number, and what a job must pass to escape it
+pub record Test : Type 0 where
+  pub number : ℕ
+  pub passes : Unit {0} → Bool
+
+-- "Refused, in this order": 1 to 12. Each line is document 01's, the other way round.
+unfoldable pub tests : Bytes → ℕ → List Test
+tests bytes workspace =
+    let job = readJob bytes in
+    record { number = 1; passes = λ u. leb 11 (length bytes) && sameNats (take 3 bytes) (70 ∷ 67 ∷ 84 ∷ []) }
+    ∷ record { number = 2; passes = λ u. eqb (numberAt bytes 3 2) 1 }
+    ∷ record { number = 3; passes = λ u. between 2 4 (job .rank) }
+    ∷ record { number = 4; passes = λ u. between (job .rank - 1) 4 (job .d) }
+    ∷ record { number = 5; passes = λ u. between 2 20 (job .n) }
+    ∷ record { number = 6; passes = λ u. between 1 120 (job .rowCount) }
+    ∷ record { number = 7; passes = λ u. ltb (job .flags) 8 }
+    ∷ record { number = 8; passes = λ u. eqb (length bytes) (job .size) }
+    ∷ record { number = 9; passes = λ u. floatsGood job }
+    ∷ record { number = 10; passes = λ u. sameNats (getD (job .rows) 0 []) (countFrom 0 (job .n)) }
+    ∷ record { number = 11; passes = λ u. allOf (isPermutation (job .n)) (job .rows) }
+    ∷ record { number = 12; passes = λ u. leb (workspaceFor (job .rank)) workspace }
+    ∷ []
+
+-- the first test that is not passed refuses, and what follows is worked out only where all are passed
+unfoldable pub passAll : {A : Type 0} → List Test → (Unit {0} → Outcome A) → Outcome A
+passAll [] next = next tt
+passAll (t ∷ ts) next = refuseIf (not (t .passes tt)) (t .number) (λ u. passAll ts next)
+
+-- ---- the call
+
+-- 1e-7, the tolerance of version 1
+abbrev pub tolerance1 : Float
+tolerance1 = ofBits binary64 0x3e7ad7f29abcaf48
+
+-- the bounds of document 01: "A 257th hyperplane orbit", "A 1,025th possible facet or entry"
+unfoldable pub bounds1 : Bounds
+bounds1 = record { orbits = 256; facets = 1024; entries = 1024 }
+
+unfoldable pub rulesOf : Bounds → Job → Rules
+rulesOf bounds job = record {
+  tolerance = tolerance1;
+  lengths = record { shortest = job .shortest; longest = job .longest };
+  entryLimit = job .entryLimit;
+  bounds = bounds;
+}
+
+unfoldable pub planeOf : Job → Subspace
+planeOf job = record { offset = job .offset; basis = job .basis }
+
+-- the outermost call: 13 to 16, or the answer
+unfoldable pub callOf : Bounds → Job → Outcome Answer
+callOf bounds job = faceting (job .rank - 2) (rulesOf bounds job) (planeOf job) (job .points) (job .rows) (job .budget)
+
+-- ---- the answer's numbers: "Answer, every number a u32"
+
+-- how many, and then each
+unfoldable pub counted : {A : Type 0} → (A → List ℕ) → List A → List ℕ
+counted words items = length items ∷ flatMap words items
+
+-- "A figure: number of ranks; per rank the number of elements; per element the number of subs, then the subs."
+unfoldable pub figureWords : Figure → List ℕ
+figureWords = counted (counted (counted (λ (sub : ℕ). sub ∷ [])))
+
+-- "each its split list's length, pairs, figure"
+unfoldable pub entryWords : Entry → List ℕ
+entryWords e = counted (λ (item : Pair). item .0 ∷ item .1 ∷ []) (e .list) ++ figureWords (e .figure)
+
+unfoldable pub compoundWords : Compound → List ℕ
+compoundWords c = c .whole ∷ c .first ∷ c .second ∷ []
+
+-- "per entry a summary: points (elements in rank 1), edges (elements in rank 2), facets (elements in the second last rank)"
+unfoldable pub summaryWords : Entry → List ℕ
+summaryWords e =
+    let f = e .figure in
+    length (rankOf 1 f) ∷ length (rankOf 2 f) ∷ length (rankOf (length f - 2) f) ∷ []
+
+-- "examined; orbit count, counts; entry count, each its split list's length, pairs, figure; for each orbit the possible facets (number, figures ..);
+-- map size, triples ascending; then per entry a summary". Examined is what was used of the budget, "over all depths".
+unfoldable pub answerWords : ℕ → Answer → List ℕ
+answerWords budget a =
+    (budget - a .left)
+    ∷ counted (λ (count : ℕ). count ∷ []) (a .counts)
+    ++ counted entryWords (a .entries)
+    ++ flatMap (counted figureWords) (a .possible)
+    ++ counted compoundWords (a .compounds)
+    ++ flatMap summaryWords (a .entries)
+
+-- a u32
+unfoldable pub wordBytes : ℕ → Bytes
+wordBytes w = w % 256 ∷ w / 256 % 256 ∷ w / 65536 % 256 ∷ w / 16777216 % 256 ∷ []
+
+unfoldable pub answerBytes : ℕ → Answer → Bytes
+answerBytes budget a = flatMap wordBytes (answerWords budget a)
+
+-- ---- from bytes to bytes
+
+-- "17. Answer buffer too short."
+unfoldable pub fitting : ℕ → Bytes → Outcome Bytes
+fitting room bytes = refuseIf (ltb room (length bytes)) 17 (λ u. answered bytes)
+
+-- The answer's bytes, or the refusal, for a job with so many bytes of workspace and room for so many bytes of answer; the bounds are passed in.
+unfoldable pub outcomeWithin : Bounds → Bytes → ℕ → ℕ → Outcome Bytes
+outcomeWithin bounds bytes workspace room =
+    let job = readJob bytes in
+    passAll (tests bytes workspace) (λ u.
+    andThen (callOf bounds job) (λ (a : Answer). fitting room (answerBytes (job .budget) a)))
+
+unfoldable pub outcome : Bytes → ℕ → ℕ → Outcome Bytes
+outcome = outcomeWithin bounds1
+
+-- "returns the answer length or minus the refusal number"
+unfoldable pub codeOf : Outcome Bytes → ℤ
+codeOf (refused number) = negℤ (pos number)
+codeOf (answered bytes) = pos (length bytes)
+
+-- "After a refusal the answer buffer is zero throughout; after an answer, all bytes behind it are zero." (demand 1)
+unfoldable pub bufferOf : ℕ → Outcome Bytes → Bytes
+bufferOf room (refused number) = replicate room 0
+bufferOf room (answered bytes) = bytes ++ replicate (room - length bytes) 0

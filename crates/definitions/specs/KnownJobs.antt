@@ -1,0 +1,175 @@
+-- Every starred job of document 01's "Known jobs", evaluated from job bytes to the return code and all answer bytes. What is expected are the Rust's answers, as numbers.
+use mathlib.Core.List.{List, [], _∷_}
+use Prim.Native.Nat.{ℕ}
+use lib.Dec.{T}
+use Rattle.definitions.specs.Lists.{allOf}
+use Rattle.definitions.specs.Open.{open-all}
+use Rattle.definitions.specs.Examples.{Case, open-examples, passes, answers, refusedWith, plain, withBudget, withMax, withEntryLimit, identity, wholePoints, half, onePointTwo, segmentJob, squareJob, symmetricJob, cornerJob, threePoints}
+
+unfoldable pub twoPoints-answer : List ℕ
+twoPoints-answer =
+    -- examined; orbits and their counts
+    0 ∷ 2 ∷ 1 ∷ 1 ∷
+    -- entries
+    1 ∷
+    2 ∷ 0 ∷ 0 ∷ 1 ∷ 0 ∷ 3 ∷ 1 ∷ 0 ∷ 2 ∷ 1 ∷ 0 ∷ 1 ∷ 0 ∷ 1 ∷ 2 ∷ 0 ∷ 1 ∷
+    -- possible facets of each orbit
+    1 ∷ 3 ∷ 0 ∷ 1 ∷ 1 ∷ 0 ∷ 1 ∷ 1 ∷ 0 ∷
+    1 ∷ 3 ∷ 0 ∷ 1 ∷ 1 ∷ 0 ∷ 1 ∷ 1 ∷ 1 ∷
+    -- compounds
+    0 ∷
+    -- summaries
+    2 ∷ 1 ∷ 2 ∷ []
+
+unfoldable pub twoPointsSwapped-answer : List ℕ
+twoPointsSwapped-answer =
+    -- examined; orbits and their counts
+    0 ∷ 1 ∷ 2 ∷
+    -- entries
+    1 ∷
+    1 ∷ 0 ∷ 0 ∷ 3 ∷ 1 ∷ 0 ∷ 2 ∷ 1 ∷ 0 ∷ 1 ∷ 0 ∷ 1 ∷ 2 ∷ 0 ∷ 1 ∷
+    -- possible facets of each orbit
+    1 ∷ 3 ∷ 0 ∷ 1 ∷ 1 ∷ 0 ∷ 1 ∷ 1 ∷ 0 ∷
+    -- compounds
+    0 ∷
+    -- summaries
+    2 ∷ 1 ∷ 2 ∷ []
+
+unfoldable pub symmetricSquare-answer : List ℕ
+symmetricSquare-answer =
+    -- examined; orbits and their counts
+    3 ∷ 2 ∷ 4 ∷ 2 ∷
+    -- entries
+    1 ∷
+    1 ∷ 0 ∷ 0 ∷ 4 ∷ 1 ∷ 0 ∷ 4 ∷ 1 ∷ 0 ∷ 1 ∷ 0 ∷ 1 ∷ 0 ∷ 1 ∷ 0 ∷ 4 ∷ 2 ∷ 0 ∷ 1 ∷ 2 ∷ 0 ∷ 3 ∷ 2 ∷ 1 ∷ 2 ∷ 2 ∷ 2 ∷ 3 ∷ 1 ∷ 4 ∷ 0 ∷ 1 ∷ 2 ∷ 3 ∷
+    -- possible facets of each orbit
+    1 ∷ 3 ∷ 1 ∷ 0 ∷ 2 ∷ 1 ∷ 0 ∷ 1 ∷ 0 ∷ 1 ∷ 2 ∷ 0 ∷ 1 ∷
+    1 ∷ 3 ∷ 1 ∷ 0 ∷ 2 ∷ 1 ∷ 0 ∷ 1 ∷ 0 ∷ 1 ∷ 2 ∷ 0 ∷ 2 ∷
+    -- compounds
+    0 ∷
+    -- summaries
+    4 ∷ 4 ∷ 4 ∷ []
+
+unfoldable pub symmetricSquareMax12-answer : List ℕ
+symmetricSquareMax12-answer =
+    -- examined; orbits and their counts
+    1 ∷ 1 ∷ 4 ∷
+    -- entries
+    1 ∷
+    1 ∷ 0 ∷ 0 ∷ 4 ∷ 1 ∷ 0 ∷ 4 ∷ 1 ∷ 0 ∷ 1 ∷ 0 ∷ 1 ∷ 0 ∷ 1 ∷ 0 ∷ 4 ∷ 2 ∷ 0 ∷ 1 ∷ 2 ∷ 0 ∷ 3 ∷ 2 ∷ 1 ∷ 2 ∷ 2 ∷ 2 ∷ 3 ∷ 1 ∷ 4 ∷ 0 ∷ 1 ∷ 2 ∷ 3 ∷
+    -- possible facets of each orbit
+    1 ∷ 3 ∷ 1 ∷ 0 ∷ 2 ∷ 1 ∷ 0 ∷ 1 ∷ 0 ∷ 1 ∷ 2 ∷ 0 ∷ 1 ∷
+    -- compounds
+    0 ∷
+    -- summaries
+    4 ∷ 4 ∷ 4 ∷ []
+
+unfoldable pub symmetricSquareMax05-answer : List ℕ
+symmetricSquareMax05-answer =
+    -- examined; orbits and their counts
+    0 ∷ 0 ∷
+    -- entries
+    0 ∷
+    -- compounds
+    0 ∷ []
+
+unfoldable pub plainSquare-answer : List ℕ
+plainSquare-answer =
+    -- examined; orbits and their counts
+    35 ∷ 6 ∷ 1 ∷ 1 ∷ 1 ∷ 1 ∷ 1 ∷ 1 ∷
+    -- entries
+    7 ∷
+    3 ∷ 0 ∷ 0 ∷ 1 ∷ 0 ∷ 3 ∷ 0 ∷ 4 ∷ 1 ∷ 0 ∷ 4 ∷ 1 ∷ 0 ∷ 1 ∷ 0 ∷ 1 ∷ 0 ∷ 1 ∷ 0 ∷ 3 ∷ 2 ∷ 0 ∷ 1 ∷ 2 ∷ 0 ∷ 2 ∷ 2 ∷ 1 ∷ 2 ∷ 1 ∷ 3 ∷ 0 ∷ 1 ∷ 2 ∷
+    4 ∷ 0 ∷ 0 ∷ 1 ∷ 0 ∷ 4 ∷ 0 ∷ 5 ∷ 0 ∷ 4 ∷ 1 ∷ 0 ∷ 4 ∷ 1 ∷ 0 ∷ 1 ∷ 0 ∷ 1 ∷ 0 ∷ 1 ∷ 0 ∷ 4 ∷ 2 ∷ 0 ∷ 1 ∷ 2 ∷ 0 ∷ 2 ∷ 2 ∷ 1 ∷ 3 ∷ 2 ∷ 2 ∷ 3 ∷ 1 ∷ 4 ∷ 0 ∷ 1 ∷ 2 ∷ 3 ∷
+    4 ∷ 0 ∷ 0 ∷ 2 ∷ 0 ∷ 3 ∷ 0 ∷ 5 ∷ 0 ∷ 4 ∷ 1 ∷ 0 ∷ 4 ∷ 1 ∷ 0 ∷ 1 ∷ 0 ∷ 1 ∷ 0 ∷ 1 ∷ 0 ∷ 4 ∷ 2 ∷ 0 ∷ 1 ∷ 2 ∷ 0 ∷ 3 ∷ 2 ∷ 1 ∷ 2 ∷ 2 ∷ 2 ∷ 3 ∷ 1 ∷ 4 ∷ 0 ∷ 1 ∷ 2 ∷ 3 ∷
+    3 ∷ 0 ∷ 0 ∷ 2 ∷ 0 ∷ 4 ∷ 0 ∷ 4 ∷ 1 ∷ 0 ∷ 4 ∷ 1 ∷ 0 ∷ 1 ∷ 0 ∷ 1 ∷ 0 ∷ 1 ∷ 0 ∷ 3 ∷ 2 ∷ 0 ∷ 1 ∷ 2 ∷ 0 ∷ 3 ∷ 2 ∷ 1 ∷ 3 ∷ 1 ∷ 3 ∷ 0 ∷ 1 ∷ 2 ∷
+    4 ∷ 1 ∷ 0 ∷ 2 ∷ 0 ∷ 3 ∷ 0 ∷ 4 ∷ 0 ∷ 4 ∷ 1 ∷ 0 ∷ 4 ∷ 1 ∷ 0 ∷ 1 ∷ 0 ∷ 1 ∷ 0 ∷ 1 ∷ 0 ∷ 4 ∷ 2 ∷ 0 ∷ 2 ∷ 2 ∷ 0 ∷ 3 ∷ 2 ∷ 1 ∷ 2 ∷ 2 ∷ 1 ∷ 3 ∷ 1 ∷ 4 ∷ 0 ∷ 1 ∷ 2 ∷ 3 ∷
+    3 ∷ 1 ∷ 0 ∷ 2 ∷ 0 ∷ 5 ∷ 0 ∷ 4 ∷ 1 ∷ 0 ∷ 4 ∷ 1 ∷ 0 ∷ 1 ∷ 0 ∷ 1 ∷ 0 ∷ 1 ∷ 0 ∷ 3 ∷ 2 ∷ 0 ∷ 2 ∷ 2 ∷ 0 ∷ 3 ∷ 2 ∷ 2 ∷ 3 ∷ 1 ∷ 3 ∷ 0 ∷ 1 ∷ 2 ∷
+    3 ∷ 3 ∷ 0 ∷ 4 ∷ 0 ∷ 5 ∷ 0 ∷ 4 ∷ 1 ∷ 0 ∷ 4 ∷ 1 ∷ 0 ∷ 1 ∷ 0 ∷ 1 ∷ 0 ∷ 1 ∷ 0 ∷ 3 ∷ 2 ∷ 1 ∷ 2 ∷ 2 ∷ 1 ∷ 3 ∷ 2 ∷ 2 ∷ 3 ∷ 1 ∷ 3 ∷ 0 ∷ 1 ∷ 2 ∷
+    -- possible facets of each orbit
+    1 ∷ 3 ∷ 1 ∷ 0 ∷ 2 ∷ 1 ∷ 0 ∷ 1 ∷ 0 ∷ 1 ∷ 2 ∷ 0 ∷ 1 ∷
+    1 ∷ 3 ∷ 1 ∷ 0 ∷ 2 ∷ 1 ∷ 0 ∷ 1 ∷ 0 ∷ 1 ∷ 2 ∷ 0 ∷ 2 ∷
+    1 ∷ 3 ∷ 1 ∷ 0 ∷ 2 ∷ 1 ∷ 0 ∷ 1 ∷ 0 ∷ 1 ∷ 2 ∷ 0 ∷ 3 ∷
+    1 ∷ 3 ∷ 1 ∷ 0 ∷ 2 ∷ 1 ∷ 0 ∷ 1 ∷ 0 ∷ 1 ∷ 2 ∷ 1 ∷ 2 ∷
+    1 ∷ 3 ∷ 1 ∷ 0 ∷ 2 ∷ 1 ∷ 0 ∷ 1 ∷ 0 ∷ 1 ∷ 2 ∷ 1 ∷ 3 ∷
+    1 ∷ 3 ∷ 1 ∷ 0 ∷ 2 ∷ 1 ∷ 0 ∷ 1 ∷ 0 ∷ 1 ∷ 2 ∷ 2 ∷ 3 ∷
+    -- compounds
+    0 ∷
+    -- summaries
+    4 ∷ 3 ∷ 3 ∷ 4 ∷ 4 ∷ 4 ∷ 4 ∷ 4 ∷ 4 ∷ 4 ∷ 3 ∷ 3 ∷ 4 ∷ 4 ∷ 4 ∷ 4 ∷ 3 ∷ 3 ∷ 4 ∷ 3 ∷ 3 ∷ []
+
+unfoldable pub squareLimit0-answer : List ℕ
+squareLimit0-answer =
+    -- examined; orbits and their counts
+    5 ∷ 6 ∷ 1 ∷ 1 ∷ 1 ∷ 1 ∷ 1 ∷ 1 ∷
+    -- entries
+    1 ∷
+    3 ∷ 3 ∷ 0 ∷ 4 ∷ 0 ∷ 5 ∷ 0 ∷ 4 ∷ 1 ∷ 0 ∷ 4 ∷ 1 ∷ 0 ∷ 1 ∷ 0 ∷ 1 ∷ 0 ∷ 1 ∷ 0 ∷ 3 ∷ 2 ∷ 1 ∷ 2 ∷ 2 ∷ 1 ∷ 3 ∷ 2 ∷ 2 ∷ 3 ∷ 1 ∷ 3 ∷ 0 ∷ 1 ∷ 2 ∷
+    -- possible facets of each orbit
+    1 ∷ 3 ∷ 1 ∷ 0 ∷ 2 ∷ 1 ∷ 0 ∷ 1 ∷ 0 ∷ 1 ∷ 2 ∷ 0 ∷ 1 ∷
+    1 ∷ 3 ∷ 1 ∷ 0 ∷ 2 ∷ 1 ∷ 0 ∷ 1 ∷ 0 ∷ 1 ∷ 2 ∷ 0 ∷ 2 ∷
+    1 ∷ 3 ∷ 1 ∷ 0 ∷ 2 ∷ 1 ∷ 0 ∷ 1 ∷ 0 ∷ 1 ∷ 2 ∷ 0 ∷ 3 ∷
+    1 ∷ 3 ∷ 1 ∷ 0 ∷ 2 ∷ 1 ∷ 0 ∷ 1 ∷ 0 ∷ 1 ∷ 2 ∷ 1 ∷ 2 ∷
+    1 ∷ 3 ∷ 1 ∷ 0 ∷ 2 ∷ 1 ∷ 0 ∷ 1 ∷ 0 ∷ 1 ∷ 2 ∷ 1 ∷ 3 ∷
+    1 ∷ 3 ∷ 1 ∷ 0 ∷ 2 ∷ 1 ∷ 0 ∷ 1 ∷ 0 ∷ 1 ∷ 2 ∷ 2 ∷ 3 ∷
+    -- compounds
+    0 ∷
+    -- summaries
+    4 ∷ 3 ∷ 3 ∷ []
+
+unfoldable pub corner-answer : List ℕ
+corner-answer =
+    -- examined; orbits and their counts
+    27 ∷ 4 ∷ 1 ∷ 1 ∷ 1 ∷ 1 ∷
+    -- entries
+    1 ∷
+    4 ∷ 0 ∷ 0 ∷ 1 ∷ 0 ∷ 2 ∷ 0 ∷ 3 ∷ 0 ∷ 5 ∷ 1 ∷ 0 ∷ 4 ∷ 1 ∷ 0 ∷ 1 ∷ 0 ∷ 1 ∷ 0 ∷ 1 ∷ 0 ∷ 6 ∷ 2 ∷ 0 ∷ 1 ∷ 2 ∷ 0 ∷ 2 ∷ 2 ∷ 0 ∷ 3 ∷ 2 ∷ 1 ∷ 2 ∷ 2 ∷ 1 ∷ 3 ∷ 2 ∷ 2 ∷ 3 ∷ 4 ∷ 3 ∷ 0 ∷ 1 ∷ 3 ∷ 3 ∷ 0 ∷ 2 ∷ 4 ∷ 3 ∷ 1 ∷ 2 ∷ 5 ∷ 3 ∷ 3 ∷ 4 ∷ 5 ∷ 1 ∷ 4 ∷ 0 ∷ 1 ∷ 2 ∷ 3 ∷
+    -- possible facets of each orbit
+    1 ∷ 4 ∷ 1 ∷ 0 ∷ 3 ∷ 1 ∷ 0 ∷ 1 ∷ 0 ∷ 1 ∷ 0 ∷ 3 ∷ 2 ∷ 0 ∷ 1 ∷ 2 ∷ 0 ∷ 2 ∷ 2 ∷ 1 ∷ 2 ∷ 1 ∷ 3 ∷ 0 ∷ 1 ∷ 2 ∷
+    1 ∷ 4 ∷ 1 ∷ 0 ∷ 3 ∷ 1 ∷ 0 ∷ 1 ∷ 0 ∷ 1 ∷ 0 ∷ 3 ∷ 2 ∷ 0 ∷ 1 ∷ 2 ∷ 0 ∷ 3 ∷ 2 ∷ 1 ∷ 3 ∷ 1 ∷ 3 ∷ 0 ∷ 1 ∷ 2 ∷
+    1 ∷ 4 ∷ 1 ∷ 0 ∷ 3 ∷ 1 ∷ 0 ∷ 1 ∷ 0 ∷ 1 ∷ 0 ∷ 3 ∷ 2 ∷ 0 ∷ 2 ∷ 2 ∷ 0 ∷ 3 ∷ 2 ∷ 2 ∷ 3 ∷ 1 ∷ 3 ∷ 0 ∷ 1 ∷ 2 ∷
+    1 ∷ 4 ∷ 1 ∷ 0 ∷ 3 ∷ 1 ∷ 0 ∷ 1 ∷ 0 ∷ 1 ∷ 0 ∷ 3 ∷ 2 ∷ 1 ∷ 2 ∷ 2 ∷ 1 ∷ 3 ∷ 2 ∷ 2 ∷ 3 ∷ 1 ∷ 3 ∷ 0 ∷ 1 ∷ 2 ∷
+    -- compounds
+    0 ∷
+    -- summaries
+    4 ∷ 6 ∷ 4 ∷ []
+
+unfoldable pub crowdedLine-answer : List ℕ
+crowdedLine-answer =
+    -- examined; orbits and their counts
+    1 ∷ 1 ∷ 1 ∷
+    -- entries
+    0 ∷
+    -- possible facets of each orbit
+    1 ∷ 3 ∷ 1 ∷ 0 ∷ 2 ∷ 1 ∷ 0 ∷ 1 ∷ 0 ∷ 1 ∷ 2 ∷ 0 ∷ 1 ∷
+    -- compounds
+    0 ∷ []
+
+unfoldable pub starred : List Case
+starred =
+    -- "Rank 2, two points: counts 1, 1."
+    answers 0 (segmentJob (identity 2)) twoPoints-answer
+    -- "With the swap: 2."
+    ∷ answers 0 (segmentJob ((0 ∷ 1 ∷ []) ∷ (1 ∷ 0 ∷ []) ∷ [])) twoPointsSwapped-answer
+    -- "Square, its 8 symmetries: counts 4, 2; entry (0,0); examined 3."
+    ∷ answers 524288 (symmetricJob (plain 3)) symmetricSquare-answer
+    -- "Max 1.2: counts 4, examined 1."
+    ∷ answers 524288 (symmetricJob (withMax 3 onePointTwo)) symmetricSquareMax12-answer
+    -- "Max 0.5: no orbits, no entries."
+    ∷ answers 524288 (symmetricJob (withMax 3 half)) symmetricSquareMax05-answer
+    -- "Square: 7 entries; orbits 0,1,3 / 0,1,4,5 / 0,2,3,5 / 0,2,4 / 1,2,3,4 / 1,2,5 / 3,4,5, facet 0 each."
+    ∷ answers 524288 (squareJob (plain 3)) plainSquare-answer
+    -- "Limit 0 or 1: only 3,4,5; examined 5."
+    ∷ answers 524288 (squareJob (withEntryLimit 3 0)) squareLimit0-answer
+    ∷ answers 524288 (squareJob (withEntryLimit 3 1)) squareLimit0-answer
+    -- "(0,0,0), (1,0,0), (0,1,0), (0,0,1), rank 4: entry 0,1,2,3; examined 27"
+    ∷ answers 4194304 (cornerJob (plain 4)) corner-answer
+    -- "budget 26 is refused 16"
+    ∷ refusedWith 16 4194304 (cornerJob (withBudget 4 26))
+    -- "(0,0), (1,0), (2,0): one orbit, no entry."
+    ∷ answers 524288 (threePoints (wholePoints ((0 ∷ 0 ∷ []) ∷ (1 ∷ 0 ∷ []) ∷ (2 ∷ 0 ∷ []) ∷ []))) crowdedLine-answer
+    ∷ []
+
+pub starred-jobs : T (allOf passes starred)
+unfolding open-all open-examples starred twoPoints-answer twoPointsSwapped-answer symmetricSquare-answer symmetricSquareMax12-answer symmetricSquareMax05-answer plainSquare-answer squareLimit0-answer corner-answer crowdedLine-answer
+starred-jobs = tt

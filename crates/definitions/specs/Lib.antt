@@ -1,0 +1,19 @@
+-- Document 01 as definitions that evaluate, in the order of its sections; then the demands, and what is evaluated against both.
+pub mod Lists
+pub mod Outcome
+pub mod Vectors
+pub mod Subspace
+pub mod Orbits
+pub mod Recursion
+pub mod Search
+pub mod Figures
+pub mod Faceting
+pub mod Job
+pub mod Demands
+pub mod Open
+pub mod Examples
+pub mod Roots
+pub mod KnownJobs
+pub mod Refusals
+pub mod PortersErrors
+pub mod RuledOut
