@@ -1,0 +1,5 @@
+-- Facts on tests, lists, orders and sorting that the library lacks, stated once for every crate.
+pub mod Bools
+pub mod Lists
+pub mod Orders
+pub mod Sorting
