@@ -2,3 +2,4 @@ pub mod Tree
 pub mod Verdicts
 pub mod Facets
 pub mod Walk
+pub mod Taken

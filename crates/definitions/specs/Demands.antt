@@ -9,7 +9,7 @@ use Prim.Native.Nat.{ℕ, zero, suc, _-_, _≤_, min, max}
 use lib.Dec.{T, leb, ltb, eqb, isEq}
 use lib.IntN.{ℤ, pos, negℤ}
 use lib.ListN.{length, getD, take, drop, replicate}
-use Rattle.definitions.specs.Lists.{Pair, isGt, comparePair, anyOf, allOf, keep, placeOf, memberPair}
+use Rattle.definitions.specs.Lists.{Pair, isGt, comparePair, sortBy, anyOf, allOf, keep, placeOf, memberPair}
 use Rattle.definitions.specs.Outcome.{Outcome, refused, answered}
 use Rattle.definitions.specs.Search.{Facet, Share, Table, Found, sharesOf, allFacets, totals, onesAt}
 use Rattle.definitions.specs.Recursion.{Rules, Entry}
@@ -46,6 +46,10 @@ orbitsAscend (f ∷ g ∷ fs) = let rest = orbitsAscend (g ∷ fs) in ltb (f .0)
 -- "A choice is a set of at least one possible facet, at most one from each hyperplane orbit." The set is written ascending by orbit, so that each set is one list.
 unfoldable pub isChoice : Table → List Facet → Bool
 isChoice table c = ltb 0 (length c) && allOf (isPossible table) c && orbitsAscend c
+
+-- the set of a list's facets, so written
+unfoldable pub choiceOf : List Facet → List Facet
+choiceOf = sortBy comparePair
 
 -- "It is closed exactly when its total in every ridge orbit is 0 or 2."
 unfoldable pub isClosedChoice : Table → List Facet → Bool

@@ -5,14 +5,14 @@ use mathlib.Core.List.{List, [], _∷_, _++_, map, flatMap, reverse}
 use Prim.Native.Nat.{ℕ}
 use lib.Dec.{T, T-not, isEq}
 use lib.ListN.{length, take, drop}
-use Rattle.definitions.specs.Lists.{Pair, compareNats, comparePair, sortBy, allOf}
+use Rattle.definitions.specs.Lists.{compareNats, allOf}
 use Rattle.definitions.specs.Outcome.{Outcome, refused, answered}
 use Rattle.definitions.specs.Figures.{dyad}
 use Rattle.definitions.specs.Search.{Facet, Table, Found}
 use Rattle.definitions.specs.Recursion.{Rules, Entry}
 use Rattle.definitions.specs.Faceting.{Prepared, tableFor, entriesOf, searchFrom}
 use Rattle.definitions.specs.Job.{Bytes, Job, readJob, bounds1, rulesOf, between, outcome, counted, entryWords}
-use Rattle.definitions.specs.Demands.{Demand3, CallComplete, EntriesComplete, Accepted, preparedOf, isClosedChoice, isOrderOf, equalShares}
+use Rattle.definitions.specs.Demands.{Demand3, CallComplete, EntriesComplete, Accepted, preparedOf, choiceOf, isClosedChoice, isOrderOf, equalShares}
 use Rattle.definitions.specs.Open.{open-all}
 use Rattle.definitions.specs.Examples.{open-examples, plain, squareJob, bytesOf}
 use Rattle.definitions.specs.KnownJobs.{plainSquare-answer}
@@ -109,10 +109,6 @@ not-backwards = square-ruled-out backwards tt tt
 
 -- ---- the words of demand 3 say of the square what they should
 
--- the choice of a list: its facets ascending by orbit
-unfoldable pub choiceOf : List Facet → List Facet
-choiceOf = sortBy comparePair
-
 -- every split list of the square, which has no compound facets, is an order of a closed choice; the shares are equal
 unfoldable pub closedInOrder : Table → List (List Facet) → Bool
 closedInOrder table = allOf (λ (l : List Facet). isClosedChoice table (choiceOf l) && isOrderOf table [] (choiceOf l) l)
@@ -122,7 +118,7 @@ sensible (refused number) lists = false
 sensible (answered p) lists = equalShares (tableFor p) && closedInOrder (tableFor p) lists
 
 pub square-sensible : T (sensible (preparedOf (readJob squareBytes)) (map (λ (e : Entry). e .list) squareEntries))
-unfolding open-square choiceOf closedInOrder sensible
+unfolding open-square closedInOrder sensible
 square-sensible = tt
 
 -- and it denies an open choice, a choice with a facet too many, and an order that takes the facets as they come

@@ -71,6 +71,15 @@ module _ {A : Type 0} where
       go true e (List·Memᴰ.List·Memᴰ·tail k) ih = later (ih k)
       go false e k ih = later (ih k)
 
+  pub keep-all : (p : A → Bool) (l : List A) → ((x : A) → Mem x l → T (p x)) → keep p l ≡ l
+  unfolding keep
+  keep-all p [] f = refl
+  keep-all p (y ∷ ys) f = go (p y) (f y (here refl)) (keep-all p ys (λ x h. f x (there h)))
+    where
+      go : (b : Bool) → T b → keep p ys ≡ ys → cond b (y ∷ keep p ys) (keep p ys) ≡ y ∷ ys
+      go true t e = ap (λ (l : List A). y ∷ l) e
+      go false t e = absurd t
+
   -- a stronger test keeps no more, and less where something is lost
   pub keep-fewer : (p q : A → Bool) (l : List A) → ((x : A) → T (q x) → T (p x)) → length (keep q l) ≤ length (keep p l)
   unfolding keep
