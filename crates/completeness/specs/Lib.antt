@@ -3,3 +3,5 @@ pub mod Verdicts
 pub mod Facets
 pub mod Walk
 pub mod Taken
+pub mod Choices
+pub mod Complete

@@ -128,7 +128,7 @@ module _ (t : Table) (item : Item) (f : Facet) (mark : ℕ) (j : Joins t item f)
       all-join g (List·Memᴰ.List·Memᴰ·tail h) = later g h .0
 
 -- taken where a ridge orbit is open
-next-open : (t : Table) (taken remaining : List Facet) (f : Facet) (ridge : ℕ) → lowestOpen t taken ≡ some ridge → 0 < onesAt t ridge f → T (isNext t (lowestOpen t taken) remaining f)
+pub next-open : (t : Table) (taken remaining : List Facet) (f : Facet) (ridge : ℕ) → lowestOpen t taken ≡ some ridge → 0 < onesAt t ridge f → T (isNext t (lowestOpen t taken) remaining f)
 unfolding isNext
 next-open t taken remaining f ridge e h = subst (λ (o : Option ℕ). T (isNext t o remaining f)) (sym e) (lt→ltb 0 (onesAt t ridge f) h)
 
@@ -251,7 +251,7 @@ unfolding starts
 start-of t item h = of-map startAt item (allFacets t) h
 
 -- nothing taken: no ridge orbit is open
-nothing-open : (t : Table) → lowestOpen t [] ≡ none
+pub nothing-open : (t : Table) → lowestOpen t [] ≡ none
 unfolding total
 nothing-open t = go (judge (totals t [])) (closed-judged t [] (λ ridge h. inl (no-total ridge))) (judge-means t [])
   where
