@@ -152,7 +152,7 @@ by-verdict t n ih item f left k r (openAt x) e (is-open ridge a b c low) =
     by-child t item (f ∷ left) g (item .mark) (q .1) (next-open t (item .list) (f ∷ left) g ridge low ones)
     (subst (λ (v : Verdict). Mem (joined item (item .mark) g) (childrenBy true t item v)) (sym e) (into-open t item ridge g (r .joins g (q .1)) ones))
     (ih (joined item (item .mark) g) (without g (f ∷ left)) (omega arith)
-      (take-one t item (f ∷ left) g (item .mark) r (q .1) (λ h m. r .joins h (of-without g h (f ∷ left) m .0) .1)))
+    (take-one t item (f ∷ left) g (item .mark) r (q .1) (λ h m. r .joins h (of-without g h (f ∷ left) m .0) .1)))
 by-verdict t n ih item f left k r closed e (is-closed z low) =
     let shorter = perm-length (without-perm f (f ∷ left) (r .ascending) (here refl)) in
     by-child t item (f ∷ left) f (f .0) (here refl) (next-lowest t (item .list) (f ∷ left) f low lowest)
@@ -218,8 +218,8 @@ first-facet t f left k x = (f ∷ x .order, among, order)
     order =
         both (memberPair f (f ∷ left) && isNext t (lowestOpen t []) (f ∷ left) f) (isOrderOf t (f ∷ []) (without f (f ∷ left)) (x .order))
         (both (memberPair f (f ∷ left)) (isNext t (lowestOpen t []) (f ∷ left) f)
-          (any-of (λ (g : Facet). isEq (comparePair f g)) f (f ∷ left) (here refl) (subst (λ (o : Ordering). T (isEq o)) (sym (pairs .self f)) tt))
-          (next-lowest t [] (f ∷ left) f (nothing-open t) lowest))
+        (any-of (λ (g : Facet). isEq (comparePair f g)) f (f ∷ left) (here refl) (subst (λ (o : Ordering). T (isEq o)) (sym (pairs .self f)) tt))
+        (next-lowest t [] (f ∷ left) f (nothing-open t) lowest))
         (subst (λ (l : List Facet). T (isOrderOf t (f ∷ []) l (x .order))) (sym rest) (x .is-order))
 
 -- every closed choice has an order that is emitted

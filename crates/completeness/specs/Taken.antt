@@ -227,18 +227,18 @@ unfolding totals
 closed-totals t c z =
     all-by (λ (n : ℕ). eqb 0 n || eqb 2 n) (map (total t c) (countFrom 0 (t .ridges)))
     (λ n h. let r = of-map (total t c) n (countFrom 0 (t .ridges)) h in
-      let k = of-count 0 (t .ridges) (r .0) (r .1) .1 in
-      subst (λ (x : ℕ). T (eqb 0 x || eqb 2 x)) (sym (r .2)) (zero-or-two (total t c (r .0)) (z (r .0) (omega arith))))
+    let k = of-count 0 (t .ridges) (r .0) (r .1) .1 in
+    subst (λ (x : ℕ). T (eqb 0 x || eqb 2 x)) (sym (r .2)) (zero-or-two (total t c (r .0)) (z (r .0) (omega arith))))
 
 pub closed-choice : (t : Table) (e : List Facet) → 0 < length e → ((f : Facet) → Mem f e → Mem f (allFacets t)) → Pairs OtherOrbit e → ZeroOrTwo t e → T (isClosedChoice t (choiceOf e))
 unfolding isClosedChoice isChoice
 closed-choice t e n possible d z =
     both (ltb 0 (length (choiceOf e)) && allOf (isPossible t) (choiceOf e) && orbitsAscend (choiceOf e)) (allOf (λ (x : ℕ). eqb 0 x || eqb 2 x) (totals t (choiceOf e)))
     (both (ltb 0 (length (choiceOf e)) && allOf (isPossible t) (choiceOf e)) (orbitsAscend (choiceOf e))
-      (both (ltb 0 (length (choiceOf e))) (allOf (isPossible t) (choiceOf e))
-        (let k = perm-length (choice-perm e) in lt→ltb 0 (length (choiceOf e)) (omega arith))
-        (all-by (isPossible t) (choiceOf e) (λ f h. facet-possible t f (possible f (of-choice f e h)))))
-      (choice-ascends e d))
+    (both (ltb 0 (length (choiceOf e))) (allOf (isPossible t) (choiceOf e))
+    (let k = perm-length (choice-perm e) in lt→ltb 0 (length (choiceOf e)) (omega arith))
+    (all-by (isPossible t) (choiceOf e) (λ f h. facet-possible t f (possible f (of-choice f e h)))))
+    (choice-ascends e d))
     (closed-totals t (choiceOf e) (λ ridge h. subst (λ (x : ℕ). (x ≡ 0) ⊎ (x ≡ 2)) (sym (total-perm t ridge (choice-perm e))) (z ridge h)))
 
 -- ---- from the starts
