@@ -1,0 +1,77 @@
+-- Segments of a list: runs of stores (`sets` of lib.Seq), parts, and parts put back. What lib.Seq lacks of take, drop, set, getD and append.
+-- Leans on the library's lists alone. Assumes nothing.
+use mathlib.Core.Path.{_≡_, refl, sym, ap, _∙_}
+use mathlib.Core.List.{List, [], _∷_, _++_, append-assoc}
+use mathlib.Core.Logic.{_⊎_, inl, inr}
+use Prim.Native.Nat.{ℕ, zero, suc, _+_, _-_, _≤_, _<_}
+use native.Mathlib.Nat.{add-suc, suc-add}
+use native.Mathlib.Omega.{arith}
+use lib.ListN.{length, getD, set, take, drop, replicate, length-append, length-take, length-drop, length-set, length-replicate, take-append-drop}
+use lib.Seq.{sets, length-sets, sets-eq, take-set-le, drop-set-lt, drop-set-add, take-set-lt, take-at, drop-at, take-add, drop-drop, length-take-le, take-take, take-nil}
+
+module _ {A : Type 0} where
+  -- ---- a run of stores
+
+  -- what lies before the run
+  pub take-sets-le : (vs l : List A) (n i : ℕ) → n ≤ i → take n (sets l i vs) ≡ take n l
+  take-sets-le [] l n i h = refl
+  take-sets-le (a ∷ vs) l n i h = take-sets-le vs (set l i a) n (suc i) (omega arith) ∙ take-set-le n l i a h
+
+  -- what lies behind it
+  pub drop-sets-ge : (vs l : List A) (n i : ℕ) → i + length vs ≤ n → drop n (sets l i vs) ≡ drop n l
+  drop-sets-ge [] l n i h = refl
+  drop-sets-ge (a ∷ vs) l n i h = drop-sets-ge vs (set l i a) n (suc i) (omega arith) ∙ drop-set-lt n l i a (omega arith)
+
+  -- a run within the front, and within the rest
+  pub take-sets-ge : (vs l : List A) (n i : ℕ) → i + length vs ≤ n → take n (sets l i vs) ≡ sets (take n l) i vs
+  take-sets-ge [] l n i h = refl
+  take-sets-ge (a ∷ vs) l n i h =
+      take-sets-ge vs (set l i a) n (suc i) (omega arith) ∙ ap (λ (r : List A). sets r (suc i) vs) (take-set-lt n l i a (omega arith))
+
+  pub drop-sets-add : (vs l : List A) (n i : ℕ) → drop n (sets l (n + i) vs) ≡ sets (drop n l) i vs
+  drop-sets-add [] l n i = refl
+  drop-sets-add (a ∷ vs) l n i =
+      ap (λ (k : ℕ). drop n (sets (set l (n + i) a) k vs)) (sym (add-suc n i))
+      ∙ (drop-sets-add vs (set l (n + i) a) n (suc i) ∙ ap (λ (r : List A). sets r (suc i) vs) (drop-set-add n l i a))
+
+  -- the run itself
+  pub part-sets : (vs l : List A) (i : ℕ) → i + length vs ≤ length l → take (length vs) (drop i (sets l i vs)) ≡ vs
+  part-sets vs l i h =
+      ap (λ (r : List A). take (length vs) (drop i r)) (sets-eq vs l i h ∙ append-assoc (take i l) vs (drop (i + length vs) l))
+      ∙ (ap (take (length vs)) (drop-at (take i l) (vs ++ drop (i + length vs) l) i (length-take-le i l (omega arith)))
+      ∙ take-at vs (drop (i + length vs) l) (length vs) refl)
+
+  -- a run at the very front, and behind a list
+  pub sets-front : (vs l : List A) → length vs ≤ length l → sets l 0 vs ≡ vs ++ drop (length vs) l
+  sets-front vs l h =
+      let e : 0 + length vs ≡ length vs = omega arith in
+      sets-eq vs l 0 (omega arith) ∙ ap (λ (k : ℕ). vs ++ drop k l) e
+
+  pub sets-behind : (l r vs : List A) (i : ℕ) → sets (l ++ r) (length l + i) vs ≡ l ++ sets r i vs
+  sets-behind [] r vs i = ap (λ (k : ℕ). sets r k vs) (omega arith)
+  sets-behind (x ∷ l) r vs i = ap (λ (k : ℕ). sets (x ∷ (l ++ r)) k vs) (suc-add (length l) i) ∙ (under x vs (l ++ r) (length l + i) ∙ ap (λ (k : List A). x ∷ k) (sets-behind l r vs i))
+    where
+      under : (x : A) (vs l : List A) (i : ℕ) → sets (x ∷ l) (suc i) vs ≡ x ∷ sets l i vs
+      under x [] l i = refl
+      under x (a ∷ vs) l i = under x vs (set l i a) (suc i)
+
+  -- two runs, one behind the other, are one
+  pub sets-append : (us vs l : List A) (i : ℕ) → sets (sets l i us) (i + length us) vs ≡ sets l i (us ++ vs)
+  sets-append [] vs l i = ap (λ (k : ℕ). sets l k vs) (omega arith)
+  sets-append (a ∷ us) vs l i =
+      ap (λ (k : ℕ). sets (sets (set l i a) (suc i) us) k vs) (omega arith) ∙ sets-append us vs (set l i a) (suc i)
+
+  -- ---- parts
+
+  pub cons-same : {x y : A} {xs ys : List A} → x ≡ y → xs ≡ ys → x ∷ xs ≡ y ∷ ys
+  cons-same p q = cc
+
+  pub drop-take : (m n : ℕ) (l : List A) → m ≤ n → drop m (take n l) ≡ take (n - m) (drop m l)
+  drop-take zero n l h = let e : n ≡ n - 0 = omega arith in ap (λ (k : ℕ). take k l) e
+  drop-take (suc m) zero l h = absurd (omega arith)
+  drop-take (suc m) (suc n) [] h = sym (take-nil (suc n - suc m))
+  drop-take (suc m) (suc n) (x ∷ l) h = let e : n - m ≡ suc n - suc m = omega arith in drop-take m n l (omega arith) ∙ ap (λ (k : ℕ). take k (drop m l)) e
+
+  -- a part of the front is that part of the whole
+  pub part-take : (n : ℕ) (l : List A) (a m : ℕ) → a + m ≤ n → take m (drop a (take n l)) ≡ take m (drop a l)
+  part-take n l a m h = ap (take m) (drop-take a n l (omega arith)) ∙ take-take m (n - a) (drop a l) (omega arith)

@@ -1,0 +1,3 @@
+-- Numbers and lists in bytes.
+pub mod Words
+pub mod Floats
