@@ -2,12 +2,19 @@
 -- Leans on the library's lists alone. Assumes nothing.
 use mathlib.Core.Path.{_≡_, refl, sym, ap, _∙_}
 use mathlib.Core.List.{List, [], _∷_, _++_, append-assoc}
-use mathlib.Core.Logic.{_⊎_, inl, inr}
+use mathlib.Core.Logic.{_⊎_, inl, inr, ⊎-elim}
 use Prim.Native.Nat.{ℕ, zero, suc, _+_, _-_, _≤_, _<_}
 use native.Mathlib.Nat.{add-suc, suc-add}
 use native.Mathlib.Omega.{arith}
-use lib.ListN.{length, getD, set, take, drop, replicate, length-append, length-take, length-drop, length-set, length-replicate, take-append-drop}
-use lib.Seq.{sets, length-sets, sets-eq, take-set-le, drop-set-lt, drop-set-add, take-set-lt, take-at, drop-at, take-add, drop-drop, length-take-le, take-take, take-nil}
+use lib.ListN.{length, getD, set, take, drop, replicate, length-append, List·getD-append}
+use lib.Seq.{sets, sets-eq, paste, drop-paste, set-append-left, append-snoc, getD-take, getD-drop, take-set-le, drop-set-lt, drop-set-add, take-set-lt, take-suc-set, take-at, drop-at, length-take-le, take-take, take-nil}
+
+-- ---- two numbers
+
+pub le-or-lt : (a b : ℕ) → (a ≤ b) ⊎ (b < a)
+le-or-lt zero b = inl (omega arith)
+le-or-lt (suc a) zero = inr (omega arith)
+le-or-lt (suc a) (suc b) = ⊎-elim (λ h. inl (omega arith)) (λ h. inr (omega arith)) (le-or-lt a b)
 
 module _ {A : Type 0} where
   -- ---- a run of stores
@@ -75,3 +82,37 @@ module _ {A : Type 0} where
   -- a part of the front is that part of the whole
   pub part-take : (n : ℕ) (l : List A) (a m : ℕ) → a + m ≤ n → take m (drop a (take n l)) ≡ take m (drop a l)
   part-take n l a m h = ap (take m) (drop-take a n l (omega arith)) ∙ take-take m (n - a) (drop a l) (omega arith)
+
+  pub drop-replicate : (m n : ℕ) (a : A) → drop m (replicate n a) ≡ replicate (n - m) a
+  drop-replicate zero n a = let e : n ≡ n - 0 = omega arith in ap (λ (k : ℕ). replicate k a) e
+  drop-replicate (suc m) zero a = let e : 0 ≡ 0 - suc m = omega arith in ap (λ (k : ℕ). replicate k a) e
+  drop-replicate (suc m) (suc n) a = let e : n - m ≡ suc n - suc m = omega arith in drop-replicate m n a ∙ ap (λ (k : ℕ). replicate k a) e
+
+  -- ---- a copy (`paste` of lib.Seq): what it leaves alone, and one element more at its front
+
+  pub getD-paste-before : (d : List A) (at : ℕ) (s : List A) (n j : ℕ) (z : A) → at ≤ length d → j < at → getD (paste d at s n) j z ≡ getD d j z
+  getD-paste-before d at s n j z h l =
+      let t : length (take at d) ≡ at = length-take-le at d h in
+      let u : j < length (take at d ++ take n s) = rw (length-append, t) (omega arith) in
+      List·getD-append (take at d ++ take n s) (drop (at + n) d) z j u
+      ∙ (List·getD-append (take at d) (take n s) z j (omega arith) ∙ getD-take at d j z l)
+
+  pub getD-paste-behind : (d : List A) (at : ℕ) (s : List A) (n j : ℕ) (z : A) → at ≤ length d → n ≤ length s → at + n ≤ j → getD (paste d at s n) j z ≡ getD d j z
+  getD-paste-behind d at s n j z h k l =
+      let e : at + n + (j - (at + n)) ≡ j = omega arith in
+      ap (λ (i : ℕ). getD (paste d at s n) i z) (sym e)
+      ∙ (sym (getD-drop (at + n) (paste d at s n) (j - (at + n)) z)
+      ∙ (ap (λ (r : List A). getD r (j - (at + n)) z) (drop-paste d at s n h k)
+      ∙ (getD-drop (at + n) d (j - (at + n)) z ∙ ap (λ (i : ℕ). getD d i z) e)))
+
+  pub paste-front : (d : List A) (at : ℕ) (s : List A) (n : ℕ) (a : A) → at < length d → set (paste d (suc at) s n) at a ≡ paste d at (a ∷ s) (suc n)
+  paste-front d at s n a h =
+      let t : length (take (suc at) d) ≡ suc at = length-take-le (suc at) d h in
+      let u : at < length (take (suc at) d ++ take n s) = rw (length-append, t) (omega arith) in
+      let e : suc at + n ≡ at + suc n = omega arith in
+      set-append-left (take (suc at) d ++ take n s) (drop (suc at + n) d) at a u
+      ∙ (ap (λ (r : List A). r ++ drop (suc at + n) d)
+      (set-append-left (take (suc at) d) (take n s) at a (omega arith)
+      ∙ (ap (λ (r : List A). r ++ take n s) (sym (take-set-lt (suc at) d at a (omega arith)) ∙ take-suc-set d at a h)
+      ∙ append-snoc (take at d) a (take n s)))
+      ∙ ap (λ (k : ℕ). take at d ++ a ∷ take n s ++ drop k d) e)

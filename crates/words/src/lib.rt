@@ -2,11 +2,16 @@
 // Every number is little-endian. A `requires` here is a bound on an index and nothing else.
 ghost use mathlib.Core.Path.{_≡_};
 ghost use Prim.Native.Nat.{_+_, _*_, _≤_, _<_};
-ghost use lib.ListN.{length};
+ghost use lib.ListN.{length, drop, replicate};
+ghost use lib.Seq.{paste};
 ghost use lib.Ieee.{binary64, toBits};
 ghost use Rattle.definitions.specs.Job.{numberAt, floatAt};
 ghost use Rattle.words.specs.Words.{put};
 ghost use Rattle.words.specs.Floats.{readOf};
+ghost use Rattle.words.specs.Writer.{withWord, behindWord};
+
+// The cursor of an answer that had no room for every word.
+pub const FULL: usize = 18446744073709551615;
 
 // ---- numbers
 
@@ -86,4 +91,82 @@ pub fn put_f64(s: &mut [u8], at: usize, x: f64)
         return;
     }
     put_u64(s, at, f64::to_bits(x));
+}
+
+// ---- whole ranges
+
+pub fn clear(s: &mut [u8])
+    ensures { λ _. ⌜ now (s .exit) ≡ replicate (length (now (s .entry))) 0 ⌝ }
+{
+    let mut i = 0;
+    while i < s.len() {
+        s[i] = 0;
+        i += 1;
+    }
+}
+
+// The bytes of another slice, from a place on.
+pub fn copy(s: &mut [u8], at: usize, from: &[u8])
+    requires { ⌜ at + length (now from) ≤ length (now s) ⌝ }
+    ensures { λ _. ⌜ now (s .exit) ≡ paste (now (s .entry)) at (now (from .entry)) (length (now (from .entry))) ⌝ }
+{
+    let mut i = 0;
+    while i < from.len() {
+        s[at + i] = from[i];
+        i += 1;
+    }
+}
+
+// n bytes of the same slice, moved down: the lowest first, so that none is overwritten before it is read.
+fn copy_down(s: &mut [u8], from: usize, to: usize, n: usize)
+    requires { ⌜ (to ≤ from) × (from + n ≤ length (now s)) ⌝ }
+    ensures { λ _. ⌜ now (s .exit) ≡ paste (now (s .entry)) to (drop from (now (s .entry))) n ⌝ }
+{
+    let mut i = 0;
+    while i < n {
+        s[to + i] = s[from + i];
+        i += 1;
+    }
+}
+
+// Moved up: the highest first.
+fn copy_up(s: &mut [u8], from: usize, to: usize, n: usize)
+    requires { ⌜ (from ≤ to) × (to + n ≤ length (now s)) ⌝ }
+    ensures { λ _. ⌜ now (s .exit) ≡ paste (now (s .entry)) to (drop from (now (s .entry))) n ⌝ }
+{
+    let mut i = n;
+    while 0 < i {
+        i -= 1;
+        s[to + i] = s[from + i];
+    }
+}
+
+// n bytes of the same slice from one place to another; the two ranges may overlap.
+pub fn copy_within(s: &mut [u8], from: usize, to: usize, n: usize)
+    requires { ⌜ (from + n ≤ length (now s)) × (to + n ≤ length (now s)) ⌝ }
+    ensures { λ _. ⌜ now (s .exit) ≡ paste (now (s .entry)) to (drop from (now (s .entry))) n ⌝ }
+{
+    if to <= from {
+        copy_down(s, from, to, n);
+    } else {
+        copy_up(s, from, to, n);
+    }
+}
+
+// ---- an answer, word by word
+
+// Where there is room the word is written at the cursor, which moves behind it; where there is none nothing is written and the cursor says so for good.
+pub fn push_word(answer: &mut [u8], at: usize, v: u32) -> usize
+    ensures cursor { λ r. ⌜ r ≡ behindWord (length (now (answer .entry))) at ⌝ }
+    ensures buffer { λ _. ⌜ now (answer .exit) ≡ withWord (now (answer .entry)) at v ⌝ }
+{
+    let n = answer.len();
+    if n < at {
+        return FULL;
+    }
+    if n - at < 4 {
+        return FULL;
+    }
+    put_u32(answer, at, v);
+    at + 4
 }
