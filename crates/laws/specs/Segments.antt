@@ -6,8 +6,8 @@ use mathlib.Core.Logic.{_⊎_, inl, inr, ⊎-elim}
 use Prim.Native.Nat.{ℕ, zero, suc, _+_, _-_, _≤_, _<_}
 use native.Mathlib.Nat.{add-suc, suc-add}
 use native.Mathlib.Omega.{arith}
-use lib.ListN.{length, getD, set, take, drop, replicate, length-append, List·getD-append}
-use lib.Seq.{sets, sets-eq, paste, drop-paste, set-append-left, append-snoc, getD-take, getD-drop, take-set-le, drop-set-lt, drop-set-add, take-set-lt, take-suc-set, take-at, drop-at, length-take-le, take-take, take-nil}
+use lib.ListN.{length, getD, set, take, drop, replicate, length-append, length-drop, List·getD-append}
+use lib.Seq.{sets, drop-drop, take-append-le, sets-eq, paste, drop-paste, set-append-left, append-snoc, getD-take, getD-drop, take-set-le, drop-set-lt, drop-set-add, take-set-lt, take-suc-set, take-at, drop-at, length-take-le, take-take, take-nil}
 
 -- ---- two numbers
 
@@ -116,3 +116,50 @@ module _ {A : Type 0} where
       ∙ (ap (λ (r : List A). r ++ take n s) (sym (take-set-lt (suc at) d at a (omega arith)) ∙ take-suc-set d at a h)
       ∙ append-snoc (take at d) a (take n s)))
       ∙ ap (λ (k : ℕ). take at d ++ a ∷ take n s ++ drop k d) e)
+
+  -- ---- a part of a list, and the list with another in the part's place: what `&mut s[a..a + n]` lends, and what comes back
+
+  abbrev pub part : ℕ → ℕ → List A → List A
+  part a n s = take n (drop a s)
+
+  abbrev pub placed : ℕ → ℕ → List A → List A → List A
+  placed a n s p = take a s ++ (p ++ drop n (drop a s))
+
+  pub part-length : (a n : ℕ) (s : List A) → a + n ≤ length s → length (part a n s) ≡ n
+  part-length a n s h = length-take-le n (drop a s) (rw length-drop (omega arith))
+
+  pub placed-length : (a n : ℕ) (s p : List A) → a + n ≤ length s → length p ≡ n → length (placed a n s p) ≡ length s
+  placed-length a n s p h e = rw (length-append, length-append, length-drop, length-drop, length-take-le a s (omega arith)) (omega arith)
+
+  -- a part of a part
+  pub part-part : (b m a n : ℕ) (s : List A) → b + m ≤ n → part b m (part a n s) ≡ part (a + b) m s
+  part-part b m a n s h = part-take n (drop a s) b m h ∙ ap (take m) (drop-drop b a s)
+
+  -- the part's own place
+  pub part-placed : (a n : ℕ) (s p : List A) → a ≤ length s → length p ≡ n → part a n (placed a n s p) ≡ p
+  part-placed a n s p h e =
+      ap (take n) (drop-at (take a s) (p ++ drop n (drop a s)) a (length-take-le a s h)) ∙ take-at p (drop n (drop a s)) n e
+
+  -- what lies before it and behind it
+  pub take-placed : (a n : ℕ) (s p : List A) (k : ℕ) → a ≤ length s → k ≤ a → take k (placed a n s p) ≡ take k s
+  take-placed a n s p k h l =
+      let t : length (take a s) ≡ a = length-take-le a s h in
+      take-append-le k (take a s) (p ++ drop n (drop a s)) (omega arith) ∙ take-take k a s l
+
+  pub drop-placed : (a n : ℕ) (s p : List A) (k : ℕ) → a ≤ length s → length p ≡ n → a + n ≤ k → drop k (placed a n s p) ≡ drop k s
+  drop-placed a n s p k h e l =
+      let q : a + (n + (k - (a + n))) ≡ k = omega arith in
+      let rest = drop n (drop a s) in
+      ap (λ (i : ℕ). drop i (placed a n s p)) (sym q)
+      ∙ (sym (drop-drop (n + (k - (a + n))) a (placed a n s p))
+      ∙ (ap (drop (n + (k - (a + n)))) (drop-at (take a s) (p ++ rest) a (length-take-le a s h))
+      ∙ (sym (drop-drop (k - (a + n)) n (p ++ rest))
+      ∙ (ap (drop (k - (a + n))) (drop-at p rest n e)
+      ∙ (drop-drop (k - (a + n)) n (drop a s) ∙ (drop-drop (n + (k - (a + n))) a s ∙ ap (λ (i : ℕ). drop i s) q))))))
+
+  -- any other part is as it was
+  pub part-placed-off : (a n : ℕ) (s p : List A) (b m : ℕ) → a ≤ length s → length p ≡ n → (b + m ≤ a) ⊎ (a + n ≤ b) → part b m (placed a n s p) ≡ part b m s
+  part-placed-off a n s p b m h e (inl o) =
+      sym (part-take (b + m) (placed a n s p) b m (omega arith))
+      ∙ (ap (part b m) (take-placed a n s p (b + m) h o) ∙ part-take (b + m) s b m (omega arith))
+  part-placed-off a n s p b m h e (inr o) = ap (take m) (drop-placed a n s p b h e o)

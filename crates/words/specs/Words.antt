@@ -10,7 +10,7 @@ use lib.ListN.{length, getD, set, take, drop, length-drop}
 use lib.Seq.{sets, length-sets, take-at, drop-at, take-add, drop-cons, drop-drop, length-take-le, take-take}
 use lib.Arith.{mod-mul}
 use Rattle.definitions.specs.Job.{little, numberAt, wordBytes}
-use Rattle.laws.specs.Segments.{take-sets-le, drop-sets-ge, drop-sets-add, part-sets, sets-append, drop-take, part-take, cons-same}
+use Rattle.laws.specs.Segments.{part, take-sets-le, take-sets-ge, drop-sets-ge, drop-sets-add, part-sets, sets-append, drop-take, part-take, cons-same}
 
 -- v in so many bytes, the lowest first
 unfoldable pub bytesOf : ℕ → ℕ → List ℕ
@@ -131,6 +131,13 @@ part-put-off w s at v j m (inl h) =
     ∙ (ap (take m) (drop-put-add w s j (at - j) v) ∙ take-put w (drop j s) (at - j) v m (omega arith))
 part-put-off w s at v j m (inr h) = ap (take m) (drop-put w s at v j h)
 
+-- a number written inside a part is written in the part
+pub part-put-in : (w : ℕ) (s : List ℕ) (a n at v : ℕ) → at + w ≤ n → part a n (put w s (a + at) v) ≡ put w (part a n s) at v
+unfolding put
+part-put-in w s a n at v h =
+    let e = bytesOf-length w v in
+    ap (take n) (drop-sets-add (bytesOf w v) s a at) ∙ take-sets-ge (bytesOf w v) (drop a s) n at (omega arith)
+
 pub numberAt-put-off : (w : ℕ) (s : List ℕ) (at v j m : ℕ) → (j + m ≤ at) ⊎ (at + w ≤ j) → numberAt (put w s at v) j m ≡ numberAt s j m
 unfolding numberAt
 numberAt-put-off w s at v j m o = ap little (part-put-off w s at v j m o)
@@ -213,13 +220,13 @@ words-put w s (suc n) (suc i) v h l f =
     (ap little (take-put w s (w + w * i) v w (omega arith)))
     (ap (λ (r : List ℕ). words w r n) (drop-put-add w s w (w * i) v) ∙ words-put w (drop w s) n i v (omega arith) (rw length-drop (omega arith)) f))
 
--- what is written behind them
-pub words-put-behind : (w : ℕ) (s : List ℕ) (n at v : ℕ) → w * n ≤ at → words w (put w s at v) n ≡ words w s n
-words-put-behind w s n at v h =
-    sym (words-take w (put w s at v) (w * n) n (omega arith))
-    ∙ (ap (λ (r : List ℕ). words w r n) (take-put w s at v (w * n) h) ∙ words-take w s (w * n) n (omega arith))
+-- what is written behind them, in any width
+pub words-put-behind : (w u : ℕ) (s : List ℕ) (n at v : ℕ) → w * n ≤ at → words w (put u s at v) n ≡ words w s n
+words-put-behind w u s n at v h =
+    sym (words-take w (put u s at v) (w * n) n (omega arith))
+    ∙ (ap (λ (r : List ℕ). words w r n) (take-put u s at v (w * n) h) ∙ words-take w s (w * n) n (omega arith))
 
 -- one more is appended
 pub words-push : (w : ℕ) (s : List ℕ) (n v : ℕ) → w * n + w ≤ length s → v < 256 ^ w → words w (put w s (w * n) v) (n + 1) ≡ words w s n ++ (v ∷ [])
 words-push w s n v h f =
-    rw (words-more w (put w s (w * n) v) n, numberAt-put w s (w * n) v h f, words-put-behind w s n (w * n) v (omega arith)) refl
+    rw (words-more w (put w s (w * n) v) n, numberAt-put w s (w * n) v h f, words-put-behind w w s n (w * n) v (omega arith)) refl
