@@ -1,12 +1,11 @@
-use Rattle.words.proofs.Ranges.{Copied, copy-start, down-turn, copy-end}
+-- `words::copy_down` meets its contract. Assumes nothing.
 use Prim.Native.Nat.{_-_}
-use lib.ListN.{length, drop}
-use borrow.Author.Needs.{needs}
 use native.Mathlib.Omega.{arith}
+use borrow.Author.Needs.{needs}
+use lib.ListN.{drop}
+use Rattle.words.proofs.Ranges.{Copied, copy-start, down-turn, copy-end}
 use Rattle.words.proofs.copy_down.Statement.{statement}
 use Rattle.words.proofs.copy_down.Tie as tie
-use Rattle.words.proofs.copy_down.Reads as reads
-use Rattle.words.proofs.copy_down.Lts as lts
 
 abbrev Inv-loop : tie.InvT-loop
 Inv-loop s₀ from to n i₀ s i = Copied s₀ to (drop from s₀) n s i
@@ -14,43 +13,33 @@ Inv-loop s₀ from to n i₀ s i = Copied s₀ to (drop from s₀) n s i
 abbrev μ-loop : tie.MeasureT-loop
 μ-loop s₀ from to n i₀ s i = n - i
 
--- src/lib.rt:126:5
 loop-holds : tie.Need-loop-holds Inv-loop μ-loop
 loop-holds c = copy-start _ _ _ _
 
--- src/lib.rt:127:23
 add-s : tie.Need-add-s Inv-loop μ-loop
 add-s c = search needs
 
--- src/lib.rt:127:21
 slice-read-s : tie.Need-slice-read-s Inv-loop μ-loop
 slice-read-s c = search needs
 
--- src/lib.rt:127:11
 add-s-2 : tie.Need-add-s-2 Inv-loop μ-loop
 add-s-2 c = search needs
 
--- src/lib.rt:127:9
 slice-write-s : tie.Need-slice-write-s Inv-loop μ-loop
 slice-write-s c = search needs
 
--- src/lib.rt:128:9
 add-i : tie.Need-add-i Inv-loop μ-loop
 add-i c = search needs
 
--- src/lib.rt:126:5
 loop-less : tie.Need-loop-less Inv-loop μ-loop
 loop-less c = search needs
 
--- src/lib.rt:126:5
 loop-again : tie.Need-loop-again Inv-loop μ-loop
 loop-again c = down-turn (c .before .before .loop .inv) (omega arith) (omega arith) (omega arith)
 
--- src/lib.rt:121:1
 same-length : tie.Need-same-length Inv-loop μ-loop
 same-length c = search needs
 
--- src/lib.rt:121:1
 returns : tie.Need-returns Inv-loop μ-loop
 returns c = copy-end (c .before .loop .inv) (c .loop-test .left)
 

@@ -1,25 +1,18 @@
-use native.Mathlib.Omega.{arith}
-use Rattle.words.proofs.Laws.{read-as-nan, read-as-number, no-nan-pattern}
+-- `words::get_f64` meets its contract. Assumes nothing.
 use borrow.Author.Needs.{needs}
+use Rattle.words.proofs.Laws.{read-as-nan, read-as-number, no-nan-pattern}
 use Rattle.words.proofs.get_f64.Statement.{statement}
 use Rattle.words.proofs.get_f64.Tie as tie
-use Rattle.words.proofs.get_f64.Reads as reads
-use Rattle.words.proofs.get_f64.Lts as lts
-use Rattle.words.proofs.get_u64.Reads as get-u64-reads
 
--- src/lib.rt:71:9
 get-u64-requires : tie.Need-get-u64-requires
 get-u64-requires c κs = search needs
 
--- src/lib.rt:74:9
 returns : tie.Need-returns
 returns c = read-as-nan _ _ _ (c .before .get-u64 .ensures) (c .if1 .taken)
 
--- src/lib.rt:76:18
 float-from-bits-t6 : tie.Need-float-from-bits-t6
 float-from-bits-t6 c = rw (no-nan-pattern (c .before .get-u64 .result) (c .if1 .left)) tt
 
--- src/lib.rt:67:1
 returns-2 : tie.Need-returns-2
 returns-2 c = read-as-number _ _ _ (c .before .get-u64 .ensures) (c .if1 .left)
 

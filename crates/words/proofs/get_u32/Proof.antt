@@ -1,41 +1,31 @@
+-- `words::get_u32` meets its contract. Assumes nothing.
 use native.Mathlib.Omega.{arith}
-use Rattle.words.proofs.Laws.{read-halves}
 use borrow.Author.Needs.{needs}
+use Rattle.words.proofs.Laws.{read-halves}
 use Rattle.words.proofs.get_u32.Statement.{statement}
 use Rattle.words.proofs.get_u32.Tie as tie
-use Rattle.words.proofs.get_u32.Reads as reads
-use Rattle.words.proofs.get_u32.Lts as lts
-use Rattle.words.proofs.get_u16.Reads as get-u16-reads
 
--- src/lib.rt:32:5
 get-u16-requires : tie.Need-get-u16-requires
 get-u16-requires c κs = search needs
 
--- src/lib.rt:32:5
 cast-result : tie.Need-cast-result
 cast-result c = search needs
 
--- src/lib.rt:32:40
 add-get-u16 : tie.Need-add-get-u16
 add-get-u16 c = search needs
 
--- src/lib.rt:32:29
 get-u16-requires-2 : tie.Need-get-u16-requires-2
 get-u16-requires-2 c κs = search needs
 
--- src/lib.rt:32:29
 cast-result-2 : tie.Need-cast-result-2
 cast-result-2 c = search needs
 
--- src/lib.rt:32:29
 mul-result : tie.Need-mul-result
 mul-result c = search needs
 
--- src/lib.rt:32:5
 add-result : tie.Need-add-result
 add-result c = search needs
 
--- src/lib.rt:28:1
 returns : tie.Need-returns
 returns c = let s = c .before .before .before in
     read-halves (s .args .s .now) (s .args .at) 2 _ _ (omega arith) (c .before .get-u16 .ensures) (c .get-u162 .ensures)

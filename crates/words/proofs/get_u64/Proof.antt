@@ -1,41 +1,31 @@
+-- `words::get_u64` meets its contract. Assumes nothing.
 use native.Mathlib.Omega.{arith}
-use Rattle.words.proofs.Laws.{read-halves}
 use borrow.Author.Needs.{needs}
+use Rattle.words.proofs.Laws.{read-halves}
 use Rattle.words.proofs.get_u64.Statement.{statement}
 use Rattle.words.proofs.get_u64.Tie as tie
-use Rattle.words.proofs.get_u64.Reads as reads
-use Rattle.words.proofs.get_u64.Lts as lts
-use Rattle.words.proofs.get_u32.Reads as get-u32-reads
 
--- src/lib.rt:47:5
 get-u32-requires : tie.Need-get-u32-requires
 get-u32-requires c κs = search needs
 
--- src/lib.rt:47:5
 cast-result : tie.Need-cast-result
 cast-result c = search needs
 
--- src/lib.rt:47:40
 add-get-u32 : tie.Need-add-get-u32
 add-get-u32 c = search needs
 
--- src/lib.rt:47:29
 get-u32-requires-2 : tie.Need-get-u32-requires-2
 get-u32-requires-2 c κs = search needs
 
--- src/lib.rt:47:29
 cast-result-2 : tie.Need-cast-result-2
 cast-result-2 c = search needs
 
--- src/lib.rt:47:29
 mul-result : tie.Need-mul-result
 mul-result c = search needs
 
--- src/lib.rt:47:5
 add-result : tie.Need-add-result
 add-result c = search needs
 
--- src/lib.rt:43:1
 returns : tie.Need-returns
 returns c = let s = c .before .before .before in
     read-halves (s .args .s .now) (s .args .at) 4 _ _ (omega arith) (c .before .get-u32 .ensures) (c .get-u322 .ensures)

@@ -1,36 +1,27 @@
-use Rattle.words.proofs.Laws.{write-halves}
+-- `words::put_u32` meets its contract. Assumes nothing.
 use borrow.Author.Needs.{needs}
+use Rattle.words.proofs.Laws.{write-halves}
 use Rattle.words.proofs.put_u32.Statement.{statement}
 use Rattle.words.proofs.put_u32.Tie as tie
-use Rattle.words.proofs.put_u32.Reads as reads
-use Rattle.words.proofs.put_u32.Lts as lts
-use Rattle.words.proofs.put_u16.Reads as put-u16-reads
 
--- src/lib.rt:39:20
 cast-put-u16 : tie.Need-cast-put-u16
 cast-put-u16 c = search needs
 
--- src/lib.rt:39:5
 put-u16-requires : tie.Need-put-u16-requires
 put-u16-requires c κs = search needs
 
--- src/lib.rt:40:16
 add-put-u16 : tie.Need-add-put-u16
 add-put-u16 c = search needs
 
--- src/lib.rt:40:24
 cast-put-u16-2 : tie.Need-cast-put-u16-2
 cast-put-u16-2 c = search needs
 
--- src/lib.rt:40:5
 put-u16-requires-2 : tie.Need-put-u16-requires-2
 put-u16-requires-2 c κs = search needs
 
--- src/lib.rt:35:1
 same-length : tie.Need-same-length
 same-length c = search needs
 
--- src/lib.rt:35:1
 returns : tie.Need-returns
 returns c = let s = c .before .before .before .before .before .before .before .before .before in
     write-halves (s .args .s .now) _ _ (s .args .at) 2 (s .args .v) (c .before .before .before .before .before .before .put-u16 .ensures) (c .before .before .put-u162 .ensures)
