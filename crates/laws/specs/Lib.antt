@@ -1,6 +1,7 @@
--- Facts on tests, lists, orders and sorting that the library lacks, stated once for every crate.
+-- Facts on tests, lists, orders and numbers that the library lacks, one file to a subject, stated once for every crate.
 pub mod Bools
 pub mod Lists
+pub mod Pairs
 pub mod Orders
 pub mod Sorting
-pub mod Pairs
+pub mod Segments

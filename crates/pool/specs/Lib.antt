@@ -1,0 +1,2 @@
+-- Lists of any length in one region.
+pub mod Pool

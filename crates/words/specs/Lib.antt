@@ -1,0 +1,4 @@
+-- Numbers and lists in bytes.
+pub mod Words
+pub mod Floats
+pub mod Writer
