@@ -5,3 +5,4 @@ pub mod Walk
 pub mod Taken
 pub mod Choices
 pub mod Complete
+pub mod Unique

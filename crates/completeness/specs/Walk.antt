@@ -14,7 +14,7 @@ use Rattle.definitions.specs.Lists.{anyOf, keep, countFrom}
 use Rattle.definitions.specs.Outcome.{Outcome, refused, answered, refuseIf}
 use Rattle.definitions.specs.Search.{Table, Facet, Item, Verdict, over, closed, openAt, totals, judge, allFacets, starts, usesOrbit, mayJoin, joined, onesAt, openNext, closedNext, putIn, Found, EntryLimits, limitReached, emit, emitIf, examine, search}
 use Rattle.laws.specs.Bools.{true→holds, false→fails, both, first, second, either, neither, left-of, right-of, apart}
-use Rattle.laws.specs.Lists.{Mem, here, there, in-map, of-map, in-flatMap, of-flatMap, in-keep, kept, keep-less, in-count, in-replicate, replicate-in}
+use Rattle.laws.specs.Lists.{Mem, here, there, in-map, of-map, in-flatMap, of-flatMap, in-keep, kept, keep-less, in-count, in-replicate, replicate-some}
 use Rattle.completeness.specs.Tree.{yield, yields-cons, induct}
 use Rattle.completeness.specs.Facets.{orbit-below}
 
@@ -128,11 +128,7 @@ open-child t item ridge j h =
     let r = of-map (joined item (item .mark)) j (flatMap (λ (f : Facet). replicate (onesAt t ridge f) f) (keep (mayJoin item) (allFacets t))) h in
     let q = of-flatMap (λ (f : Facet). replicate (onesAt t ridge f) f) (r .0) (keep (mayJoin item) (allFacets t)) (r .1) in
     let e = in-replicate (onesAt t ridge (q .0)) (r .0) (q .0) (q .2) in
-    (q .0, joins-of t item (q .0) (q .1), some-there (onesAt t ridge (q .0)) (r .0) (q .0) (q .2), r .2 ∙ ap (joined item (item .mark)) e)
-  where
-    some-there : (n : ℕ) (x y : Facet) → Mem x (replicate n y) → 0 < n
-    some-there zero x y m = elim m [ ]
-    some-there (suc n) x y m = omega arith
+    (q .0, joins-of t item (q .0) (q .1), replicate-some (onesAt t ridge (q .0)) (r .0) (q .0) (q .2), r .2 ∙ ap (joined item (item .mark)) e)
 
 pub closed-child : (t : Table) (item : Item) (j : Item) → Mem j (closedNext t item) → (f : Facet) × Joins t item f × (j ≡ joined item (f .0) f)
 unfolding closedNext

@@ -178,6 +178,10 @@ module _ {A : Type 0} where
   in-replicate (suc n) x y (List·Memᴰ.List·Memᴰ·head e) = e
   in-replicate (suc n) x y (List·Memᴰ.List·Memᴰ·tail h) = in-replicate n x y h
 
+  pub replicate-some : (n : ℕ) (x y : A) → Mem x (replicate n y) → 0 < n
+  replicate-some zero x y h = elim h [ ]
+  replicate-some (suc n) x y h = omega arith
+
   pub replicate-in : (n : ℕ) (x : A) → 0 < n → Mem x (replicate n x)
   replicate-in zero x h = absurd (omega arith)
   replicate-in (suc n) x h = here refl
