@@ -6,3 +6,4 @@ pub mod Taken
 pub mod Choices
 pub mod Complete
 pub mod Unique
+pub mod Entries
