@@ -7,3 +7,4 @@ pub mod Choices
 pub mod Complete
 pub mod Unique
 pub mod Entries
+pub mod Jobs
