@@ -121,10 +121,11 @@ module _ (rules : Rules) (p : Prepared) (found : Found) (is-found : searchFrom r
 
   has-entry : rules .entryLimit ≡ none → (c : List Facet) → T (isClosedChoice t c) → (e : Entry) × Mem e entries × EntryOfChoice p e c
   has-entry e c h =
-      let r = every-choice t c h in
-      ( entryOf p (r .0)
-      , subst (λ (s : List Entry). Mem (entryOf p (r .0)) s) (sym entries-sorted) (in-map (entryOf p) (r .0) sorted (perm-member (all-emitted e) (r .0) (r .1)))
-      , record { order = r .0; taken-so = r .2; entry = refl } )
+      let r = every-choice t c h in (
+        entryOf p (r .0),
+        subst (λ (s : List Entry). Mem (entryOf p (r .0)) s) (sym entries-sorted) (in-map (entryOf p) (r .0) sorted (perm-member (all-emitted e) (r .0) (r .1))),
+        record { order = r .0; taken-so = r .2; entry = refl },
+      )
 
   -- ---- with a limit m
 
@@ -141,7 +142,7 @@ module _ (rules : Rules) (p : Prepared) (found : Found) (is-found : searchFrom r
   differ m e equal =
       pairs→nodup (map choiceOf sorted)
       (pairs-perm NotSame not-same-flip (Permᴰ·map choiceOf (Permᴰ·symm sorted-perm))
-        (choices-differ (found .lists) (subst (Pairs Other) (sym (some-emitted m e)) (pairs-take Other (max (m - 0) 1) (closedLists true t) (lists-differ true t equal)))))
+      (choices-differ (found .lists) (subst (Pairs Other) (sym (some-emitted m e)) (pairs-take Other (max (m - 0) 1) (closedLists true t) (lists-differ true t equal)))))
 
   ascend : Pairwise (λ (d e : Entry). T (not (isGt (compareEntries d e)))) entries
   unfolding entriesOf compareEntries

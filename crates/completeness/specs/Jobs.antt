@@ -90,12 +90,13 @@ module _ (bytes : Bytes) (workspace room : ℕ) where
     after-refusal = λ number e. (ap codeOf e, ap (bufferOf room) e);
     after-answer = λ answer e.
         let h = answered-call bytes workspace room answer e .fits in
-        let rest = room - length answer in
-        ( length answer
-        , ap codeOf e
-        , h
-        , ap (λ (o : Outcome Bytes). length (bufferOf room o)) e ∙ filled answer room h
-        , ap (λ (o : Outcome Bytes). drop (length answer) (bufferOf room o)) e ∙ drop-append-seam answer (replicate rest 0) );
+        let rest = room - length answer in (
+          length answer,
+          ap codeOf e,
+          h,
+          ap (λ (o : Outcome Bytes). length (bufferOf room o)) e ∙ filled answer room h,
+          ap (λ (o : Outcome Bytes). drop (length answer) (bufferOf room o)) e ∙ drop-append-seam answer (replicate rest 0),
+        );
   }
 
   pub demand-2 : Demand2 bytes workspace room (codeOf result) (bufferOf room result)

@@ -8,3 +8,4 @@ pub mod Complete
 pub mod Unique
 pub mod Entries
 pub mod Jobs
+pub mod Example

@@ -220,9 +220,9 @@ module _ (extended : Bool) (t : Table) (equal : T (equalShares t)) where
   lists-differ =
       pairs-flatMap (Foreign extended t) Other (closedIn extended t) (reverseAux (starts t) []) (λ j h. tree-differs j) (λ j h k i foreign d m e n. foreign d m e n)
       (pairs-reversed (Foreign extended t) (foreign-flip extended t) (starts t) []
-        (pairs-map Different (Foreign extended t) startAt (allFacets t)
-          (λ f i g j n d m e k. starts-apart f g n d (emitted-extends extended t (startAt f) d m) e (emitted-extends extended t (startAt g) e k)) (facets-different t))
-        tt (λ j h k i. elim i [ ]))
+      (pairs-map Different (Foreign extended t) startAt (allFacets t)
+      (λ f i g j n d m e k. starts-apart f g n d (emitted-extends extended t (startAt f) d m) e (emitted-extends extended t (startAt g) e k)) (facets-different t))
+      tt (λ j h k i. elim i [ ]))
 
 -- lists with different facets have different choices
 pub choices-differ : (lists : List (List Facet)) → Pairs Other lists → Pairs (λ (c d : List Facet). c ≡ d → ⊥) (map choiceOf lists)
