@@ -1,0 +1,3 @@
+-- Facts that the library lacks, each stated once.
+pub mod Floats
+pub mod LowerBounds
