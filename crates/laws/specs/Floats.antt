@@ -3,14 +3,14 @@
 -- Leans on lib.Ieee's laws of `round`: `round-mono`, `round-exact` and the operations' `-fits`.
 use mathlib.Core.Path.{_≡_, refl, sym, ap, _∙_, subst}
 use mathlib.Core.Bool.{Bool, true, false, not, _&&_, _||_, Bool·beq, cond, true≢false}
-use Prim.Native.Nat.{ℕ, zero, suc, _+_, _-_, _*_, _/_, _%_, _^_, _≤_, _<_, zero-le, compare}
+use Prim.Native.Nat.{ℕ, zero, suc, _+_, _-_, _*_, _/_, _%_, _^_, _≤_, _<_, zero-le, suc-le-suc, compare}
 use native.Mathlib.Nat.{pow-suc, le-refl, le-trans, le-of-eq, lt-of-le-of-lt, mul-le-mul, mul-le-mul-left, mul-le-mul-right, mul-pos, mul-assoc, mul-comm, mul-left-comm, mul-right-comm, le-of-mul-le-mul-right}
 use native.Mathlib.Omega.{arith}
-use lib.Dec.{T, leb, ltb, eqb, ltb→lt, eqb→eq}
+use lib.Dec.{T, leb, ltb, eqb, ltb→lt, leb→le, nleb→lt, eqb→eq}
 use lib.Pow.{pow-pos, pow-mono, pow-lt, pow-add}
 use lib.IntN.{ℤ, pos, negsuc}
 use lib.Ieee.{Float, nan, inf, fin, Format, prec, emax, low, up, down, unlike, nearest, size, odd, units, round, neg, sum, add, sub, mul, div, lt, le, fits}
-use lib.Ieee.Fits.{round-is, round-fits, add-fits, sub-fits, mul-fits, div-fits, neg-fits, up-pos, down-pos, two, two-le-pos}
+use lib.Ieee.Fits.{round-is, round-fits, add-fits, sub-fits, mul-fits, div-fits, neg-fits, up-pos, down-pos, two, two-le-pos, and-l, and-r}
 use lib.Ieee.Exact.{HasValue, round-exact}
 use lib.Ieee.Order.{round-mono}
 
@@ -196,3 +196,34 @@ mul-sized f j k (fin s m e) (fin t n d) K a b =
     round-sized f (unlike s t) (m * up e * (n * up d)) (down e * down d) (j + k) (mul-pos (down-pos e) (down-pos d)) K
     (le-trans (mul-le-mul (a .within) (b .within))
     (subst (λ (z : ℕ). 2 ^ j * down e * (2 ^ k * down d) ≤ z * (down e * down d)) (sym (pow-add 2 j k)) (le-of-eq (simp (mul-assoc, mul-comm, mul-left-comm)))))
+
+-- ---- what a format holds
+
+module _ (f : Format) (s : Bool) (m : ℕ) (e : ℤ) (h : T (fits f (fin s (suc m) e))) where
+  -- no more digits than the format keeps
+  pub held-digits : suc m < 2 ^ prec f
+  unfolding fits
+  held-digits =
+      ltb→lt (suc m) (2 ^ prec f)
+      (and-r (eqb (suc m % 2) 1) (ltb (suc m) (2 ^ prec f))
+      (and-l (eqb (suc m % 2) 1 && ltb (suc m) (2 ^ prec f)) (leb (down e) (2 ^ low f))
+      (and-l (eqb (suc m % 2) 1 && ltb (suc m) (2 ^ prec f) && leb (down e) (2 ^ low f)) (ltb (suc m * up e) (2 ^ suc (emax f) * down e)) h)))
+
+  -- below the power of two from which on there are infinities
+  pub held-below : suc m * up e < 2 ^ suc (emax f) * down e
+  unfolding fits
+  held-below =
+      ltb→lt (suc m * up e) (2 ^ suc (emax f) * down e)
+      (and-r (eqb (suc m % 2) 1 && ltb (suc m) (2 ^ prec f) && leb (down e) (2 ^ low f)) (ltb (suc m * up e) (2 ^ suc (emax f) * down e)) h)
+
+-- the exponent of a value that the format holds
+pub held-exponent : (f : Format) (s : Bool) (m k : ℕ) → T (fits f (fin s (suc m) (pos k))) → k ≤ emax f
+held-exponent f s m k h = go (leb k (emax f)) (leb→le k (emax f)) (nleb→lt k (emax f))
+  where
+    go : (b : Bool) → (T b → k ≤ emax f) → (T (not b) → emax f < k) → k ≤ emax f
+    go true y n = y tt
+    go false y n =
+        let l = held-below f s m (pos k) h in
+        let p = pow-mono (n tt) in
+        let q = mul-le-mul-right (2 ^ k) (suc-le-suc {n = 0} {m = m} zero-le) in
+        absurd (omega arith)
