@@ -45,6 +45,10 @@ module _ {A : Type 0} (P Q : A → Type 0) where
   each-so f [] h = tt
   each-so f (x ∷ xs) h = (f x (h .0), each-so f xs (h .1))
 
+  pub each-both : (xs : List A) → Each P xs → Each Q xs → Each (λ (x : A). P x × Q x) xs
+  each-both [] h g = tt
+  each-both (x ∷ xs) h g = ((h .0, g .0), each-both xs (h .1) (g .1))
+
 -- ---- doubles
 
 -- a finite double of size at most 2 ^ k
