@@ -2,3 +2,4 @@
 pub mod Sizes
 pub mod Roots
 pub mod Norms
+pub mod Fits
