@@ -3,3 +3,4 @@ pub mod Sizes
 pub mod Roots
 pub mod Norms
 pub mod Fits
+pub mod Calls
