@@ -4,3 +4,4 @@ pub mod Roots
 pub mod Norms
 pub mod Fits
 pub mod Calls
+pub mod Jobs
