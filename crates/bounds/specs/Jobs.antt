@@ -155,7 +155,7 @@ passed-is-admitted bytes workspace t =
     record { enough = leb→le (job .rank - 1) (job .d) (and-l (leb (job .rank - 1) (job .d)) (leb (job .d) 4) fourth); few = omega arith; good = ninth }
 
 -- 1e-7 is above 1e-9
-tolerance-high-enough : T (le billionth tolerance1)
+pub tolerance-high-enough : T (le billionth tolerance1)
 unfolding le ofBits
 tolerance-high-enough = tt
 

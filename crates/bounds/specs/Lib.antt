@@ -5,3 +5,6 @@ pub mod Norms
 pub mod Fits
 pub mod Calls
 pub mod Jobs
+pub mod AnyNorm
+pub mod Covered
+pub mod Indifferent
