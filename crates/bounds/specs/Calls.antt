@@ -2,20 +2,20 @@
 -- a pair's length in `breaksLimit`, the residuals in `fromPoints`, for the tuples of `hyperplanes` and for the refit of `innerCall`, and the distances in `pointsNear`.
 -- The inner calls are those on any list of vertices whose refit has the wanted number of basis vectors (`Occurs`), so more than a job ever makes.
 -- Every norm taken has a root, as long as the bound of the points, which grows with the depth, leaves room. Leans on Fits.
-use mathlib.Core.Path.{_≡_, refl, sym, ap, _∙_, subst}
-use mathlib.Core.Bool.{Bool, true, false}
-use mathlib.Core.List.{List, [], _∷_, map}
-use Prim.Native.Nat.{ℕ, zero, suc, _+_, _*_, _≤_, _<_, zero-le}
+use mathlib.Core.Path.{_≡_}
+use mathlib.Core.Bool.{true}
+use mathlib.Core.List.{List, [], map}
+use Prim.Native.Nat.{ℕ, zero, suc, _+_, _*_, _≤_}
 use native.Mathlib.Omega.{arith}
 use lib.Dec.{T}
-use lib.ListN.{length, getD}
+use lib.ListN.{length}
 use lib.Ieee.{Float, le}
-use Rattle.definitions.specs.Vectors.{Vec, dot, hasRoot, minus}
+use Rattle.definitions.specs.Vectors.{Vec, dot, hasRoot, norm, isDouble, minus}
 use Rattle.definitions.specs.Subspace.{Subspace, residual, fromPoints, flatten}
 use Rattle.definitions.specs.Orbits.{pointAt}
-use Rattle.bounds.specs.Sizes.{Each, each-getD, each-map, each-of-map, Small, small-none, Tame, minus-small, flatten-small}
-use Rattle.bounds.specs.Norms.{billionth, norm-has-root}
-use Rattle.bounds.specs.Fits.{FitTakes, RoomToFit, residual-has-root, fit-tame, fit-takes-roots}
+use Rattle.bounds.specs.Sizes.{Each, each-getD, each-map, each-of-map, is-double, Small, small-none, small-wider, Tame, minus-small, residual-small, flatten-small}
+use Rattle.bounds.specs.Norms.{billionth, norm-has-root, norm-finite}
+use Rattle.bounds.specs.Fits.{FitTakes, fit-tame, fit-takes-small}
 
 -- ---- the norms that a call takes
 
@@ -82,17 +82,31 @@ module _ (n k : ℕ) (plane : Subspace) (points : List Vec) (room : Room n k) (h
     unfolding through
     inner-bounded vertices = record { tame = fit-tame n (k + 2 + n) tolerance (omega arith) low (chosen plane points vertices) (chosen-small vertices); small = chosen-small vertices }
 
-    pub takes-roots : {v : Vec} → Takes tolerance plane points v → hasRoot (dot v v) ≡ true
+    -- what the call takes norms of
+    pub takes-small : {v : Vec} → Takes tolerance plane points v → Small n (k + 6 + 3 * n) v
     unfolding pointAt
-    takes-roots (in-length v w) =
+    takes-small (in-length v w) =
         let at : (u : ℕ) → Small n k (pointAt points u) = λ u. each-getD (Small n k) points u [] (small-none n k) (h .small) in
-        norm-has-root n (suc k) (minus (pointAt points w) (pointAt points v)) (omega arith) (minus-small (pointAt points w) (pointAt points v) (omega arith) (at w) (at v))
-    takes-roots {v} (in-fit vertices t) = fit-takes-roots n (k + 2 + n) tolerance (omega arith) low (chosen plane points vertices) v (chosen-small vertices) t
-    takes-roots (in-distance vertices u) =
-        residual-has-root n (k + 2 + n) tolerance (omega arith) low (through tolerance plane points vertices) (pointAt (flattened plane points) u) (inner-bounded vertices .tame)
-        (each-getD (Small n (k + 2 + n)) (flattened plane points) u [] (small-none n (k + 2 + n)) flattened-small)
+        let length = minus (pointAt points w) (pointAt points v) in
+        small-wider length (omega arith) (minus-small (pointAt points w) (pointAt points v) (omega arith) (at w) (at v))
+    takes-small {v} (in-fit vertices t) =
+        small-wider v (omega arith) (fit-takes-small n (k + 2 + n) tolerance (omega arith) low (chosen plane points vertices) v (chosen-small vertices) t)
+    takes-small (in-distance vertices u) =
+        let s = through tolerance plane points vertices in
+        let p = pointAt (flattened plane points) u in
+        small-wider (residual s p) (omega arith)
+        (residual-small n (k + 2 + n) s p (omega arith) (inner-bounded vertices .tame)
+        (each-getD (Small n (k + 2 + n)) (flattened plane points) u [] (small-none n (k + 2 + n)) flattened-small))
 
 -- ---- every call
+
+-- the root that the norm of v asks for has a value, and the norm is a finite double
+pub record Rooted (v : Vec) : Type 0 where
+  pub root : hasRoot (dot v v) ≡ true
+  pub double : T (isDouble (norm v))
+
+pub small-rooted : (n k : ℕ) (v : Vec) → k + k + n ≤ 1023 → Small n k v → Rooted v
+small-rooted n k v room a = record { root = norm-has-root n k v room a; double = is-double 539 (norm v) (norm-finite n k v room a) }
 
 -- the bound of a call's points at a depth, from that of the outermost call's
 unfoldable pub boundAt : ℕ → ℕ → ℕ → ℕ
@@ -108,7 +122,9 @@ module _ (n k : ℕ) (tolerance : Float) (low : T (le billionth tolerance)) (top
       let r : Room n (boundAt n k before) = omega arith in
       inner-bounded n (boundAt n k before) plane points r (occurs-bounded r c) tolerance low vertices
 
-  -- no norm is asked for a root that has no value
+  -- no norm asks for a root that has no value, and every norm is a finite double
   pub every-norm-has-its-root : {depth more : ℕ} {plane : Subspace} {points : List Vec} {v : Vec} → Room n (boundAt n k depth)
-      → Occurs tolerance top outer given depth more plane points → Takes tolerance plane points v → hasRoot (dot v v) ≡ true
-  every-norm-has-its-root {depth} {plane = plane} {points = points} room c t = takes-roots n (boundAt n k depth) plane points room (occurs-bounded room c) tolerance low t
+      → Occurs tolerance top outer given depth more plane points → Takes tolerance plane points v → Rooted v
+  every-norm-has-its-root {depth} {plane = plane} {points = points} {v = v} room c t =
+      let bound = boundAt n k depth in
+      small-rooted n (bound + 6 + 3 * n) v (omega arith) (takes-small n bound plane points room (occurs-bounded room c) tolerance low t)

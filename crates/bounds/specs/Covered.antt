@@ -1,16 +1,16 @@
 -- `Occurs` and `Takes` leave nothing out: a call with another norm is the call as defined, if the two norms agree wherever `Takes` says that a norm is taken in a call that `Occurs`.
 -- So `AnyNorm` is document 01's text (take the norm itself for the other one). Leans on Calls.
-use mathlib.Core.Path.{_≡_, refl, sym, ap, _∙_, subst, fun-ext}
+use mathlib.Core.Path.{_≡_, refl, ap, _∙_, fun-ext}
 use mathlib.Core.Bool.{Bool, true, false, cond, not, _&&_, _||_}
 use mathlib.Core.List.{List, [], _∷_, _++_, map, flatMap}
-use Prim.Native.Nat.{ℕ, zero, suc, _≤_, _<_}
+use Prim.Native.Nat.{ℕ, zero, suc}
 use lib.Dec.{T, leb, ltb, eqb, isEq, nleb→lt, eqb→eq}
 use lib.ListN.{length, getD}
 use lib.Ieee.{Float, binary64, div, lt}
 use Rattle.definitions.specs.Lists.{Pair, compareNats, anyOf, fresh, countFrom}
 use Rattle.definitions.specs.Outcome.{Outcome, answered, andThen, refuseIf}
 use Rattle.definitions.specs.Vectors.{Vec, norm, normalised, minus}
-use Rattle.definitions.specs.Subspace.{Subspace, residual, distance, addPoint, addPoints, fromPoints, isHyperplane, flatten}
+use Rattle.definitions.specs.Subspace.{Subspace, residual, distance, addPoint, addPoints, fromPoints, isHyperplane}
 use Rattle.definitions.specs.Orbits.{Row, Limits, Orbit, pointAt, vertexOpeners, tooShort, tooLong, breaksLimit, pairOpeners, pairsFrom, tuples, pointsNear, setImage, hyperplanes, hyperplaneOrbits}
 use Rattle.definitions.specs.Recursion.{Rules, Answer, Call, Inner, InnerCalls, innerCall, innerCalls, rowsWithin}
 use Rattle.definitions.specs.Search.{Found}

@@ -1,18 +1,17 @@
--- Fitting a subspace to small points: it stays tame, whichever points join it, and every norm that is taken on the way has a root. So has the distance of a small point from it.
+-- Fitting a subspace to small points: it stays tame, whichever points join it, and every vector whose norm is taken on the way is small.
 -- `FitTakes` says which norms are taken: those of the residuals, until the basis is full. Leans on Norms.
-use mathlib.Core.Path.{_≡_, refl}
 use mathlib.Core.Bool.{Bool, true, false, not, cond}
 use mathlib.Core.List.{List, [], _∷_, _++_}
-use Prim.Native.Nat.{ℕ, zero, suc, _+_, _*_, _≤_, _<_, zero-le}
+use Prim.Native.Nat.{ℕ, _+_, _*_, _≤_, _<_, zero-le}
 use native.Mathlib.Nat.{le-trans}
 use native.Mathlib.Omega.{arith}
 use lib.Dec.{T, leb, nleb→lt}
 use lib.ListN.{length, length-append}
 use lib.Ieee.{Float, lt, le}
-use Rattle.definitions.specs.Vectors.{Vec, dot, hasRoot, norm, normalised}
+use Rattle.definitions.specs.Vectors.{Vec, norm, normalised}
 use Rattle.definitions.specs.Subspace.{Subspace, residual, addPoint, addPoints, fromPoints}
 use Rattle.bounds.specs.Sizes.{Each, each-append, Small, small-none, Tame, residual-small}
-use Rattle.bounds.specs.Norms.{billionth, norm-has-root, normalised-small}
+use Rattle.bounds.specs.Norms.{billionth, normalised-small}
 
 -- A bound k on points of n coordinates that leaves room for the norms of their residuals: the residuals are at most 2 ^ (k + 4 + 2 n), and so the sum of n squares is finite.
 abbrev pub RoomToFit : ℕ → ℕ → Type 0
@@ -33,10 +32,6 @@ pub data FitTakes (tolerance : Float) : List Vec → Vec → Type 0 where
 -- ---- fits are tame
 
 module _ (n k : ℕ) (tolerance : Float) (room : RoomToFit n k) (low : T (le billionth tolerance)) where
-  -- the root that a residual's norm asks for
-  pub residual-has-root : (s : Subspace) (p : Vec) → Tame n k s → Small n k p → hasRoot (dot (residual s p) (residual s p)) ≡ true
-  residual-has-root s p h a = norm-has-root n (k + 4 + 2 * n) (residual s p) (omega arith) (residual-small n k s p (omega arith) h a)
-
   add-point-tame : (s : Subspace) (p : Vec) → length (s .basis) < n → Tame n k s → Small n k p → Tame n k (addPoint tolerance s p)
   unfolding addPoint
   add-point-tame s p few h a = go (lt tolerance (norm (residual s p))) (λ t. t)
@@ -69,12 +64,12 @@ module _ (n k : ℕ) (tolerance : Float) (room : RoomToFit n k) (low : T (le bil
   fit-tame [] a = record { offset = small-none n k; basis = tt; few = zero-le }
   fit-tame (p ∷ ps) a = add-points-tame (record { offset = p; basis = [] }) ps (record { offset = a .0; basis = tt; few = zero-le }) (a .1)
 
-  -- ---- and their norms have roots
+  -- ---- and what norms are taken of is small
 
-  add-takes-roots : (s : Subspace) (ps : List Vec) (v : Vec) → Tame n k s → Each (Small n k) ps → AddTakes tolerance s ps v → hasRoot (dot v v) ≡ true
-  add-takes-roots s ps v h a (at-first {p = p} l) = residual-has-root s p h (a .0)
-  add-takes-roots s ps v h a (behind {p = p} {ps = rest} l t) =
-      add-takes-roots (addPoint tolerance s p) rest v (add-point-tame s p (le-trans l (h .offset .short)) h (a .0)) (a .1) t
+  add-takes-small : (s : Subspace) (ps : List Vec) (v : Vec) → Tame n k s → Each (Small n k) ps → AddTakes tolerance s ps v → Small n (k + 4 + 2 * n) v
+  add-takes-small s ps v h a (at-first {p = p} l) = residual-small n k s p (omega arith) h (a .0)
+  add-takes-small s ps v h a (behind {p = p} {ps = rest} l t) =
+      add-takes-small (addPoint tolerance s p) rest v (add-point-tame s p (le-trans l (h .offset .short)) h (a .0)) (a .1) t
 
-  pub fit-takes-roots : (ps : List Vec) (v : Vec) → Each (Small n k) ps → FitTakes tolerance ps v → hasRoot (dot v v) ≡ true
-  fit-takes-roots ps v a (fitting {p = p} {ps = rest} t) = add-takes-roots (record { offset = p; basis = [] }) rest v (record { offset = a .0; basis = tt; few = zero-le }) (a .1) t
+  pub fit-takes-small : (ps : List Vec) (v : Vec) → Each (Small n k) ps → FitTakes tolerance ps v → Small n (k + 4 + 2 * n) v
+  fit-takes-small ps v a (fitting {p = p} {ps = rest} t) = add-takes-small (record { offset = p; basis = [] }) rest v (record { offset = a .0; basis = tt; few = zero-le }) (a .1) t

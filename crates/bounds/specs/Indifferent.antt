@@ -1,9 +1,9 @@
 -- The promise in one equation: whatever a norm is where document 01's root has no value, the outcome is the same, for every job's bytes and both buffers' lengths.
 -- Below it the same for a call with any rules, of any rank, with a tolerance from 1e-9 on. Leans on Covered and Jobs.
-use mathlib.Core.Path.{_≡_, refl, sym, ap, _∙_, subst}
-use mathlib.Core.Bool.{Bool, true, false, not, _&&_, true≢false}
+use mathlib.Core.Path.{_≡_, refl, sym, ap}
+use mathlib.Core.Bool.{Bool, true, false, cond, not, true≢false}
 use mathlib.Core.List.{List, [], _∷_}
-use mathlib.Core.Option.{Option, some, none}
+use mathlib.Core.Option.{some}
 use Prim.Native.Nat.{ℕ, zero, suc, _-_}
 use lib.Dec.{T}
 use lib.ListN.{take}
@@ -11,17 +11,17 @@ use lib.Ieee.{Float, nan, inf, fin, le}
 use lib.IntN.{pos, negsuc}
 use lib.Ieee.Fits.{and-i, and-l, and-r}
 use Rattle.definitions.specs.Lists.{allOf}
-use Rattle.definitions.specs.Outcome.{Outcome, answered, andThen, refuseIf}
+use Rattle.definitions.specs.Outcome.{Outcome, andThen, refuseIf}
 use Rattle.definitions.specs.Vectors.{Vec, squareRoot, valueOf, hasRoot, dot, norm}
 use Rattle.definitions.specs.Subspace.{Subspace}
 use Rattle.definitions.specs.Orbits.{Row}
 use Rattle.definitions.specs.Recursion.{Bounds, Rules, Answer}
 use Rattle.definitions.specs.Faceting.{faceting}
-use Rattle.definitions.specs.Job.{Bytes, Job, Test, readJob, tests, passAll, tolerance1, rulesOf, planeOf, callOf, answerBytes, fitting, outcomeWithin}
+use Rattle.definitions.specs.Job.{Bytes, Test, readJob, tests, passAll, rulesOf, planeOf, callOf, answerBytes, fitting, outcomeWithin}
 use Rattle.bounds.specs.Norms.{billionth}
-use Rattle.bounds.specs.Calls.{Occurs, outermost, Takes}
+use Rattle.bounds.specs.Calls.{outermost}
 use Rattle.bounds.specs.AnyNorm.{facetingBy, callBy, outcomeBy}
-use Rattle.bounds.specs.Covered.{Agree, call-same}
+use Rattle.bounds.specs.Covered.{call-same}
 use Rattle.bounds.specs.Jobs.{Admitted, passesFirst, passed-is-admitted, tolerance-high-enough, job-asks-for-roots-that-exist}
 
 -- where there is a root, it is the value
@@ -50,7 +50,7 @@ pub call-is-indifferent : (other : Vec → Float) → KeepsRoots other → (byte
 call-is-indifferent other keeps bytes h rules low rows budget =
     let job = readJob bytes in
     call-same other rules (job .rank - 2) (planeOf job) (job .points)
-    (record { at = λ {v = v} c k. keeps v (job-asks-for-roots-that-exist bytes h (rules .tolerance) low c k) }) (job .rank - 2) outermost rows budget
+    (record { at = λ {v = v} c k. keeps v (job-asks-for-roots-that-exist bytes h (rules .tolerance) low c k .root) }) (job .rank - 2) outermost rows budget
 
 -- ---- from bytes to the outcome
 
@@ -80,3 +80,14 @@ outcome-is-indifferent other keeps bounds bytes workspace room =
     pass-all-same (tests bytes workspace) (λ u. finished (callBy other bounds job)) (λ u. finished (callOf bounds job)) (λ t.
     ap finished
     (call-is-indifferent other keeps bytes (passed-is-admitted bytes workspace (take-passes (λ (t : Test). t .passes tt) 11 (tests bytes workspace) t)) (rulesOf bounds job) tolerance-high-enough (job .rows) (job .budget)))
+
+-- for instance: the norm where it has a value, and otherwise any float
+unfoldable pub normOr : Float → Vec → Float
+normOr instead v = cond (hasRoot (dot v v)) (norm v) instead
+
+norm-or-keeps : (instead : Float) → KeepsRoots (normOr instead)
+unfolding normOr
+norm-or-keeps instead v h = ap (λ (b : Bool). cond b (norm v) instead) h
+
+pub nan-is-never-met : (instead : Float) (bounds : Bounds) (bytes : Bytes) (workspace room : ℕ) → outcomeBy (normOr instead) bounds bytes workspace room ≡ outcomeWithin bounds bytes workspace room
+nan-is-never-met instead = outcome-is-indifferent (normOr instead) (norm-or-keeps instead)

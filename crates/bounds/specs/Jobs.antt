@@ -1,24 +1,23 @@
 -- No root is refused inside a job. A job's numbers are doubles, its points' and offset's at most 2 ^ 16 in size and its basis' at most 1, so that Calls' theorem holds for every call of it:
 -- for every rank and every tolerance from 1e-9 on, where a point has at most 5 coordinates; and so for every job that passes refusals 1 to 11. Leans on Calls and on `ofBits-fits`.
-use mathlib.Core.Path.{_≡_, refl, sym, ap, _∙_, subst}
-use mathlib.Core.Bool.{Bool, true, false, _&&_, _||_}
-use mathlib.Core.List.{List, [], _∷_, map}
-use Prim.Native.Nat.{ℕ, zero, suc, _+_, _-_, _*_, _^_, _≤_, _<_, zero-le}
+use mathlib.Core.Path.{_≡_, refl, ap, _∙_}
+use mathlib.Core.Bool.{Bool, true, _&&_}
+use mathlib.Core.List.{List, [], _∷_}
+use Prim.Native.Nat.{ℕ, zero, suc, _+_, _-_, _*_, _^_, _≤_, zero-le}
 use native.Mathlib.Omega.{arith}
-use lib.Dec.{T, leb, ltb, eqb, leb→le, lit≤}
-use lib.IntN.{pos}
+use lib.Dec.{T, leb, leb→le}
 use lib.ListN.{length, take, length-map}
 use lib.Ieee.{Float, nan, inf, fin, binary64, up, down, ofBits, fits, le}
 use lib.Ieee.Bits.{ofBits-fits}
 use lib.Ieee.Fits.{and-l, and-r}
-use Rattle.laws.specs.Floats.{Within, Sized, not-above, wider}
+use Rattle.laws.specs.Floats.{Within, not-above}
 use Rattle.definitions.specs.Lists.{allOf, countFrom}
 use Rattle.definitions.specs.Vectors.{Vec, dot, hasRoot}
 use Rattle.definitions.specs.Subspace.{Subspace}
 use Rattle.definitions.specs.Job.{Bytes, Job, Test, floatAt, floatsAt, vectorsAt, readJob, between, within, allWithin, limitGood, floatsGood, tests, tolerance1, planeOf}
-use Rattle.bounds.specs.Sizes.{Each, each-of-map, each-map, each-so, each-both, Double, Small, small-wider, Tame}
+use Rattle.bounds.specs.Sizes.{Each, IsDouble, is-double, each-of-map, each-so, each-both, Double, Small, small-wider}
 use Rattle.bounds.specs.Norms.{billionth}
-use Rattle.bounds.specs.Calls.{Takes, Occurs, depth-and-rank, Bounded, Room, boundAt, every-norm-has-its-root}
+use Rattle.bounds.specs.Calls.{Takes, Occurs, depth-and-rank, Bounded, Rooted, Room, boundAt, flattened, flattened-small, occurs-bounded, every-norm-has-its-root}
 
 -- ---- tests over lists
 
@@ -130,13 +129,42 @@ room-at depth h = let e = bound-at depth in omega arith
 pub job-asks-for-roots-that-exist : (bytes : Bytes) → Admitted 5 (readJob bytes) → (tolerance : Float) → T (le billionth tolerance)
     → {depth more : ℕ} {plane : Subspace} {points : List Vec} {v : Vec}
     → Occurs tolerance (readJob bytes .rank - 2) (planeOf (readJob bytes)) (readJob bytes .points) depth more plane points → Takes tolerance plane points v
-    → hasRoot (dot v v) ≡ true
+    → Rooted v
 job-asks-for-roots-that-exist bytes h tolerance low {depth} c t =
     let job = readJob bytes in
     let e = depth-and-rank c in
     let a = h .enough in
     let b = h .few in
     every-norm-has-its-root 5 16 tolerance low (job .rank - 2) (planeOf job) (job .points) (job-bounded 5 job (job-whole bytes) h) (room-at depth (omega arith)) c t
+
+-- every number that a call of the job is given, or makes of its points by flattening, is a finite double
+pub record AllDoubles (plane : Subspace) (points : List Vec) : Type 0 where
+  pub offset : Each IsDouble (plane .offset)
+  pub basis : Each (Each IsDouble) (plane .basis)
+  pub given : Each (Each IsDouble) points
+  pub flat : Each (Each IsDouble) (flattened plane points)
+
+small-doubles : (n k : ℕ) (v : Vec) → Small n k v → Each IsDouble v
+small-doubles n k v s = each-so (Double k) IsDouble (is-double k) v (s .sized)
+
+pub bounded-doubles : (n k : ℕ) (plane : Subspace) (points : List Vec) → Room n k → Bounded n k plane points → AllDoubles plane points
+bounded-doubles n k plane points room h = record {
+  offset = small-doubles n k (plane .offset) (h .tame .offset);
+  basis = each-so (Small n 1) (Each IsDouble) (small-doubles n 1) (plane .basis) (h .tame .basis);
+  given = each-so (Small n k) (Each IsDouble) (small-doubles n k) points (h .small);
+  flat = each-so (Small n (k + 2 + n)) (Each IsDouble) (small-doubles n (k + 2 + n)) (flattened plane points) (flattened-small n k plane points room h);
+}
+
+pub job-handles-doubles : (bytes : Bytes) → Admitted 5 (readJob bytes) → (tolerance : Float) → T (le billionth tolerance) → {depth more : ℕ} {plane : Subspace} {points : List Vec}
+    → Occurs tolerance (readJob bytes .rank - 2) (planeOf (readJob bytes)) (readJob bytes .points) depth more plane points → AllDoubles plane points
+job-handles-doubles bytes h tolerance low {depth} {plane = plane} {points = points} c =
+    let job = readJob bytes in
+    let e = depth-and-rank c in
+    let a = h .enough in
+    let b = h .few in
+    let room : Room 5 (boundAt 5 16 depth) = room-at depth (omega arith) in
+    bounded-doubles 5 (boundAt 5 16 depth) plane points room
+    (occurs-bounded 5 16 tolerance low (job .rank - 2) (planeOf job) (job .points) (job-bounded 5 job (job-whole bytes) h) room c)
 
 -- ---- version 1
 
@@ -164,4 +192,4 @@ pub no-root-is-refused : (bytes : Bytes) (workspace : ℕ) → T (passesFirst 11
     → {depth more : ℕ} {plane : Subspace} {points : List Vec} {v : Vec}
     → Occurs tolerance1 (readJob bytes .rank - 2) (planeOf (readJob bytes)) (readJob bytes .points) depth more plane points → Takes tolerance1 plane points v
     → hasRoot (dot v v) ≡ true
-no-root-is-refused bytes workspace t c k = job-asks-for-roots-that-exist bytes (passed-is-admitted bytes workspace t) tolerance1 tolerance-high-enough c k
+no-root-is-refused bytes workspace t c k = job-asks-for-roots-that-exist bytes (passed-is-admitted bytes workspace t) tolerance1 tolerance-high-enough c k .root

@@ -8,3 +8,4 @@ pub mod Jobs
 pub mod AnyNorm
 pub mod Covered
 pub mod Indifferent
+pub mod Examples

@@ -1,19 +1,18 @@
 -- Norms of small vectors. A sum of squares from +0 is finite and has the sign +, so its root has a value, and the norm is finite.
 -- A norm that exceeds the tolerance, if that is 1e-9 or more, is at least half of every component, so that a normalised vector's numbers are at most 2 in size:
 -- if 2 ^ k ≤ |x| then x² rounds to at least 4 ^ k, and so the norm is at least 2 ^ k. Where |x| is at most 2 ^ −29 it is at most twice the tolerance. Leans on Sizes and Roots.
-use mathlib.Core.Path.{_≡_, refl, sym, ap, _∙_, subst}
+use mathlib.Core.Path.{_≡_, sym, ap, subst}
 use mathlib.Core.Bool.{Bool, true, false, not}
-use mathlib.Core.List.{List, [], _∷_, map}
-use Prim.Native.Nat.{ℕ, zero, suc, _+_, _-_, _*_, _^_, _≤_, _<_, zero-le}
-use native.Mathlib.Nat.{le-trans, le-of-eq, mul-le-mul-right, mul-lt-mul-of-pos-right}
+use mathlib.Core.List.{[], _∷_}
+use Prim.Native.Nat.{ℕ, suc, _+_, _-_, _*_, _^_, _≤_, _<_}
+use native.Mathlib.Nat.{mul-le-mul-right, mul-lt-mul-of-pos-right}
 use native.Mathlib.Omega.{arith}
 use lib.Dec.{T, leb, leb→le, nleb→lt, lit≤}
 use lib.Pow.{pow-pos, pow-mono, pow-lt, pow-add}
-use lib.IntN.{ℤ, pos}
 use lib.ListN.{length, length-map}
 use lib.Ieee.{Float, nan, inf, fin, binary64, up, down, ofBits, add, mul, div, lt, le, fits}
 use lib.Ieee.Fits.{down-pos}
-use Rattle.laws.specs.Floats.{Within, Sized, wider, add-sized, mul-sized}
+use Rattle.laws.specs.Floats.{wider, add-sized, mul-sized}
 use Rattle.laws.specs.LowerBounds.{Plus, AtLeast, Reaches, NotBeyond, add-plus, square-plus, square-at-least, add-at-least-left, add-at-least-right, below-at-least, div-sized, power-below, below-twice}
 use Rattle.definitions.specs.Vectors.{Vec, zero64, dotFrom, dot, valueOf, squareRoot, hasRoot, norm, normalised}
 use Rattle.bounds.specs.Sizes.{Each, each-map, each-both, Double, Small, zero-small}
@@ -21,53 +20,53 @@ use Rattle.bounds.specs.Roots.{root-small, root-at-least, plus-has-root}
 
 -- ---- a sum of squares
 
--- finite, at most 2 ^ k, and with the sign +
-pub record Positive (k : ℕ) (x : Float) : Type 0 where
+-- a finite double of size at most 2 ^ k with the sign +
+pub record NotNegative (k : ℕ) (x : Float) : Type 0 where
   pub double : Double k x
   pub plus : Plus x
 
-square-positive : (k : ℕ) (x : Float) → k + k ≤ 1023 → Double k x → Positive (k + k) (mul binary64 x x)
-square-positive k x K h = let d = mul-sized binary64 k k x x K h h in record { double = d; plus = square-plus binary64 (k + k) x (d .within) }
+square-not-negative : (k : ℕ) (x : Float) → k + k ≤ 1023 → Double k x → NotNegative (k + k) (mul binary64 x x)
+square-not-negative k x K h = let d = mul-sized binary64 k k x x K h h in record { double = d; plus = square-plus binary64 (k + k) x (d .within) }
 
-sum-positive : (k : ℕ) (x y : Float) → suc k ≤ 1023 → Positive k x → Positive k y → Positive (suc k) (add binary64 x y)
-sum-positive k x y K a b =
+sum-not-negative : (k : ℕ) (x y : Float) → suc k ≤ 1023 → NotNegative k x → NotNegative k y → NotNegative (suc k) (add binary64 x y)
+sum-not-negative k x y K a b =
     let d = add-sized binary64 k x y K (a .double) (b .double) in
     record { double = d; plus = add-plus binary64 (suc k) x y (a .plus) (b .plus) (d .within) }
 
-positive-wider : {j k : ℕ} {x : Float} → j ≤ k → Positive j x → Positive k x
-positive-wider h a = record { double = wider h (a .double); plus = a .plus }
+not-negative-wider : {j k : ℕ} {x : Float} → j ≤ k → NotNegative j x → NotNegative k x
+not-negative-wider h a = record { double = wider h (a .double); plus = a .plus }
 
 -- one step of a sum of squares
-step-positive : (k i : ℕ) (sum x : Float) → k + k + suc i ≤ 1023 → Positive (k + k + i) sum → Double k x → Positive (k + k + suc i) (add binary64 sum (mul binary64 x x))
-step-positive k i sum x K s a =
-    positive-wider (omega arith) (sum-positive (k + k + i) sum (mul binary64 x x) (omega arith) s (positive-wider (omega arith) (square-positive k x (omega arith) a)))
+step-not-negative : (k i : ℕ) (sum x : Float) → k + k + suc i ≤ 1023 → NotNegative (k + k + i) sum → Double k x → NotNegative (k + k + suc i) (add binary64 sum (mul binary64 x x))
+step-not-negative k i sum x K s a =
+    not-negative-wider (omega arith) (sum-not-negative (k + k + i) sum (mul binary64 x x) (omega arith) s (not-negative-wider (omega arith) (square-not-negative k x (omega arith) a)))
 
-squares-positive : (k i : ℕ) (sum : Float) (xs : Vec) → k + k + i + length xs ≤ 1023 → Positive (k + k + i) sum → Each (Double k) xs → Positive (k + k + i + length xs) (dotFrom sum xs xs)
+squares-not-negative : (k i : ℕ) (sum : Float) (xs : Vec) → k + k + i + length xs ≤ 1023 → NotNegative (k + k + i) sum → Each (Double k) xs → NotNegative (k + k + i + length xs) (dotFrom sum xs xs)
 unfolding dotFrom
-squares-positive k i sum [] K s a = positive-wider (omega arith) s
-squares-positive k i sum (x ∷ xs) K s a =
-    positive-wider (omega arith)
-    (squares-positive k (suc i) (add binary64 sum (mul binary64 x x)) xs (omega arith) (step-positive k i sum x (omega arith) s (a .0)) (a .1))
+squares-not-negative k i sum [] K s a = not-negative-wider (omega arith) s
+squares-not-negative k i sum (x ∷ xs) K s a =
+    not-negative-wider (omega arith)
+    (squares-not-negative k (suc i) (add binary64 sum (mul binary64 x x)) xs (omega arith) (step-not-negative k i sum x (omega arith) s (a .0)) (a .1))
 
-zero-positive : (k : ℕ) → Positive k zero64
+zero-not-negative : (k : ℕ) → NotNegative k zero64
 unfolding ofBits
-zero-positive k = record { double = zero-small k; plus = tt }
+zero-not-negative k = record { double = zero-small k; plus = tt }
 
-pub squared-positive : (n k : ℕ) (v : Vec) → k + k + n ≤ 1023 → Small n k v → Positive (k + k + n) (dot v v)
+pub squared-not-negative : (n k : ℕ) (v : Vec) → k + k + n ≤ 1023 → Small n k v → NotNegative (k + k + n) (dot v v)
 unfolding dot
-squared-positive n k v K a =
+squared-not-negative n k v K a =
     let short = a .short in
-    positive-wider (omega arith) (squares-positive k 0 zero64 v (omega arith) (zero-positive (k + k + 0)) (a .sized))
+    not-negative-wider (omega arith) (squares-not-negative k 0 zero64 v (omega arith) (zero-not-negative (k + k + 0)) (a .sized))
 
 -- ---- the norm has a value
 
 -- the root that a norm asks for
 pub norm-has-root : (n k : ℕ) (v : Vec) → k + k + n ≤ 1023 → Small n k v → hasRoot (dot v v) ≡ true
-norm-has-root n k v K a = plus-has-root (dot v v) (squared-positive n k v K a .plus)
+norm-has-root n k v K a = plus-has-root (dot v v) (squared-not-negative n k v K a .plus)
 
 pub norm-finite : (n k : ℕ) (v : Vec) → k + k + n ≤ 1023 → Small n k v → Double 539 (norm v)
 unfolding norm
-norm-finite n k v K a = let s = squared-positive n k v K a in root-small (dot v v) (s .double .holds) (s .plus)
+norm-finite n k v K a = let s = squared-not-negative n k v K a in root-small (dot v v) (s .double .holds) (s .plus)
 
 -- ---- each component against the sum
 
@@ -75,22 +74,22 @@ norm-finite n k v K a = let s = squared-positive n k v K a in root-small (dot v 
 abbrev Dominates : Float → Float → Type 0
 Dominates sum x = (i j : ℕ) → i + 1074 ≡ j + j → i ≤ 2097 → Reaches binary64 j x → AtLeast binary64 i sum
 
-kept : (k i c : ℕ) (sum : Float) (xs : Vec) → k + k + i + length xs ≤ 1023 → c ≤ 2097 → Positive (k + k + i) sum → AtLeast binary64 c sum → Each (Double k) xs
+kept : (k i c : ℕ) (sum : Float) (xs : Vec) → k + k + i + length xs ≤ 1023 → c ≤ 2097 → NotNegative (k + k + i) sum → AtLeast binary64 c sum → Each (Double k) xs
     → AtLeast binary64 c (dotFrom sum xs xs)
 unfolding dotFrom
 kept k i c sum [] K C s g a = g
 kept k i c sum (x ∷ xs) K C s g a =
-    let next = step-positive k i sum x (omega arith) s (a .0) in
-    let square = square-positive k x (omega arith) (a .0) in
+    let next = step-not-negative k i sum x (omega arith) s (a .0) in
+    let square = square-not-negative k x (omega arith) (a .0) in
     kept k (suc i) c (add binary64 sum (mul binary64 x x)) xs (omega arith) C next
     (add-at-least-left binary64 c (k + k + suc i) sum (mul binary64 x x) C g (square .plus) (next .double .within)) (a .1)
 
-each-dominated : (k i : ℕ) (sum : Float) (xs : Vec) → k + k + i + length xs ≤ 1023 → Positive (k + k + i) sum → Each (Double k) xs → Each (Dominates (dotFrom sum xs xs)) xs
+each-dominated : (k i : ℕ) (sum : Float) (xs : Vec) → k + k + i + length xs ≤ 1023 → NotNegative (k + k + i) sum → Each (Double k) xs → Each (Dominates (dotFrom sum xs xs)) xs
 unfolding dotFrom
 each-dominated k i sum [] K s a = tt
 each-dominated k i sum (x ∷ xs) K s a =
-    let next = step-positive k i sum x (omega arith) s (a .0) in
-    let square = square-positive k x (omega arith) (a .0) in (
+    let next = step-not-negative k i sum x (omega arith) s (a .0) in
+    let square = square-not-negative k x (omega arith) (a .0) in (
       λ c j e C r.
           kept k (suc i) c (add binary64 sum (mul binary64 x x)) xs (omega arith) C next
           (add-at-least-right binary64 c (k + k + suc i) sum (mul binary64 x x) C (s .plus) (square-at-least binary64 c j (k + k) x C e r (square .double .within)) (next .double .within)) (a .1),
@@ -99,7 +98,7 @@ each-dominated k i sum (x ∷ xs) K s a =
 
 pub components-dominated : (n k : ℕ) (v : Vec) → k + k + n ≤ 1023 → Small n k v → Each (Dominates (dot v v)) v
 unfolding dot
-components-dominated n k v K a = let short = a .short in each-dominated k 0 zero64 v (omega arith) (zero-positive (k + k + 0)) (a .sized)
+components-dominated n k v K a = let short = a .short in each-dominated k 0 zero64 v (omega arith) (zero-not-negative (k + k + 0)) (a .sized)
 
 -- ---- a component against the norm
 
@@ -162,7 +161,7 @@ billionth-reaches = lit≤ tt
 pub normalised-small : (n k : ℕ) (tolerance : Float) (v : Vec) → k + k + n ≤ 1023 → T (le billionth tolerance) → T (lt tolerance (norm v)) → Small n k v → Small n 1 (normalised v)
 unfolding normalised norm
 normalised-small n k tolerance v K low t a =
-    let s = squared-positive n k v K a in
+    let s = squared-not-negative n k v K a in
     let root = valueOf (squareRoot (dot v v)) in
     let reached : AtLeast binary64 1044 root = below-at-least binary64 1044 539 billionth tolerance root billionth-reaches low t (norm-finite n k v K a .within) in
     record {

@@ -2,16 +2,15 @@
 -- That it is the nearest double to the root is not needed here. Leans on `round`'s bounds in `laws`, and on the whole root being the largest one.
 use mathlib.Core.Path.{_≡_, refl, sym, ap, _∙_, subst}
 use mathlib.Core.Bool.{Bool, true, false, not, cond}
-use mathlib.Core.Option.{Option, some, none}
 use Prim.Native.Nat.{ℕ, zero, suc, _+_, _-_, _*_, _/_, _%_, _^_, _≤_, _<_, zero-le, suc-le-suc}
-use native.Mathlib.Nat.{le-refl, le-trans, le-of-eq, mul-le-mul, mul-le-mul-left, mul-le-mul-right, mul-pos, mul-assoc, mul-comm, mul-left-comm, pow-suc, mul-lt-mul-of-pos-right, le-of-mul-le-mul-right}
+use native.Mathlib.Nat.{le-refl, le-trans, le-of-eq, mul-le-mul, mul-le-mul-left, mul-le-mul-right, mul-pos, pow-suc, mul-lt-mul-of-pos-right, le-of-mul-le-mul-right}
 use native.Mathlib.Omega.{arith}
 use lib.Dec.{T, leb, eqb, leb→le, nleb→lt, lit≤}
 use lib.Pow.{pow-pos, pow-mono, pow-add}
-use lib.IntN.{ℤ, pos, negsuc}
-use lib.Ieee.{Float, nan, inf, fin, binary64, round, fits, low, emax, up, down}
+use lib.IntN.{pos, negsuc}
+use lib.Ieee.{Float, nan, inf, fin, binary64, fits, up, down}
 use lib.Ieee.Fits.{down-pos}
-use Rattle.laws.specs.Floats.{Within, Sized, round-sized, held-digits, held-exponent}
+use Rattle.laws.specs.Floats.{round-sized, held-digits, held-exponent}
 use Rattle.laws.specs.LowerBounds.{Plus, AtLeast, round-at-least}
 use Rattle.definitions.specs.Vectors.{wholeRoot, twiceRoot, rootTimes, squareRoot, valueOf, hasRoot}
 use Rattle.bounds.specs.Sizes.{Double}

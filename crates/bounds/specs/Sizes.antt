@@ -1,15 +1,13 @@
 -- Vectors of bounded numbers. `Small n k v`: at most n numbers, each a finite double of size at most 2 ^ k. Differences, dot products, projections, residuals and flattened points of such
 -- vectors are small too, by exponents that grow with n. Basis vectors have numbers of size at most 2. Leans on the sizes of floats in `laws`.
-use mathlib.Core.Path.{_≡_, refl, sym, ap, subst}
-use mathlib.Core.Bool.{Bool, true, false}
+use mathlib.Core.Path.{sym, subst}
 use mathlib.Core.List.{List, [], _∷_, _++_, map}
-use Prim.Native.Nat.{ℕ, zero, suc, _+_, _*_, _^_, _≤_, _<_, zero-le}
-use native.Mathlib.Nat.{le-refl, le-trans}
+use Prim.Native.Nat.{ℕ, zero, suc, _+_, _*_, _≤_, zero-le}
+use native.Mathlib.Nat.{le-trans}
 use native.Mathlib.Omega.{arith}
 use lib.Dec.{T}
-use lib.IntN.{pos}
 use lib.ListN.{length, getD, length-map}
-use lib.Ieee.{Float, nan, inf, fin, binary64, ofBits, add, sub, mul, fits}
+use lib.Ieee.{Float, nan, inf, fin, binary64, ofBits, add, mul, fits}
 use Rattle.laws.specs.Floats.{Within, Sized, wider, add-sized, sub-sized, mul-sized}
 use Rattle.definitions.specs.Vectors.{Vec, zero64, isDouble, dotFrom, dot, minus, plusTimes}
 use Rattle.definitions.specs.Subspace.{Subspace, gains, project, residual, flatten}
@@ -55,13 +53,16 @@ module _ {A : Type 0} (P Q : A → Type 0) where
 abbrev pub Double : ℕ → Float → Type 0
 Double = Sized binary64
 
-finite-double : (k : ℕ) (x : Float) → T (fits binary64 x) → Within k x → T (isDouble x)
+abbrev pub IsDouble : Float → Type 0
+IsDouble x = T (isDouble x)
+
+finite-double : (k : ℕ) (x : Float) → T (fits binary64 x) → Within k x → IsDouble x
 unfolding isDouble
 finite-double k nan h w = w
 finite-double k (inf s) h w = w
 finite-double k (fin s m e) h w = h
 
-pub is-double : (k : ℕ) (x : Float) → Double k x → T (isDouble x)
+pub is-double : (k : ℕ) (x : Float) → Double k x → IsDouble x
 is-double k x d = finite-double k x (d .holds) (d .within)
 
 -- +0 is within every bound

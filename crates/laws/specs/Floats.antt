@@ -1,16 +1,16 @@
 -- How large a float is. `Sized f k x`: the format f holds x, and x is finite and at most 2 ^ k in size. Rounding keeps such a bound, since it keeps the order and leaves powers of two alone;
 -- so sums, differences, products and quotients have bounds of their own, as long as the power is one that the format holds.
 -- Leans on lib.Ieee's laws of `round`: `round-mono`, `round-exact` and the operations' `-fits`.
-use mathlib.Core.Path.{_≡_, refl, sym, ap, _∙_, subst}
+use mathlib.Core.Path.{_≡_, sym, ap, subst}
 use mathlib.Core.Bool.{Bool, true, false, not, _&&_, _||_, Bool·beq, cond, true≢false}
 use Prim.Native.Nat.{ℕ, zero, suc, _+_, _-_, _*_, _/_, _%_, _^_, _≤_, _<_, zero-le, suc-le-suc, compare}
-use native.Mathlib.Nat.{pow-suc, le-refl, le-trans, le-of-eq, lt-of-le-of-lt, mul-le-mul, mul-le-mul-left, mul-le-mul-right, mul-pos, mul-assoc, mul-comm, mul-left-comm, mul-right-comm, le-of-mul-le-mul-right}
+use native.Mathlib.Nat.{pow-suc, le-refl, le-trans, le-of-eq, mul-le-mul, mul-le-mul-right, mul-pos, mul-assoc, mul-comm, mul-left-comm, le-of-mul-le-mul-right}
 use native.Mathlib.Omega.{arith}
 use lib.Dec.{T, leb, ltb, eqb, ltb→lt, leb→le, nleb→lt, eqb→eq}
 use lib.Pow.{pow-pos, pow-mono, pow-lt, pow-add}
-use lib.IntN.{ℤ, pos, negsuc}
-use lib.Ieee.{Float, nan, inf, fin, Format, prec, emax, low, up, down, unlike, nearest, size, odd, units, round, neg, sum, add, sub, mul, div, lt, le, fits}
-use lib.Ieee.Fits.{round-is, round-fits, add-fits, sub-fits, mul-fits, div-fits, neg-fits, up-pos, down-pos, two, two-le-pos, and-l, and-r}
+use lib.IntN.{ℤ, pos}
+use lib.Ieee.{Float, nan, inf, fin, Format, prec, emax, low, up, down, unlike, nearest, size, odd, units, round, neg, sum, add, sub, mul, le, fits}
+use lib.Ieee.Fits.{round-is, round-fits, neg-fits, down-pos, two, two-le-pos, and-l, and-r}
 use lib.Ieee.Exact.{HasValue, round-exact}
 use lib.Ieee.Order.{round-mono}
 
@@ -87,17 +87,13 @@ round-signed j f s a c h =
 
 -- ---- rounding keeps the bounds
 
-or-true : (a : Bool) → T (a && true) → T a
-or-true true t = tt
-or-true false t = t
-
 -- what `le` tests of two values with the sign +
 pub not-above : (a b : ℕ) → T (ltb a b || (eqb a b && true)) → a ≤ b
 not-above a b = go (ltb a b) (ltb→lt a b)
   where
     go : (x : Bool) → (T x → a < b) → T (x || (eqb a b && true)) → a ≤ b
     go true h t = let l = h tt in omega arith
-    go false h t = le-of-eq (eqb→eq a b (or-true (eqb a b) t))
+    go false h t = le-of-eq (eqb→eq a b (and-l (eqb a b) true t))
 
 -- x / p ≤ n / q and n / q = b
 under-whole : (x p n q b : ℕ) → 0 < q → x * q ≤ n * p → n * 1 ≡ b * q → x ≤ b * p

@@ -1,13 +1,13 @@
 -- How small a float is at least, in units of the format's smallest value. `Reaches f i x`: x is finite and at least 2 ^ i units in size. `AtLeast f i x`: it has the sign + too.
 -- Rounding keeps the bound, so the square of a value that reaches 2 ^ j has one, and a sum of values with the sign + is at least as large as each.
 -- `NotBeyond k x y`: x is at most 2 ^ k times y in size; then the quotient x / y is at most 2 ^ k. Leans on Floats.
-use mathlib.Core.Path.{_≡_, refl, sym, ap, _∙_, subst}
-use mathlib.Core.Bool.{Bool, true, false, _&&_, _||_, cond, true≢false}
-use Prim.Native.Nat.{ℕ, zero, suc, _+_, _-_, _*_, _/_, _^_, _≤_, _<_, zero-le}
-use native.Mathlib.Nat.{le-trans, le-of-eq, mul-le-mul, mul-le-mul-left, mul-le-mul-right, mul-pos, mul-comm, le-of-mul-le-mul-right, le-div-iff-mul-le, div-lt-iff-lt-mul, pow-suc}
+use mathlib.Core.Path.{_≡_, sym, ap, _∙_, subst}
+use mathlib.Core.Bool.{Bool, true, false, cond, true≢false}
+use Prim.Native.Nat.{ℕ, zero, suc, _+_, _*_, _/_, _^_, _≤_, _<_}
+use native.Mathlib.Nat.{le-trans, le-of-eq, mul-le-mul, mul-le-mul-right, mul-pos, mul-comm, le-of-mul-le-mul-right, le-div-iff-mul-le, div-lt-iff-lt-mul, pow-suc}
 use native.Mathlib.Omega.{arith}
-use lib.Dec.{T, ltb, eqb, ltb→lt, eqb→eq}
-use lib.Pow.{pow-pos, pow-mono, pow-lt, pow-add}
+use lib.Dec.{T, eqb, ltb→lt, eqb→eq}
+use lib.Pow.{pow-pos, pow-lt, pow-add}
 use lib.IntN.{ℤ}
 use lib.Ieee.{Float, nan, inf, fin, Format, prec, emax, low, up, down, unlike, size, round, sum, add, mul, div, lt, le}
 use lib.Ieee.Digits.{size-lt, size-reaches}
