@@ -1,5 +1,5 @@
--- The promise in one equation: whatever a norm is where document 01's root has no value, the outcome is the same, for every job's bytes and both buffers' lengths.
--- Below it the same for a call with any rules, of any rank, with a tolerance from 1e-9 on. Leans on Covered and Jobs.
+-- The promise as an equation: whatever a norm is where document 01's root has no value, the outcome is the same, for all bytes and both buffers' lengths (`outcome-is-indifferent`).
+-- Before it the same for a job's call of any rank, with any rules whose tolerance is 1e-9 or more (`call-is-indifferent`). Leans on Covered and Jobs.
 use mathlib.Core.Path.{_≡_, refl, sym, ap}
 use mathlib.Core.Bool.{Bool, true, false, cond, not, true≢false}
 use mathlib.Core.List.{List, [], _∷_}
@@ -17,12 +17,12 @@ use Rattle.definitions.specs.Subspace.{Subspace}
 use Rattle.definitions.specs.Orbits.{Row}
 use Rattle.definitions.specs.Recursion.{Bounds, Rules, Answer}
 use Rattle.definitions.specs.Faceting.{faceting}
-use Rattle.definitions.specs.Job.{Bytes, Test, readJob, tests, passAll, rulesOf, planeOf, callOf, answerBytes, fitting, outcomeWithin}
+use Rattle.definitions.specs.Job.{Bytes, Job, Test, readJob, tests, passAll, rulesOf, planeOf, callOf, answerBytes, fitting, outcomeWithin}
 use Rattle.bounds.specs.Norms.{billionth}
 use Rattle.bounds.specs.Calls.{outermost}
 use Rattle.bounds.specs.AnyNorm.{facetingBy, callBy, outcomeBy}
 use Rattle.bounds.specs.Covered.{call-same}
-use Rattle.bounds.specs.Jobs.{Admitted, passesFirst, passed-is-admitted, tolerance-high-enough, job-asks-for-roots-that-exist}
+use Rattle.bounds.specs.Jobs.{Admitted, Whole, job-whole, passesFirst, passed-is-admitted, tolerance-high-enough, job-asks-for-roots-that-exist}
 
 -- where there is a root, it is the value
 pub root-has-value : (x : Float) → hasRoot x ≡ true → squareRoot x ≡ some (valueOf (squareRoot x))
@@ -44,13 +44,11 @@ pub any-norm-is-the-text : (more : ℕ) (rules : Rules) (plane : Subspace) (poin
 any-norm-is-the-text more rules plane points rows budget = call-same norm rules more plane points (record { at = λ c k. refl }) more outermost rows budget
 
 -- For any rules with a tolerance from 1e-9 on, and any rank: a job's call does not depend on what a norm is where its root has no value.
-pub call-is-indifferent : (other : Vec → Float) → KeepsRoots other → (bytes : Bytes) → Admitted 5 (readJob bytes) → (rules : Rules) → T (le billionth (rules .tolerance)) → (rows : List Row) (budget : ℕ)
-    → facetingBy other (readJob bytes .rank - 2) rules (planeOf (readJob bytes)) (readJob bytes .points) rows budget
-    ≡ faceting (readJob bytes .rank - 2) rules (planeOf (readJob bytes)) (readJob bytes .points) rows budget
-call-is-indifferent other keeps bytes h rules low rows budget =
-    let job = readJob bytes in
+pub call-is-indifferent : (other : Vec → Float) → KeepsRoots other → (job : Job) → Whole job → Admitted 5 job → (rules : Rules) → T (le billionth (rules .tolerance)) → (rows : List Row) (budget : ℕ)
+    → facetingBy other (job .rank - 2) rules (planeOf job) (job .points) rows budget ≡ faceting (job .rank - 2) rules (planeOf job) (job .points) rows budget
+call-is-indifferent other keeps job w h rules low rows budget =
     call-same other rules (job .rank - 2) (planeOf job) (job .points)
-    (record { at = λ {v = v} c k. keeps v (job-asks-for-roots-that-exist bytes h (rules .tolerance) low c k .root) }) (job .rank - 2) outermost rows budget
+    (record { at = λ {v = v} c k. keeps v (job-asks-for-roots-that-exist job w h (rules .tolerance) low c k .root) }) (job .rank - 2) outermost rows budget
 
 -- ---- from bytes to the outcome
 
@@ -71,6 +69,7 @@ take-passes p zero xs t = tt
 take-passes p (suc many) [] t = tt
 take-passes p (suc many) (x ∷ xs) t = and-i (p x) (allOf p (take many xs)) (and-l (p x) (allOf p xs) t) (take-passes p many xs (and-r (p x) (allOf p xs) t))
 
+-- for every job, refused or not
 pub outcome-is-indifferent : (other : Vec → Float) → KeepsRoots other → (bounds : Bounds) (bytes : Bytes) (workspace room : ℕ)
     → outcomeBy other bounds bytes workspace room ≡ outcomeWithin bounds bytes workspace room
 unfolding outcomeBy outcomeWithin callBy callOf rulesOf passesFirst
@@ -79,7 +78,7 @@ outcome-is-indifferent other keeps bounds bytes workspace room =
     let finished : Outcome Answer → Outcome Bytes = λ o. andThen o (λ (a : Answer). fitting room (answerBytes (job .budget) a)) in
     pass-all-same (tests bytes workspace) (λ u. finished (callBy other bounds job)) (λ u. finished (callOf bounds job)) (λ t.
     ap finished
-    (call-is-indifferent other keeps bytes (passed-is-admitted bytes workspace (take-passes (λ (t : Test). t .passes tt) 11 (tests bytes workspace) t)) (rulesOf bounds job) tolerance-high-enough (job .rows) (job .budget)))
+    (call-is-indifferent other keeps job (job-whole bytes) (passed-is-admitted bytes workspace (take-passes (λ (t : Test). t .passes tt) 11 (tests bytes workspace) t)) (rulesOf bounds job) tolerance-high-enough (job .rows) (job .budget)))
 
 -- for instance: the norm where it has a value, and otherwise any float
 unfoldable pub normOr : Float → Vec → Float
@@ -89,5 +88,6 @@ norm-or-keeps : (instead : Float) → KeepsRoots (normOr instead)
 unfolding normOr
 norm-or-keeps instead v h = ap (λ (b : Bool). cond b (norm v) instead) h
 
+-- so the `nan` that the definition of the norm names for a root without a value is never met
 pub nan-is-never-met : (instead : Float) (bounds : Bounds) (bytes : Bytes) (workspace room : ℕ) → outcomeBy (normOr instead) bounds bytes workspace room ≡ outcomeWithin bounds bytes workspace room
 nan-is-never-met instead = outcome-is-indifferent (normOr instead) (norm-or-keeps instead)

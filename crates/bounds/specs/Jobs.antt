@@ -84,7 +84,7 @@ pub record Admitted (n : ℕ) (job : Job) : Type 0 where
   pub few : job .d ≤ n
   pub good : T (floatsGood job)
 
--- how a job's vectors are read, whatever its bytes
+-- how a job's vectors are read, whatever its bytes; nothing more is needed of the bytes, so that what follows holds for any version that reads them so
 pub record Whole (job : Job) : Type 0 where
   pub offset : Read (job .d) (job .offset)
   pub basis : Each (Read (job .d)) (job .basis)
@@ -125,18 +125,6 @@ bound-at (suc depth) = let e = bound-at depth in omega arith
 pub room-at : (depth : ℕ) → depth ≤ 67 → Room 5 (boundAt 5 16 depth)
 room-at depth h = let e = bound-at depth in omega arith
 
--- For any rank, any tolerance from 1e-9 on and points of at most 5 coordinates: whatever norm a call of the job takes, its root has a value.
-pub job-asks-for-roots-that-exist : (bytes : Bytes) → Admitted 5 (readJob bytes) → (tolerance : Float) → T (le billionth tolerance)
-    → {depth more : ℕ} {plane : Subspace} {points : List Vec} {v : Vec}
-    → Occurs tolerance (readJob bytes .rank - 2) (planeOf (readJob bytes)) (readJob bytes .points) depth more plane points → Takes tolerance plane points v
-    → Rooted v
-job-asks-for-roots-that-exist bytes h tolerance low {depth} c t =
-    let job = readJob bytes in
-    let e = depth-and-rank c in
-    let a = h .enough in
-    let b = h .few in
-    every-norm-has-its-root 5 16 tolerance low (job .rank - 2) (planeOf job) (job .points) (job-bounded 5 job (job-whole bytes) h) (room-at depth (omega arith)) c t
-
 -- every number that a call of the job is given, or makes of its points by flattening, is a finite double
 pub record AllDoubles (plane : Subspace) (points : List Vec) : Type 0 where
   pub offset : Each IsDouble (plane .offset)
@@ -155,16 +143,27 @@ bounded-doubles n k plane points room h = record {
   flat = each-so (Small n (k + 2 + n)) (Each IsDouble) (small-doubles n (k + 2 + n)) (flattened plane points) (flattened-small n k plane points room h);
 }
 
-pub job-handles-doubles : (bytes : Bytes) → Admitted 5 (readJob bytes) → (tolerance : Float) → T (le billionth tolerance) → {depth more : ℕ} {plane : Subspace} {points : List Vec}
-    → Occurs tolerance (readJob bytes .rank - 2) (planeOf (readJob bytes)) (readJob bytes .points) depth more plane points → AllDoubles plane points
-job-handles-doubles bytes h tolerance low {depth} {plane = plane} {points = points} c =
-    let job = readJob bytes in
-    let e = depth-and-rank c in
-    let a = h .enough in
-    let b = h .few in
-    let room : Room 5 (boundAt 5 16 depth) = room-at depth (omega arith) in
-    bounded-doubles 5 (boundAt 5 16 depth) plane points room
-    (occurs-bounded 5 16 tolerance low (job .rank - 2) (planeOf job) (job .points) (job-bounded 5 job (job-whole bytes) h) room c)
+module _ (job : Job) (w : Whole job) (h : Admitted 5 job) (tolerance : Float) (low : T (le billionth tolerance)) where
+  call-room : {depth more : ℕ} {plane : Subspace} {points : List Vec} → Occurs tolerance (job .rank - 2) (planeOf job) (job .points) depth more plane points → Room 5 (boundAt 5 16 depth)
+  call-room {depth} c =
+      let e = depth-and-rank c in
+      let a = h .enough in
+      let b = h .few in
+      room-at depth (omega arith)
+
+  call-bounded : {depth more : ℕ} {plane : Subspace} {points : List Vec} → Occurs tolerance (job .rank - 2) (planeOf job) (job .points) depth more plane points
+      → Bounded 5 (boundAt 5 16 depth) plane points
+  call-bounded c = occurs-bounded 5 16 tolerance low (job .rank - 2) (planeOf job) (job .points) (job-bounded 5 job w h) (call-room c) c
+
+  -- For any rank, any tolerance from 1e-9 on and points of at most 5 coordinates: whatever norm a call of the job takes, its root has a value, and the norm is a finite double.
+  pub job-asks-for-roots-that-exist : {depth more : ℕ} {plane : Subspace} {points : List Vec} {v : Vec}
+      → Occurs tolerance (job .rank - 2) (planeOf job) (job .points) depth more plane points → Takes tolerance plane points v → Rooted v
+  job-asks-for-roots-that-exist c t = every-norm-has-its-root 5 16 tolerance low (job .rank - 2) (planeOf job) (job .points) (job-bounded 5 job w h) (call-room c) c t
+
+  -- And every number that it is given or flattens is a finite double.
+  pub job-handles-doubles : {depth more : ℕ} {plane : Subspace} {points : List Vec} → Occurs tolerance (job .rank - 2) (planeOf job) (job .points) depth more plane points
+      → AllDoubles plane points
+  job-handles-doubles {depth} {plane = plane} {points = points} c = bounded-doubles 5 (boundAt 5 16 depth) plane points (call-room c) (call-bounded c)
 
 -- ---- version 1
 
@@ -192,4 +191,4 @@ pub no-root-is-refused : (bytes : Bytes) (workspace : ℕ) → T (passesFirst 11
     → {depth more : ℕ} {plane : Subspace} {points : List Vec} {v : Vec}
     → Occurs tolerance1 (readJob bytes .rank - 2) (planeOf (readJob bytes)) (readJob bytes .points) depth more plane points → Takes tolerance1 plane points v
     → hasRoot (dot v v) ≡ true
-no-root-is-refused bytes workspace t c k = job-asks-for-roots-that-exist bytes (passed-is-admitted bytes workspace t) tolerance1 tolerance-high-enough c k .root
+no-root-is-refused bytes workspace t c k = job-asks-for-roots-that-exist (readJob bytes) (job-whole bytes) (passed-is-admitted bytes workspace t) tolerance1 tolerance-high-enough c k .root
