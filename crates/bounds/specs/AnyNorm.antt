@@ -1,0 +1,107 @@
+-- Document 01's definitions once more, with the norm as a parameter: every definition of `definitions` that a norm enters, word for word, but for the name of the norm.
+-- With the norm itself they are those definitions (`Covered` proves it, so that nothing has to be believed of this file); with another one they show which of its values count.
+use mathlib.Core.Bool.{Bool, cond, not, _&&_, _||_}
+use mathlib.Core.List.{List, [], _∷_, _++_, map, flatMap}
+use Prim.Native.Nat.{ℕ, zero, suc, _-_}
+use lib.Dec.{leb, ltb, eqb, isEq}
+use lib.ListN.{length}
+use lib.Ieee.{Float, binary64, div, lt}
+use Rattle.definitions.specs.Lists.{Pair, compareNats, anyOf, fresh, countFrom}
+use Rattle.definitions.specs.Outcome.{Outcome, answered, andThen, refuseIf}
+use Rattle.definitions.specs.Vectors.{Vec, minus}
+use Rattle.definitions.specs.Subspace.{Subspace, residual, isHyperplane, flatten}
+use Rattle.definitions.specs.Orbits.{Row, Limits, Orbit, pointAt, vertexOpeners, tooShort, tooLong, pairOpeners, pairsFrom, tuples, setImage}
+use Rattle.definitions.specs.Recursion.{Rules, Bounds, Answer, Call, Inner, InnerCalls, edgeCall, rowsWithin, innerCalls}
+use Rattle.definitions.specs.Search.{Found}
+use Rattle.definitions.specs.Faceting.{Prepared, searchFrom, finish}
+use Rattle.definitions.specs.Job.{Bytes, Job, readJob, tests, passAll, rulesOf, planeOf, answerBytes, fitting}
+
+module _ (norm : Vec → Float) where
+  -- ---- Vectors and Subspace
+
+  unfoldable pub normalisedBy : Vec → Vec
+  normalisedBy v = let length = norm v in map (λ (x : Float). div binary64 x length) v
+
+  unfoldable pub distanceBy : Subspace → Vec → Float
+  distanceBy s p = norm (residual s p)
+
+  unfoldable pub addPointBy : Float → Subspace → Vec → Subspace
+  addPointBy tolerance s p =
+      let r = residual s p in
+      let wider : Subspace = record { offset = s .offset; basis = s .basis ++ (normalisedBy r ∷ []) } in
+      cond (lt tolerance (norm r)) wider s
+
+  unfoldable pub addPointsBy : Float → Subspace → List Vec → Subspace
+  addPointsBy tolerance s [] = s
+  addPointsBy tolerance s (p ∷ ps) =
+      let wider = addPointsBy tolerance (addPointBy tolerance s p) ps in
+      cond (leb (length (s .offset)) (length (s .basis))) s wider
+
+  unfoldable pub fromPointsBy : Float → List Vec → Subspace
+  fromPointsBy tolerance [] = record { offset = []; basis = [] }
+  fromPointsBy tolerance (p ∷ ps) = addPointsBy tolerance (record { offset = p; basis = [] }) ps
+
+  -- ---- Orbits
+
+  unfoldable pub breaksLimitBy : Float → Limits → List Vec → ℕ → ℕ → Bool
+  breaksLimitBy tolerance limits points v w =
+      let length = norm (minus (pointAt points w) (pointAt points v)) in
+      tooShort tolerance (limits .shortest) length || tooLong tolerance (limits .longest) length
+
+  unfoldable pub pointsNearBy : Float → Subspace → List Vec → ℕ → List ℕ
+  pointsNearBy tolerance s [] v = []
+  pointsNearBy tolerance s (p ∷ ps) v =
+      let rest = pointsNearBy tolerance s ps (suc v) in
+      cond (lt (distanceBy s p) tolerance) (v ∷ rest) rest
+
+  unfoldable pub hyperplanesBy : Float → List Vec → List Row → List (List ℕ) → List (List ℕ) → List Orbit
+  hyperplanesBy tolerance flat rows seen [] = []
+  hyperplanesBy tolerance flat rows seen (tuple ∷ ts) =
+      let s = fromPointsBy tolerance (map (pointAt flat) tuple) in
+      let set = pointsNearBy tolerance s flat 0 in
+      let joined = fresh compareNats seen (map (setImage set) rows) in
+      let orbit : Orbit = record { vertices = set; count = length joined } in
+      let old = hyperplanesBy tolerance flat rows seen ts in
+      let new = orbit ∷ hyperplanesBy tolerance flat rows (joined ++ seen) ts in
+      cond (isHyperplane s && not (anyOf (λ (q : List ℕ). isEq (compareNats set q)) seen)) new old
+
+  unfoldable pub hyperplaneOrbitsBy : Float → Limits → ℕ → List Vec → List Vec → List Row → List Orbit
+  hyperplaneOrbitsBy tolerance limits more points flat rows =
+      let n = length points in
+      let breaks = breaksLimitBy tolerance limits points in
+      let pairs = pairOpeners (λ (p : Pair). breaks (p .0) (p .1)) rows [] (pairsFrom n (vertexOpeners rows [] (countFrom 0 n))) in
+      hyperplanesBy tolerance flat rows [] (flatMap (tuples breaks n more) pairs)
+
+  -- ---- Recursion and Faceting
+
+  unfoldable pub innerCallBy : ℕ → Rules → Call → List Vec → List Row → Orbit → ℕ → Outcome Inner
+  innerCallBy wanted rules call flat rows orbit budget =
+      let points = map (pointAt flat) (orbit .vertices) in
+      let plane = fromPointsBy (rules .tolerance) points in
+      refuseIf (not (eqb (length (plane .basis)) wanted)) 14 (λ u.
+      andThen (call plane points (rowsWithin (orbit .vertices) rows) budget) (λ (a : Answer). answered (record { orbit = orbit; answer = a })))
+
+  unfoldable pub prepareBy : ℕ → Rules → Call → Subspace → List Vec → List Row → ℕ → Outcome Prepared
+  prepareBy more rules call plane points rows budget =
+      let flat = map (flatten plane) points in
+      let orbits = hyperplaneOrbitsBy (rules .tolerance) (rules .lengths) more points flat rows in
+      refuseIf (ltb (rules .bounds .orbits) (length orbits)) 13 (λ u.
+      andThen (innerCalls (innerCallBy (suc more) rules call flat rows) (rules .bounds .facets) orbits 0 budget) (λ (done : InnerCalls).
+      answered (record { more = more; points = length points; rows = rows; inner = done .calls; left = done .left })))
+
+  unfoldable pub facetingBy : ℕ → Rules → Call
+  facetingBy zero rules = edgeCall
+  facetingBy (suc more) rules = λ plane points rows budget.
+      andThen (prepareBy more rules (facetingBy more rules) plane points rows budget) (λ (p : Prepared).
+      andThen (searchFrom rules p) (λ (found : Found). answered (finish p found)))
+
+  -- ---- Job
+
+  unfoldable pub callBy : Bounds → Job → Outcome Answer
+  callBy bounds job = facetingBy (job .rank - 2) (rulesOf bounds job) (planeOf job) (job .points) (job .rows) (job .budget)
+
+  unfoldable pub outcomeBy : Bounds → Bytes → ℕ → ℕ → Outcome Bytes
+  outcomeBy bounds bytes workspace room =
+      let job = readJob bytes in
+      passAll (tests bytes workspace) (λ u.
+      andThen (callBy bounds job) (λ (a : Answer). fitting room (answerBytes (job .budget) a)))
