@@ -1,0 +1,77 @@
+//! The table of commands, and what they share: files in, files or lines out.
+
+mod definitions;
+mod jobs;
+mod streams;
+
+use std::io::Write;
+
+use facetings_host::oracle::Oracle;
+
+use crate::arguments::Arguments;
+use crate::{Failure, NO_SOURCE};
+
+pub struct Command {
+    pub name: &'static str,
+    pub about: &'static str,
+    pub usage: &'static str,
+    pub details: fn() -> String,
+    pub options: &'static [&'static str],
+    pub run: fn(Arguments) -> Result<(), Failure>,
+}
+
+pub const COMMANDS: &[Command] = &[
+    jobs::ANSWER,
+    jobs::SHOW,
+    jobs::ENCODE,
+    jobs::DECODE,
+    streams::GENERATE,
+    streams::RUN,
+    streams::COMPARE,
+    streams::PICK,
+    definitions::DEFINITIONS,
+];
+
+/// The original, or the failure of a command that needs it.
+fn open_original() -> Result<Oracle, Failure> {
+    let absent = |words: &str| Failure {
+        status: NO_SOURCE,
+        words: words.into(),
+    };
+    Oracle::open().map_err(absent)
+}
+
+fn read_file(name: &str) -> Result<Vec<u8>, Failure> {
+    std::fs::read(name).map_err(|error| format!("cannot read {name}: {error}").into())
+}
+
+fn read_text(name: &str) -> Result<String, Failure> {
+    let bytes = read_file(name)?;
+    String::from_utf8(bytes).map_err(|_| format!("{name} is not text").into())
+}
+
+/// Bytes to the named file, or to standard output if there is none.
+fn write_to(file: Option<&str>, bytes: &[u8]) -> Result<(), Failure> {
+    let (written, place) = match file {
+        Some(name) => (std::fs::write(name, bytes), name),
+        None => (put_out(bytes), "standard output"),
+    };
+    written.map_err(unwritten(place))
+}
+
+fn unwritten(place: &str) -> impl Fn(std::io::Error) -> Failure + '_ {
+    move |error| format!("cannot write {place}: {error}").into()
+}
+
+/// A reader that has seen enough and closes its end is no failure.
+fn put_out(bytes: &[u8]) -> std::io::Result<()> {
+    let mut out = std::io::stdout().lock();
+    match out.write_all(bytes).and_then(|()| out.flush()) {
+        Err(error) if error.kind() == std::io::ErrorKind::BrokenPipe => Ok(()),
+        other => other,
+    }
+}
+
+pub fn print(text: &str) -> Result<(), Failure> {
+    write_to(None, text.as_bytes())
+}

@@ -1,0 +1,24 @@
+//! The original Rust faceting beside the register: job and answer bytes, the
+//! original as an engine, cases to run through engines, and their comparison.
+
+pub mod answer;
+pub mod cases;
+pub mod compare;
+pub mod engine;
+pub mod expression;
+pub mod generate;
+pub mod held;
+pub mod hex;
+pub mod job;
+pub mod judged;
+pub mod oracle;
+#[cfg(has_miratope)]
+pub mod original;
+pub mod pick;
+pub mod quote;
+pub mod refusal;
+pub mod rows;
+pub mod run;
+pub mod show;
+pub mod tally;
+pub mod text;

@@ -1,0 +1,87 @@
+//! The original as an engine: all of document 01 from job bytes to answer bytes,
+//! with the original function in the middle.
+
+use crate::answer::Answer;
+use crate::engine::Engine;
+use crate::job;
+use crate::judged::{Bounds, Events, Judged, Stop};
+#[cfg(has_miratope)]
+use crate::original::faceting;
+use crate::refusal::Refusal;
+
+/// What a command says that needs the original and has not got it.
+pub const NO_SOURCE: &str = "the Rust source is not there: \
+    set MIRATOPE_SRC to the folder that holds miratope-core/src, then build again";
+
+/// What a call returns if the original panics, which is no result of a job.
+pub const BROKEN: i64 = i64::MIN;
+
+/// Made by `open` alone, so that there is one only where the original is.
+pub struct Oracle {
+    pub bounds: Bounds,
+    /// What the latest call found.
+    pub last: Option<Judged>,
+}
+
+impl Oracle {
+    /// The original, or the words that say why there is none.
+    pub fn open() -> Result<Oracle, &'static str> {
+        if !cfg!(has_miratope) {
+            return Err(NO_SOURCE);
+        }
+        Ok(Oracle {
+            bounds: Bounds::default(),
+            last: None,
+        })
+    }
+
+    /// All refusals but the last, which is the buffer's.
+    pub fn judge(&self, bytes: &[u8], workspace: usize) -> Judged {
+        match job::accept(bytes, workspace) {
+            Err(refusal) => Judged {
+                result: Err(Stop::Refused(refusal)),
+                events: Events::default(),
+                job: None,
+            },
+            Ok(job) => {
+                let (result, events) = faceting(&job, &self.bounds);
+                Judged {
+                    result,
+                    events,
+                    job: Some(job),
+                }
+            }
+        }
+    }
+}
+
+#[cfg(not(has_miratope))]
+fn faceting(_job: &job::Job, _bounds: &Bounds) -> (Result<Answer, Stop>, Events) {
+    (Err(Stop::Broken(NO_SOURCE.into())), Events::default())
+}
+
+/// Fills the buffer as the exported call does and returns its value.
+pub fn fill(result: &Result<Answer, Stop>, answer: &mut [u8]) -> Result<i64, String> {
+    answer.fill(0);
+    match result {
+        Err(Stop::Broken(words)) => Err(format!("the original panicked: {words}")),
+        Err(Stop::Refused(refusal)) => Ok(refusal.code()),
+        Ok(found) => {
+            let bytes = found.bytes();
+            let Some(front) = answer.get_mut(..bytes.len()) else {
+                return Ok(Refusal::Room.code());
+            };
+            front.copy_from_slice(&bytes);
+            Ok(bytes.len() as i64)
+        }
+    }
+}
+
+impl Engine for Oracle {
+    fn answer(&mut self, job: &[u8], workspace: usize, answer: &mut [u8]) -> i64 {
+        let judged = self.judge(job, workspace);
+        let code = fill(&judged.result, answer).unwrap_or(BROKEN);
+        self.last = Some(judged);
+        code
+    }
+}
