@@ -1,0 +1,2 @@
+-- Laws of numbers, lists and orders that the libraries lack.
+pub mod Squares
