@@ -48,7 +48,7 @@ pub fn first_step(n: u64) -> u64
     requires { ⌜ (2 ^ 52 ≤ n) × (n < 2 ^ 54) ⌝ }
     ensures { λ r. ⌜ Close (n * 2 ^ 8) r ⌝ }
 {
-    let s = starts::start(n / 17592186044416);
+    let s = starts::start(n / 17592186044416) as u64;
     (s * 32768 + n / 128 / s) / 2
 }
 
