@@ -16,7 +16,9 @@ use lib.Ieee.Bits.{ofBits-fits}
 use lib.Ieee.Exact.{HasValue}
 use Rattle.definitions.specs.Vectors.{wholeRoot, twiceRoot, rootTimes, squareRoot}
 use Rattle.laws.specs.Squares.{WholeRoot, root-lt, root-le, scaled-low, scaled-high}
+use Rattle.root.specs.Powers.{pow-back, join, balance, two-choices}
 use Rattle.root.specs.Cell.{cell}
+use Rattle.root.specs.Doubles.{fitting}
 use Rattle.root.specs.Scaled.{ScaledBy}
 use Rattle.root.specs.Pattern.{of-units}
 
@@ -113,33 +115,6 @@ module _ (N g m r : ℕ) (gpos : 0 < g) (is : m * 2 ^ 112 ≡ N * (g * g)) (even
       subst₃' : {x x' y y' : ℕ} → x ≡ x' → y ≡ y' → x < y → x' < y'
       subst₃' p q h = omega arith
 
--- ---- powers of two on both sides
-balance : (m q a b c d : ℕ) → m * 2 ^ a ≡ q * 2 ^ b → a + d ≡ b + c → m * 2 ^ c ≡ q * 2 ^ d
-balance m q a b c d h e =
-    let p : 2 ^ a * 2 ^ d ≡ 2 ^ b * 2 ^ c = sym (pow-add 2 a d) ∙ ap (λ (x : ℕ). 2 ^ x) e ∙ pow-add 2 b c in
-    eq-of-mul-eq-mul-right (2 ^ a * 2 ^ d) (mul-pos (pow-pos a) (pow-pos d)) (m * 2 ^ c) (q * 2 ^ d)
-    (left m (2 ^ a) (2 ^ c) (2 ^ d) ∙ ap (λ (x : ℕ). x * (2 ^ c * 2 ^ d)) h ∙ right q (2 ^ b) (2 ^ c) (2 ^ d) ∙ ap (λ (x : ℕ). q * 2 ^ d * x) (sym p))
-  where
-    left : (x y z v : ℕ) → x * z * (y * v) ≡ x * y * (z * v)
-    left x y z v = omega arith
-
-    right : (x y z v : ℕ) → x * y * (z * v) ≡ x * v * (y * z)
-    right x y z v = omega arith
-
-pow-back : (a b : ℕ) → 2 ^ a < 2 ^ b → a < b
-pow-back a b h = lt-of-not-le (λ (g : b ≤ a). not-le-of-lt h (pow-mono g))
-
-two-choices : (w : ℕ) → 1 + w % 2 ≡ 2 ^ (w % 2)
-two-choices w = go (w % 2) (omega arith)
-  where
-    go : (x : ℕ) → x < 2 → 1 + x ≡ 2 ^ x
-    go zero h = refl
-    go (suc zero) h = refl
-    go (suc (suc x)) h = absurd (omega arith)
-
-join : (m a b : ℕ) → m * 2 ^ a * 2 ^ b ≡ m * 2 ^ (a + b)
-join m a b = mul-assoc m (2 ^ a) (2 ^ b) ∙ ap (λ (x : ℕ). m * x) (sym (pow-add 2 a b))
-
 -- ---- the number whose root is taken: q or 2 q, as the exponent is even or odd
 module _ (q w : ℕ) (lo : 2 ^ 52 ≤ q) (hi : q < 2 ^ 53) where
   pub radicand-low : 2 ^ 52 ≤ q * (1 + w % 2)
@@ -231,16 +206,6 @@ module _ (m q w r : ℕ) (mpos : 0 < m) (small : m < 2 ^ 53) (lo : 2 ^ 52 ≤ q)
       ∙ ap (λ (y : ℕ). units binary64 false (suc r / 2) y) (omega arith)
 
 -- ---- the definition's root of q 2^w / 2^1126
-pub few-digits : (s : Bool) (m : ℕ) (e : ℤ) → T (fits binary64 (fin s m e)) → m < 2 ^ 53
-unfolding fits
-few-digits s zero e h = lit< tt
-few-digits s (suc m) e h =
-    let A = eqb (suc m % 2) 1 in
-    let B = ltb (suc m) (2 ^ 53) in
-    let C = leb (down e) (2 ^ 1074) in
-    let D = ltb (suc m * up e) (2 ^ 1024 * down e) in
-    ltb→lt (suc m) (2 ^ 53) (and-r A B (and-l (A && B) C (and-l (A && B && C) D h)))
-
 pub root-of-scaled : (x : Float) (q w r : ℕ) → T (fits binary64 x) → ScaledBy x q w → WholeRoot (q * (1 + w % 2) * 2 ^ 54) r → squareRoot x ≡ some (units binary64 false (suc r / 2) (w / 2 + 485))
 unfolding squareRoot
 root-of-scaled nan q w r f s root = absurd (s .value)
@@ -258,11 +223,11 @@ root-of-scaled (fin true (suc m) e) q w r f s root = let z : _≡_ {A = Bool} tr
     true-false z = subst T z tt
 root-of-scaled (fin false (suc m) (pos k)) q w r f s root =
     ap some
-    (up-case (suc m) q w r (omega arith) (few-digits false (suc m) (pos k) f) (s .low) (s .high) root k
+    (up-case (suc m) q w r (omega arith) (fitting false m (pos k) f .few) (s .low) (s .high) root k
     (sym (join (suc m) k 1126) ∙ s .value .1 ∙ mul-one (q * 2 ^ w)))
 root-of-scaled (fin false (suc m) (negsuc k)) q w r f s root =
     ap some
-    (down-case (suc m) q w r (omega arith) (few-digits false (suc m) (negsuc k) f) (s .low) (s .high) root (suc k)
+    (down-case (suc m) q w r (omega arith) (fitting false m (negsuc k) f .few) (s .low) (s .high) root (suc k)
     (ap (λ (x : ℕ). x * 2 ^ 1126) (sym (mul-one (suc m))) ∙ s .value .1 ∙ join q w (suc k)))
 
 -- ---- as the program has it, in bits
