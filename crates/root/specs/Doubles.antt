@@ -1,19 +1,19 @@
 -- Doubles as whole numbers of the smallest one, 2^-1074: how many such units a double is, that every finite double above zero is scaled (Scaled.antt), and how far doubles lie apart.
 -- Assumes nothing.
 use mathlib.Core.Path.{_≡_, refl, sym, ap, _∙_, subst}
-use mathlib.Core.Bool.{Bool, true, false, _&&_}
+use mathlib.Core.Bool.{Bool, false, _&&_}
 use Prim.Native.Nat.{ℕ, zero, suc, _+_, _-_, _*_, _/_, _%_, _^_, _≤_, _<_}
-use native.Mathlib.Nat.{mul-assoc, mul-one, mul-right-comm, mul-div-cancel, zero-mul, zero-div, mul-le-mul-right, mul-lt-mul-of-pos-right, lt-of-lt-of-le, lt-of-le-of-lt, eq-of-mul-eq-mul-right, zero-lt-suc}
+use native.Mathlib.Nat.{mul-one, mul-div-cancel, zero-mul, zero-div, mul-le-mul-right, mul-lt-mul-of-pos-right, lt-of-le-of-lt, zero-lt-suc}
 use native.Mathlib.Omega.{arith}
 use lib.Dec.{T, leb, ltb, eqb, leb→le, ltb→lt, lit<}
 use lib.Pow.{pow-add, pow-pos}
-use lib.Count.{leadingZeros, leading-top}
+use lib.Count.{leading-top}
 use lib.IntN.{ℤ, pos, negsuc}
 use lib.Ieee.{Float, nan, inf, fin, binary64, up, down, fits}
 use lib.Ieee.Fits.{and-l, and-r, down-pos}
 use lib.Ieee.Exact.{HasValue}
 use Rattle.definitions.specs.Vectors.{unitsIn, isDouble}
-use Rattle.root.specs.Powers.{pow-back, pow-back-le, join, moved-low, moved-high}
+use Rattle.root.specs.Powers.{across-le, across-lt, pow-back, pow-back-le, join, moved-low, moved-high}
 use Rattle.root.specs.Scaled.{ScaledBy}
 
 -- ---- what it takes to be a double other than zero
@@ -97,15 +97,12 @@ module _ (m j : ℕ) (place : j ≤ 52) (from : 2 ^ j ≤ m) (to : m < 2 ^ suc j
       let w = k + 1074 + j in
       let a : 52 - j + w ≡ k + 1126 = omega arith in
       let v : m * 2 ^ k * 2 ^ 1126 ≡ q′ * 2 ^ w * 1 = join m k 1126 ∙ ap (λ (x : ℕ). m * 2 ^ x) (sym a) ∙ sym (join m (52 - j) w) ∙ sym (mul-one (q′ * 2 ^ w)) in
-      let b : 2 ^ (j + k) < 2 ^ 1024 = lt-of-le-of-lt (le-by (pow-add 2 j k) (mul-le-mul-right (2 ^ k) from)) (rw mul-one at (f .high)) in
+      let b : 2 ^ (j + k) < 2 ^ 1024 = lt-of-le-of-lt (across-le (pow-add 2 j k) refl (mul-le-mul-right (2 ^ k) from)) (rw mul-one at (f .high)) in
       let l = pow-back (j + k) 1024 b in
       let u : unitsIn (fin false m (pos k)) * 2 ^ 52 ≡ q′ * 2 ^ w =
       ap (λ (x : ℕ). x * 2 ^ 52) (units-of (fin false m (pos k)) false (m * 2 ^ (k + 1074)) (lifted-up false m k))
       ∙ join m (k + 1074) 52 ∙ ap (λ (x : ℕ). m * 2 ^ x) (omega arith) ∙ sym (join m (52 - j) w) in
       record { q = q′; w = w; by = record { low = moved-low m j place from to; high = moved-high m j place from to; reach = omega arith; value = (refl, v) }; units = u }
-    where
-      le-by : {x y z : ℕ} → x ≡ y → y ≤ z → x ≤ z
-      le-by e h = omega arith
 
   scaling-down : (k : ℕ) → Fitting m (negsuc k) → Scaling (fin false m (negsuc k))
   scaling-down k f =
@@ -137,9 +134,6 @@ gap x k u h =
     let j = u .exponent in
     let a : 2 ^ 52 * 2 ^ k ≤ p * 2 ^ j = subst (λ (v : ℕ). 2 ^ 52 * 2 ^ k ≤ v) (u .units) h in
     let b = mul-lt-mul-of-pos-right (u .few) (pow-pos j) in
-    let l : 52 + k < 53 + j = pow-back (52 + k) (53 + j) (between (pow-add 2 52 k) (pow-add 2 53 j) a b) in
+    let l : 52 + k < 53 + j = pow-back (52 + k) (53 + j) (across-lt (pow-add 2 52 k) (pow-add 2 53 j) (lt-of-le-of-lt a b)) in
     let e : j - k + k ≡ j = omega arith in
     (p * 2 ^ (j - k), u .units ∙ sym (join p (j - k) k ∙ ap (λ (v : ℕ). p * 2 ^ v) e))
-  where
-    between : {x′ y z v t : ℕ} → x′ ≡ y → t ≡ v → y ≤ z → z < v → x′ < t
-    between e d f g = omega arith

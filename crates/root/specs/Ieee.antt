@@ -2,24 +2,24 @@
 -- is none but between zeros, the even one; and everything else is refused. The root's value is s 2^k units, where 2 s is the whole root of a number N or next to it, and 4 x is N 4^k squared units:
 -- so N lies between the squares of 2 s − 1 and 2 s + 1, and other doubles lie at least 2^k units away. Assumes nothing.
 use mathlib.Core.Path.{_≡_, refl, sym, ap, _∙_, subst}
-use mathlib.Core.Bool.{Bool, true, false, not, cond}
+use mathlib.Core.Bool.{Bool, true, false, not}
 use mathlib.Core.Option.{some, none}
 use Prim.Native.Nat.{ℕ, zero, suc, _+_, _-_, _*_, _/_, _%_, _^_, _≤_, _<_}
-use native.Mathlib.Nat.{mul-pos, mul-le-mul, mul-le-mul-right, mul-lt-mul-of-pos-right, lt-of-lt-of-le, lt-of-le-of-lt, le-of-lt, lt-irrefl, eq-of-mul-eq-mul-right, mul-right-comm, lt-of-mul-lt-mul-right}
+use native.Mathlib.Nat.{mul-pos, mul-le-mul, mul-le-mul-right, mul-lt-mul-of-pos-right, lt-of-lt-of-le, le-of-lt, lt-of-mul-lt-mul-right}
 use native.Mathlib.Omega.{arith}
 use lib.Dec.{T, leb, leb→le, nleb→lt, lit≤}
 use lib.Pow.{pow-add, pow-pos, shl-lt, pow-mono}
-use lib.IntN.{ℤ, pos, negsuc}
-use lib.Ieee.{Float, nan, inf, fin, binary64, low, fits, units, ofBits, toBits}
+use lib.IntN.{ℤ}
+use lib.Ieee.{Float, nan, inf, fin, binary64, low, fits, units}
 use lib.Ieee.Bits.{ofBits-fits}
 use lib.Ieee.Exact.{HasValue, units-val}
 use Rattle.definitions.specs.Vectors.{squareRoot, unitsIn, fourTimes, sumSquared, isDouble, signOf, hasRoot, NearestRoot, RootIsIeee, wholeRoot}
 use Rattle.laws.specs.Squares.{WholeRoot, square-le}
-use Rattle.root.specs.Powers.{join, balance, two-choices}
+use Rattle.root.specs.Powers.{across-lt, join, balance, two-choices}
 use Rattle.root.specs.Pattern.{of-units}
 use Rattle.root.specs.Scaled.{ScaledBy}
-use Rattle.root.specs.Doubles.{InUnits, in-units, units-of, nothing-in, Scaling, scaling, gap}
-use Rattle.root.specs.RootLaw.{whole-root, root-range, radicand-low, radicand-high, root-of-scaled}
+use Rattle.root.specs.Doubles.{in-units, units-of, nothing-in, scaling, gap}
+use Rattle.root.specs.RootLaw.{whole-root, root-range, radicand-high, root-of-scaled}
 
 -- ---- s is half the whole root r of N, rounded up
 module _ (N r : ℕ) (root : WholeRoot N r) (even : N % 2 ≡ 0) (least : 2 ^ 53 ≤ r) where
@@ -183,18 +183,12 @@ module _ (x : Float) (q w : ℕ) (holds : T (fits binary64 x)) (by : ScaledBy x 
     above : unitsIn root′ < unitsIn y → fourTimes x < sumSquared root′ y
     above h =
         let a = nearer-than-above N′ r′ is-root is-even (range .0) (2 ^ k′) (pow-pos k′) (unitsIn y) lies (subst (λ (z : ℕ). z < unitsIn y) root-units h) in
-        lt-by four sum-is a
-      where
-        lt-by : {i j m n : ℕ} → i ≡ j → m ≡ n → j < n → i < m
-        lt-by d e f = omega arith
+        across-lt four sum-is a
 
     below : unitsIn y < unitsIn root′ → sumSquared root′ y < fourTimes x
     below h =
         let a = nearer-than-below N′ r′ is-root is-even (range .0) (2 ^ k′) (pow-pos k′) (unitsIn y) lies (subst (λ (z : ℕ). unitsIn y < z) root-units h) in
-        lt-by sum-is four a
-      where
-        lt-by : {i j m n : ℕ} → i ≡ j → m ≡ n → j < n → i < m
-        lt-by d e f = omega arith
+        across-lt sum-is four a
 
     -- no double lies as far from the root as its value does
     no-tie : (unitsIn y ≡ unitsIn root′ → ⊥) → sumSquared root′ y ≡ fourTimes x → ⊥

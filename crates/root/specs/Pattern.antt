@@ -1,14 +1,14 @@
 -- Bit patterns of doubles above zero: the value that a pattern stands for, by its two fields, and the pattern of a value by its significand. Assumes nothing.
 use mathlib.Core.Path.{_≡_, refl, sym, ap, _∙_, subst}
-use mathlib.Core.Bool.{Bool, true, false, not, cond}
+use mathlib.Core.Bool.{Bool, true, false, cond}
 use Prim.Native.Nat.{ℕ, zero, suc, _+_, _-_, _*_, _/_, _%_, _^_, _≤_, _<_}
-use native.Mathlib.Nat.{mod-eq-of-lt, mul-right-comm, eq-of-mul-eq-mul-right, mul-assoc, pow-suc, pow-succ', lt-of-lt-of-le, lt-of-le-of-lt, le-of-lt}
+use native.Mathlib.Nat.{mod-eq-of-lt, mul-right-comm, eq-of-mul-eq-mul-right, mul-assoc, pow-suc, lt-of-lt-of-le, lt-of-le-of-lt, le-of-lt}
 use native.Mathlib.Omega.{arith}
-use lib.Dec.{T, leb, ltb, eqb, lt→ltb, not-T, eqb→eq, lit≤}
+use lib.Dec.{leb, ltb, eqb, lt→ltb, not-T, eqb→eq, lit≤}
 use lib.Arith.{lt→nleb, digits-div, digits-mod}
 use lib.Pow.{pow-add, pow-pos, shl-lt, pow-mono}
 use lib.Count.{trailingZeros, leadingZeros, leading-top, under}
-use lib.Ieee.{Float, nan, inf, fin, Format, binary64, prec, emax, low, hid, top, ones, up, down, minus, odd, units, ofFields, ofBits}
+use lib.Ieee.{Float, nan, inf, fin, binary64, low, hid, top, up, down, minus, odd, units, ofFields, ofBits}
 use lib.Ieee.Bits.{is-true, is-false}
 use lib.Ieee.Exact.{HasValue, odd-sign}
 use Rattle.root.specs.Powers.{pow-back, all-places, moved-low, moved-high}
@@ -87,28 +87,23 @@ regroup : (q a b c : ℕ) → q * (a * b) * c ≡ q * a * (b * c)
 regroup q a b c = omega arith
 
 -- ---- what the program makes of a pattern
-pub scaled-normal : (bits : ℕ) → bits < 2047 * 2 ^ 52 → 0 < bits / 4503599627370496 → ScaledBy (ofBits binary64 bits) (4503599627370496 + bits % 4503599627370496) (bits / 4503599627370496 + 51)
-scaled-normal bits h p = go (bits / 2 ^ 52) refl
+pub scaled-normal : (bits w : ℕ) → bits < 2047 * 2 ^ 52 → 0 < bits / 4503599627370496 → w ≡ bits / 4503599627370496 + 51 → ScaledBy (ofBits binary64 bits) (4503599627370496 + bits % 4503599627370496) w
+scaled-normal bits w h p e = go (bits / 2 ^ 52) refl
   where
-    digits : ℕ
-    digits = bits % 2 ^ 52
-
-    small : digits < 2 ^ 52
-    small = omega arith
-
-    go : (field : ℕ) → bits / 2 ^ 52 ≡ field → ScaledBy (ofBits binary64 bits) (2 ^ 52 + bits % 2 ^ 52) (field + 51)
-    go zero e = absurd (omega arith)
-    go (suc k) e =
+    go : (field : ℕ) → bits / 2 ^ 52 ≡ field → ScaledBy (ofBits binary64 bits) (2 ^ 52 + bits % 2 ^ 52) w
+    go zero d = absurd (omega arith)
+    go (suc k) d =
+        let digits = bits % 2 ^ 52 in
         let q = 2 ^ 52 + digits in
         let b : bits ≡ suc k * 2 ^ 52 + digits = omega arith in
-        let x : ofBits binary64 bits ≡ odd 53 false q k 1074 = ap (ofBits binary64) b ∙ of-normal k digits small (omega arith) in
-        let w : suc k + 51 ≡ k + 52 = omega arith in
-        let n : q * 2 ^ (suc k + 51) * 2 ^ 1074 ≡ q * 2 ^ k * 2 ^ 1126 = ap (λ (z : ℕ). q * 2 ^ z * 2 ^ 1074) w ∙ ap (λ (z : ℕ). q * z * 2 ^ 1074) (pow-add 2 k 52) ∙ regroup q (2 ^ k) (2 ^ 52) (2 ^ 1074) in
+        let x : ofBits binary64 bits ≡ odd 53 false q k 1074 = ap (ofBits binary64) b ∙ of-normal k digits (omega arith) (omega arith) in
+        let l : w ≡ k + 52 = omega arith in
+        let n : q * 2 ^ w * 2 ^ 1074 ≡ q * 2 ^ k * 2 ^ 1126 = ap (λ (z : ℕ). q * 2 ^ z * 2 ^ 1074) l ∙ ap (λ (z : ℕ). q * z * 2 ^ 1074) (pow-add 2 k 52) ∙ regroup q (2 ^ k) (2 ^ 52) (2 ^ 1074) in
         record {
           low = omega arith;
           high = omega arith;
           reach = omega arith;
-          value = subst (λ (v : Float). HasValue v false (q * 2 ^ (suc k + 51)) (2 ^ 1126)) (sym x) (same-value (odd 53 false q k 1074) false (q * 2 ^ k) (2 ^ 1074) (q * 2 ^ (suc k + 51)) (2 ^ 1126) (pow-pos 1074) n (odd-sign 53 false q k 1074));
+          value = subst (λ (v : Float). HasValue v false (q * 2 ^ w) (2 ^ 1126)) (sym x) (same-value (odd 53 false q k 1074) false (q * 2 ^ k) (2 ^ 1074) (q * 2 ^ w) (2 ^ 1126) (pow-pos 1074) n (odd-sign 53 false q k 1074));
         }
 
 -- digits whose leading one stands at place j, moved up to 53 places

@@ -1,9 +1,15 @@
--- Powers of two: their order, and products with them. Assumes nothing.
+-- Powers of two: their order, and products with them; orders across equations. Assumes nothing.
 use mathlib.Core.Path.{_≡_, refl, sym, ap, _∙_}
 use Prim.Native.Nat.{ℕ, zero, suc, _+_, _-_, _*_, _%_, _^_, _≤_, _<_}
 use native.Mathlib.Nat.{mul-assoc, mul-pos, eq-of-mul-eq-mul-right, lt-of-not-le, not-le-of-lt, lt-of-le-of-lt, le-refl, mul-le-mul-right, mul-lt-mul-of-pos-right, pow-succ'}
 use native.Mathlib.Omega.{arith}
 use lib.Pow.{pow-add, pow-pos, pow-mono, pow-lt}
+
+pub across-le : {i j m n : ℕ} → i ≡ j → m ≡ n → j ≤ n → i ≤ m
+across-le d e h = omega arith
+
+pub across-lt : {i j m n : ℕ} → i ≡ j → m ≡ n → j < n → i < m
+across-lt d e h = omega arith
 
 pub pow-back : (a b : ℕ) → 2 ^ a < 2 ^ b → a < b
 pow-back a b h = lt-of-not-le (λ (g : b ≤ a). not-le-of-lt h (pow-mono g))
