@@ -5,7 +5,7 @@ use native.Mathlib.Nat.{mul-le-mul, mul-le-mul-right, div-add-mod', mod-lt, div-
 use native.Mathlib.Omega.{arith}
 use Rattle.laws.specs.Squares.{WholeRoot, le-by, root-lt, step-above, step-near}
 
--- y is the root of m or above it, and no further than its first 18 binary digits allow
+-- y is the whole root of m or above it, and its square passes m by little: of an m from 2^60 on, y has 17 binary digits of the root
 pub record Close (m y : ℕ) : Type 0 where
   pub above : m < suc y * suc y
   pub near : y * y ≤ m + 2 ^ 44

@@ -1,5 +1,5 @@
 // The square root of document 01: the nearest double, ties to even, for every finite value not below zero.
-// The argument is q × 2^w / 2^1126 with 2^52 ≤ q < 2^53. Its root is that of a whole number of 106 to 108 binary digits, times a power of two, and the whole root of that number decides the rounding:
+// The argument is q × 2^w / 2^1126 with 2^52 ≤ q < 2^53. Its root is that of a whole number of 107 or 108 binary digits, times a power of two, and the whole root of that number decides the rounding:
 // from a start in a table, two of Newton's steps lead to its upper half, and one more division to all of it. Only whole numbers below 2^64 occur.
 ghost use mathlib.Core.Path.{_≡_};
 ghost use mathlib.Core.Option.{some};
@@ -16,6 +16,13 @@ mod starts;
 
 use answer::Root;
 
+// In a bit pattern: what the exponent's field counts, 2^52; the sign, 2^63; and the infinity, from which on no pattern has a root.
+const FIELD: u64 = 0x0010_0000_0000_0000;
+
+const SIGN: u64 = 0x8000_0000_0000_0000;
+
+const INFINITY: u64 = 0x7ff0_0000_0000_0000;
+
 // A double above zero, as q × 2^w / 2^1126.
 struct Scaled {
     q: u64,
@@ -27,11 +34,11 @@ fn scale(bits: u64) -> Scaled
     requires { ⌜ (0 < bits) × (bits < 2047 * 2 ^ 52) ⌝ }
     ensures { λ r. ⌜ ScaledBy (ofBits binary64 bits) (r .q) (r .w) ⌝ }
 {
-    let field = bits / 4503599627370496;
-    let digits = bits % 4503599627370496;
+    let field = bits / FIELD;
+    let digits = bits % FIELD;
     if 0 < field {
         Scaled {
-            q: 4503599627370496 + digits,
+            q: FIELD + digits,
             w: field + 51,
         }
     } else {
@@ -48,7 +55,7 @@ fn first_step(n: u64) -> u64
     requires { ⌜ (2 ^ 52 ≤ n) × (n < 2 ^ 54) ⌝ }
     ensures { λ r. ⌜ Close (n * 2 ^ 8) r ⌝ }
 {
-    let s = starts::start(n / 17592186044416) as u64;
+    let s = starts::start(n / 0x1000_0000_0000) as u64;
     (s * 32768 + n / 128 / s) / 2
 }
 
@@ -92,7 +99,7 @@ fn root_bits(bits: u64) -> u64
 {
     let s = scale(bits);
     let r = whole_root(s.q * (1 + s.w % 2));
-    (r + 1) / 2 + (s.w / 2 + 485) * 4503599627370496
+    (r + 1) / 2 + (s.w / 2 + 485) * FIELD
 }
 
 // Document 01's square root.
@@ -103,10 +110,10 @@ pub fn root(x: f64) -> Root
         return Root::Refused;
     }
     let bits = f64::to_bits(x);
-    if bits % 9223372036854775808 == 0 {
+    if bits % SIGN == 0 {
         return Root::Value(x);
     }
-    if 9218868437227405312 <= bits {
+    if INFINITY <= bits {
         return Root::Refused;
     }
     Root::Value(f64::from_bits(root_bits(bits)))

@@ -4,8 +4,6 @@ use native.Mathlib.Omega.{arith}
 use Rattle.root.specs.Newton.{half-range, rest-small, part-small, digits-small, halves-kept, halves-lowered}
 use Rattle.root.proofs.both_halves.Statement.{statement}
 use Rattle.root.proofs.both_halves.Tie as tie
-use Rattle.root.proofs.both_halves.Reads as reads
-use Rattle.root.proofs.both_halves.Lts as lts
 
 mul-rest : tie.Need-mul-rest
 mul-rest c = search needs

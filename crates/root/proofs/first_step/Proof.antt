@@ -4,8 +4,6 @@ use native.Mathlib.Omega.{arith}
 use Rattle.root.specs.Newton.{start-range, quotient-small, first-step}
 use Rattle.root.proofs.first_step.Statement.{statement}
 use Rattle.root.proofs.first_step.Tie as tie
-use Rattle.root.proofs.first_step.Reads as reads
-use Rattle.root.proofs.first_step.Lts as lts
 
 start-requires : tie.Need-start-requires
 start-requires c κs = search needs

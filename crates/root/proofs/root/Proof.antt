@@ -8,9 +8,6 @@ use Rattle.root.specs.Answer.{meaning}
 use Rattle.root.specs.Special.{of-nan, no-nan, no-nan-bits, is-zero, is-refused, is-value}
 use Rattle.root.proofs.root.Statement.{statement}
 use Rattle.root.proofs.root.Tie as tie
-use Rattle.root.proofs.root.Reads as reads
-use Rattle.root.proofs.root.Lts as lts
-use Rattle.root.proofs.root_bits.Reads as root-bits-reads
 
 returns : tie.Need-returns
 unfolding meaning

@@ -4,10 +4,6 @@ use native.Mathlib.Omega.{arith}
 use Rattle.root.specs.RootLaw.{radicand-low, radicand-high, root-range, root-bits-small, root-of-bits}
 use Rattle.root.proofs.root_bits.Statement.{statement}
 use Rattle.root.proofs.root_bits.Tie as tie
-use Rattle.root.proofs.root_bits.Reads as reads
-use Rattle.root.proofs.root_bits.Lts as lts
-use Rattle.root.proofs.scale.Reads as scale-reads
-use Rattle.root.proofs.whole_root.Reads as whole-root-reads
 
 scale-requires : tie.Need-scale-requires
 scale-requires c κs = search needs

@@ -7,9 +7,6 @@ use Rattle.root.specs.Answer.{meaning}
 use Rattle.root.specs.Special.{zero-by-zero}
 use Rattle.root.proofs.root_or_nan.Statement.{statement}
 use Rattle.root.proofs.root_or_nan.Tie as tie
-use Rattle.root.proofs.root_or_nan.Reads as reads
-use Rattle.root.proofs.root_or_nan.Lts as lts
-use Rattle.root.proofs.root.Reads as root-reads
 
 root-requires : tie.Need-root-requires
 root-requires c κs = search needs

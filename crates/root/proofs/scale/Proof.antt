@@ -6,8 +6,6 @@ use lib.Dec.{lit≤}
 use Rattle.root.specs.Pattern.{scaled-normal, scaled-subnormal}
 use Rattle.root.proofs.scale.Statement.{statement}
 use Rattle.root.proofs.scale.Tie as tie
-use Rattle.root.proofs.scale.Reads as reads
-use Rattle.root.proofs.scale.Lts as lts
 
 add-t7 : tie.Need-add-t7
 add-t7 c = search needs

@@ -3,8 +3,6 @@ use native.Mathlib.Omega.{arith}
 use Rattle.root.specs.Newton.{guess-range, second-quotient, next-near, next-large, next-kept, next-lowered}
 use Rattle.root.proofs.upper_half.Statement.{statement}
 use Rattle.root.proofs.upper_half.Tie as tie
-use Rattle.root.proofs.upper_half.Reads as reads
-use Rattle.root.proofs.upper_half.Lts as lts
 
 div-z : tie.Need-div-z
 div-z c = omega (arith, guess-range (c .args .m) (c .args .y) (c .pre .0) (c .pre .1) (c .pre .2))

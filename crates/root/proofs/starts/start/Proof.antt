@@ -3,8 +3,6 @@ use borrow.Author.Needs.{needs}
 use Rattle.root.specs.Table.{start-rule}
 use Rattle.root.proofs.starts.start.Statement.{statement}
 use Rattle.root.proofs.starts.start.Tie as tie
-use Rattle.root.proofs.starts.start.Reads as reads
-use Rattle.root.proofs.starts.start.Lts as lts
 
 sub-k : tie.Need-sub-k
 sub-k c = search needs
