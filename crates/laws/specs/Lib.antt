@@ -7,3 +7,4 @@ pub mod Sorting
 pub mod Segments
 pub mod Floats
 pub mod LowerBounds
+pub mod Squares
