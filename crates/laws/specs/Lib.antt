@@ -1,0 +1,2 @@
+-- Laws that the kit's library lacks.
+pub mod Parts
