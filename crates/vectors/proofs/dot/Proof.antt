@@ -1,15 +1,13 @@
-use borrow.Author.Needs.{needs}
-use mathlib.Core.Path.{_≡_, refl, sym, ap, _∙_}
-use Prim.Native.Nat.{ℕ, _+_, _-_, _≤_, _<_}
+-- `dot` meets its contract. The invariant: the sum is the dot product of the first i numbers. Leans on the laws of this crate.
+use mathlib.Core.Path.{_≡_, refl}
+use Prim.Native.Nat.{_-_, _≤_, _<_}
 use native.Mathlib.Omega.{arith}
-use lib.ListN.{length, take, length-set}
-use Rattle.definitions.specs.Vectors.{dot, dotFrom, minus, plusTimes}
-use Rattle.laws.specs.Parts.{take-more-set}
-use Rattle.vectors.proofs.Laws.{dot-more, minus-more, plusTimes-more}
+use borrow.Author.Needs.{needs}
+use lib.ListN.{length, take}
+use Rattle.definitions.specs.Vectors.{dot, dotFrom}
+use Rattle.vectors.proofs.Laws.{dot-more}
 use Rattle.vectors.proofs.dot.Statement.{statement}
 use Rattle.vectors.proofs.dot.Tie as tie
-use Rattle.vectors.proofs.dot.Reads as reads
-use Rattle.vectors.proofs.dot.Lts as lts
 
 abbrev Inv-loop : tie.InvT-loop
 Inv-loop d a b sum₀ i₀ sum i = (i ≤ d) × (sum ≡ dot (take i a) (take i b))
@@ -17,45 +15,38 @@ Inv-loop d a b sum₀ i₀ sum i = (i ≤ d) × (sum ≡ dot (take i a) (take i 
 abbrev μ-loop : tie.MeasureT-loop
 μ-loop d a b sum₀ i₀ sum i = d - i
 
--- src/lib.rt:14:5
 loop-holds : tie.Need-loop-holds Inv-loop μ-loop
 unfolding dot dotFrom
 loop-holds c = (omega arith, refl)
 
--- src/lib.rt:15:21
 mul-sum : tie.Need-mul-sum Inv-loop μ-loop
 mul-sum c = search needs
 
--- src/lib.rt:15:21
 array-read-sum : tie.Need-array-read-sum Inv-loop μ-loop
 array-read-sum c = search needs
 
--- src/lib.rt:15:28
 mul-sum-2 : tie.Need-mul-sum-2 Inv-loop μ-loop
 mul-sum-2 c = search needs
 
--- src/lib.rt:15:28
 array-read-sum-2 : tie.Need-array-read-sum-2 Inv-loop μ-loop
 array-read-sum-2 c = search needs
 
--- src/lib.rt:16:9
 add-i : tie.Need-add-i Inv-loop μ-loop
 add-i c = search needs
 
--- src/lib.rt:14:5
 loop-less : tie.Need-loop-less Inv-loop μ-loop
 loop-less c = search needs
 
--- src/lib.rt:14:5
 loop-again : tie.Need-loop-again Inv-loop μ-loop
-loop-again c = let l = c .before .loop in
+loop-again c =
+    let l = c .before .loop in
     let fits-a : l .i < length (c .before .before .args .t1) = search needs in
     let fits-b : l .i < length (c .before .before .args .t2) = search needs in
     (omega arith, rw (l .inv .1) (dot-more _ _ (l .i) fits-a fits-b))
 
--- src/lib.rt:8:1
 returns : tie.Need-returns Inv-loop μ-loop
-returns c = let l = c .before .loop in
+returns c =
+    let l = c .before .loop in
     let end : l .i ≡ c .before .before .args .d = omega arith in
     rw (← end) (l .inv .1)
 

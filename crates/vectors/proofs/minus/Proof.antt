@@ -1,15 +1,14 @@
-use borrow.Author.Needs.{needs}
-use mathlib.Core.Path.{_≡_, refl, sym, ap, _∙_}
-use Prim.Native.Nat.{ℕ, _+_, _-_, _≤_, _<_}
+-- `minus` meets its contract. The invariant: the first i differences stand in r. Leans on the laws of this crate and on those of parts.
+use mathlib.Core.Path.{_≡_, refl, _∙_}
+use Prim.Native.Nat.{_-_, _≤_, _<_}
 use native.Mathlib.Omega.{arith}
+use borrow.Author.Needs.{needs}
 use lib.ListN.{length, take, length-set}
-use Rattle.definitions.specs.Vectors.{dot, dotFrom, minus, plusTimes}
+use Rattle.definitions.specs.Vectors.{minus}
 use Rattle.laws.specs.Parts.{take-more-set}
-use Rattle.vectors.proofs.Laws.{dot-more, minus-more, plusTimes-more}
+use Rattle.vectors.proofs.Laws.{minus-more}
 use Rattle.vectors.proofs.minus.Statement.{statement}
 use Rattle.vectors.proofs.minus.Tie as tie
-use Rattle.vectors.proofs.minus.Reads as reads
-use Rattle.vectors.proofs.minus.Lts as lts
 
 abbrev Inv-loop : tie.InvT-loop
 Inv-loop d p q r₀ i₀ r i = (i ≤ d) × (length r ≡ 5) × (take i r ≡ minus (take i p) (take i q))
@@ -17,53 +16,44 @@ Inv-loop d p q r₀ i₀ r i = (i ≤ d) × (length r ≡ 5) × (take i r ≡ mi
 abbrev μ-loop : tie.MeasureT-loop
 μ-loop d p q r₀ i₀ r i = d - i
 
--- src/lib.rt:28:5
 loop-holds : tie.Need-loop-holds Inv-loop μ-loop
 unfolding minus
 loop-holds c = (omega arith, refl, refl)
 
--- src/lib.rt:29:16
 mul-r : tie.Need-mul-r Inv-loop μ-loop
 mul-r c = search needs
 
--- src/lib.rt:29:16
 array-read-r : tie.Need-array-read-r Inv-loop μ-loop
 array-read-r c = search needs
 
--- src/lib.rt:29:23
 mul-r-2 : tie.Need-mul-r-2 Inv-loop μ-loop
 mul-r-2 c = search needs
 
--- src/lib.rt:29:23
 array-read-r-2 : tie.Need-array-read-r-2 Inv-loop μ-loop
 array-read-r-2 c = search needs
 
--- src/lib.rt:29:9
 mul-r-3 : tie.Need-mul-r-3 Inv-loop μ-loop
 mul-r-3 c = search needs
 
--- src/lib.rt:29:9
 array-write-r : tie.Need-array-write-r Inv-loop μ-loop
 array-write-r c = search needs
 
--- src/lib.rt:30:9
 add-i : tie.Need-add-i Inv-loop μ-loop
 add-i c = search needs
 
--- src/lib.rt:28:5
 loop-less : tie.Need-loop-less Inv-loop μ-loop
 loop-less c = search needs
 
--- src/lib.rt:28:5
 loop-again : tie.Need-loop-again Inv-loop μ-loop
-loop-again c = let l = c .before .loop in
+loop-again c =
+    let l = c .before .loop in
     let fits-a : l .i < length (c .before .before .args .t1) = search needs in
     let fits-b : l .i < length (c .before .before .args .t2) = search needs in
     (omega arith, length-set (l .r) (l .i) _ ∙ l .inv .1, take-more-set (l .r) (l .i) _ (omega arith) ∙ rw (l .inv .2) (minus-more _ _ (l .i) fits-a fits-b))
 
--- src/lib.rt:22:1
 returns : tie.Need-returns Inv-loop μ-loop
-returns c = let l = c .before .loop in
+returns c =
+    let l = c .before .loop in
     let end : l .i ≡ c .before .before .args .d = omega arith in
     rw (← end) (l .inv .2)
 
