@@ -1,2 +1,3 @@
--- Laws that the kit's library lacks.
+-- Laws of numbers, lists and orders that the libraries lack.
 pub mod Parts
+pub mod Squares

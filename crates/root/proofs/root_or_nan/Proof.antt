@@ -1,0 +1,33 @@
+-- `root::root_or_nan` meets its contract: what `root` means, read off case by case. Assumes nothing.
+use borrow.Author.Needs.{needs}
+use mathlib.Core.Path.{_≡_, refl, sym, ap, _∙_}
+use lib.Ieee.{nan, binary64, div, ofBits}
+use Rattle.definitions.specs.Vectors.{squareRoot, valueOf}
+use Rattle.root.specs.declared.answer.Root.{Root}
+use Rattle.root.specs.Answer.{meaning}
+use Rattle.root.specs.Special.{zero-by-zero}
+use Rattle.root.proofs.root_or_nan.Statement.{statement}
+use Rattle.root.proofs.root_or_nan.Tie as tie
+use Rattle.root.proofs.root_or_nan.Reads as reads
+use Rattle.root.proofs.root_or_nan.Lts as lts
+use Rattle.root.proofs.root.Reads as root-reads
+
+root-requires : tie.Need-root-requires
+root-requires c κs = search needs
+
+enum-known-r : tie.Need-enum-known-r
+enum-known-r c = search needs
+
+enum-told : tie.Need-enum-told
+enum-told c = search needs
+
+returns : tie.Need-returns
+unfolding meaning valueOf
+returns c = ap (λ (a : Root). valueOf (meaning a)) (sym (c .before .r .given .1)) ∙ ap valueOf (c .before .before .before .root .ensures)
+
+returns-2 : tie.Need-returns-2
+unfolding meaning valueOf
+returns-2 c = zero-by-zero ∙ ap (λ (a : Root). valueOf (meaning a)) (sym (c .enum-told .given .1)) ∙ ap valueOf (c .before .before .root .ensures)
+
+pub root-or-nan-spec : {M : Type 1} → statement M
+root-or-nan-spec = tie.close (tie.spec root-requires enum-known-r enum-told returns returns-2)

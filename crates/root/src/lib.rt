@@ -1,0 +1,124 @@
+// The square root of document 01: the nearest double, ties to even, for every finite value not below zero.
+// The argument is q × 2^w / 2^1126 with 2^52 ≤ q < 2^53. Its root is that of a whole number of 106 to 108 binary digits, times a power of two, and the whole root of that number decides the rounding:
+// from a start in a table, two of Newton's steps lead to its upper half, and one more division to all of it. Only whole numbers below 2^64 occur.
+ghost use mathlib.Core.Path.{_≡_};
+ghost use mathlib.Core.Option.{some};
+ghost use Prim.Native.Nat.{_+_, _*_, _/_, _%_, _^_, _≤_, _<_};
+ghost use lib.Ieee.{binary64, ofBits};
+ghost use Rattle.definitions.specs.Vectors.{squareRoot, valueOf};
+ghost use Rattle.laws.specs.Squares.{WholeRoot};
+ghost use Rattle.root.specs.Answer.{meaning};
+ghost use Rattle.root.specs.Scaled.{ScaledBy};
+ghost use Rattle.root.specs.Newton.{Close};
+
+pub mod answer;
+mod starts;
+
+use answer::Root;
+
+// A double above zero, as q × 2^w / 2^1126.
+pub struct Scaled {
+    pub q: u64,
+    pub w: u64,
+}
+
+// The fields of a double above zero. A subnormal one is moved up until its leading digit stands where that of the others does.
+pub fn scale(bits: u64) -> Scaled
+    requires { ⌜ (0 < bits) × (bits < 2047 * 2 ^ 52) ⌝ }
+    ensures { λ r. ⌜ ScaledBy (ofBits binary64 bits) (r .q) (r .w) ⌝ }
+{
+    let field = bits / 4503599627370496;
+    let digits = bits % 4503599627370496;
+    if 0 < field {
+        Scaled {
+            q: 4503599627370496 + digits,
+            w: field + 51,
+        }
+    } else {
+        let zeros = u64::leading_zeros(digits) as u64;
+        Scaled {
+            q: digits << (zeros - 11),
+            w: 63 - zeros,
+        }
+    }
+}
+
+// The first of Newton's steps towards the root of n × 2^8, from the table's start.
+pub fn first_step(n: u64) -> u64
+    requires { ⌜ (2 ^ 52 ≤ n) × (n < 2 ^ 54) ⌝ }
+    ensures { λ r. ⌜ Close (n * 2 ^ 8) r ⌝ }
+{
+    let s = starts::start(n / 17592186044416);
+    (s * 32768 + n / 128 / s) / 2
+}
+
+// The whole root of m: Newton's second step gives it, or one more.
+pub fn upper_half(m: u64, y: u64) -> u64
+    requires { ⌜ (2 ^ 60 ≤ m) × (m < 2 ^ 62) × Close m y ⌝ }
+    ensures { λ r. ⌜ WholeRoot m r ⌝ }
+{
+    let z = (y + m / y) / 2;
+    if z * z <= m { z } else { z - 1 }
+}
+
+// The whole root of m × 2^46, from that of m: the rest, divided by the root, gives the lower half, or one more.
+pub fn both_halves(m: u64, y: u64) -> u64
+    requires { ⌜ (2 ^ 60 ≤ m) × (m < 2 ^ 62) × WholeRoot m y ⌝ }
+    ensures { λ r. ⌜ WholeRoot (m * 2 ^ 46) r ⌝ }
+{
+    let rest = (m - y * y) * 4194304;
+    let d = rest / y;
+    let r = y * 8388608 + d;
+    if d * d <= rest % y * 16777216 {
+        r
+    } else {
+        r - 1
+    }
+}
+
+// The whole root of n × 2^54.
+pub fn whole_root(n: u64) -> u64
+    requires { ⌜ (2 ^ 52 ≤ n) × (n < 2 ^ 54) ⌝ }
+    ensures { λ r. ⌜ WholeRoot (n * 2 ^ 54) r ⌝ }
+{
+    let m = n * 256;
+    both_halves(m, upper_half(m, first_step(n)))
+}
+
+// The bits of the root of a double above zero. Its significand is half the whole root, rounded up: an odd whole root lies below √, never on it.
+pub fn root_bits(bits: u64) -> u64
+    requires { ⌜ (0 < bits) × (bits < 2047 * 2 ^ 52) ⌝ }
+    ensures { λ r. ⌜ (squareRoot (ofBits binary64 bits) ≡ some (ofBits binary64 r)) × (r < 2047 * 2 ^ 52) ⌝ }
+{
+    let s = scale(bits);
+    let r = whole_root(s.q * (1 + s.w % 2));
+    (r + 1) / 2 + (s.w / 2 + 485) * 4503599627370496
+}
+
+// Document 01's square root.
+pub fn root(x: f64) -> Root
+    ensures { λ r. ⌜ meaning r ≡ squareRoot x ⌝ }
+{
+    if x != x {
+        return Root::Refused;
+    }
+    let bits = f64::to_bits(x);
+    if bits % 9223372036854775808 == 0 {
+        return Root::Value(x);
+    }
+    if 9218868437227405312 <= bits {
+        return Root::Refused;
+    }
+    Root::Value(f64::from_bits(root_bits(bits)))
+}
+
+// The same for callers with no place for a refusal: the value, or a NaN where there is none.
+#[no_mangle]
+pub extern "C" fn root_or_nan(x: f64) -> f64
+    ensures { λ r. ⌜ r ≡ valueOf (squareRoot x) ⌝ }
+{
+    match root(x) {
+        Root::Value(r) => r,
+        Root::Refused => 0.0 / 0.0,
+    }
+}
