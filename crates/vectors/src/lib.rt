@@ -1,7 +1,7 @@
 // Vectors of up to five numbers. Each function equals the definition of its name in document 01's "Square root and vectors": all floats are f64, rounded once per operation.
 ghost use mathlib.Core.Path.{_≡_};
 ghost use Prim.Native.Nat.{_≤_};
-ghost use Rattle.definitions.specs.Vectors.{dot, minus, plusTimes};
+ghost use Rattle.definitions.specs.Vectors.{dot, norm, normalised, minus, plusTimes};
 ghost use Rattle.vectors.specs.Meaning.{vectorOf};
 
 // The dot product: from +0, the products are added in index order.
@@ -16,6 +16,38 @@ pub fn dot(a: [f64; 5], b: [f64; 5], d: usize) -> f64
         i += 1;
     }
     sum
+}
+
+// The square root of the dot product with itself.
+pub fn norm(v: [f64; 5], d: usize) -> f64
+    requires { ⌜ d ≤ 5 ⌝ }
+    ensures { λ r. ⌜ r ≡ norm (vectorOf d v) ⌝ }
+{
+    root::root_or_nan(dot(v, v, d))
+}
+
+// A vector divided by its norm, and that norm.
+pub struct Normalised {
+    pub vector: [f64; 5],
+    pub norm: f64,
+}
+
+// Divides each component by the norm and returns the norm beside the vector. It divides before anyone looks at the norm, so that a norm of zero has its equation too.
+pub fn normalise(v: [f64; 5], d: usize) -> Normalised
+    requires { ⌜ d ≤ 5 ⌝ }
+    ensures { λ r. ⌜ (vectorOf d (r .vector) ≡ normalised (vectorOf d v)) × (r .norm ≡ norm (vectorOf d v)) ⌝ }
+{
+    let length = norm(v, d);
+    let mut r = [0.0; 5];
+    let mut i = 0;
+    while i < d {
+        r[i] = v[i] / length;
+        i += 1;
+    }
+    Normalised {
+        vector: r,
+        norm: length,
+    }
 }
 
 // p − q
