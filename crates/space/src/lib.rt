@@ -4,10 +4,10 @@ ghost use mathlib.Core.Path.{_≡_};
 ghost use mathlib.Core.List.{_∷_, [], _++_, map};
 ghost use Prim.Native.Nat.{_≤_, _<_};
 ghost use lib.ListN.{getD};
-ghost use Rattle.definitions.specs.Subspace.{project, residual, isHyperplane, flatten};
-ghost use Rattle.definitions.specs.Orbits.{pointAt, tooShort, tooLong};
+ghost use Rattle.definitions.specs.Subspace.{project, residual, distance, addPoint, fromPoints, isHyperplane, flatten};
+ghost use Rattle.definitions.specs.Orbits.{pointAt, tooShort, tooLong, breaksLimit};
 ghost use Rattle.vectors.specs.Meaning.{vectorOf};
-ghost use Rattle.space.specs.Meaning.{subspaceOf, SubspaceFits, Holds, pointAlone, withVector, isFullRank, pointsOf, PointsFit, HoldsPoints, lengthOf};
+ghost use Rattle.space.specs.Meaning.{subspaceOf, SubspaceFits, Holds, pointAlone, withVector, isFullRank, pointsOf, PointsFit, HoldsPoints, lengthOf, limitsOf};
 
 // ---- subspaces
 
@@ -91,6 +91,52 @@ impl Subspace {
     {
         let d = self.d;
         vectors::minus(p, self.project(p), d)
+    }
+
+    pub fn distance(self, p: [f64; 5]) -> f64
+        requires { ⌜ SubspaceFits self ⌝ }
+        ensures { λ r. ⌜ r ≡ distance (subspaceOf self) (vectorOf (self .d) p) ⌝ }
+    {
+        let d = self.d;
+        vectors::norm(self.residual(p), d)
+    }
+
+    // The residual, normalised, joins the basis exactly when its norm exceeds the tolerance.
+    pub fn add(self, p: [f64; 5], tolerance: f64) -> Subspace
+        requires { ⌜ SubspaceFits self × (self .rank < 5) ⌝ }
+        ensures { λ r. ⌜ Holds r (addPoint tolerance (subspaceOf self) (vectorOf (self .d) p)) ⌝ }
+    {
+        let d = self.d;
+        let unit = vectors::normalise(self.residual(p), d);
+        if unit.norm > tolerance {
+            let v = unit.vector;
+            self.with_vector(v)
+        } else {
+            self
+        }
+    }
+
+    // The first point is the offset; the others are added in order until the basis has d vectors. Without a point there is an empty offset.
+    pub fn from_points(points: Points, tolerance: f64) -> Subspace
+        requires { ⌜ PointsFit points ⌝ }
+        ensures { λ r. ⌜ Holds r (fromPoints tolerance (pointsOf points)) × (0 < points .n → r .d ≡ points .d) ⌝ }
+    {
+        let n = points.n;
+        let d = points.d;
+        if n == 0 {
+            return Subspace::new([0.0; 5], 0);
+        }
+        let mut s = Subspace::new(points.point(0), d);
+        let mut i = 1;
+        while i < n {
+            if s.is_full_rank() {
+                return s;
+            }
+            let wider = s.add(points.point(i), tolerance);
+            s = wider;
+            i += 1;
+        }
+        s
     }
 
     // (p − offset) · b for each basis vector b: `rank` numbers.
@@ -195,6 +241,16 @@ impl Points {
             i += 1;
         }
         flat
+    }
+
+    // Whether the length from point v to point w breaks a limit.
+    pub fn breaks_limit(self, v: usize, w: usize, min: Limit, max: Limit, tolerance: f64) -> bool
+        requires { ⌜ PointsFit self × (v < self .n) × (w < self .n) ⌝ }
+        ensures { λ r. ⌜ r ≡ breaksLimit tolerance (limitsOf min max) (pointsOf self) v w ⌝ }
+    {
+        let d = self.d;
+        let length = vectors::norm(vectors::minus(self.point(w), self.point(v), d), d);
+        too_short(length, min, tolerance) || too_long(length, max, tolerance)
     }
 }
 
