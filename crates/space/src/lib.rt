@@ -4,6 +4,7 @@ ghost use mathlib.Core.Path.{_≡_};
 ghost use mathlib.Core.List.{_∷_, [], _++_, map};
 ghost use Prim.Native.Nat.{_≤_, _<_};
 ghost use lib.ListN.{getD};
+ghost use Rattle.definitions.specs.Vectors.{minus};
 ghost use Rattle.definitions.specs.Subspace.{project, residual, distance, addPoint, fromPoints, isHyperplane, flatten};
 ghost use Rattle.definitions.specs.Orbits.{pointAt, tooShort, tooLong, breaksLimit};
 ghost use Rattle.vectors.specs.Meaning.{vectorOf};
@@ -64,6 +65,16 @@ impl Subspace {
         wider
     }
 
+    // p − offset
+    fn away(self, p: [f64; 5]) -> [f64; 5]
+        requires { ⌜ SubspaceFits self ⌝ }
+        ensures { λ r. ⌜ vectorOf (self .d) r ≡ minus (vectorOf (self .d) p) (subspaceOf self .offset) ⌝ }
+    {
+        let d = self.d;
+        let offset = self.offset;
+        vectors::minus(p, offset, d)
+    }
+
     // From the offset, each basis vector b in order adds b × ((p − offset) · b).
     pub fn project(self, p: [f64; 5]) -> [f64; 5]
         requires { ⌜ SubspaceFits self ⌝ }
@@ -71,9 +82,8 @@ impl Subspace {
     {
         let d = self.d;
         let rank = self.rank;
-        let offset = self.offset;
-        let away = vectors::minus(p, offset, d);
-        let mut q = offset;
+        let away = self.away(p);
+        let mut q = self.offset;
         let mut j = 0;
         while j < rank {
             let b = self.basis_vector(j);
@@ -146,8 +156,7 @@ impl Subspace {
     {
         let d = self.d;
         let rank = self.rank;
-        let offset = self.offset;
-        let away = vectors::minus(p, offset, d);
+        let away = self.away(p);
         let mut r = [0.0; 5];
         let mut j = 0;
         while j < rank {

@@ -3,8 +3,8 @@ use mathlib.Core.Path.{_≡_, refl, _∙_}
 use borrow.Author.Needs.{needs}
 use lib.ListN.{length}
 use Rattle.definitions.specs.Vectors.{minus, norm}
-use Rattle.definitions.specs.Orbits.{pointAt, breaksLimit}
-use Rattle.space.specs.Meaning.{pointsOf, limitsOf}
+use Rattle.definitions.specs.Orbits.{pointAt, tooShort, tooLong, breaksLimit}
+use Rattle.space.specs.Meaning.{pointsOf, lengthOf, limitsOf}
 use Rattle.space.proofs.Points.breaks_limit.Statement.{statement}
 use Rattle.space.proofs.Points.breaks_limit.Tie as tie
 
@@ -31,18 +31,21 @@ unfolding breaksLimit limitsOf
 returns c =
     let a = c .before .before .before .before .before .before .args in
     let points = pointsOf (a .self) in
-    let length : c .before .before .norm .result ≡ norm (minus (pointAt points (a .w)) (pointAt points (a .v))) =
-    c .before .before .norm .ensures ∙ rw (c .before .before .before .minus .ensures, c .before .before .before .before .before .point .ensures, c .before .before .before .before .point2 .ensures) refl in
-    rw (← length, ← (c .before .too-short .ensures), c .if1 .taken) refl
+    let length = norm (minus (pointAt points (a .w)) (pointAt points (a .v))) in
+    let measured : c .before .before .norm .result ≡ length = c .before .before .norm .ensures ∙ rw (c .before .before .before .minus .ensures, c .before .before .before .before .before .point .ensures, c .before .before .before .before .point2 .ensures) refl in
+    let short : c .before .too-short .result ≡ tooShort (a .tolerance) (lengthOf (a .min)) length = rw (← measured) (c .before .too-short .ensures) in
+    rw (← short, c .if1 .taken) refl
 
 returns-2 : tie.Need-returns-2
 unfolding breaksLimit limitsOf
 returns-2 c =
     let a = c .before .before .before .before .before .before .before .args in
     let points = pointsOf (a .self) in
-    let length : c .before .before .before .norm .result ≡ norm (minus (pointAt points (a .w)) (pointAt points (a .v))) =
-    c .before .before .before .norm .ensures ∙ rw (c .before .before .before .before .minus .ensures, c .before .before .before .before .before .before .point .ensures, c .before .before .before .before .before .point2 .ensures) refl in
-    rw (← length, ← (c .before .before .too-short .ensures), c .before .if1 .left) (c .too-long .ensures)
+    let length = norm (minus (pointAt points (a .w)) (pointAt points (a .v))) in
+    let measured : c .before .before .before .norm .result ≡ length = c .before .before .before .norm .ensures ∙ rw (c .before .before .before .before .minus .ensures, c .before .before .before .before .before .before .point .ensures, c .before .before .before .before .before .point2 .ensures) refl in
+    let short : c .before .before .too-short .result ≡ tooShort (a .tolerance) (lengthOf (a .min)) length = rw (← measured) (c .before .before .too-short .ensures) in
+    let long : c .too-long .result ≡ tooLong (a .tolerance) (lengthOf (a .max)) length = rw (← measured) (c .too-long .ensures) in
+    rw (← short, c .before .if1 .left) long
 
 pub breaks-limit-spec : {M : Type 1} → statement M
 breaks-limit-spec =

@@ -5,7 +5,7 @@ use Prim.Native.Nat.{_*_, _-_, _≤_}
 use native.Mathlib.Omega.{arith}
 use borrow.Author.Needs.{needs}
 use lib.ListN.{length, take, drop, length-set}
-use Rattle.definitions.specs.Vectors.{dot, minus}
+use Rattle.definitions.specs.Vectors.{dot}
 use Rattle.definitions.specs.Subspace.{flatten}
 use Rattle.laws.specs.Parts.{rows, map-rows-more, take-more-set}
 use Rattle.space.specs.Meaning.{subspaceOf}
@@ -19,8 +19,8 @@ Inv-loop self d rank away r₀ j₀ r j = (j ≤ rank) × (length r ≡ 5) × (t
 abbrev μ-loop : tie.MeasureT-loop
 μ-loop self d rank away r₀ j₀ r j = rank - j
 
-minus-requires : tie.Need-minus-requires Inv-loop μ-loop
-minus-requires c κs = search needs
+away-requires : tie.Need-away-requires Inv-loop μ-loop
+away-requires c κs = search needs
 
 loop-holds : tie.Need-loop-holds Inv-loop μ-loop
 unfolding rows
@@ -47,7 +47,7 @@ loop-less c = search needs
 loop-again : tie.Need-loop-again Inv-loop μ-loop
 loop-again c =
     let l = c .before .before .before .loop in
-    let s = c .before .before .before .before .before .before .args .self in
+    let s = c .before .before .before .before .before .args .self in
     let row : take (s .d) (c .before .basis-vector .result) ≡ take (s .d) (drop (5 * l .j) (s .basis)) = c .before .basis-vector .ensures ∙ basis-row s (l .j) (omega arith) in (
       omega arith,
       length-set (l .r) (l .j) _ ∙ l .inv .1,
@@ -58,8 +58,8 @@ returns : tie.Need-returns Inv-loop μ-loop
 unfolding flatten subspaceOf
 returns c =
     let l = c .before .loop in
-    let end : l .j ≡ c .before .before .before .before .args .self .rank = omega arith in
-    rw (← end, ← (c .before .before .minus .ensures)) (l .inv .2)
+    let end : l .j ≡ c .before .before .before .args .self .rank = omega arith in
+    rw (← end, ← (c .before .before .away .ensures)) (l .inv .2)
 
 pub flatten-spec : {M : Type 1} → statement M
 flatten-spec =
@@ -67,7 +67,7 @@ flatten-spec =
     (tie.spec
     Inv-loop
     μ-loop
-    minus-requires
+    away-requires
     loop-holds
     basis-vector-requires
     dot-requires

@@ -4,7 +4,7 @@ use Prim.Native.Nat.{_*_, _-_, _≤_}
 use native.Mathlib.Omega.{arith}
 use borrow.Author.Needs.{needs}
 use lib.ListN.{take, drop}
-use Rattle.definitions.specs.Vectors.{dot, minus}
+use Rattle.definitions.specs.Vectors.{dot}
 use Rattle.definitions.specs.Subspace.{project, gains}
 use Rattle.laws.specs.Parts.{rows, rows-more}
 use Rattle.space.specs.Meaning.{subspaceOf}
@@ -19,8 +19,8 @@ Inv-loop self d rank away q₀ j₀ q j = (j ≤ rank) × (take d q ≡ gains (t
 abbrev μ-loop : tie.MeasureT-loop
 μ-loop self d rank away q₀ j₀ q j = rank - j
 
-minus-requires : tie.Need-minus-requires Inv-loop μ-loop
-minus-requires c κs = search needs
+away-requires : tie.Need-away-requires Inv-loop μ-loop
+away-requires c κs = search needs
 
 loop-holds : tie.Need-loop-holds Inv-loop μ-loop
 unfolding gains rows
@@ -53,7 +53,7 @@ unfolding project subspaceOf
 returns c =
     let l = c .before .loop in
     let end : l .j ≡ c .before .before .before .before .args .self .rank = omega arith in
-    rw (← end, ← (c .before .before .minus .ensures)) (l .inv .1)
+    rw (← end, ← (c .before .before .before .away .ensures)) (l .inv .1)
 
 pub project-spec : {M : Type 1} → statement M
 project-spec =
@@ -61,7 +61,7 @@ project-spec =
     (tie.spec
     Inv-loop
     μ-loop
-    minus-requires
+    away-requires
     loop-holds
     basis-vector-requires
     dot-requires
