@@ -6,7 +6,7 @@ use Prim.Native.Nat.{ℕ, zero, suc, _+_, _*_, _≤_, _<_}
 use native.Mathlib.Numerals.{add-one, add-two, add-three, add-four}
 use native.Mathlib.Nat.{zero-add, suc-add}
 use native.Mathlib.Omega.{arith}
-use lib.ListN.{length, getD, take, drop, set, length-take, length-drop}
+use lib.ListN.{length, getD, take, drop, set}
 use lib.Seq.{take-suc, take-suc-set, take-all, take-nil, take-take, take-at, take-append-le, drop-at, drop-drop, drop-cons, length-take-le, sets, sets-eq}
 
 module _ {A : Type 0} where

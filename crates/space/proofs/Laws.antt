@@ -15,7 +15,7 @@ use Rattle.definitions.specs.Orbits.{pointAt}
 use Rattle.laws.specs.Parts.{rows}
 use Rattle.space.specs.declared.Subspace.{Subspace as StoredSubspace}
 use Rattle.space.specs.declared.Points.{Points}
-use Rattle.space.specs.Meaning.{subspaceOf, Holds, withVector, isFullRank, pointAlone, pointsOf}
+use Rattle.space.specs.Meaning.{subspaceOf, HoldsSubspace, withVector, isFullRank, pointAlone, pointsOf}
 
 -- Project: one basis vector more.
 pub gains-snoc : (away : Vec) (bs : List Vec) (b q : Vec) → gains away (bs ++ (b ∷ [])) q ≡ plusTimes (gains away bs q) b (dot away b)
@@ -72,6 +72,6 @@ fromPoints-first tolerance [] h = absurd (omega arith)
 fromPoints-first tolerance (p ∷ ps) h = refl
 
 -- Where the basis has fewer than d vectors there is room for one more.
-pub has-room : (s : StoredSubspace) → Holds s (subspaceOf s) → isFullRank (subspaceOf s) ≡ false → s .rank < s .d
+pub has-room : (s : StoredSubspace) → HoldsSubspace s (subspaceOf s) → isFullRank (subspaceOf s) ≡ false → s .rank < s .d
 unfolding isFullRank
 has-room s h e = let more : length (subspaceOf s .basis) < length (subspaceOf s .offset) = leb-false _ _ e in omega arith

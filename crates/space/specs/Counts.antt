@@ -1,7 +1,7 @@
 -- The counts of a struct are those of what it means, and its rows are the vectors of what it means. Leans on Meaning and on the rows of the crate of laws.
 use mathlib.Core.Path.{_≡_, sym, ap, _∙_}
 use mathlib.Core.List.{List, []}
-use Prim.Native.Nat.{ℕ, _+_, _*_, _≤_, _<_}
+use Prim.Native.Nat.{ℕ, _*_, _≤_, _<_}
 use native.Mathlib.Omega.{arith}
 use lib.ListN.{length, getD, take, drop}
 use lib.Seq.{length-take-le}
@@ -11,7 +11,7 @@ use Rattle.definitions.specs.Orbits.{pointAt}
 use Rattle.laws.specs.Parts.{length-rows, getD-rows}
 use Rattle.space.specs.declared.Subspace.{Subspace as StoredSubspace}
 use Rattle.space.specs.declared.Points.{Points}
-use Rattle.space.specs.Meaning.{subspaceOf, SubspaceFits, Holds, pointsOf, PointsFit, HoldsPoints}
+use Rattle.space.specs.Meaning.{subspaceOf, SubspaceFits, HoldsSubspace, pointsOf, PointsFit, HoldsPoints}
 
 -- ---- a subspace
 
@@ -28,15 +28,15 @@ unfolding subspaceOf
 basis-row s j below = getD-rows 5 (s .d) (s .rank) (s .basis) j below
 
 -- What a struct holds, from its meaning: the counts follow.
-pub holds : (s : StoredSubspace) (meaning : Subspace) → SubspaceFits s → length (s .offset) ≡ 5 → subspaceOf s ≡ meaning → Holds s meaning
-holds s meaning fits long e = record {
+pub holds-subspace : (s : StoredSubspace) (meaning : Subspace) → SubspaceFits s → length (s .offset) ≡ 5 → subspaceOf s ≡ meaning → HoldsSubspace s meaning
+holds-subspace s meaning fits long e = record {
   fits = fits;
   d-is = sym (offset-length s (fits .d-fits) long) ∙ ap (λ (m : Subspace). length (m .offset)) e;
   rank-is = sym (basis-length s) ∙ ap (λ (m : Subspace). length (m .basis)) e;
   means = e;
 }
 
-pub holds-own : (s : StoredSubspace) (meaning : Subspace) → Holds s meaning → Holds s (subspaceOf s)
+pub holds-own : (s : StoredSubspace) (meaning : Subspace) → HoldsSubspace s meaning → HoldsSubspace s (subspaceOf s)
 holds-own s meaning h = rw (h .means) h
 
 -- ---- points

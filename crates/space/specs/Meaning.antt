@@ -29,7 +29,7 @@ pub record SubspaceFits (s : StoredSubspace) : Type 0 where
   pub rank-fits : s .rank ≤ 5
 
 -- The struct holds a subspace. That its counts are those of the subspace follows; it is said for whoever calls.
-pub record Holds (s : StoredSubspace) (meaning : Subspace) : Type 0 where
+pub record HoldsSubspace (s : StoredSubspace) (meaning : Subspace) : Type 0 where
   pub fits : SubspaceFits s
   pub d-is : s .d ≡ length (meaning .offset)
   pub rank-is : s .rank ≡ length (meaning .basis)

@@ -8,7 +8,7 @@ ghost use Rattle.definitions.specs.Vectors.{minus};
 ghost use Rattle.definitions.specs.Subspace.{project, residual, distance, addPoint, fromPoints, isHyperplane, flatten};
 ghost use Rattle.definitions.specs.Orbits.{pointAt, tooShort, tooLong, breaksLimit};
 ghost use Rattle.vectors.specs.Meaning.{vectorOf};
-ghost use Rattle.space.specs.Meaning.{subspaceOf, SubspaceFits, Holds, pointAlone, withVector, isFullRank, pointsOf, PointsFit, HoldsPoints, lengthOf, limitsOf};
+ghost use Rattle.space.specs.Meaning.{subspaceOf, SubspaceFits, HoldsSubspace, pointAlone, withVector, isFullRank, pointsOf, PointsFit, HoldsPoints, lengthOf, limitsOf};
 
 // ---- subspaces
 
@@ -24,7 +24,7 @@ impl Subspace {
     // A point alone: its basis has no vector yet.
     pub fn new(offset: [f64; 5], d: usize) -> Subspace
         requires { ⌜ d ≤ 5 ⌝ }
-        ensures { λ r. ⌜ Holds r (pointAlone (vectorOf d offset)) ⌝ }
+        ensures { λ r. ⌜ HoldsSubspace r (pointAlone (vectorOf d offset)) ⌝ }
     {
         Subspace {
             offset: offset,
@@ -48,10 +48,10 @@ impl Subspace {
         ]
     }
 
-    // A vector joins the basis.
-    fn with_vector(self, v: [f64; 5]) -> Subspace
+    // A vector joins the basis as it is.
+    pub fn with_vector(self, v: [f64; 5]) -> Subspace
         requires { ⌜ SubspaceFits self × (self .rank < 5) ⌝ }
-        ensures { λ r. ⌜ Holds r (withVector (subspaceOf self) (vectorOf (self .d) v)) ⌝ }
+        ensures { λ r. ⌜ HoldsSubspace r (withVector (subspaceOf self) (vectorOf (self .d) v)) ⌝ }
     {
         let mut wider = self;
         let rank = wider.rank;
@@ -114,7 +114,7 @@ impl Subspace {
     // The residual, normalised, joins the basis exactly when its norm exceeds the tolerance.
     pub fn add(self, p: [f64; 5], tolerance: f64) -> Subspace
         requires { ⌜ SubspaceFits self × (self .rank < 5) ⌝ }
-        ensures { λ r. ⌜ Holds r (addPoint tolerance (subspaceOf self) (vectorOf (self .d) p)) ⌝ }
+        ensures { λ r. ⌜ HoldsSubspace r (addPoint tolerance (subspaceOf self) (vectorOf (self .d) p)) ⌝ }
     {
         let d = self.d;
         let unit = vectors::normalise(self.residual(p), d);
@@ -126,10 +126,10 @@ impl Subspace {
         }
     }
 
-    // The first point is the offset; the others are added in order until the basis has d vectors. Without a point there is an empty offset.
+    // The first point is the offset; the others are added in order until the basis has d vectors. Without a point the offset has no numbers; else d is the points' own.
     pub fn from_points(points: Points, tolerance: f64) -> Subspace
         requires { ⌜ PointsFit points ⌝ }
-        ensures { λ r. ⌜ Holds r (fromPoints tolerance (pointsOf points)) × (0 < points .n → r .d ≡ points .d) ⌝ }
+        ensures { λ r. ⌜ HoldsSubspace r (fromPoints tolerance (pointsOf points)) × (0 < points .n → r .d ≡ points .d) ⌝ }
     {
         let n = points.n;
         let d = points.d;

@@ -1,13 +1,13 @@
 -- The definitions at vectors that grow by one number at the end, as the loops build them. Leans on the definitions and on the laws of parts.
-use mathlib.Core.Path.{_≡_, refl, sym, ap, _∙_}
+use mathlib.Core.Path.{_≡_, refl, sym, ap}
 use mathlib.Core.List.{List, [], _∷_, _++_}
-use Prim.Native.Nat.{ℕ, zero, suc, _+_, _≤_, _<_}
+use Prim.Native.Nat.{ℕ, _+_, _<_}
 use native.Mathlib.Omega.{arith}
-use lib.ListN.{length, getD, take, drop, set}
+use lib.ListN.{length, getD, take}
 use lib.Seq.{length-take-le}
 use lib.Ieee.{Float, binary64, nan, add, sub, mul}
 use Rattle.definitions.specs.Vectors.{Vec, dotFrom, dot, zero64, minus, plusTimes}
-use Rattle.laws.specs.Parts.{take-more, take-more-set}
+use Rattle.laws.specs.Parts.{take-more}
 
 dotFrom-snoc : (sum : Float) (xs ys : Vec) (x y : Float) → length xs ≡ length ys → dotFrom sum (xs ++ (x ∷ [])) (ys ++ (y ∷ [])) ≡ add binary64 (dotFrom sum xs ys) (mul binary64 x y)
 unfolding dotFrom

@@ -8,7 +8,7 @@ use Rattle.definitions.specs.Vectors.{norm, normalised}
 use Rattle.definitions.specs.Subspace.{residual}
 use Rattle.vectors.specs.Meaning.{vectorOf}
 use Rattle.space.specs.Meaning.{subspaceOf}
-use Rattle.space.specs.Counts.{holds}
+use Rattle.space.specs.Counts.{holds-subspace}
 use Rattle.space.proofs.Laws.{addPoint-joins, addPoint-stays}
 use Rattle.space.proofs.Subspace.add.Statement.{statement}
 use Rattle.space.proofs.Subspace.add.Tie as tie
@@ -41,7 +41,7 @@ returns-2 c =
     let r : vectorOf (a .self .d) (c .before .before .before .residual .result) ≡ residual s p = c .before .before .before .residual .ensures in
     let long : length (a .self .offset) ≡ 5 = search needs in
     let shorter : lt (a .tolerance) (norm (residual s p)) ≡ false = rw (← r, ← (c .before .before .normalise .ensures .1)) (c .if1 .left) in
-    holds _ _ (c .before .before .before .before .pre .0) long (sym (addPoint-stays _ s p shorter))
+    holds-subspace _ _ (c .before .before .before .before .pre .0) long (sym (addPoint-stays _ s p shorter))
 
 pub add-spec : {M : Type 1} → statement M
 add-spec =

@@ -9,14 +9,14 @@ use lib.Seq.{length-take-le}
 use Rattle.definitions.specs.Subspace.{addPoints, fromPoints}
 use Rattle.definitions.specs.Orbits.{pointAt}
 use Rattle.vectors.specs.Meaning.{vectorOf}
-use Rattle.space.specs.Meaning.{subspaceOf, Holds, pointAlone, isFullRank, pointsOf}
+use Rattle.space.specs.Meaning.{subspaceOf, HoldsSubspace, pointAlone, isFullRank, pointsOf}
 use Rattle.space.specs.Counts.{holds-own, points-length}
 use Rattle.space.proofs.Laws.{addPoint-offset, addPoints-full, addPoints-step, addPoints-end, fromPoints-none, fromPoints-first, has-room}
 use Rattle.space.proofs.Subspace.from_points.Statement.{statement}
 use Rattle.space.proofs.Subspace.from_points.Tie as tie
 
 abbrev Inv-loop : tie.InvT-loop
-Inv-loop points tolerance n d s₀ i₀ s i = (i ≤ n) × (s .d ≡ d) × Holds s (subspaceOf s) × (addPoints tolerance (subspaceOf s) (drop i (pointsOf points)) ≡ fromPoints tolerance (pointsOf points))
+Inv-loop points tolerance n d s₀ i₀ s i = (i ≤ n) × (s .d ≡ d) × HoldsSubspace s (subspaceOf s) × (addPoints tolerance (subspaceOf s) (drop i (pointsOf points)) ≡ fromPoints tolerance (pointsOf points))
 
 abbrev μ-loop : tie.MeasureT-loop
 μ-loop points tolerance n d s₀ i₀ s i = n - i

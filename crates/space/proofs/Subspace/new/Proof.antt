@@ -5,7 +5,7 @@ use borrow.Author.Needs.{needs}
 use lib.ListN.{length}
 use Rattle.laws.specs.Parts.{rows}
 use Rattle.space.specs.Meaning.{subspaceOf, pointAlone}
-use Rattle.space.specs.Counts.{holds}
+use Rattle.space.specs.Counts.{holds-subspace}
 use Rattle.space.proofs.Subspace.new.Statement.{statement}
 use Rattle.space.proofs.Subspace.new.Tie as tie
 
@@ -13,7 +13,7 @@ returns : tie.Need-returns
 unfolding subspaceOf pointAlone rows
 returns c =
     let long : length (c .args .offset) ≡ 5 = search needs in
-    holds _ _ (record { d-fits = c .pre; rank-fits = omega arith }) long refl
+    holds-subspace _ _ (record { d-fits = c .pre; rank-fits = omega arith }) long refl
 
 pub new-spec : {M : Type 1} → statement M
 new-spec = tie.close (tie.spec returns)
