@@ -1,14 +1,14 @@
 -- Rounding within a cell. A cell is what lies between r and r + 1 times a power of two, where r has one binary digit more than the format keeps: all of it rounds to the half of r,
 -- rounded up. At its lower end that holds where r is even, since then the end itself is a value of the format. Assumes nothing.
 use mathlib.Core.Path.{_≡_, refl, sym, ap, _∙_, subst}
-use mathlib.Core.Bool.{Bool, true, false, not}
+use mathlib.Core.Bool.{Bool, not}
 use Prim.Native.Nat.{ℕ, zero, suc, _+_, _-_, _*_, _/_, _%_, _^_, _≤_, _<_, compare, Ordering, Ordering·lt, Ordering·eq, Ordering·gt}
-use native.Mathlib.Nat.{le-div-iff-mul-le, div-lt-iff-lt-mul, mul-le-mul-right, mul-pos, mul-assoc, mul-comm, pow-succ', lt-of-not-le, not-le-of-lt, lt-of-lt-of-le}
+use native.Mathlib.Nat.{le-div-iff-mul-le, div-lt-iff-lt-mul, mul-le-mul-right, mul-assoc, mul-comm, pow-succ', lt-of-not-le, not-le-of-lt, lt-of-lt-of-le}
 use native.Mathlib.Omega.{arith}
-use lib.Dec.{T, leb, isLe, isEq, leb→le, nleb→lt, eqb, eqb→eq, eqb-refl}
+use lib.Dec.{T, isLe, isEq, leb→le, nleb→lt, eqb, eqb→eq, eqb-refl}
 use lib.Arith.{lt-of-le-ne, digits-div, digits-mod}
-use lib.Pow.{pow-add, pow-pos, pow-mono}
-use lib.Ieee.{Float, Format, prec, low, size, nearest, units, round}
+use lib.Pow.{pow-add, pow-mono}
+use lib.Ieee.{Format, prec, low, size, nearest, units, round}
 use lib.Ieee.Digits.{size-lt, size-le}
 use lib.Ieee.Fits.{core, round-is}
 

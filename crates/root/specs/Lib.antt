@@ -1,9 +1,12 @@
--- What the square root's contracts cite, and the theorem that document 01's square root is IEEE 754's.
+-- What the square root's contracts cite, the laws that its proofs cite, and the theorem that document 01's square root is IEEE 754's.
 pub mod Answer
 pub mod Scaled
-pub mod Newton
+pub mod Powers
 pub mod Table
+pub mod Newton
 pub mod Cell
 pub mod Pattern
+pub mod Doubles
 pub mod RootLaw
 pub mod Special
+pub mod Ieee

@@ -1,9 +1,9 @@
 -- The steps from a start in the table to the whole root, on plain numbers. Assumes nothing.
-use mathlib.Core.Path.{_≡_, sym}
+use mathlib.Core.Path.{_≡_, sym, subst}
 use Prim.Native.Nat.{ℕ, suc, _+_, _-_, _*_, _/_, _%_, _^_, _≤_, _<_}
-use native.Mathlib.Nat.{mul-le-mul, mul-le-mul-right, mul-le-mul-left, div-add-mod', mod-lt, div-mul-le-self, div-lt-iff-lt-mul}
+use native.Mathlib.Nat.{mul-le-mul, mul-le-mul-right, div-add-mod', mod-lt, div-mul-le-self, div-lt-iff-lt-mul}
 use native.Mathlib.Omega.{arith}
-use Rattle.laws.specs.Squares.{WholeRoot, le-by, root-le, root-lt, step-above, step-near}
+use Rattle.laws.specs.Squares.{WholeRoot, le-by, root-lt, step-above, step-near}
 
 -- y is the root of m or above it, and no further than its first 18 binary digits allow
 pub record Close (m y : ℕ) : Type 0 where
@@ -134,8 +134,8 @@ module _ (m y : ℕ) (large : 2 ^ 60 ≤ m) (small : m < 2 ^ 62) (close : Close 
   pub next-kept : next * next ≤ m → WholeRoot m next
   next-kept = kept m y (m / y) next large close under over (omega arith) (omega arith)
 
-  pub next-lowered : m < next * next → WholeRoot m (next - 1)
-  next-lowered = lowered m y (m / y) next large close under over (omega arith) (omega arith)
+  pub next-lowered : m < next * next → (v : ℕ) → v ≡ next - 1 → WholeRoot m v
+  next-lowered h v e = subst (WholeRoot m) (sym e) (lowered m y (m / y) next large close under over (omega arith) (omega arith) h)
 
 -- ---- the lower half: m is y² and a rest, and the root of m × 2^46 is y × 2^23 and what the rest, times 2^22, gives when y divides it
 module _ (m y d p : ℕ) (large : 2 ^ 60 ≤ m) (half : WholeRoot m y) (split : (m - y * y) * 2 ^ 22 ≡ d * y + p) (part : p < y) where
@@ -200,5 +200,5 @@ module _ (m y : ℕ) (large : 2 ^ 60 ≤ m) (small : m < 2 ^ 62) (half : WholeRo
   pub halves-kept : rest / y * (rest / y) ≤ rest % y * 16777216 → WholeRoot (m * 2 ^ 46) (y * 8388608 + rest / y)
   halves-kept = exact m y (rest / y) (rest % y) large half splits part-small
 
-  pub halves-lowered : rest % y * 16777216 < rest / y * (rest / y) → WholeRoot (m * 2 ^ 46) (y * 8388608 + rest / y - 1)
-  halves-lowered = one-less m y (rest / y) (rest % y) large half splits part-small
+  pub halves-lowered : rest % y * 16777216 < rest / y * (rest / y) → (v : ℕ) → v ≡ y * 8388608 + rest / y - 1 → WholeRoot (m * 2 ^ 46) v
+  halves-lowered h v e = subst (WholeRoot (m * 2 ^ 46)) (sym e) (one-less m y (rest / y) (rest % y) large half splits part-small h)

@@ -1,16 +1,17 @@
 -- Bit patterns of doubles above zero: the value that a pattern stands for, by its two fields, and the pattern of a value by its significand. Assumes nothing.
 use mathlib.Core.Path.{_≡_, refl, sym, ap, _∙_, subst}
-use mathlib.Core.Bool.{Bool, true, false, not, cond}
+use mathlib.Core.Bool.{Bool, true, false, cond}
 use Prim.Native.Nat.{ℕ, zero, suc, _+_, _-_, _*_, _/_, _%_, _^_, _≤_, _<_}
-use native.Mathlib.Nat.{mod-eq-of-lt, mul-right-comm, eq-of-mul-eq-mul-right, mul-assoc, pow-suc, pow-succ', lt-of-lt-of-le, lt-of-le-of-lt, lt-of-not-le, not-le-of-lt, mul-le-mul-right, mul-lt-mul-of-pos-right}
+use native.Mathlib.Nat.{mod-eq-of-lt, mul-right-comm, eq-of-mul-eq-mul-right, mul-assoc, pow-suc, lt-of-lt-of-le, lt-of-le-of-lt, le-of-lt}
 use native.Mathlib.Omega.{arith}
-use lib.Dec.{T, leb, ltb, eqb, lt→ltb, not-T, eqb→eq, lit≤}
+use lib.Dec.{leb, ltb, eqb, lt→ltb, not-T, eqb→eq, lit≤}
 use lib.Arith.{lt→nleb, digits-div, digits-mod}
 use lib.Pow.{pow-add, pow-pos, shl-lt, pow-mono}
 use lib.Count.{trailingZeros, leadingZeros, leading-top, under}
-use lib.Ieee.{Float, nan, inf, fin, Format, binary64, prec, emax, low, hid, top, ones, up, down, minus, odd, units, ofFields, ofBits}
+use lib.Ieee.{Float, nan, inf, fin, binary64, low, hid, top, up, down, minus, odd, units, ofFields, ofBits}
 use lib.Ieee.Bits.{is-true, is-false}
 use lib.Ieee.Exact.{HasValue, odd-sign}
+use Rattle.root.specs.Powers.{pow-back, all-places, moved-low, moved-high}
 use Rattle.root.specs.Scaled.{ScaledBy}
 
 -- ---- from one fraction to another of the same size
@@ -85,32 +86,24 @@ of-units s k lo hi l =
 regroup : (q a b c : ℕ) → q * (a * b) * c ≡ q * a * (b * c)
 regroup q a b c = omega arith
 
-pow-back : (a b : ℕ) → 2 ^ a < 2 ^ b → a < b
-pow-back a b h = lt-of-not-le (λ (g : b ≤ a). not-le-of-lt h (pow-mono g))
-
 -- ---- what the program makes of a pattern
-pub scaled-normal : (bits : ℕ) → bits < 2047 * 2 ^ 52 → 0 < bits / 4503599627370496 → ScaledBy (ofBits binary64 bits) (4503599627370496 + bits % 4503599627370496) (bits / 4503599627370496 + 51)
-scaled-normal bits h p = go (bits / 2 ^ 52) refl
+pub scaled-normal : (bits w : ℕ) → bits < 2047 * 2 ^ 52 → 0 < bits / 4503599627370496 → w ≡ bits / 4503599627370496 + 51 → ScaledBy (ofBits binary64 bits) (4503599627370496 + bits % 4503599627370496) w
+scaled-normal bits w h p e = go (bits / 2 ^ 52) refl
   where
-    digits : ℕ
-    digits = bits % 2 ^ 52
-
-    small : digits < 2 ^ 52
-    small = omega arith
-
-    go : (field : ℕ) → bits / 2 ^ 52 ≡ field → ScaledBy (ofBits binary64 bits) (2 ^ 52 + bits % 2 ^ 52) (field + 51)
-    go zero e = absurd (omega arith)
-    go (suc k) e =
+    go : (field : ℕ) → bits / 2 ^ 52 ≡ field → ScaledBy (ofBits binary64 bits) (2 ^ 52 + bits % 2 ^ 52) w
+    go zero d = absurd (omega arith)
+    go (suc k) d =
+        let digits = bits % 2 ^ 52 in
         let q = 2 ^ 52 + digits in
         let b : bits ≡ suc k * 2 ^ 52 + digits = omega arith in
-        let x : ofBits binary64 bits ≡ odd 53 false q k 1074 = ap (ofBits binary64) b ∙ of-normal k digits small (omega arith) in
-        let w : suc k + 51 ≡ k + 52 = omega arith in
-        let n : q * 2 ^ (suc k + 51) * 2 ^ 1074 ≡ q * 2 ^ k * 2 ^ 1126 = ap (λ (z : ℕ). q * 2 ^ z * 2 ^ 1074) w ∙ ap (λ (z : ℕ). q * z * 2 ^ 1074) (pow-add 2 k 52) ∙ regroup q (2 ^ k) (2 ^ 52) (2 ^ 1074) in
+        let x : ofBits binary64 bits ≡ odd 53 false q k 1074 = ap (ofBits binary64) b ∙ of-normal k digits (omega arith) (omega arith) in
+        let l : w ≡ k + 52 = omega arith in
+        let n : q * 2 ^ w * 2 ^ 1074 ≡ q * 2 ^ k * 2 ^ 1126 = ap (λ (z : ℕ). q * 2 ^ z * 2 ^ 1074) l ∙ ap (λ (z : ℕ). q * z * 2 ^ 1074) (pow-add 2 k 52) ∙ regroup q (2 ^ k) (2 ^ 52) (2 ^ 1074) in
         record {
           low = omega arith;
           high = omega arith;
           reach = omega arith;
-          value = subst (λ (v : Float). HasValue v false (q * 2 ^ (suc k + 51)) (2 ^ 1126)) (sym x) (same-value (odd 53 false q k 1074) false (q * 2 ^ k) (2 ^ 1074) (q * 2 ^ (suc k + 51)) (2 ^ 1126) (pow-pos 1074) n (odd-sign 53 false q k 1074));
+          value = subst (λ (v : Float). HasValue v false (q * 2 ^ w) (2 ^ 1126)) (sym x) (same-value (odd 53 false q k 1074) false (q * 2 ^ k) (2 ^ 1074) (q * 2 ^ w) (2 ^ 1126) (pow-pos 1074) n (odd-sign 53 false q k 1074));
         }
 
 -- digits whose leading one stands at place j, moved up to 53 places
@@ -118,31 +111,18 @@ module _ (digits j z : ℕ) (counted : z + suc j ≡ 64) (small : digits < 2 ^ 5
   place : j < 52
   place = pow-back j 52 (lt-of-le-of-lt from small)
 
-  all-places : 2 ^ (52 - j) * 2 ^ j ≡ 2 ^ 52
-  all-places = let p = place in let e : 52 - j + j ≡ 52 = omega arith in sym (pow-add 2 (52 - j) j) ∙ ap (λ (x : ℕ). 2 ^ x) e
-
-  moved-low : 2 ^ 52 ≤ digits * 2 ^ (52 - j)
-  moved-low = let a = all-places in let c = mul-le-mul-right (2 ^ (52 - j)) from in omega arith
-
-  moved-high : digits * 2 ^ (52 - j) < 2 ^ 53
-  moved-high =
-      let a = all-places in
-      let b : digits < 2 * 2 ^ j = subst (λ (x : ℕ). digits < x) (pow-succ' 2 j) to in
-      let c = mul-lt-mul-of-pos-right b (pow-pos (52 - j)) in
-      omega arith
-
   lifted : (x y v : ℕ) → x * y * v ≡ x * 1 * (y * v)
   lifted x y v = omega arith
 
   moved-value : digits * 2 ^ (52 - j) * 2 ^ j * 2 ^ 1074 ≡ digits * 2 ^ 0 * 2 ^ 1126
-  moved-value = ap (λ (y : ℕ). y * 2 ^ 1074) (mul-assoc digits (2 ^ (52 - j)) (2 ^ j) ∙ ap (λ (y : ℕ). digits * y) all-places) ∙ lifted digits (2 ^ 52) (2 ^ 1074)
+  moved-value = ap (λ (y : ℕ). y * 2 ^ 1074) (mul-assoc digits (2 ^ (52 - j)) (2 ^ j) ∙ ap (λ (y : ℕ). digits * y) (all-places digits j (le-of-lt place) from to)) ∙ lifted digits (2 ^ 52) (2 ^ 1074)
 
   moved : ScaledBy (odd 53 false digits 0 1074) (digits * 2 ^ (52 - j)) j
   moved =
       let p = place in
       record {
-        low = moved-low;
-        high = moved-high;
+        low = moved-low digits j (le-of-lt place) from to;
+        high = moved-high digits j (le-of-lt place) from to;
         reach = omega arith;
         value = same-value (odd 53 false digits 0 1074) false (digits * 2 ^ 0) (2 ^ 1074) (digits * 2 ^ (52 - j) * 2 ^ j) (2 ^ 1126) (pow-pos 1074) moved-value (odd-sign 53 false digits 0 1074);
       }
@@ -155,7 +135,7 @@ module _ (digits j z : ℕ) (counted : z + suc j ≡ 64) (small : digits < 2 ^ 5
       let p = place in
       let w : 63 - z ≡ j = omega arith in
       let u : z - 11 ≡ 52 - j = omega arith in
-      (omega arith, omega arith, rw u moved-high, rw (u, w) moved)
+      (omega arith, omega arith, rw u (moved-high digits j (le-of-lt place) from to), rw (u, w) moved)
 
 -- the leading zeros of the digits, among 64, say how far they move up
 pub record MovedUp (bits z : ℕ) : Type 0 where

@@ -2,21 +2,22 @@
 -- the point of whatever significand it is handed, a program takes 54 in all; the two numbers whose roots they take differ by an even power of two, so one root lies in the other's cell.
 -- Assumes nothing.
 use mathlib.Core.Path.{_≡_, refl, sym, ap, _∙_, subst}
-use mathlib.Core.Bool.{Bool, true, false, not, cond, _&&_}
-use mathlib.Core.Option.{Option, some, none}
+use mathlib.Core.Bool.{Bool, true, false, not, cond}
+use mathlib.Core.Option.{some}
 use Prim.Native.Nat.{ℕ, zero, suc, _+_, _-_, _*_, _/_, _%_, _^_, _≤_, _<_}
-use native.Mathlib.Nat.{pow-suc, mul-assoc, mul-pos, mul-le-mul-right, mul-lt-mul-of-pos-right, le-of-mul-le-mul-right, lt-of-mul-lt-mul-right, eq-of-mul-eq-mul-right, mul-right-comm, lt-of-not-le, not-le-of-lt, lt-of-lt-of-le, mul-one, zero-mul, add-assoc}
+use native.Mathlib.Nat.{pow-suc, mul-pos, mul-le-mul-right, mul-lt-mul-of-pos-right, le-of-mul-le-mul-right, lt-of-mul-lt-mul-right, lt-of-lt-of-le, mul-one, zero-mul, add-assoc}
 use native.Mathlib.Omega.{arith}
-use lib.Dec.{T, leb, eqb, leb→le, nleb→lt, ltb, ltb→lt, eqb→eq, eqb-refl, T-not, lit≤, lit<}
-use lib.Pow.{pow-add, pow-pos, pow-mono, pow-lt}
+use lib.Dec.{T, leb, eqb, leb→le, nleb→lt, eqb→eq, lit≤, lit<}
+use lib.Pow.{pow-add, pow-pos}
 use lib.IntN.{ℤ, pos, negsuc}
-use lib.Ieee.{Float, nan, inf, fin, binary64, prec, low, emax, up, down, fits, units, round, ofBits}
-use lib.Ieee.Fits.{and-l, and-r, down-pos}
+use lib.Ieee.{Float, nan, inf, fin, binary64, low, up, down, fits, units, ofBits}
+use lib.Ieee.Fits.{down-pos}
 use lib.Ieee.Bits.{ofBits-fits}
-use lib.Ieee.Exact.{HasValue}
 use Rattle.definitions.specs.Vectors.{wholeRoot, twiceRoot, rootTimes, squareRoot}
-use Rattle.laws.specs.Squares.{WholeRoot, root-lt, root-le, scaled-low, scaled-high}
+use Rattle.laws.specs.Squares.{WholeRoot, root-lt, scaled-low, scaled-high}
+use Rattle.root.specs.Powers.{across-le, across-lt, pow-back, join, balance, two-choices}
 use Rattle.root.specs.Cell.{cell}
+use Rattle.root.specs.Doubles.{fitting}
 use Rattle.root.specs.Scaled.{ScaledBy}
 use Rattle.root.specs.Pattern.{of-units}
 
@@ -88,57 +89,32 @@ module _ (N g m r : ℕ) (gpos : 0 < g) (is : m * 2 ^ 112 ≡ N * (g * g)) (even
   over x = omega arith
 
   mine : k * a * 2 ^ 1074 * g ≡ k * (2 ^ t * b * 2 ^ 56)
-  mine = ap (λ (z : ℕ). z) (regroup k a (2 ^ 1074) g) ∙ ap (λ (z : ℕ). k * z) unit
+  mine = regroup k a (2 ^ 1074) g ∙ ap (λ (z : ℕ). k * z) unit
     where
       regroup : (x y z v : ℕ) → x * y * z * v ≡ x * (y * z * v)
       regroup x y z v = omega arith
 
+  some-width : 0 < 2 ^ t * b * 2 ^ 56
+  some-width = mul-pos (mul-pos (pow-pos t) bpos) (pow-pos 56)
+
+  -- so a bound on twice the root is one on the fraction that is rounded
+  at-least : (x : ℕ) → 2 * x * g ≤ k → x * (b * 2 ^ 57 * 2 ^ t) ≤ k * a * 2 ^ 1074
+  at-least x h = le-of-mul-le-mul-right (across-le (over x) mine (mul-le-mul-right (2 ^ t * b * 2 ^ 56) h)) gpos
+
+  more-than : (x : ℕ) → 2 * x * g < k → x * (b * 2 ^ 57 * 2 ^ t) < k * a * 2 ^ 1074
+  more-than x h = lt-of-mul-lt-mul-right g (across-lt (over x) mine (mul-lt-mul-of-pos-right h some-width))
+
+  less-than : (x : ℕ) → k < 2 * x * g → k * a * 2 ^ 1074 < x * (b * 2 ^ 57 * 2 ^ t)
+  less-than x h = lt-of-mul-lt-mul-right g (across-lt mine (over x) (mul-lt-mul-of-pos-right h some-width))
+
   pub root-times : rootTimes m a b ≡ units binary64 false (suc r / 2) (suc t)
   unfolding rootTimes
   root-times =
-      let W = 2 ^ t * b * 2 ^ 56 in
-      let Wpos : 0 < W = mul-pos (mul-pos (pow-pos t) bpos) (pow-pos 56) in
+      let R = wholeRoot 84 n in
       cell binary64 false r t (k * a) (b * 2 ^ 57) (mul-pos bpos (pow-pos 57)) least most
-      (le-of-mul-le-mul-right {m = r * (b * 2 ^ 57 * 2 ^ t)} {n = k * a * 2 ^ 1074} {k = g}
-      (subst₂' (sym (over r)) (sym mine) (mul-le-mul-right W (twice-low N g n r gpos is even root (wholeRoot 84 n) fine))) gpos)
-      (lt-of-mul-lt-mul-right g {m = k * a * 2 ^ 1074} {n = suc r * (b * 2 ^ 57 * 2 ^ t)}
-      (subst₃' (sym mine) (sym (over (suc r))) (mul-lt-mul-of-pos-right (twice-high N g n r gpos is even root (wholeRoot 84 n) fine) Wpos)))
-      (λ o.
-      lt-of-mul-lt-mul-right g {m = r * (b * 2 ^ 57 * 2 ^ t)} {n = k * a * 2 ^ 1074}
-      (subst₃' (sym (over r)) (sym mine) (mul-lt-mul-of-pos-right (twice-strict N g n r gpos is even root (wholeRoot 84 n) fine o) Wpos)))
-    where
-      subst₂' : {x x' y y' : ℕ} → x ≡ x' → y ≡ y' → x ≤ y → x' ≤ y'
-      subst₂' p q h = omega arith
-
-      subst₃' : {x x' y y' : ℕ} → x ≡ x' → y ≡ y' → x < y → x' < y'
-      subst₃' p q h = omega arith
-
--- ---- powers of two on both sides
-balance : (m q a b c d : ℕ) → m * 2 ^ a ≡ q * 2 ^ b → a + d ≡ b + c → m * 2 ^ c ≡ q * 2 ^ d
-balance m q a b c d h e =
-    let p : 2 ^ a * 2 ^ d ≡ 2 ^ b * 2 ^ c = sym (pow-add 2 a d) ∙ ap (λ (x : ℕ). 2 ^ x) e ∙ pow-add 2 b c in
-    eq-of-mul-eq-mul-right (2 ^ a * 2 ^ d) (mul-pos (pow-pos a) (pow-pos d)) (m * 2 ^ c) (q * 2 ^ d)
-    (left m (2 ^ a) (2 ^ c) (2 ^ d) ∙ ap (λ (x : ℕ). x * (2 ^ c * 2 ^ d)) h ∙ right q (2 ^ b) (2 ^ c) (2 ^ d) ∙ ap (λ (x : ℕ). q * 2 ^ d * x) (sym p))
-  where
-    left : (x y z v : ℕ) → x * z * (y * v) ≡ x * y * (z * v)
-    left x y z v = omega arith
-
-    right : (x y z v : ℕ) → x * y * (z * v) ≡ x * v * (y * z)
-    right x y z v = omega arith
-
-pow-back : (a b : ℕ) → 2 ^ a < 2 ^ b → a < b
-pow-back a b h = lt-of-not-le (λ (g : b ≤ a). not-le-of-lt h (pow-mono g))
-
-two-choices : (w : ℕ) → 1 + w % 2 ≡ 2 ^ (w % 2)
-two-choices w = go (w % 2) (omega arith)
-  where
-    go : (x : ℕ) → x < 2 → 1 + x ≡ 2 ^ x
-    go zero h = refl
-    go (suc zero) h = refl
-    go (suc (suc x)) h = absurd (omega arith)
-
-join : (m a b : ℕ) → m * 2 ^ a * 2 ^ b ≡ m * 2 ^ (a + b)
-join m a b = mul-assoc m (2 ^ a) (2 ^ b) ∙ ap (λ (x : ℕ). m * x) (sym (pow-add 2 a b))
+      (at-least r (twice-low N g n r gpos is even root R fine))
+      (less-than (suc r) (twice-high N g n r gpos is even root R fine))
+      (λ o. more-than r (twice-strict N g n r gpos is even root R fine o))
 
 -- ---- the number whose root is taken: q or 2 q, as the exponent is even or odd
 module _ (q w : ℕ) (lo : 2 ^ 52 ≤ q) (hi : q < 2 ^ 53) where
@@ -231,16 +207,6 @@ module _ (m q w r : ℕ) (mpos : 0 < m) (small : m < 2 ^ 53) (lo : 2 ^ 52 ≤ q)
       ∙ ap (λ (y : ℕ). units binary64 false (suc r / 2) y) (omega arith)
 
 -- ---- the definition's root of q 2^w / 2^1126
-pub few-digits : (s : Bool) (m : ℕ) (e : ℤ) → T (fits binary64 (fin s m e)) → m < 2 ^ 53
-unfolding fits
-few-digits s zero e h = lit< tt
-few-digits s (suc m) e h =
-    let A = eqb (suc m % 2) 1 in
-    let B = ltb (suc m) (2 ^ 53) in
-    let C = leb (down e) (2 ^ 1074) in
-    let D = ltb (suc m * up e) (2 ^ 1024 * down e) in
-    ltb→lt (suc m) (2 ^ 53) (and-r A B (and-l (A && B) C (and-l (A && B && C) D h)))
-
 pub root-of-scaled : (x : Float) (q w r : ℕ) → T (fits binary64 x) → ScaledBy x q w → WholeRoot (q * (1 + w % 2) * 2 ^ 54) r → squareRoot x ≡ some (units binary64 false (suc r / 2) (w / 2 + 485))
 unfolding squareRoot
 root-of-scaled nan q w r f s root = absurd (s .value)
@@ -258,25 +224,24 @@ root-of-scaled (fin true (suc m) e) q w r f s root = let z : _≡_ {A = Bool} tr
     true-false z = subst T z tt
 root-of-scaled (fin false (suc m) (pos k)) q w r f s root =
     ap some
-    (up-case (suc m) q w r (omega arith) (few-digits false (suc m) (pos k) f) (s .low) (s .high) root k
+    (up-case (suc m) q w r (omega arith) (fitting false m (pos k) f .few) (s .low) (s .high) root k
     (sym (join (suc m) k 1126) ∙ s .value .1 ∙ mul-one (q * 2 ^ w)))
 root-of-scaled (fin false (suc m) (negsuc k)) q w r f s root =
     ap some
-    (down-case (suc m) q w r (omega arith) (few-digits false (suc m) (negsuc k) f) (s .low) (s .high) root (suc k)
+    (down-case (suc m) q w r (omega arith) (fitting false m (negsuc k) f .few) (s .low) (s .high) root (suc k)
     (ap (λ (x : ℕ). x * 2 ^ 1126) (sym (mul-one (suc m))) ∙ s .value .1 ∙ join q w (suc k)))
 
--- ---- as the program has it, in bits
+-- ---- in bits, as the program has it: b is the pattern of half of r, rounded up, and of the exponent
 module _ (bits q w r : ℕ) (s : ScaledBy (ofBits binary64 bits) q w) (root : WholeRoot (q * (1 + w % 2) * 2 ^ 54) r) where
-  half-range : (2 ^ 52 ≤ (r + 1) / 2) × ((r + 1) / 2 < 2 ^ 53)
+  half-range : (2 ^ 52 ≤ suc r / 2) × (suc r / 2 < 2 ^ 53)
   half-range = let b = root-range q w (s .low) (s .high) r root in (omega arith, omega arith)
 
-  pub root-bits-small : (r + 1) / 2 + (w / 2 + 485) * 4503599627370496 < 2047 * 2 ^ 52
+  pub root-bits-small : suc r / 2 + (w / 2 + 485) * 2 ^ 52 < 2047 * 2 ^ 52
   root-bits-small = let b = half-range in omega (arith, s .reach)
 
-  pub root-of-bits : squareRoot (ofBits binary64 bits) ≡ some (ofBits binary64 ((r + 1) / 2 + (w / 2 + 485) * 4503599627370496))
-  root-of-bits =
-      let b = half-range in
-      let e : suc r / 2 ≡ (r + 1) / 2 = omega arith in
+  pub root-of-bits : (b : ℕ) → b ≡ suc r / 2 + (w / 2 + 485) * 2 ^ 52 → squareRoot (ofBits binary64 bits) ≡ some (ofBits binary64 b)
+  root-of-bits b e =
+      let h = half-range in
       root-of-scaled (ofBits binary64 bits) q w r (ofBits-fits binary64 bits) s root
-      ∙ ap (λ (x : ℕ). some (units binary64 false x (w / 2 + 485))) e
-      ∙ ap some (sym (of-units ((r + 1) / 2) (w / 2 + 485) (b .0) (b .1) (omega (arith, s .reach))))
+      ∙ ap some (sym (of-units (suc r / 2) (w / 2 + 485) (h .0) (h .1) (omega (arith, s .reach))))
+      ∙ ap (λ (x : ℕ). some (ofBits binary64 x)) (sym e)

@@ -1,15 +1,14 @@
 -- Where no root is worked out: zeros, which are their own roots, and what is refused. By bit patterns, as the program tells them apart. Assumes nothing.
 use mathlib.Core.Path.{_≡_, refl, sym, ap, _∙_, subst}
 use mathlib.Core.Bool.{Bool, true, false, not, cond}
-use mathlib.Core.Option.{Option, some, none}
-use Prim.Native.Nat.{ℕ, zero, suc, _+_, _-_, _*_, _/_, _%_, _^_, _≤_, _<_}
+use mathlib.Core.Option.{some, none}
+use Prim.Native.Nat.{ℕ, zero, suc, _+_, _*_, _/_, _%_, _^_, _≤_, _<_}
 use native.Mathlib.Nat.{mod-eq-of-lt, mul-pos, zero-mul}
 use native.Mathlib.Omega.{arith}
 use lib.Dec.{T, leb, ltb, eqb, leb→le, nleb→lt}
-use lib.Arith.{lt→nleb, le→nltb}
+use lib.Arith.{le→nltb}
 use lib.Pow.{pow-pos}
-use lib.IntN.{ℤ, pos}
-use lib.Ieee.{Float, nan, inf, fin, binary64, hid, top, ones, up, down, odd, ofFields, ofBits, toBits, isNan, nanBits, ne, fits, div}
+use lib.Ieee.{Float, nan, inf, fin, binary64, hid, top, up, odd, ofFields, ofBits, toBits, isNan, nanBits, ne, fits, div}
 use lib.Ieee.Bits.{nanBits-above, ofBits-toBits, toBits-lt}
 use lib.Ieee.Compare.{nan-differs}
 use lib.Ieee.Exact.{HasValue, odd-sign}

@@ -17,13 +17,13 @@ mod starts;
 use answer::Root;
 
 // A double above zero, as q × 2^w / 2^1126.
-pub struct Scaled {
-    pub q: u64,
-    pub w: u64,
+struct Scaled {
+    q: u64,
+    w: u64,
 }
 
 // The fields of a double above zero. A subnormal one is moved up until its leading digit stands where that of the others does.
-pub fn scale(bits: u64) -> Scaled
+fn scale(bits: u64) -> Scaled
     requires { ⌜ (0 < bits) × (bits < 2047 * 2 ^ 52) ⌝ }
     ensures { λ r. ⌜ ScaledBy (ofBits binary64 bits) (r .q) (r .w) ⌝ }
 {
@@ -44,16 +44,16 @@ pub fn scale(bits: u64) -> Scaled
 }
 
 // The first of Newton's steps towards the root of n × 2^8, from the table's start.
-pub fn first_step(n: u64) -> u64
+fn first_step(n: u64) -> u64
     requires { ⌜ (2 ^ 52 ≤ n) × (n < 2 ^ 54) ⌝ }
     ensures { λ r. ⌜ Close (n * 2 ^ 8) r ⌝ }
 {
-    let s = starts::start(n / 17592186044416);
+    let s = starts::start(n / 17592186044416) as u64;
     (s * 32768 + n / 128 / s) / 2
 }
 
 // The whole root of m: Newton's second step gives it, or one more.
-pub fn upper_half(m: u64, y: u64) -> u64
+fn upper_half(m: u64, y: u64) -> u64
     requires { ⌜ (2 ^ 60 ≤ m) × (m < 2 ^ 62) × Close m y ⌝ }
     ensures { λ r. ⌜ WholeRoot m r ⌝ }
 {
@@ -62,7 +62,7 @@ pub fn upper_half(m: u64, y: u64) -> u64
 }
 
 // The whole root of m × 2^46, from that of m: the rest, divided by the root, gives the lower half, or one more.
-pub fn both_halves(m: u64, y: u64) -> u64
+fn both_halves(m: u64, y: u64) -> u64
     requires { ⌜ (2 ^ 60 ≤ m) × (m < 2 ^ 62) × WholeRoot m y ⌝ }
     ensures { λ r. ⌜ WholeRoot (m * 2 ^ 46) r ⌝ }
 {
@@ -77,7 +77,7 @@ pub fn both_halves(m: u64, y: u64) -> u64
 }
 
 // The whole root of n × 2^54.
-pub fn whole_root(n: u64) -> u64
+fn whole_root(n: u64) -> u64
     requires { ⌜ (2 ^ 52 ≤ n) × (n < 2 ^ 54) ⌝ }
     ensures { λ r. ⌜ WholeRoot (n * 2 ^ 54) r ⌝ }
 {
@@ -86,7 +86,7 @@ pub fn whole_root(n: u64) -> u64
 }
 
 // The bits of the root of a double above zero. Its significand is half the whole root, rounded up: an odd whole root lies below √, never on it.
-pub fn root_bits(bits: u64) -> u64
+fn root_bits(bits: u64) -> u64
     requires { ⌜ (0 < bits) × (bits < 2047 * 2 ^ 52) ⌝ }
     ensures { λ r. ⌜ (squareRoot (ofBits binary64 bits) ≡ some (ofBits binary64 r)) × (r < 2047 * 2 ^ 52) ⌝ }
 {

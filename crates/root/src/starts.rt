@@ -2,8 +2,8 @@
 ghost use Prim.Native.Nat.{_≤_, _<_, _*_, _^_};
 ghost use Rattle.laws.specs.Squares.{WholeRoot};
 
-// For i from 256 to 1023 the largest whole number whose square is at most i × 2^22.
-const STARTS: [u64; 768] = [
+// For i from 256 to 1023 the largest whole number whose square is at most i × 2^22. Sixteen bits hold each: a constant array is laid out on the stack where it is read, so its width is time.
+const STARTS: [u16; 768] = [
     32768,
     32831,
     32895,
@@ -775,7 +775,7 @@ const STARTS: [u64; 768] = [
 ];
 
 // The start of i: its square rule, and nothing of the table, is what callers learn.
-pub fn start(i: u64) -> u64
+pub fn start(i: u64) -> u16
     requires { ⌜ (256 ≤ i) × (i < 1024) ⌝ }
     ensures { λ r. ⌜ WholeRoot (i * 2 ^ 22) r ⌝ }
 {

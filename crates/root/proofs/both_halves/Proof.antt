@@ -41,7 +41,7 @@ returns : tie.Need-returns
 returns c = halves-kept (c .before .args .m) (c .before .args .y) (c .before .pre .0) (c .before .pre .1) (c .before .pre .2) (c .if1 .taken)
 
 returns-2 : tie.Need-returns-2
-returns-2 c = halves-lowered (c .before .args .m) (c .before .args .y) (c .before .pre .0) (c .before .pre .1) (c .before .pre .2) (c .if1 .left)
+returns-2 c = halves-lowered (c .before .args .m) (c .before .args .y) (c .before .pre .0) (c .before .pre .1) (c .before .pre .2) (c .if1 .left) _ (omega arith)
 
 pub both-halves-spec : {M : Type 1} → statement M
 both-halves-spec = tie.close (tie.spec mul-rest sub-rest mul-rest-2 div-d mul-r add-r mul-if1 rem-if1 mul-if1-2 sub-result returns returns-2)

@@ -10,6 +10,9 @@ use Rattle.root.proofs.first_step.Lts as lts
 start-requires : tie.Need-start-requires
 start-requires c κs = search needs
 
+cast-s : tie.Need-cast-s
+cast-s c = search needs
+
 mul-result : tie.Need-mul-result
 mul-result c = omega (arith, start-range (c .before .args .n) (c .start .result) (c .before .pre .0) (c .before .pre .1) (c .start .ensures))
 
@@ -23,4 +26,4 @@ returns : tie.Need-returns
 returns c = first-step (c .before .args .n) (c .start .result) (c .before .pre .0) (c .before .pre .1) (c .start .ensures)
 
 pub first-step-spec : {M : Type 1} → statement M
-first-step-spec = tie.close (tie.spec start-requires mul-result div-result add-result returns)
+first-step-spec = tie.close (tie.spec start-requires cast-s mul-result div-result add-result returns)

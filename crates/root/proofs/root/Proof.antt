@@ -1,6 +1,5 @@
 -- `root::root` meets its contract: NaN, zeros, what is refused and the rest, as the tests on the bits tell them apart. Assumes nothing.
-use mathlib.Core.Path.{_≡_, sym, ap, _∙_, subst}
-use mathlib.Core.Option.{none}
+use mathlib.Core.Path.{sym, ap, _∙_, subst}
 use native.Mathlib.Omega.{arith}
 use lib.Dec.{T}
 use lib.Ieee.Compare.{differs-from-itself}
@@ -26,10 +25,10 @@ returns-2 c = is-zero (c .before .before .args .x) (c .before .before .good .0 .
 
 returns-3 : tie.Need-returns-3
 unfolding meaning
-returns-3 c = is-refused (c .before .before .before .args .x) (c .before .before .before .good .0 .1) (c .before .if2 .left) (c .if3 .taken)
+returns-3 c = is-refused (c .before .before .before .args .x) (c .before .before .before .good .0 .1) (c .before .if2 .left) (omega arith)
 
 root-bits-requires : tie.Need-root-bits-requires
-root-bits-requires c κs = (omega (arith, c .before .if2 .left), c .if3 .left)
+root-bits-requires c κs = (omega (arith, c .before .if2 .left), omega arith)
 
 float-from-bits-t5 : tie.Need-float-from-bits-t5
 float-from-bits-t5 c = no-nan-bits (c .root-bits .result) (c .root-bits .ensures .1)

@@ -46,7 +46,8 @@ returns c =
     let s = c .before .before .before .before .scale in
     let b = c .before .before .before .before .before .args .bits in
     let r = c .before .whole-root in
-    (root-of-bits b (s .result .q) (s .result .w) (r .result) (s .ensures) (r .ensures), root-bits-small b (s .result .q) (s .result .w) (r .result) (s .ensures) (r .ensures))
+    let h = root-bits-small b (s .result .q) (s .result .w) (r .result) (s .ensures) (r .ensures) in
+    (root-of-bits b (s .result .q) (s .result .w) (r .result) (s .ensures) (r .ensures) _ (omega arith), omega arith)
 
 pub root-bits-spec : {M : Type 1} → statement M
 root-bits-spec = tie.close (tie.spec scale-requires add-whole-root mul-whole-root whole-root-requires add-result add-result-2 mul-result add-result-3 returns)

@@ -1,8 +1,7 @@
 -- `root::root_or_nan` meets its contract: what `root` means, read off case by case. Assumes nothing.
 use borrow.Author.Needs.{needs}
-use mathlib.Core.Path.{_≡_, refl, sym, ap, _∙_}
-use lib.Ieee.{nan, binary64, div, ofBits}
-use Rattle.definitions.specs.Vectors.{squareRoot, valueOf}
+use mathlib.Core.Path.{sym, ap, _∙_}
+use Rattle.definitions.specs.Vectors.{valueOf}
 use Rattle.root.specs.declared.answer.Root.{Root}
 use Rattle.root.specs.Answer.{meaning}
 use Rattle.root.specs.Special.{zero-by-zero}

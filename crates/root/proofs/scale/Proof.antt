@@ -28,7 +28,7 @@ sub-t12 : tie.Need-sub-t12
 sub-t12 c = let m = (scaled-subnormal (c .before .args .bits) (c .before .pre .0) (omega arith)) in m .most
 
 returns : tie.Need-returns
-returns c = scaled-normal (c .before .args .bits) (c .before .pre .1) (c .if1 .taken)
+returns c = scaled-normal (c .before .args .bits) _ (c .before .pre .1) (c .if1 .taken) (omega arith)
 
 returns-2 : tie.Need-returns-2
 returns-2 c = let m = (scaled-subnormal (c .before .args .bits) (c .before .pre .0) (omega arith)) in rw (mod-eq-of-lt (lt-of-lt-of-le (m .fits) (lit≤ tt))) (m .scaled)

@@ -1,5 +1,4 @@
 -- `root::upper_half` meets its contract, by the laws of the second step. Assumes nothing.
-use borrow.Author.Needs.{needs}
 use native.Mathlib.Omega.{arith}
 use Rattle.root.specs.Newton.{guess-range, second-quotient, next-near, next-large, next-kept, next-lowered}
 use Rattle.root.proofs.upper_half.Statement.{statement}
@@ -23,7 +22,7 @@ returns : tie.Need-returns
 returns c = next-kept (c .before .args .m) (c .before .args .y) (c .before .pre .0) (c .before .pre .1) (c .before .pre .2) (c .if1 .taken)
 
 returns-2 : tie.Need-returns-2
-returns-2 c = next-lowered (c .before .args .m) (c .before .args .y) (c .before .pre .0) (c .before .pre .1) (c .before .pre .2) (c .if1 .left)
+returns-2 c = next-lowered (c .before .args .m) (c .before .args .y) (c .before .pre .0) (c .before .pre .1) (c .before .pre .2) (c .if1 .left) _ (omega arith)
 
 pub upper-half-spec : {M : Type 1} → statement M
 upper-half-spec = tie.close (tie.spec div-z add-z mul-if1 sub-result returns returns-2)
