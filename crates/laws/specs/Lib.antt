@@ -7,4 +7,5 @@ pub mod Sorting
 pub mod Segments
 pub mod Floats
 pub mod LowerBounds
+pub mod Parts
 pub mod Squares

@@ -1,0 +1,79 @@
+-- `Subspace::flatten` meets its contract. The invariant: the first j numbers are the dot products with the first j basis vectors. Leans on the laws of rows.
+use mathlib.Core.Path.{_≡_, refl, sym, _∙_}
+use mathlib.Core.List.{map}
+use Prim.Native.Nat.{_*_, _-_, _≤_}
+use native.Mathlib.Omega.{arith}
+use borrow.Author.Needs.{needs}
+use lib.ListN.{length, take, drop, length-set}
+use Rattle.definitions.specs.Vectors.{dot}
+use Rattle.definitions.specs.Subspace.{flatten}
+use Rattle.laws.specs.Parts.{rows, map-rows-more, take-more-set}
+use Rattle.space.specs.Meaning.{subspaceOf}
+use Rattle.space.specs.Counts.{basis-row}
+use Rattle.space.proofs.Subspace.flatten.Statement.{statement}
+use Rattle.space.proofs.Subspace.flatten.Tie as tie
+
+abbrev Inv-loop : tie.InvT-loop
+Inv-loop self d rank away r₀ j₀ r j = (j ≤ rank) × (length r ≡ 5) × (take j r ≡ map (dot (take d away)) (rows 5 d j (self .basis)))
+
+abbrev μ-loop : tie.MeasureT-loop
+μ-loop self d rank away r₀ j₀ r j = rank - j
+
+away-requires : tie.Need-away-requires Inv-loop μ-loop
+away-requires c κs = search needs
+
+loop-holds : tie.Need-loop-holds Inv-loop μ-loop
+unfolding rows
+loop-holds c = (omega arith, refl, refl)
+
+basis-vector-requires : tie.Need-basis-vector-requires Inv-loop μ-loop
+basis-vector-requires c κs = search needs
+
+dot-requires : tie.Need-dot-requires Inv-loop μ-loop
+dot-requires c κs = search needs
+
+mul-r : tie.Need-mul-r Inv-loop μ-loop
+mul-r c = search needs
+
+array-write-r : tie.Need-array-write-r Inv-loop μ-loop
+array-write-r c = search needs
+
+add-j : tie.Need-add-j Inv-loop μ-loop
+add-j c = search needs
+
+loop-less : tie.Need-loop-less Inv-loop μ-loop
+loop-less c = search needs
+
+loop-again : tie.Need-loop-again Inv-loop μ-loop
+loop-again c =
+    let l = c .before .before .before .loop in
+    let s = c .before .before .before .before .before .args .self in
+    let row : take (s .d) (c .before .basis-vector .result) ≡ take (s .d) (drop (5 * l .j) (s .basis)) = c .before .basis-vector .ensures ∙ basis-row s (l .j) (omega arith) in (
+      omega arith,
+      length-set (l .r) (l .j) _ ∙ l .inv .1,
+      take-more-set (l .r) (l .j) _ (omega arith) ∙ rw (l .inv .2, c .dot .ensures, row) (sym (map-rows-more _ 5 (s .d) (l .j) (s .basis))),
+    )
+
+returns : tie.Need-returns Inv-loop μ-loop
+unfolding flatten subspaceOf
+returns c =
+    let l = c .before .loop in
+    let end : l .j ≡ c .before .before .before .args .self .rank = omega arith in
+    rw (← end, ← (c .before .before .away .ensures)) (l .inv .2)
+
+pub flatten-spec : {M : Type 1} → statement M
+flatten-spec =
+    tie.close
+    (tie.spec
+    Inv-loop
+    μ-loop
+    away-requires
+    loop-holds
+    basis-vector-requires
+    dot-requires
+    mul-r
+    array-write-r
+    add-j
+    loop-less
+    loop-again
+    returns)

@@ -1,0 +1,112 @@
+-- `Subspace::from_points` meets its contract. The invariant: to add the points from i on to s gives what is to be given. Leans on the laws of this crate.
+use mathlib.Core.Path.{_≡_, sym, ap, _∙_}
+use mathlib.Core.Bool.{true, false}
+use Prim.Native.Nat.{_-_, _≤_, _<_}
+use native.Mathlib.Omega.{arith}
+use borrow.Author.Needs.{needs}
+use lib.ListN.{length, drop}
+use lib.Seq.{length-take-le}
+use Rattle.definitions.specs.Subspace.{addPoints, fromPoints}
+use Rattle.definitions.specs.Orbits.{pointAt}
+use Rattle.vectors.specs.Meaning.{vectorOf}
+use Rattle.space.specs.Meaning.{subspaceOf, HoldsSubspace, pointAlone, isFullRank, pointsOf}
+use Rattle.space.specs.Counts.{holds-own, points-length}
+use Rattle.space.proofs.Laws.{addPoint-offset, addPoints-full, addPoints-step, addPoints-end, fromPoints-none, fromPoints-first, has-room}
+use Rattle.space.proofs.Subspace.from_points.Statement.{statement}
+use Rattle.space.proofs.Subspace.from_points.Tie as tie
+
+abbrev Inv-loop : tie.InvT-loop
+Inv-loop points tolerance n d s₀ i₀ s i = (i ≤ n) × (s .d ≡ d) × HoldsSubspace s (subspaceOf s) × (addPoints tolerance (subspaceOf s) (drop i (pointsOf points)) ≡ fromPoints tolerance (pointsOf points))
+
+abbrev μ-loop : tie.MeasureT-loop
+μ-loop points tolerance n d s₀ i₀ s i = n - i
+
+new-requires : tie.Need-new-requires Inv-loop μ-loop
+new-requires c κs = search needs
+
+returns : tie.Need-returns Inv-loop μ-loop
+returns c = (rw (fromPoints-none _ (c .before .before .args .points) (c .before .if1 .taken)) (c .new .ensures), λ h. absurd (omega arith))
+
+point-requires : tie.Need-point-requires Inv-loop μ-loop
+point-requires c κs = search needs
+
+new-requires-2 : tie.Need-new-requires-2 Inv-loop μ-loop
+new-requires-2 c κs = search needs
+
+loop-holds : tie.Need-loop-holds Inv-loop μ-loop
+unfolding pointAlone
+loop-holds c =
+    let p = c .before .before .before .args .points in
+    let long : length (c .before .point .result) ≡ 5 = search needs in
+    let some-points : 0 < length (pointsOf p) = omega (arith, points-length p) in (
+      omega arith,
+      c .new2 .ensures .d-is ∙ length-take-le (p .d) (c .before .point .result) (omega arith),
+      holds-own _ _ (c .new2 .ensures),
+      rw (c .new2 .ensures .means, c .before .point .ensures) (sym (fromPoints-first (c .before .before .before .args .tolerance) (pointsOf p) some-points)),
+    )
+
+is-full-rank-requires : tie.Need-is-full-rank-requires Inv-loop μ-loop
+is-full-rank-requires c κs = c .before .loop .inv .2 .fits
+
+returns-2 : tie.Need-returns-2 Inv-loop μ-loop
+returns-2 c =
+    let l = c .before .before .before .loop in
+    let full : isFullRank (subspaceOf (l .s)) ≡ true = sym (c .before .is-full-rank .ensures) ∙ c .if2 .taken in
+    (rw (← (l .inv .3), addPoints-full _ _ _ full) (l .inv .2), λ h. l .inv .1)
+
+point-requires-2 : tie.Need-point-requires-2 Inv-loop μ-loop
+point-requires-2 c κs = search needs
+
+add-requires : tie.Need-add-requires Inv-loop μ-loop
+add-requires c κs =
+    let l = c .before .before .before .before .loop in
+    let room : l .s .rank < l .s .d = has-room (l .s) (l .inv .2) (sym (c .before .before .is-full-rank .ensures) ∙ c .before .if2 .left) in
+    let fits : l .s .d ≤ 5 = l .inv .2 .fits .d-fits in
+    (l .inv .2 .fits, omega (arith, room, fits))
+
+add-i : tie.Need-add-i Inv-loop μ-loop
+add-i c = search needs
+
+loop-less : tie.Need-loop-less Inv-loop μ-loop
+loop-less c = search needs
+
+loop-again : tie.Need-loop-again Inv-loop μ-loop
+loop-again c =
+    let l = c .before .before .before .before .before .loop in
+    let a = c .before .before .before .before .before .before .before .before .before .args in
+    let s = subspaceOf (l .s) in
+    let not-full : isFullRank s ≡ false = sym (c .before .before .before .is-full-rank .ensures) ∙ c .before .before .if2 .left in
+    let below : l .i < length (pointsOf (a .points)) = omega (arith, points-length (a .points)) in
+    let point : vectorOf (l .s .d) (c .before .point2 .result) ≡ pointAt (pointsOf (a .points)) (l .i) = rw (l .inv .1) (c .before .point2 .ensures) in (
+      omega arith,
+      c .add .ensures .d-is ∙ ap length (addPoint-offset _ s _) ∙ sym (l .inv .2 .d-is) ∙ l .inv .1,
+      holds-own _ _ (c .add .ensures),
+      rw (c .add .ensures .means, point) (sym (addPoints-step (a .tolerance) s (pointsOf (a .points)) (l .i) below not-full) ∙ l .inv .3),
+    )
+
+returns-3 : tie.Need-returns-3 Inv-loop μ-loop
+returns-3 c =
+    let l = c .before .loop in
+    let p = c .before .before .before .before .before .args .points in
+    let end : length (pointsOf p) ≤ l .i = omega (arith, points-length p) in
+    (rw (← (l .inv .3), addPoints-end (c .before .before .before .before .before .args .tolerance) (subspaceOf (l .s)) (pointsOf p) (l .i) end) (l .inv .2), λ h. l .inv .1)
+
+pub from-points-spec : {M : Type 1} → statement M
+from-points-spec =
+    tie.close
+    (tie.spec
+    Inv-loop
+    μ-loop
+    new-requires
+    returns
+    point-requires
+    new-requires-2
+    loop-holds
+    is-full-rank-requires
+    returns-2
+    point-requires-2
+    add-requires
+    add-i
+    loop-less
+    loop-again
+    returns-3)

@@ -1,0 +1,3 @@
+-- What the structs and the enum of the code mean, and what follows at once.
+pub mod Meaning
+pub mod Counts

@@ -1,0 +1,292 @@
+// Subspaces, points and limits. Each function equals a definition of document 01's "Subspace" or "Orbits", at every d up to five and at any tolerance. Structs go by value and are
+// handed back. Numbers lie in flat arrays, five places to a vector; only the first d of them mean something.
+ghost use mathlib.Core.Path.{_≡_};
+ghost use mathlib.Core.List.{_∷_, [], _++_, map};
+ghost use Prim.Native.Nat.{_≤_, _<_};
+ghost use lib.ListN.{getD};
+ghost use Rattle.definitions.specs.Vectors.{minus};
+ghost use Rattle.definitions.specs.Subspace.{project, residual, distance, addPoint, fromPoints, isHyperplane, flatten};
+ghost use Rattle.definitions.specs.Orbits.{pointAt, tooShort, tooLong, breaksLimit};
+ghost use Rattle.vectors.specs.Meaning.{vectorOf};
+ghost use Rattle.space.specs.Meaning.{subspaceOf, SubspaceFits, HoldsSubspace, pointAlone, withVector, isFullRank, pointsOf, PointsFit, HoldsPoints, lengthOf, limitsOf};
+
+// ---- subspaces
+
+// An offset of d numbers and a basis of `rank` vectors.
+pub struct Subspace {
+    pub offset: [f64; 5],
+    pub basis: [f64; 25],
+    pub d: usize,
+    pub rank: usize,
+}
+
+impl Subspace {
+    // A point alone: its basis has no vector yet.
+    pub fn new(offset: [f64; 5], d: usize) -> Subspace
+        requires { ⌜ d ≤ 5 ⌝ }
+        ensures { λ r. ⌜ HoldsSubspace r (pointAlone (vectorOf d offset)) ⌝ }
+    {
+        Subspace {
+            offset: offset,
+            basis: [0.0; 25],
+            d: d,
+            rank: 0,
+        }
+    }
+
+    pub fn basis_vector(self, j: usize) -> [f64; 5]
+        requires { ⌜ SubspaceFits self × (j < self .rank) ⌝ }
+        ensures { λ r. ⌜ vectorOf (self .d) r ≡ getD (subspaceOf self .basis) j [] ⌝ }
+    {
+        let at = 5 * j;
+        [
+            self.basis[at],
+            self.basis[at + 1],
+            self.basis[at + 2],
+            self.basis[at + 3],
+            self.basis[at + 4],
+        ]
+    }
+
+    // A vector joins the basis as it is.
+    pub fn with_vector(self, v: [f64; 5]) -> Subspace
+        requires { ⌜ SubspaceFits self × (self .rank < 5) ⌝ }
+        ensures { λ r. ⌜ HoldsSubspace r (withVector (subspaceOf self) (vectorOf (self .d) v)) ⌝ }
+    {
+        let mut wider = self;
+        let rank = wider.rank;
+        let at = 5 * rank;
+        wider.basis[at] = v[0];
+        wider.basis[at + 1] = v[1];
+        wider.basis[at + 2] = v[2];
+        wider.basis[at + 3] = v[3];
+        wider.basis[at + 4] = v[4];
+        wider.rank = rank + 1;
+        wider
+    }
+
+    // p − offset
+    fn away(self, p: [f64; 5]) -> [f64; 5]
+        requires { ⌜ SubspaceFits self ⌝ }
+        ensures { λ r. ⌜ vectorOf (self .d) r ≡ minus (vectorOf (self .d) p) (subspaceOf self .offset) ⌝ }
+    {
+        let d = self.d;
+        let offset = self.offset;
+        vectors::minus(p, offset, d)
+    }
+
+    // From the offset, each basis vector b in order adds b × ((p − offset) · b).
+    pub fn project(self, p: [f64; 5]) -> [f64; 5]
+        requires { ⌜ SubspaceFits self ⌝ }
+        ensures { λ r. ⌜ vectorOf (self .d) r ≡ project (subspaceOf self) (vectorOf (self .d) p) ⌝ }
+    {
+        let d = self.d;
+        let rank = self.rank;
+        let away = self.away(p);
+        let mut q = self.offset;
+        let mut j = 0;
+        while j < rank {
+            let b = self.basis_vector(j);
+            let gained = vectors::plus_times(q, b, vectors::dot(away, b, d), d);
+            q = gained;
+            j += 1;
+        }
+        q
+    }
+
+    // p − project(p)
+    pub fn residual(self, p: [f64; 5]) -> [f64; 5]
+        requires { ⌜ SubspaceFits self ⌝ }
+        ensures { λ r. ⌜ vectorOf (self .d) r ≡ residual (subspaceOf self) (vectorOf (self .d) p) ⌝ }
+    {
+        let d = self.d;
+        vectors::minus(p, self.project(p), d)
+    }
+
+    pub fn distance(self, p: [f64; 5]) -> f64
+        requires { ⌜ SubspaceFits self ⌝ }
+        ensures { λ r. ⌜ r ≡ distance (subspaceOf self) (vectorOf (self .d) p) ⌝ }
+    {
+        let d = self.d;
+        vectors::norm(self.residual(p), d)
+    }
+
+    // The residual, normalised, joins the basis exactly when its norm exceeds the tolerance.
+    pub fn add(self, p: [f64; 5], tolerance: f64) -> Subspace
+        requires { ⌜ SubspaceFits self × (self .rank < 5) ⌝ }
+        ensures { λ r. ⌜ HoldsSubspace r (addPoint tolerance (subspaceOf self) (vectorOf (self .d) p)) ⌝ }
+    {
+        let d = self.d;
+        let unit = vectors::normalise(self.residual(p), d);
+        if unit.norm > tolerance {
+            let v = unit.vector;
+            self.with_vector(v)
+        } else {
+            self
+        }
+    }
+
+    // The first point is the offset; the others are added in order until the basis has d vectors. Without a point the offset has no numbers; else d is the points' own.
+    pub fn from_points(points: Points, tolerance: f64) -> Subspace
+        requires { ⌜ PointsFit points ⌝ }
+        ensures { λ r. ⌜ HoldsSubspace r (fromPoints tolerance (pointsOf points)) × (0 < points .n → r .d ≡ points .d) ⌝ }
+    {
+        let n = points.n;
+        let d = points.d;
+        if n == 0 {
+            return Subspace::new([0.0; 5], 0);
+        }
+        let mut s = Subspace::new(points.point(0), d);
+        let mut i = 1;
+        while i < n {
+            if s.is_full_rank() {
+                return s;
+            }
+            let wider = s.add(points.point(i), tolerance);
+            s = wider;
+            i += 1;
+        }
+        s
+    }
+
+    // (p − offset) · b for each basis vector b: `rank` numbers.
+    pub fn flatten(self, p: [f64; 5]) -> [f64; 5]
+        requires { ⌜ SubspaceFits self ⌝ }
+        ensures { λ r. ⌜ vectorOf (self .rank) r ≡ flatten (subspaceOf self) (vectorOf (self .d) p) ⌝ }
+    {
+        let d = self.d;
+        let rank = self.rank;
+        let away = self.away(p);
+        let mut r = [0.0; 5];
+        let mut j = 0;
+        while j < rank {
+            r[j] = vectors::dot(away, self.basis_vector(j), d);
+            j += 1;
+        }
+        r
+    }
+
+    // A hyperplane has d − 1 basis vectors.
+    pub fn is_hyperplane(self) -> bool
+        requires { ⌜ SubspaceFits self ⌝ }
+        ensures { λ r. ⌜ r ≡ isHyperplane (subspaceOf self) ⌝ }
+    {
+        self.d == self.rank + 1
+    }
+
+    // The basis has d vectors, and no point is added any more.
+    pub fn is_full_rank(self) -> bool
+        requires { ⌜ SubspaceFits self ⌝ }
+        ensures { λ r. ⌜ r ≡ isFullRank (subspaceOf self) ⌝ }
+    {
+        self.d <= self.rank
+    }
+}
+
+// ---- points
+
+// n points of d numbers each, 20 at most.
+pub struct Points {
+    pub at: [f64; 100],
+    pub n: usize,
+    pub d: usize,
+}
+
+impl Points {
+    pub fn new(d: usize) -> Points
+        requires { ⌜ d ≤ 5 ⌝ }
+        ensures { λ r. ⌜ HoldsPoints r d [] ⌝ }
+    {
+        Points {
+            at: [0.0; 100],
+            n: 0,
+            d: d,
+        }
+    }
+
+    pub fn point(self, i: usize) -> [f64; 5]
+        requires { ⌜ PointsFit self × (i < self .n) ⌝ }
+        ensures { λ r. ⌜ vectorOf (self .d) r ≡ pointAt (pointsOf self) i ⌝ }
+    {
+        let at = 5 * i;
+        [
+            self.at[at],
+            self.at[at + 1],
+            self.at[at + 2],
+            self.at[at + 3],
+            self.at[at + 4],
+        ]
+    }
+
+    // One point more, at the end.
+    pub fn with_point(self, p: [f64; 5]) -> Points
+        requires { ⌜ PointsFit self × (self .n < 20) ⌝ }
+        ensures { λ r. ⌜ HoldsPoints r (self .d) (pointsOf self ++ (vectorOf (self .d) p ∷ [])) ⌝ }
+    {
+        let mut more = self;
+        let n = more.n;
+        let at = 5 * n;
+        more.at[at] = p[0];
+        more.at[at + 1] = p[1];
+        more.at[at + 2] = p[2];
+        more.at[at + 3] = p[3];
+        more.at[at + 4] = p[4];
+        more.n = n + 1;
+        more
+    }
+
+    // Every point, flattened by a plane that has the points' d.
+    pub fn flatten_all(self, plane: Subspace) -> Points
+        requires { ⌜ PointsFit self × SubspaceFits plane × (self .d ≡ plane .d) ⌝ }
+        ensures { λ r. ⌜ HoldsPoints r (plane .rank) (map (flatten (subspaceOf plane)) (pointsOf self)) ⌝ }
+    {
+        let n = self.n;
+        let rank = plane.rank;
+        let mut flat = Points::new(rank);
+        let mut i = 0;
+        while i < n {
+            let more = flat.with_point(plane.flatten(self.point(i)));
+            flat = more;
+            i += 1;
+        }
+        flat
+    }
+
+    // Whether the length from point v to point w breaks a limit.
+    pub fn breaks_limit(self, v: usize, w: usize, min: Limit, max: Limit, tolerance: f64) -> bool
+        requires { ⌜ PointsFit self × (v < self .n) × (w < self .n) ⌝ }
+        ensures { λ r. ⌜ r ≡ breaksLimit tolerance (limitsOf min max) (pointsOf self) v w ⌝ }
+    {
+        let d = self.d;
+        let length = vectors::norm(vectors::minus(self.point(w), self.point(v), d), d);
+        too_short(length, min, tolerance) || too_long(length, max, tolerance)
+    }
+}
+
+// ---- limits
+
+// A limit on lengths is either absent or a length.
+pub enum Limit {
+    Absent,
+    Length(f64),
+}
+
+// < min − tolerance
+pub fn too_short(length: f64, min: Limit, tolerance: f64) -> bool
+    ensures { λ r. ⌜ r ≡ tooShort tolerance (lengthOf min) length ⌝ }
+{
+    match min {
+        Limit::Absent => false,
+        Limit::Length(shortest) => length < shortest - tolerance,
+    }
+}
+
+// > max + tolerance
+pub fn too_long(length: f64, max: Limit, tolerance: f64) -> bool
+    ensures { λ r. ⌜ r ≡ tooLong tolerance (lengthOf max) length ⌝ }
+{
+    match max {
+        Limit::Absent => false,
+        Limit::Length(longest) => length > longest + tolerance,
+    }
+}

@@ -1,0 +1,2 @@
+-- What the arrays of the code mean.
+pub mod Meaning
