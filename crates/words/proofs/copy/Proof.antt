@@ -4,7 +4,7 @@ use Prim.Native.Nat.{_-_}
 use native.Mathlib.Omega.{arith}
 use borrow.Author.Needs.{needs}
 use lib.ListN.{length}
-use Rattle.words.proofs.Ranges.{Copied, copy-start, copy-turn, copy-end}
+use Rattle.laws.specs.Segments.{Copied, copy-start, copy-turn, copy-end}
 use Rattle.words.proofs.copy.Statement.{statement}
 use Rattle.words.proofs.copy.Tie as tie
 

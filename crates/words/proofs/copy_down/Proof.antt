@@ -3,7 +3,7 @@ use Prim.Native.Nat.{_-_}
 use native.Mathlib.Omega.{arith}
 use borrow.Author.Needs.{needs}
 use lib.ListN.{drop}
-use Rattle.words.proofs.Ranges.{Copied, copy-start, down-turn, copy-end}
+use Rattle.laws.specs.Segments.{Copied, copy-start, down-turn, copy-end}
 use Rattle.words.proofs.copy_down.Statement.{statement}
 use Rattle.words.proofs.copy_down.Tie as tie
 

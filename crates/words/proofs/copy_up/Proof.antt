@@ -1,7 +1,7 @@
 -- `words::copy_up` meets its contract. Assumes nothing.
 use native.Mathlib.Omega.{arith}
 use borrow.Author.Needs.{needs}
-use Rattle.words.proofs.Ranges.{Raised, up-start, up-turn, up-end}
+use Rattle.laws.specs.Segments.{Raised, up-start, up-turn, up-end}
 use Rattle.words.proofs.copy_up.Statement.{statement}
 use Rattle.words.proofs.copy_up.Tie as tie
 

@@ -1,0 +1,4 @@
+-- Sets of numbers as ascending lists.
+pub mod Ascending
+pub mod Found
+pub mod Merging
