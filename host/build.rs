@@ -1,6 +1,8 @@
 //! Cuts the original functions out of the published Rust source, patches them
 //! and writes them to OUT_DIR, where `src/original` includes them.
 //!
+//! Proved libraries that `rt staticlib` has written are linked, if they are there.
+//!
 //! The source is looked for where the variable MIRATOPE_SRC points, else in
 //! `../shared/docs/src` beside the repository. Without it the crate builds with
 //! everything but the original: `cfg(has_miratope)` is then not set.
@@ -133,7 +135,11 @@ const FACETING_PATCHES: &[Patch] = &[
     },
 ];
 
+/// Proved libraries by name, and what is set where they are linked.
+const PROVED: &[(&str, &str)] = &[("root", "has_root")];
+
 fn main() {
+    link_proved();
     println!("cargo::rustc-check-cfg=cfg(has_miratope)");
     println!("cargo::rerun-if-env-changed=MIRATOPE_SRC");
     println!("cargo::rerun-if-changed=build.rs");
@@ -152,6 +158,20 @@ fn main() {
     fs::write(out.join("original.rs"), assemble(&faceting, &geometry))
         .expect("OUT_DIR can be written");
     println!("cargo::rustc-cfg=has_miratope");
+}
+
+/// The libraries lie where `rt staticlib` leaves them, below the repository.
+fn link_proved() {
+    let place = fs::canonicalize("../target/staticlib").unwrap_or_default();
+    for (name, flag) in PROVED {
+        println!("cargo::rustc-check-cfg=cfg({flag})");
+        println!("cargo::rerun-if-changed=../target/staticlib/lib{name}.a");
+        if place.join(format!("lib{name}.a")).is_file() {
+            println!("cargo::rustc-link-search=native={}", place.display());
+            println!("cargo::rustc-link-lib=static={name}");
+            println!("cargo::rustc-cfg={flag}");
+        }
+    }
 }
 
 fn source_place() -> PathBuf {

@@ -17,6 +17,7 @@ pub mod original;
 pub mod pick;
 pub mod quote;
 pub mod refusal;
+pub mod roots;
 pub mod rows;
 pub mod run;
 pub mod show;

@@ -24,7 +24,7 @@ exit status:
   0  fine
   1  a difference, or a refused job where that is the command's message
   2  bad usage or bad input
-  3  the Rust source is not there
+  3  the Rust source, or a proved library, is not there
 ";
 
 /// Why a command did not end well: its exit status and one line.

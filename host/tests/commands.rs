@@ -57,7 +57,7 @@ impl Drop for Folder {
     }
 }
 
-const NAMES: [&str; 9] = [
+const NAMES: [&str; 10] = [
     "answer",
     "show",
     "encode",
@@ -67,6 +67,7 @@ const NAMES: [&str; 9] = [
     "compare",
     "pick",
     "definitions",
+    "roots",
 ];
 
 #[test]
@@ -85,8 +86,8 @@ fn every_command_has_help() {
 fn bad_usage_is_told_in_one_line_with_status_2() {
     let folder = Folder::new("usage");
     let cases = [
-        ("", "no command; one of: answer, show, encode, decode, generate, run, compare, pick, definitions"),
-        ("sing", "'sing' is no command; one of: answer, show, encode, decode, generate, run, compare, pick, definitions"),
+        ("", "no command; one of: answer, show, encode, decode, generate, run, compare, pick, definitions, roots"),
+        ("sing", "'sing' is no command; one of: answer, show, encode, decode, generate, run, compare, pick, definitions, roots"),
         ("show", "expected ANSWER, got 0 words; see --help"),
         ("compare a", "expected A and B, got 1 words; see --help"),
         ("generate --seed 1 -o f", "'--count' is missing; see --help"),

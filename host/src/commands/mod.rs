@@ -2,6 +2,7 @@
 
 mod definitions;
 mod jobs;
+mod roots;
 mod streams;
 
 use std::io::Write;
@@ -30,6 +31,7 @@ pub const COMMANDS: &[Command] = &[
     streams::COMPARE,
     streams::PICK,
     definitions::DEFINITIONS,
+    roots::ROOTS,
 ];
 
 /// The original, or the failure of a command that needs it.

@@ -5,7 +5,7 @@ mod damage;
 mod edges;
 mod found;
 mod kinds;
-mod rng;
+pub mod rng;
 mod shapes;
 mod symmetry;
 
