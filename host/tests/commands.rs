@@ -77,7 +77,7 @@ fn every_command_has_help() {
     for name in NAMES {
         let help = folder.succeeds(&format!("{name} --help"));
         assert!(help.starts_with(&format!("usage: facetings-host {name} ")));
-        assert!(help.contains("3  the Rust source is not there"));
+        assert!(help.contains("3  the Rust source, or a proved library, is not there"));
         assert!(overview.contains(&format!("\n  {name} ")));
     }
 }
