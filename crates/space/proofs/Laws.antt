@@ -1,6 +1,6 @@
 -- The definitions one step at a time, as the loops take them. Leans on the definitions and on what the structs mean.
 use mathlib.Core.Path.{_≡_, refl}
-use mathlib.Core.Bool.{Bool, true, false, cond}
+use mathlib.Core.Bool.{true, false}
 use mathlib.Core.List.{List, [], _∷_, _++_}
 use Prim.Native.Nat.{ℕ, suc, _+_, _≤_, _<_}
 use native.Mathlib.Omega.{arith}
@@ -32,15 +32,6 @@ addPoint-joins tolerance s p e = rw e refl
 pub addPoint-stays : (tolerance : Float) (s : Subspace) (p : Vec) → lt tolerance (norm (residual s p)) ≡ false → addPoint tolerance s p ≡ s
 unfolding addPoint
 addPoint-stays tolerance s p e = rw e refl
-
--- Either way the offset stays.
-pub addPoint-offset : (tolerance : Float) (s : Subspace) (p : Vec) → addPoint tolerance s p .offset ≡ s .offset
-unfolding addPoint
-addPoint-offset tolerance s p = go (lt tolerance (norm (residual s p)))
-  where
-    go : (b : Bool) → (cond b (record { offset = s .offset; basis = s .basis ++ (normalised (residual s p) ∷ []) }) s) .offset ≡ s .offset
-    go true = refl
-    go false = refl
 
 -- ---- from points: added while the basis has fewer than d vectors
 

@@ -2,7 +2,7 @@
 // handed back. Numbers lie in flat arrays, five places to a vector; only the first d of them mean something.
 ghost use mathlib.Core.Path.{_≡_};
 ghost use mathlib.Core.List.{_∷_, [], _++_, map};
-ghost use Prim.Native.Nat.{_≤_, _<_};
+ghost use Prim.Native.Nat.{_+_, _≤_, _<_};
 ghost use lib.ListN.{getD};
 ghost use Rattle.definitions.specs.Vectors.{minus};
 ghost use Rattle.definitions.specs.Subspace.{project, residual, distance, addPoint, fromPoints, isHyperplane, flatten};
@@ -24,7 +24,7 @@ impl Subspace {
     // A point alone: its basis has no vector yet.
     pub fn new(offset: [f64; 5], d: usize) -> Subspace
         requires { ⌜ d ≤ 5 ⌝ }
-        ensures { λ r. ⌜ HoldsSubspace r (pointAlone (vectorOf d offset)) ⌝ }
+        ensures { λ r. ⌜ HoldsSubspace r (pointAlone (vectorOf d offset)) × (r .d ≡ d) × (r .rank ≡ 0) ⌝ }
     {
         Subspace {
             offset: offset,
@@ -51,7 +51,7 @@ impl Subspace {
     // A vector joins the basis as it is.
     pub fn with_vector(self, v: [f64; 5]) -> Subspace
         requires { ⌜ SubspaceFits self × (self .rank < 5) ⌝ }
-        ensures { λ r. ⌜ HoldsSubspace r (withVector (subspaceOf self) (vectorOf (self .d) v)) ⌝ }
+        ensures { λ r. ⌜ HoldsSubspace r (withVector (subspaceOf self) (vectorOf (self .d) v)) × (r .d ≡ self .d) × (r .rank ≡ self .rank + 1) ⌝ }
     {
         let mut wider = self;
         let rank = wider.rank;
@@ -114,7 +114,7 @@ impl Subspace {
     // The residual, normalised, joins the basis exactly when its norm exceeds the tolerance.
     pub fn add(self, p: [f64; 5], tolerance: f64) -> Subspace
         requires { ⌜ SubspaceFits self × (self .rank < 5) ⌝ }
-        ensures { λ r. ⌜ HoldsSubspace r (addPoint tolerance (subspaceOf self) (vectorOf (self .d) p)) ⌝ }
+        ensures { λ r. ⌜ HoldsSubspace r (addPoint tolerance (subspaceOf self) (vectorOf (self .d) p)) × (r .d ≡ self .d) ⌝ }
     {
         let d = self.d;
         let unit = vectors::normalise(self.residual(p), d);
@@ -221,7 +221,7 @@ impl Points {
     // One point more, at the end.
     pub fn with_point(self, p: [f64; 5]) -> Points
         requires { ⌜ PointsFit self × (self .n < 20) ⌝ }
-        ensures { λ r. ⌜ HoldsPoints r (self .d) (pointsOf self ++ (vectorOf (self .d) p ∷ [])) ⌝ }
+        ensures { λ r. ⌜ HoldsPoints r (self .d) (pointsOf self ++ (vectorOf (self .d) p ∷ [])) × (r .n ≡ self .n + 1) ⌝ }
     {
         let mut more = self;
         let n = more.n;
@@ -238,7 +238,7 @@ impl Points {
     // Every point, flattened by a plane that has the points' d.
     pub fn flatten_all(self, plane: Subspace) -> Points
         requires { ⌜ PointsFit self × SubspaceFits plane × (self .d ≡ plane .d) ⌝ }
-        ensures { λ r. ⌜ HoldsPoints r (plane .rank) (map (flatten (subspaceOf plane)) (pointsOf self)) ⌝ }
+        ensures { λ r. ⌜ HoldsPoints r (plane .rank) (map (flatten (subspaceOf plane)) (pointsOf self)) × (r .n ≡ self .n) ⌝ }
     {
         let n = self.n;
         let rank = plane.rank;

@@ -4,9 +4,9 @@ use mathlib.Core.List.{map}
 use Prim.Native.Nat.{_*_, _-_, _≤_}
 use native.Mathlib.Omega.{arith}
 use borrow.Author.Needs.{needs}
-use lib.ListN.{take, drop, length-map}
+use lib.ListN.{take, drop}
 use Rattle.definitions.specs.Subspace.{flatten}
-use Rattle.laws.specs.Parts.{rows, length-rows, map-rows-more}
+use Rattle.laws.specs.Parts.{rows, map-rows-more}
 use Rattle.vectors.specs.Meaning.{vectorOf}
 use Rattle.space.specs.Meaning.{subspaceOf, pointsOf, HoldsPoints}
 use Rattle.space.specs.Counts.{point-row}
@@ -14,7 +14,7 @@ use Rattle.space.proofs.Points.flatten_all.Statement.{statement}
 use Rattle.space.proofs.Points.flatten_all.Tie as tie
 
 abbrev Inv-loop : tie.InvT-loop
-Inv-loop self plane n rank flat₀ i₀ flat i = (i ≤ n) × HoldsPoints flat rank (map (flatten (subspaceOf plane)) (rows 5 (self .d) i (self .at)))
+Inv-loop self plane n rank flat₀ i₀ flat i = (i ≤ n) × HoldsPoints flat rank (map (flatten (subspaceOf plane)) (rows 5 (self .d) i (self .at))) × (flat .n ≡ i)
 
 abbrev μ-loop : tie.MeasureT-loop
 μ-loop self plane n rank flat₀ i₀ flat i = n - i
@@ -24,7 +24,7 @@ new-requires c κs = search needs
 
 loop-holds : tie.Need-loop-holds Inv-loop μ-loop
 unfolding rows
-loop-holds c = (omega arith, c .new .ensures)
+loop-holds c = (omega arith, c .new .ensures, c .new .ensures .n-is)
 
 point-requires : tie.Need-point-requires Inv-loop μ-loop
 point-requires c κs = search needs
@@ -33,11 +33,7 @@ flatten-requires : tie.Need-flatten-requires Inv-loop μ-loop
 flatten-requires c κs = search needs
 
 with-point-requires : tie.Need-with-point-requires Inv-loop μ-loop
-with-point-requires c κs =
-    let l = c .before .before .before .loop in
-    let p = c .before .before .before .before .before .args .self in
-    let count : l .flat .n ≡ l .i = l .inv .1 .n-is ∙ length-map (rows 5 (p .d) (l .i) (p .at)) (flatten (subspaceOf (c .before .before .before .before .before .args .plane))) ∙ length-rows 5 (p .d) (l .i) (p .at) in
-    (l .inv .1 .fits, omega arith)
+with-point-requires c κs = (c .before .before .before .loop .inv .1 .fits, omega arith)
 
 add-i : tie.Need-add-i Inv-loop μ-loop
 add-i c = search needs
@@ -53,14 +49,14 @@ loop-again c =
     let row = take (p .d) (drop (5 * l .i) (p .at)) in
     let point : vectorOf (p .d) (c .before .before .point .result) ≡ row = c .before .before .point .ensures ∙ point-row p (l .i) (omega arith) in
     let flat : vectorOf (plane .rank) (c .before .flatten .result) ≡ flatten (subspaceOf plane) row = c .before .flatten .ensures ∙ rw (← (c .before .before .before .before .before .before .pre .2), point) refl in
-    (omega arith, rw (map-rows-more (flatten (subspaceOf plane)) 5 (p .d) (l .i) (p .at), ← flat, ← (l .inv .1 .means), ← (l .inv .1 .d-is)) (c .with-point .ensures))
+    (omega arith, rw (map-rows-more (flatten (subspaceOf plane)) 5 (p .d) (l .i) (p .at), ← flat, ← (l .inv .1 .means), ← (l .inv .1 .d-is)) (c .with-point .ensures .0), omega arith)
 
 returns : tie.Need-returns Inv-loop μ-loop
 unfolding pointsOf
 returns c =
     let l = c .before .loop in
     let end : l .i ≡ c .before .before .before .args .self .n = omega arith in
-    rw (← end) (l .inv .1)
+    (rw (← end) (l .inv .1), l .inv .2 ∙ end)
 
 pub flatten-all-spec : {M : Type 1} → statement M
 flatten-all-spec =

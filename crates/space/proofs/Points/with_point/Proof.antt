@@ -79,8 +79,8 @@ returns c =
     let p = c .args .self in
     let at-long : length (p .at) ≡ 100 = search needs in
     let long : length (c .args .t2) ≡ 5 = search needs in
-    holds-points _ _ _ (record { n-fits = omega arith; d-fits = c .pre .0 .d-fits }) refl
-    (rows-written (p .d) (p .n) (p .at) (c .args .t2) nan (c .pre .0 .d-fits) (omega arith) long)
+    let written = rows-written (p .d) (p .n) (p .at) (c .args .t2) nan (c .pre .0 .d-fits) (omega arith) long in
+    (holds-points _ _ _ (record { n-fits = omega arith; d-fits = c .pre .0 .d-fits }) refl written, refl)
 
 pub with-point-spec : {M : Type 1} → statement M
 with-point-spec =

@@ -31,7 +31,7 @@ returns c =
     let r : vectorOf (a .self .d) (c .before .before .before .before .before .residual .result) ≡ residual s p = c .before .before .before .before .before .residual .ensures in
     let unit : vectorOf (a .self .d) (u .result .vector) ≡ normalised (residual s p) = u .ensures .0 ∙ rw r refl in
     let longer : lt (a .tolerance) (norm (residual s p)) ≡ true = rw (← r, ← (u .ensures .1)) (c .before .before .if1 .taken) in
-    rw (addPoint-joins _ s p longer, ← unit) (c .with-vector .ensures)
+    (rw (addPoint-joins _ s p longer, ← unit) (c .with-vector .ensures .0), c .with-vector .ensures .1)
 
 returns-2 : tie.Need-returns-2
 returns-2 c =
@@ -41,7 +41,7 @@ returns-2 c =
     let r : vectorOf (a .self .d) (c .before .before .before .residual .result) ≡ residual s p = c .before .before .before .residual .ensures in
     let long : length (a .self .offset) ≡ 5 = search needs in
     let shorter : lt (a .tolerance) (norm (residual s p)) ≡ false = rw (← r, ← (c .before .before .normalise .ensures .1)) (c .if1 .left) in
-    holds-subspace _ _ (c .before .before .before .before .pre .0) long (sym (addPoint-stays _ s p shorter))
+    (holds-subspace _ _ (c .before .before .before .before .pre .0) long (sym (addPoint-stays _ s p shorter)), refl)
 
 pub add-spec : {M : Type 1} → statement M
 add-spec =

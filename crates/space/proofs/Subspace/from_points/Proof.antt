@@ -1,17 +1,16 @@
 -- `Subspace::from_points` meets its contract. The invariant: to add the points from i on to s gives what is to be given. Leans on the laws of this crate.
-use mathlib.Core.Path.{_≡_, sym, ap, _∙_}
+use mathlib.Core.Path.{_≡_, sym, _∙_}
 use mathlib.Core.Bool.{true, false}
 use Prim.Native.Nat.{_-_, _≤_, _<_}
 use native.Mathlib.Omega.{arith}
 use borrow.Author.Needs.{needs}
 use lib.ListN.{length, drop}
-use lib.Seq.{length-take-le}
 use Rattle.definitions.specs.Subspace.{addPoints, fromPoints}
 use Rattle.definitions.specs.Orbits.{pointAt}
 use Rattle.vectors.specs.Meaning.{vectorOf}
-use Rattle.space.specs.Meaning.{subspaceOf, HoldsSubspace, pointAlone, isFullRank, pointsOf}
+use Rattle.space.specs.Meaning.{subspaceOf, HoldsSubspace, isFullRank, pointsOf}
 use Rattle.space.specs.Counts.{holds-own, points-length}
-use Rattle.space.proofs.Laws.{addPoint-offset, addPoints-full, addPoints-step, addPoints-end, fromPoints-none, fromPoints-first, has-room}
+use Rattle.space.proofs.Laws.{addPoints-full, addPoints-step, addPoints-end, fromPoints-none, fromPoints-first, has-room}
 use Rattle.space.proofs.Subspace.from_points.Statement.{statement}
 use Rattle.space.proofs.Subspace.from_points.Tie as tie
 
@@ -25,7 +24,7 @@ new-requires : tie.Need-new-requires Inv-loop μ-loop
 new-requires c κs = search needs
 
 returns : tie.Need-returns Inv-loop μ-loop
-returns c = (rw (fromPoints-none _ (c .before .before .args .points) (c .before .if1 .taken)) (c .new .ensures), λ h. absurd (omega arith))
+returns c = (rw (fromPoints-none _ (c .before .before .args .points) (c .before .if1 .taken)) (c .new .ensures .0), λ h. absurd (omega arith))
 
 point-requires : tie.Need-point-requires Inv-loop μ-loop
 point-requires c κs = search needs
@@ -34,15 +33,13 @@ new-requires-2 : tie.Need-new-requires-2 Inv-loop μ-loop
 new-requires-2 c κs = search needs
 
 loop-holds : tie.Need-loop-holds Inv-loop μ-loop
-unfolding pointAlone
 loop-holds c =
     let p = c .before .before .before .args .points in
-    let long : length (c .before .point .result) ≡ 5 = search needs in
     let some-points : 0 < length (pointsOf p) = omega (arith, points-length p) in (
       omega arith,
-      c .new2 .ensures .d-is ∙ length-take-le (p .d) (c .before .point .result) (omega arith),
-      holds-own _ _ (c .new2 .ensures),
-      rw (c .new2 .ensures .means, c .before .point .ensures) (sym (fromPoints-first (c .before .before .before .args .tolerance) (pointsOf p) some-points)),
+      c .new2 .ensures .1,
+      holds-own _ _ (c .new2 .ensures .0),
+      rw (c .new2 .ensures .0 .means, c .before .point .ensures) (sym (fromPoints-first (c .before .before .before .args .tolerance) (pointsOf p) some-points)),
     )
 
 is-full-rank-requires : tie.Need-is-full-rank-requires Inv-loop μ-loop
@@ -79,9 +76,9 @@ loop-again c =
     let below : l .i < length (pointsOf (a .points)) = omega (arith, points-length (a .points)) in
     let point : vectorOf (l .s .d) (c .before .point2 .result) ≡ pointAt (pointsOf (a .points)) (l .i) = rw (l .inv .1) (c .before .point2 .ensures) in (
       omega arith,
-      c .add .ensures .d-is ∙ ap length (addPoint-offset _ s _) ∙ sym (l .inv .2 .d-is) ∙ l .inv .1,
-      holds-own _ _ (c .add .ensures),
-      rw (c .add .ensures .means, point) (sym (addPoints-step (a .tolerance) s (pointsOf (a .points)) (l .i) below not-full) ∙ l .inv .3),
+      c .add .ensures .1 ∙ l .inv .1,
+      holds-own _ _ (c .add .ensures .0),
+      rw (c .add .ensures .0 .means, point) (sym (addPoints-step (a .tolerance) s (pointsOf (a .points)) (l .i) below not-full) ∙ l .inv .3),
     )
 
 returns-3 : tie.Need-returns-3 Inv-loop μ-loop

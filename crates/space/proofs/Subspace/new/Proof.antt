@@ -13,7 +13,7 @@ returns : tie.Need-returns
 unfolding subspaceOf pointAlone rows
 returns c =
     let long : length (c .args .offset) ≡ 5 = search needs in
-    holds-subspace _ _ (record { d-fits = c .pre; rank-fits = omega arith }) long refl
+    (holds-subspace _ _ (record { d-fits = c .pre; rank-fits = omega arith }) long refl, refl, refl)
 
 pub new-spec : {M : Type 1} → statement M
 new-spec = tie.close (tie.spec returns)

@@ -84,7 +84,7 @@ returns c =
     let long : length (c .args .t2) ≡ 5 = search needs in
     let written : rows 5 (s .d) (s .rank + 1) (setFive (s .basis) (5 * s .rank) (c .args .t2) nan) ≡ rows 5 (s .d) (s .rank) (s .basis) ++ (take (s .d) (c .args .t2) ∷ []) =
     rows-written (s .d) (s .rank) (s .basis) (c .args .t2) nan (c .pre .0 .d-fits) (omega arith) long in
-    holds-subspace _ _ (record { d-fits = c .pre .0 .d-fits; rank-fits = omega arith }) offset-long (rw written refl)
+    (holds-subspace _ _ (record { d-fits = c .pre .0 .d-fits; rank-fits = omega arith }) offset-long (rw written refl), refl, refl)
 
 pub with-vector-spec : {M : Type 1} → statement M
 with-vector-spec =
