@@ -86,6 +86,13 @@ const FACETING_PATCHES: &[Patch] = &[
             watch::opens_orbit(rank, hyperplane_orbits.len(), hyperplane_vertices.len());",
         times: 1,
     },
+    // Each orbit as it is found: its first set and its count.
+    Patch {
+        find: "hyperplane_orbits.push(new_orbit)",
+        put: "watch::found_orbit(rank, &hyperplane_vertices, new_orbit.len());
+            hyperplane_orbits.push(new_orbit)",
+        times: 1,
+    },
     // Refusal 14, when an orbit's turn to be faceted has come.
     Patch {
         find: "let mut stabilizer",

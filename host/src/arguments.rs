@@ -50,6 +50,11 @@ impl Arguments {
         Ok(std::array::from_fn(|i| self.plain[i].as_str()))
     }
 
+    /// The plain words, however many.
+    pub fn all(&self) -> impl Iterator<Item = &str> {
+        self.plain.iter().map(String::as_str)
+    }
+
     pub fn text(&self, option: &str) -> Option<&str> {
         let found = self.options.iter().find(|(name, _)| name == option);
         found.map(|(_, value)| value.as_str())

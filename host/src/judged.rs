@@ -24,11 +24,21 @@ impl Default for Bounds {
     }
 }
 
+/// A hyperplane orbit of a call of that rank: its first set, and how many it has.
+#[derive(Clone, Debug, PartialEq)]
+pub struct Orbit {
+    pub rank: usize,
+    pub vertices: Vec<usize>,
+    pub count: usize,
+}
+
 /// What was met on the way, over all calls of a run.
 #[derive(Clone, Debug, Default, PartialEq)]
 pub struct Events {
     /// The number of lists examined, also where the run was refused.
     pub examined: u32,
+    /// The orbits of the outermost call, also where the run was refused later.
+    pub orbits: Vec<Orbit>,
     pub zero_shares: bool,
     pub unequal_shares: bool,
     pub crowded_line: bool,

@@ -57,8 +57,9 @@ impl Drop for Folder {
     }
 }
 
-const NAMES: [&str; 10] = [
+const NAMES: [&str; 11] = [
     "answer",
+    "orbits",
     "show",
     "encode",
     "decode",
@@ -86,8 +87,8 @@ fn every_command_has_help() {
 fn bad_usage_is_told_in_one_line_with_status_2() {
     let folder = Folder::new("usage");
     let cases = [
-        ("", "no command; one of: answer, show, encode, decode, generate, run, compare, pick, definitions, roots"),
-        ("sing", "'sing' is no command; one of: answer, show, encode, decode, generate, run, compare, pick, definitions, roots"),
+        ("", "no command; one of: answer, orbits, show, encode, decode, generate, run, compare, pick, definitions, roots"),
+        ("sing", "'sing' is no command; one of: answer, orbits, show, encode, decode, generate, run, compare, pick, definitions, roots"),
         ("show", "expected ANSWER, got 0 words; see --help"),
         ("compare a", "expected A and B, got 1 words; see --help"),
         ("generate --seed 1 -o f", "'--count' is missing; see --help"),
@@ -242,4 +243,18 @@ fn definitions_ask_for_their_crate_and_an_empty_folder() {
     let (status, error) = folder.fails("definitions --seed 1 --count 2 --crate d --scratch .");
     assert_eq!(status, 2);
     assert!(error.ends_with(". is not empty"));
+}
+
+#[test]
+fn orbits_are_printed_with_their_first_sets() {
+    if oracle().is_none() {
+        return;
+    }
+    let folder = Folder::new("orbits");
+    folder.write("square.txt", SQUARE);
+    folder.succeeds("encode square.txt -o square");
+    let lines = folder.succeeds("orbits square");
+    assert!(lines.starts_with("6 orbits\n1: 0 1\n1: 0 2\n"), "{lines}");
+    folder.write("short", [1, 2, 3]);
+    assert_eq!(folder.succeeds("orbits short"), "refused 1\n");
 }

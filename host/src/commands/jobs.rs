@@ -1,6 +1,7 @@
-//! Commands on one job or one answer: answer, show, encode, decode.
+//! Commands on one job or one answer: answer, orbits, show, encode, decode.
 
 use facetings_host::answer::Answer;
+use facetings_host::judged::{Orbit, Stop};
 use facetings_host::oracle::fill;
 use facetings_host::refusal::Refusal;
 use facetings_host::show::show;
@@ -27,6 +28,22 @@ with its number on standard error, and the exit status is 1.
     },
     options: &["-o", "--workspace", "--room"],
     run: answer,
+};
+
+pub const ORBITS: Command = Command {
+    name: "orbits",
+    about: "Prints the orbits that the Rust finds for jobs.",
+    usage: "JOB..",
+    details: || {
+        "\
+For each job a line with the number of hyperplane orbits of its outermost call,
+then a line for each orbit: its count, a colon, and the vertices of its first set.
+A job that refusals 1 to 13 stop is told by its refusal number instead.
+"
+        .into()
+    },
+    options: &[],
+    run: orbits,
 };
 
 pub const SHOW: Command = Command {
@@ -86,6 +103,31 @@ fn answer(arguments: Arguments) -> Result<(), Failure> {
             words: refusal.to_string(),
         }),
     }
+}
+
+fn orbits(arguments: Arguments) -> Result<(), Failure> {
+    let oracle = open_original()?;
+    for file in arguments.all() {
+        let judged = oracle.judge(&read_file(file)?, 4_194_304);
+        let early = match &judged.result {
+            Err(Stop::Refused(refusal)) if refusal.number() <= 13 => Some(refusal.number()),
+            _ => None,
+        };
+        match early {
+            Some(number) => print(&format!("refused {number}\n"))?,
+            None => print(&orbit_lines(&judged.events.orbits))?,
+        }
+    }
+    Ok(())
+}
+
+fn orbit_lines(orbits: &[Orbit]) -> String {
+    let line = |orbit: &Orbit| {
+        let vertices: String = orbit.vertices.iter().map(|v| format!(" {v}")).collect();
+        format!("{}:{vertices}\n", orbit.count)
+    };
+    let lines: String = orbits.iter().map(line).collect();
+    format!("{} orbits\n{lines}", orbits.len())
 }
 
 fn show_answer(arguments: Arguments) -> Result<(), Failure> {

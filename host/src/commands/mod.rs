@@ -23,6 +23,7 @@ pub struct Command {
 
 pub const COMMANDS: &[Command] = &[
     jobs::ANSWER,
+    jobs::ORBITS,
     jobs::SHOW,
     jobs::ENCODE,
     jobs::DECODE,

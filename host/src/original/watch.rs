@@ -5,7 +5,7 @@
 use std::cell::RefCell;
 use std::panic::{catch_unwind, resume_unwind, AssertUnwindSafe};
 
-use crate::judged::{Bounds, Events, Stop};
+use crate::judged::{Bounds, Events, Orbit, Stop};
 use crate::refusal::Refusal;
 
 struct Watch {
@@ -78,6 +78,23 @@ pub(super) fn opens_orbit(rank: usize, orbits: usize, points: usize) {
         w.events.crowded_line |= rank == 3 && points > 2;
         w.events.small_set |= points < rank - 1;
         w.events.most_orbits = w.events.most_orbits.max(orbits + 1);
+        Ok(())
+    })
+}
+
+/// An orbit was found; those of the outermost call, which come first and have the
+/// highest rank, are kept.
+pub(super) fn found_orbit(rank: usize, vertices: &[usize], count: usize) {
+    look(|w| {
+        let orbits = &mut w.events.orbits;
+        if orbits.first().is_none_or(|first| first.rank == rank) {
+            let vertices = vertices.to_vec();
+            orbits.push(Orbit {
+                rank,
+                vertices,
+                count,
+            });
+        }
         Ok(())
     })
 }
