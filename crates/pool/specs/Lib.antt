@@ -1,2 +1,3 @@
 -- Lists of any length in one region.
 pub mod Pool
+pub mod Examples
