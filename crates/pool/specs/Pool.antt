@@ -8,11 +8,11 @@ use Prim.Native.Nat.{ℕ, zero, suc, _+_, _-_, _*_, _^_, _≤_, _<_}
 use native.Mathlib.Nat.{mul-zero}
 use native.Mathlib.Numerals.{add-one}
 use native.Mathlib.Omega.{arith}
-use lib.ListN.{length, getD, take, drop, length-append, length-drop}
+use lib.ListN.{length, getD, take, drop, length-drop}
 use lib.Seq.{take-all, take-append-le, drop-append-le, length-take-le, getD-take, getD-drop, drop-length, ext-getD}
 use Rattle.definitions.specs.Job.{numberAt}
 use Rattle.laws.specs.Segments.{cons-same, le-or-lt}
-use Rattle.words.specs.Words.{put, words, put-length, numberAt-put, numberAt-put-off, numberAt-drop, drop-put, drop-put-add, words-length, words-push, words-put-behind, getD-words}
+use Rattle.words.specs.Words.{put, words, put-length, numberAt-put, numberAt-put-off, numberAt-drop, drop-put, drop-put-add, words-length, words-push, getD-words}
 
 -- ---- the region's fields
 

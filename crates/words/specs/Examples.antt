@@ -1,14 +1,12 @@
 -- Numbers, floats and an answer's words worked out by evaluation. Leans on Words, Floats and Writer.
 use mathlib.Core.Path.{_≡_, refl}
-use mathlib.Core.List.{List, [], _∷_, flatMap}
-use Prim.Native.Nat.{ℕ}
-use lib.ListN.{replicate}
-use lib.Ieee.{inf, nan, ofBits, ofFields, toBits, binary64}
-use mathlib.Core.Bool.{true, false}
+use mathlib.Core.List.{[], _∷_, flatMap}
+use lib.Ieee.{inf, ofBits, ofFields}
+use mathlib.Core.Bool.{true}
 use Rattle.definitions.specs.Job.{little, numberAt, floatAt, wordBytes}
 use Rattle.words.specs.Words.{bytesOf, put, words}
 use Rattle.words.specs.Floats.{readOf}
-use Rattle.words.specs.Writer.{encoded, padded, full, written, cursorOf, withWord, behindWord}
+use Rattle.words.specs.Writer.{encoded, padded, full, written, cursorOf, behindWord}
 use Rattle.words.specs.declared.Read.the-variants.{Number, NotANumber}
 
 -- the lowest byte first
