@@ -16,35 +16,45 @@ pub record Holds (w most : ℕ) (s : List ℕ) (lists : List (List ℕ)) (open-l
   pub many-are : used s ≡ many
 
 -- `clear`
-pub holds-none : (w most : ℕ) (s : List ℕ) → base most ≤ length s → Holds w most (emptied s) [] [] 0
-holds-none w most s h = record {
-  sound = emptied-sound w most s h;
-  lists-are = emptied-closed w most s h;
-  open-is = emptied-opened w most s h;
-  many-are = emptied-used w most s h;
-}
+pub holds-none : (w most : ℕ) (s t : List ℕ) → t ≡ emptied s → base most ≤ length s → Holds w most t [] [] 0
+holds-none w most s t e h =
+    rw e
+    record {
+      sound = emptied-sound w most s h;
+      lists-are = emptied-closed w most s h;
+      open-is = emptied-opened w most s h;
+      many-are = emptied-used w most s h;
+    }
 
 module _ {w most : ℕ} {s : List ℕ} {lists : List (List ℕ)} {open-list : List ℕ} {many : ℕ} (r : Holds w most s lists open-list many) where
   pub holds-count : count s ≡ length lists
   holds-count = sym (closed-length w most s) ∙ ap length (r .lists-are)
 
+  -- what the functions require
+  pub push-room : base most + w * (many + 1) ≤ length s → many + 1 < 4294967296 → (base most + w * (used s + 1) ≤ length s) × (used s + 1 < 4294967296)
+  push-room h f = rw (r .many-are) (h, f)
+
+  pub end-room : length lists < most → most < 4294967296 → (16 + 4 * count s ≤ length s) × (count s + 1 < 4294967296)
+  end-room h f = (omega (arith, holds-count, r .sound .fits), omega (arith, holds-count))
+
   -- `push_u16`, `push_u32`
-  pub holds-push : (v : ℕ) → base most + w * (many + 1) ≤ length s → many + 1 < 4294967296 → v < 256 ^ w → Holds w most (pushed w most s v) lists (open-list ++ (v ∷ [])) (many + 1)
-  holds-push v h f small =
-      let u = r .many-are in
-      let room : base most + w * (used s + 1) ≤ length s = rw u h in
-      let few : used s + 1 < 4294967296 = rw u f in
+  pub holds-push : (v : ℕ) (t : List ℕ) → t ≡ pushed w most s v → base most + w * (many + 1) ≤ length s → many + 1 < 4294967296 → v < 256 ^ w → Holds w most t lists (open-list ++ (v ∷ [])) (many + 1)
+  holds-push v t e h f small =
+      let room = push-room h f .0 in
+      let few = push-room h f .1 in
+      rw e
       record {
         sound = pushed-sound w most s v (r .sound) room few small;
         lists-are = pushed-closed w most s v (r .sound) room few small ∙ r .lists-are;
         open-is = pushed-opened w most s v (r .sound) room few small ∙ ap (λ (l : List ℕ). l ++ (v ∷ [])) (r .open-is);
-        many-are = pushed-used w most s v (r .sound) room few small ∙ ap (λ (k : ℕ). k + 1) u;
+        many-are = pushed-used w most s v (r .sound) room few small ∙ ap (λ (k : ℕ). k + 1) (r .many-are);
       }
 
   -- `end_list`
-  pub holds-end : length lists < most → most < 4294967296 → Holds w most (ended s) (lists ++ (open-list ∷ [])) [] many
-  holds-end h f =
+  pub holds-end : (t : List ℕ) → t ≡ ended s → length lists < most → most < 4294967296 → Holds w most t (lists ++ (open-list ∷ [])) [] many
+  holds-end t e h f =
       let more : count s < most = omega (arith, holds-count) in
+      rw e
       record {
         sound = ended-sound w most s (r .sound) more f;
         lists-are = ended-closed w most s (r .sound) more f ∙ (rw (r .lists-are, r .open-is) refl);
@@ -65,11 +75,11 @@ module _ {w most : ℕ} {s : List ℕ} {lists : List (List ℕ)} {open-list : Li
     holds-item =
         ap (λ (l : List (List ℕ)). getD (getD l k []) i 0) (sym (r .lists-are)) ∙ list-item w most s (r .sound) k (omega (arith, holds-count)) i inside
 
-    -- there is such an item to read
-    pub holds-place : placeAt w most s k i + w ≤ length s
+    -- what reading it requires
+    pub item-room : (12 + 4 * k ≤ length s) × (placeAt w most s k i + w ≤ length s)
     unfolding placeAt
-    holds-place =
+    item-room =
         let n : start s k + i + 1 ≤ used s = omega (arith, item-inside w most s (r .sound) k (omega (arith, holds-count)) i inside) in
         let m : w * (start s k + i + 1) ≤ w * used s = mul-le-mul-left w n in
         let e : w * (start s k + i + 1) ≡ w * (start s k + i) + w = omega arith in
-        omega (arith, r .sound .fits)
+        (omega (arith, holds-count, r .sound .few, r .sound .fits), omega (arith, r .sound .fits))
