@@ -1,5 +1,5 @@
--- Segments of a list: runs of stores (`sets` of lib.Seq), parts, and parts put back. What lib.Seq lacks of take, drop, set, getD and append.
--- Leans on the library's lists alone. Assumes nothing.
+-- Segments of a list: runs of stores and copies (`sets`, `paste` of lib.Seq), parts and parts put back, a list over the front of another, and the turns of loops that copy.
+-- What lib.Seq lacks of take, drop, set, getD and append. Leans on the library's lists alone. Assumes nothing.
 use mathlib.Core.Path.{_≡_, refl, sym, ap, _∙_}
 use mathlib.Core.List.{List, [], _∷_, _++_, append-assoc}
 use mathlib.Core.Logic.{_⊎_, inl, inr, ⊎-elim}
