@@ -1,5 +1,5 @@
--- Segments of a list: runs of stores (`sets` of lib.Seq), parts, and parts put back. What lib.Seq lacks of take, drop, set, getD and append.
--- Leans on the library's lists alone. Assumes nothing.
+-- Segments of a list: runs of stores and copies (`sets`, `paste` of lib.Seq), parts and parts put back, a list over the front of another, and the turns of loops that copy.
+-- What lib.Seq lacks of take, drop, set, getD and append. Leans on the library's lists alone. Assumes nothing.
 use mathlib.Core.Path.{_≡_, refl, sym, ap, _∙_}
 use mathlib.Core.List.{List, [], _∷_, _++_, append-assoc}
 use mathlib.Core.Logic.{_⊎_, inl, inr, ⊎-elim}
@@ -7,7 +7,7 @@ use Prim.Native.Nat.{ℕ, zero, suc, _+_, _-_, _≤_, _<_}
 use native.Mathlib.Nat.{add-suc, suc-add}
 use native.Mathlib.Numerals.{add-one}
 use native.Mathlib.Omega.{arith}
-use lib.ListN.{length, getD, set, take, drop, replicate, length-append, length-drop, length-set, List·getD-append}
+use lib.ListN.{length, getD, set, take, drop, replicate, length-append, length-drop, length-set, take-append-drop, List·getD-append}
 use lib.Seq.{sets, drop-drop, take-append-le, sets-eq, paste, paste-zero, paste-suc, drop-cons, drop-paste, set-append-left, append-snoc, getD-take, getD-drop, take-set-le, drop-set-lt, drop-set-add, take-set-lt, take-suc-set, take-at, drop-at, length-take-le, take-take, take-nil}
 
 -- ---- two numbers
@@ -164,6 +164,28 @@ module _ {A : Type 0} where
       sym (part-take (b + m) (placed a n s p) b m (omega arith))
       ∙ (ap (part b m) (take-placed a n s p (b + m) h o) ∙ part-take (b + m) s b m (omega arith))
   part-placed-off a n s p b m h e (inr o) = ap (take m) (drop-placed a n s p b h e o)
+
+  -- ---- a list over the front of another
+
+  unfoldable pub onto : List A → List A → List A
+  onto l s = l ++ drop (length l) s
+
+  pub take-onto : (l s : List A) (n : ℕ) → n ≡ length l → take n (onto l s) ≡ l
+  unfolding onto
+  take-onto l s n e = take-at l (drop (length l) s) n (sym e)
+
+  pub drop-onto : (l s : List A) (n : ℕ) → n ≡ length l → drop n (onto l s) ≡ drop n s
+  unfolding onto
+  drop-onto l s n e = drop-at l (drop (length l) s) n (sym e) ∙ ap (λ (k : ℕ). drop k s) (sym e)
+
+  pub onto-length : (l s : List A) → length l ≤ length s → length (onto l s) ≡ length s
+  unfolding onto
+  onto-length l s h = rw (length-append, length-drop) (omega arith)
+
+  -- the front of a list over itself
+  pub onto-front : (n : ℕ) (s : List A) → n ≤ length s → onto (take n s) s ≡ s
+  unfolding onto
+  onto-front n s h = rw (length-take-le n s h) (take-append-drop n s)
 
 -- ---- the turns of a loop that copies numbers, from either end
 

@@ -8,11 +8,11 @@ use Prim.Native.Nat.{ℕ, zero, suc, _+_, _-_, _*_, _^_, _≤_, _<_}
 use native.Mathlib.Nat.{mul-zero}
 use native.Mathlib.Numerals.{add-one}
 use native.Mathlib.Omega.{arith}
-use lib.ListN.{length, getD, take, drop, length-append, length-drop}
+use lib.ListN.{length, getD, take, drop, length-drop}
 use lib.Seq.{take-all, take-append-le, drop-append-le, length-take-le, getD-take, getD-drop, drop-length, ext-getD}
 use Rattle.definitions.specs.Job.{numberAt}
 use Rattle.laws.specs.Segments.{cons-same, le-or-lt}
-use Rattle.words.specs.Words.{put, words, put-length, numberAt-put, numberAt-put-off, numberAt-drop, drop-put, drop-put-add, words-length, words-push, words-put-behind, getD-words}
+use Rattle.words.specs.Words.{put, words, put-length, numberAt-put, numberAt-put-off, numberAt-drop, drop-put, drop-put-add, words-length, words-push, getD-words}
 
 -- ---- the region's fields
 
@@ -175,9 +175,9 @@ module _ (w most : ℕ) (s : List ℕ) (fits : base most ≤ length s) where
       numberAt-put-off 4 (put 4 (put 4 s 0 0) 4 0) 8 0 0 4 (inl (omega arith))
       ∙ (numberAt-put-off 4 (put 4 s 0 0) 4 0 0 4 (inl (omega arith)) ∙ numberAt-put 4 s 0 0 (omega arith) (omega arith))
 
-  empty-used : used (emptied s) ≡ 0
+  pub emptied-used : used (emptied s) ≡ 0
   unfolding used emptied
-  empty-used =
+  emptied-used =
       let l = put-length 4 s 0 0 in
       numberAt-put-off 4 (put 4 (put 4 s 0 0) 4 0) 8 0 4 4 (inl (omega arith))
       ∙ numberAt-put 4 (put 4 s 0 0) 4 0 (omega arith) (omega arith)
@@ -196,8 +196,8 @@ module _ (w most : ℕ) (s : List ℕ) (fits : base most ≤ length s) where
   pub emptied-sound : Sound w most (emptied s)
   emptied-sound = record {
     few = omega (arith, empty-count);
-    small = omega (arith, empty-used);
-    fits = rw (empty-used, mul-zero, empty-length) (omega arith);
+    small = omega (arith, emptied-used);
+    fits = rw (emptied-used, mul-zero, empty-length) (omega arith);
     below = λ k h. let z : k ≡ 0 = omega (arith, empty-count) in rw z (omega (arith, empty-start));
     ascend = λ k h. absurd (omega (arith, empty-count));
   }
@@ -208,7 +208,7 @@ module _ (w most : ℕ) (s : List ℕ) (fits : base most ≤ length s) where
 
   pub emptied-opened : opened w most (emptied s) ≡ []
   unfolding opened items words
-  emptied-opened = rw (empty-used, empty-count, empty-start) refl
+  emptied-opened = rw (emptied-used, empty-count, empty-start) refl
 
 -- ---- one item more
 

@@ -1,4 +1,5 @@
 -- Sets of numbers as ascending lists.
 pub mod Ascending
+pub mod Gathering
 pub mod Found
 pub mod Merging

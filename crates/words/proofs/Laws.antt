@@ -1,6 +1,6 @@
 -- What the proofs of the functions cite: what straight-line code leaves, said by the definitions. Assumes nothing.
 use mathlib.Core.Path.{_≡_, refl, sym, ap, subst, _∙_}
-use mathlib.Core.Bool.{Bool, true, false, not}
+use mathlib.Core.Bool.{true, false, not}
 use mathlib.Core.List.{List}
 use Prim.Native.Nat.{ℕ, _+_, _*_, _/_, _%_, _^_, _≤_, _<_}
 use native.Mathlib.Numerals.{add-one}
@@ -14,7 +14,6 @@ use lib.Ieee.Bits.{nanBits-is, nanBits-above}
 use Rattle.definitions.specs.Job.{numberAt, floatAt}
 use Rattle.words.specs.Words.{bytesOf, put, numberAt-byte, numberAt-add, put-add}
 use Rattle.words.specs.Floats.{readOf}
-use Rattle.words.specs.declared.Read.{Read}
 use Rattle.words.specs.declared.Read.the-variants.{Number, NotANumber}
 
 -- two bytes, and two halves

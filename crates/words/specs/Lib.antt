@@ -2,3 +2,4 @@
 pub mod Words
 pub mod Floats
 pub mod Writer
+pub mod Examples

@@ -1,13 +1,13 @@
 -- Little-endian numbers of any width in a list of bytes, and a list of bytes as a list of such numbers. Reading is `numberAt`, document 01's own word;
 -- writing is `put`. Each law is stated once, for every width. Leans on the definitions of the job's bytes and on the laws of segments. Assumes nothing.
 use mathlib.Core.Path.{_≡_, refl, sym, ap, _∙_}
-use mathlib.Core.List.{List, [], _∷_, _++_, flatMap, append-assoc}
+use mathlib.Core.List.{List, [], _∷_, _++_}
 use mathlib.Core.Logic.{_⊎_, inl, inr}
 use Prim.Native.Nat.{ℕ, zero, suc, _+_, _-_, _*_, _/_, _%_, _^_, _≤_, _<_}
 use native.Mathlib.Nat.{zero-add, suc-add, mul-zero, pow-zero, pow-suc, pow-succ', one-le-pow, div-one, div-div-eq-div-mul, div-lt-iff-lt-mul, zero-lt-suc}
 use native.Mathlib.Omega.{arith}
 use lib.ListN.{length, getD, set, take, drop, length-drop}
-use lib.Seq.{sets, length-sets, take-at, drop-at, take-add, drop-cons, drop-drop, length-take-le, take-take}
+use lib.Seq.{sets, length-sets, take-at, drop-at, take-add, drop-cons, drop-drop, getD-drop, length-take-le, take-take}
 use lib.Arith.{mod-mul}
 use Rattle.definitions.specs.Job.{little, numberAt, wordBytes}
 use Rattle.laws.specs.Segments.{part, take-sets-le, take-sets-ge, drop-sets-ge, drop-sets-add, part-sets, sets-append, drop-take, part-take, cons-same}
@@ -230,3 +230,47 @@ words-put-behind w u s n at v h =
 pub words-push : (w : ℕ) (s : List ℕ) (n v : ℕ) → w * n + w ≤ length s → v < 256 ^ w → words w (put w s (w * n) v) (n + 1) ≡ words w s n ++ (v ∷ [])
 words-push w s n v h f =
     rw (words-more w (put w s (w * n) v) n, numberAt-put w s (w * n) v h f, words-put-behind w w s n (w * n) v (omega arith)) refl
+
+-- ---- a table of numbers that begins at some place of a list of bytes
+
+module _ (w : ℕ) (s : List ℕ) (base n : ℕ) where
+  -- a number of the table
+  pub getD-table : (i : ℕ) → i < n → getD (words w (drop base s) n) i 0 ≡ numberAt s (base + w * i) w
+  getD-table i h = getD-words w (drop base s) n i h ∙ numberAt-drop s base (w * i) w
+
+  -- one is written
+  pub table-put : (i v : ℕ) → i < n → base + w * n ≤ length s → v < 256 ^ w → words w (drop base (put w s (base + w * i) v)) n ≡ set (words w (drop base s) n) i v
+  table-put i v h l f =
+      let d = length-drop base s in
+      ap (λ (r : List ℕ). words w r n) (drop-put-add w s base (w * i) v) ∙ words-put w (drop base s) n i v h (omega arith) f
+
+  -- one is appended
+  pub table-push : (v : ℕ) → base + w * n + w ≤ length s → v < 256 ^ w → words w (drop base (put w s (base + w * n) v)) (n + 1) ≡ words w (drop base s) n ++ (v ∷ [])
+  table-push v l f =
+      let d = length-drop base s in
+      ap (λ (r : List ℕ). words w r (n + 1)) (drop-put-add w s base (w * n) v) ∙ words-push w (drop base s) n v (omega arith) f
+
+  -- the table is known by the part that it fills
+  pub table-part : words w (part base (w * n) s) n ≡ words w (drop base s) n
+  table-part = words-take w (drop base s) (w * n) n (omega arith)
+
+  -- a number beside the table, in any width
+  pub table-put-off : (u at v : ℕ) → (base + w * n ≤ at) ⊎ (at + u ≤ base) → words w (drop base (put u s at v)) n ≡ words w (drop base s) n
+  table-put-off u at v o =
+      sym (words-take w (drop base (put u s at v)) (w * n) n (omega arith))
+      ∙ (ap (λ (r : List ℕ). words w r n) (part-put-off u s at v base (w * n) o) ∙ table-part)
+
+-- ---- how large a number is: bytes are below 256
+
+little-small : (w : ℕ) (l : List ℕ) → ((i : ℕ) → getD l i 0 < 256) → little (take w l) < 256 ^ w
+unfolding little
+little-small zero l h = rw pow-zero (omega arith)
+little-small (suc w) [] h = one-le-pow (suc w) 256 (zero-lt-suc 255)
+little-small (suc w) (b ∷ l) h =
+    let first : b < 256 = h 0 in
+    let rest = little-small w l (λ i. h (suc i)) in
+    rw pow-succ' (omega arith)
+
+pub numberAt-small : (s : List ℕ) (at w : ℕ) → ((i : ℕ) → getD s i 0 < 256) → numberAt s at w < 256 ^ w
+unfolding numberAt
+numberAt-small s at w h = little-small w (drop at s) (λ i. rw (getD-drop at s i 0) (h (at + i)))
