@@ -1,0 +1,4 @@
+-- The search in a workspace: its lists put in as frames, its totals cut off, its bytes.
+pub mod Kept
+pub mod Frames
+pub mod Sums
