@@ -2,3 +2,7 @@
 pub mod Kept
 pub mod Frames
 pub mod Sums
+pub mod Layout
+pub mod Judged
+pub mod Numbers
+pub mod Latest
