@@ -7,7 +7,7 @@ use mathlib.Core.Option.{Option, some, none}
 use Prim.Native.Nat.{ℕ, zero, suc, _+_, _-_, _*_, _/_, _%_, _≤_, _<_}
 use native.Mathlib.Omega.{arith}
 use lib.Dec.{T, eqb}
-use lib.ListN.{length, getD, take, drop, replicate}
+use lib.ListN.{length, getD, set, take, drop, replicate}
 use Rattle.definitions.specs.Lists.{countFrom}
 use Rattle.definitions.specs.Job.{numberAt}
 use Rattle.definitions.specs.Search as def
@@ -15,7 +15,7 @@ use Rattle.definitions.specs.Search.{Table, Facet, allFacets, onesAt, usesOrbit
 use Rattle.laws.specs.Segments.{part, placed, part-take}
 use Rattle.words.specs.Words.{words, words-take}
 use Rattle.pool.specs.Pool.{Sound, count, used, closed, opened}
-use Rattle.search.specs.Frames.{Frame, candidates, unused}
+use Rattle.search.specs.Frames.{Frame, candidates, unused, markOf}
 use Rattle.search.specs.Sums.{amount, sumAt}
 use Rattle.search.specs.declared.Areas.{Areas}
 use Rattle.search.specs.declared.Verdict.{Verdict}
@@ -156,12 +156,13 @@ usedPart a s = part (a .used) (a .lists - a .used) s
 abbrev pub listsPart : Areas → List ℕ → List ℕ
 listsPart a s = part (a .lists) (a .end - a .lists) s
 
--- d frames, of which the first m have taken a facet whose orbit was not in use
+-- d frames of lists that are not over, of which the first m have taken a facet whose orbit was not in use
 pub record Path (t : Table) (a : Areas) (p : List ℕ) (d m : ℕ) : Type 0 where
   pub kinds : (k : ℕ) → k < d → kindAt p k ≤ a .ridges
   pub places : (k : ℕ) → k < d → placeAt p k ≤ length (numbers t (kindAt p k))
   pub taken : (k : ℕ) → k < m → takenAt p k < a .facets
   pub fresh : (k : ℕ) → k < m → T (unused (listTo t p k) (facetOf t (takenAt p k)))
+  pub light : (k : ℕ) → k < d → (ridge : ℕ) → ridge < a .ridges → sumAt t (listTo t p k) ridge ≤ 2
   pub inside : m ≤ d
   pub near : d ≤ m + 1
 
@@ -183,6 +184,30 @@ pub record Stands (t : Table) (a : Areas) (s : List ℕ) (d m : ℕ) : Type 0 wh
   pub frames : Path t a (framesPart a s) d m
   pub totals : Totals t a (listTo t (framesPart a s) m) (totalsPart a s)
   pub uses : Uses a (listTo t (framesPart a s) m) (usedPart a s)
+
+-- ---- a facet joins the list or leaves it
+
+-- the totals with each code's amount added or taken off
+unfoldable pub changed : (ℕ → ℕ → ℕ) → List ℕ → List ℕ → List ℕ
+changed by ts [] = ts
+changed by ts (c ∷ cs) = changed by (set ts (c / 4) (by (getD ts (c / 4) 0) (c % 4))) cs
+
+unfoldable pub withTotals : (ℕ → ℕ → ℕ) → Areas → List ℕ → ℕ → List ℕ
+withTotals by a s x = placed (a .totals) (a .used - a .totals) s (changed by (totalsPart a s) (codes a (touchedPart a s) x))
+
+unfoldable pub withUse : Areas → List ℕ → ℕ → ℕ → List ℕ
+withUse a s x v = placed (a .used) (a .lists - a .used) s (set (usedPart a s) (numberAt s (2 * x) 2) v)
+
+-- "A facet joins a list at its end": what it adds and its orbit are counted, or no longer counted
+unfoldable pub withFacet : Areas → List ℕ → ℕ → List ℕ
+withFacet a s x = withUse a (withTotals _+_ a s x) x 1
+
+unfoldable pub withoutFacet : Areas → List ℕ → ℕ → List ℕ
+withoutFacet a s x = withUse a (withTotals _-_ a s x) x 0
+
+-- the mark of the list of k + 1 facets
+unfoldable pub markAfter : Table → List ℕ → ℕ → ℕ
+markAfter t p k = markOf (ridgeOf (kindAt p k)) (markAt p k) (facetOf t (takenAt p k))
 
 -- the emitted lists
 pub record Emitted (t : Table) (a : Areas) (l : List ℕ) (emitted : List (List Facet)) : Type 0 where

@@ -6,3 +6,5 @@ pub mod Layout
 pub mod Judged
 pub mod Numbers
 pub mod Latest
+pub mod Change
+pub mod Stands

@@ -7,7 +7,7 @@ ghost use Prim.Native.Nat.{ℕ, _+_, _*_, _-_, _≤_, _<_};
 ghost use lib.ListN.{length, getD, set};
 ghost use Rattle.definitions.specs.Search.{Table, Facet, judge};
 ghost use Rattle.laws.specs.Segments.{part, placed};
-ghost use Rattle.search.specs.Layout.{Inputs, Uses, verdict, numbers, ridgeOf, usedPart};
+ghost use Rattle.search.specs.Layout.{Inputs, Uses, verdict, numbers, ridgeOf, usedPart, totalsPart, touchedPart, codes, amountIn, withFacet, withoutFacet};
 ghost use Rattle.search.specs.Frames.{candidates as candidatesOf, lowOf};
 ghost use Rattle.search.specs.Latest.{Latest};
 
@@ -134,4 +134,48 @@ fn latest(ws: &[u8], a: Areas, kind: usize, low: usize, place: usize) -> usize
         i -= 1;
     }
     i
+}
+
+// A facet joins the list: what it adds is counted, and its orbit is in use.
+fn join(ws: &mut [u8], a: Areas, x: usize)
+    requires { ⌜ ((t : Table) × Inputs t a (now ws) × (x < a .facets) × ((ridge : ℕ) → ridge < a .ridges → getD (totalsPart a (now ws)) ridge 0 ≤ 252)) ⌝ }
+    ensures { λ _. ⌜ now (ws .exit) ≡ withFacet a (now (ws .entry)) x ⌝ }
+{
+    let facets = a.facets;
+    let touched = a.touched;
+    let ones = a.ones;
+    let totals = a.totals;
+    let n = pool::list_length(&ws[touched..ones], x) as usize;
+    let mut i = 0;
+    while i < n {
+        let code = pool::item_u16(&ws[touched..ones], facets, x, i) as usize;
+        let at = totals + code / 4;
+        ws[at] = ws[at] + (code % 4) as u8;
+        i += 1;
+    }
+    let used = a.used;
+    let orbit = words::get_u16(ws, 2 * x) as usize;
+    ws[used + orbit] = 1;
+}
+
+// A facet leaves the list.
+fn leave(ws: &mut [u8], a: Areas, x: usize)
+    requires { ⌜ ((t : Table) × Inputs t a (now ws) × (x < a .facets) × ((ridge : ℕ) → ridge < a .ridges → amountIn ridge (codes a (touchedPart a (now ws)) x) ≤ getD (totalsPart a (now ws)) ridge 0)) ⌝ }
+    ensures { λ _. ⌜ now (ws .exit) ≡ withoutFacet a (now (ws .entry)) x ⌝ }
+{
+    let facets = a.facets;
+    let touched = a.touched;
+    let ones = a.ones;
+    let totals = a.totals;
+    let n = pool::list_length(&ws[touched..ones], x) as usize;
+    let mut i = 0;
+    while i < n {
+        let code = pool::item_u16(&ws[touched..ones], facets, x, i) as usize;
+        let at = totals + code / 4;
+        ws[at] = ws[at] - (code % 4) as u8;
+        i += 1;
+    }
+    let used = a.used;
+    let orbit = words::get_u16(ws, 2 * x) as usize;
+    ws[used + orbit] = 0;
 }
