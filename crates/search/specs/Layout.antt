@@ -11,13 +11,18 @@ use lib.ListN.{length, getD, set, take, drop, replicate}
 use Rattle.definitions.specs.Lists.{countFrom}
 use Rattle.definitions.specs.Job.{numberAt}
 use Rattle.definitions.specs.Search as def
-use Rattle.definitions.specs.Search.{Table, Facet, allFacets, onesAt, usesOrbit}
+use Rattle.definitions.specs.Outcome as result
+use Rattle.definitions.specs.Search.{Table, Facet, Item, allFacets, onesAt, usesOrbit}
 use Rattle.laws.specs.Segments.{part, placed, part-take}
-use Rattle.words.specs.Words.{words, words-take}
-use Rattle.pool.specs.Pool.{Sound, count, used, closed, opened}
+use Rattle.words.specs.Words.{put, words, words-take}
+use Rattle.pool.specs.Pool.{Sound, count, used, closed, opened, pushed}
 use Rattle.search.specs.Frames.{Frame, candidates, unused, markOf}
 use Rattle.search.specs.Sums.{amount, sumAt}
 use Rattle.search.specs.declared.Areas.{Areas}
+use Rattle.search.specs.declared.Limit.{Limit}
+use Rattle.search.specs.declared.Limit.the-variants.{Absent, Entries}
+use Rattle.search.specs.declared.Outcome.{Outcome}
+use Rattle.search.specs.declared.Outcome.the-variants.{Found, Refused}
 use Rattle.search.specs.declared.Verdict.{Verdict}
 use Rattle.search.specs.declared.Verdict.the-variants.{Over, Open, Closed}
 
@@ -209,9 +214,47 @@ withoutFacet a s x = withUse a (withTotals _-_ a s x) x 0
 unfoldable pub markAfter : Table → List ℕ → ℕ → ℕ
 markAfter t p k = markOf (ridgeOf (kindAt p k)) (markAt p k) (facetOf t (takenAt p k))
 
--- the emitted lists
-pub record Emitted (t : Table) (a : Areas) (l : List ℕ) (emitted : List (List Facet)) : Type 0 where
+-- the list of the first k facets with its mark
+unfoldable pub itemAt : Table → List ℕ → ℕ → Item
+itemAt t p k = record { list = listTo t p k; mark = markAfter t p (k - 1) }
+
+-- a place and a facet taken, and a whole frame
+unfoldable pub withPlace : List ℕ → ℕ → ℕ → ℕ → List ℕ
+withPlace p k place x = put 2 (put 4 p (16 * k) place) (16 * k + 12) x
+
+unfoldable pub withFrame : List ℕ → ℕ → ℕ → ℕ → ℕ → ℕ → List ℕ
+withFrame p k place low mark kind = put 2 (put 2 (put 4 (put 4 p (16 * k) place) (16 * k + 4) low) (16 * k + 8) mark) (16 * k + 10) kind
+
+-- ---- the emitted lists
+
+unfoldable pub emittedIn : Table → Areas → List ℕ → List (List Facet)
+emittedIn t a l = map (map (facetOf t)) (closed 2 (a .bound) l)
+
+pub record Emitted (a : Areas) (l : List ℕ) : Type 0 where
   pub sound : Sound 2 (a .bound) l
-  pub lists : map (map (facetOf t)) (closed 2 (a .bound) l) ≡ emitted
   pub none : opened 2 (a .bound) l ≡ []
   pub room : used l ≤ count l * a .orbits
+
+-- items pushed one after another
+unfoldable pub pushedAll : ℕ → List ℕ → List ℕ → List ℕ
+pushedAll most l [] = l
+pushedAll most l (v ∷ vs) = pushedAll most (pushed 2 most l v) vs
+
+-- ---- limits and outcomes
+
+unfoldable pub limitOf : Limit → Option ℕ
+limitOf Absent = none
+limitOf (Entries m) = some m
+
+unfoldable pub limitsOf : Areas → Limit → def.EntryLimits
+limitsOf a limit = record { limit = limitOf limit; bound = a .bound }
+
+-- the outcome with the lists that the workspace holds
+unfoldable pub outcome : Table → Areas → Outcome → List ℕ → result.Outcome def.Found
+outcome t a (Found n left) s = result.answered (record { lists = emittedIn t a (listsPart a s); left = left })
+outcome t a (Refused number) s = result.refused number
+
+-- how many lists an outcome says that there are
+unfoldable pub counted : Table → Areas → Outcome → List ℕ → Type 0
+counted t a (Found n left) s = n ≡ length (emittedIn t a (listsPart a s))
+counted t a (Refused number) s = Unit {0}

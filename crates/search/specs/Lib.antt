@@ -8,3 +8,5 @@ pub mod Numbers
 pub mod Latest
 pub mod Change
 pub mod Stands
+pub mod Places
+pub mod Steps
