@@ -4,12 +4,13 @@ use mathlib.Core.Bool.{Bool, true, false, cond, _||_}
 use mathlib.Core.List.{List, [], _∷_}
 use Prim.Native.Nat.{ℕ, zero, suc, _+_, _-_, _≤_, _<_}
 use native.Mathlib.Omega.{arith}
-use lib.Dec.{T, ltb, eqb, lt→ltb, ltb→lt, eqb→eq, eqb-refl, leb·suc-suc}
+use lib.Dec.{T, T-not, not-T, nltb→le, ltb, eqb, lt→ltb, ltb→lt, eqb→eq, eqb-refl, leb·suc-suc}
 use lib.ListN.{length, getD, drop}
 use lib.Seq.{drop-cons, drop-length}
 use Rattle.definitions.specs.Lists.{anyOf, placeOf}
 use Rattle.definitions.specs.Search.{Verdict, over, closed, openAt, judge}
-use Rattle.laws.specs.Bools.{holds→true, true→holds}
+use Rattle.laws.specs.Bools.{holds→true, true→holds, false→fails}
+use Rattle.laws.specs.Lists.{any-of, member-at}
 
 -- one total more in front, at place i
 unfoldable pub before : ℕ → ℕ → Verdict → Verdict
@@ -121,3 +122,25 @@ judge-open l i v z h e w k = sym (judge-step l i z h ∙ (ap (before (i - 1) (ge
 pub judge-same : (l : List ℕ) (i : ℕ) (v : Verdict) → 0 < i → i ≤ length l → v ≡ judgeFrom i (drop i l) → Within v → getD l (i - 1) 0 ≤ 2 → (getD l (i - 1) 0 ≡ 1 → ⊥)
     → v ≡ judgeFrom (i - 1) (drop (i - 1) l)
 judge-same l i v z h e w k n = sym (judge-step l i z h ∙ (ap (before (i - 1) (getD l (i - 1) 0)) (sym e) ∙ before-same (i - 1) (getD l (i - 1) 0) v w k n))
+
+-- ---- what a verdict says of the totals
+
+pub judge-light : (l : List ℕ) → Within (judge l) → (i : ℕ) → i < length l → getD l i 0 ≤ 2
+unfolding judge Within
+judge-light l w i h = go (anyOf (ltb 2) l) refl w
+  where
+    go : (b : Bool) → anyOf (ltb 2) l ≡ b → Within (cond b over (cond (ltb (placeOf (eqb 1) l) (length l)) (openAt (placeOf (eqb 1) l)) closed)) → getD l i 0 ≤ 2
+    go true e v = absurd v
+    go false e v = nltb→le 2 (getD l i 0) (not-T (ltb 2 (getD l i 0)) (λ z. T-not (anyOf (ltb 2) l) (false→fails e) (any-of (ltb 2) (getD l i 0) l (member-at l i 0 h) z)))
+
+pub judge-inside : (l : List ℕ) (ridge : ℕ) → openAt ridge ≡ judge l → ridge < length l
+unfolding judge
+judge-inside l ridge e = go (anyOf (ltb 2) l) (ltb (placeOf (eqb 1) l) (length l)) refl e
+  where
+    absurdly : (_≡_ {A = ℕ} 0 1) → ridge < length l
+    absurdly z = absurd (omega arith)
+
+    go : (b c : Bool) → ltb (placeOf (eqb 1) l) (length l) ≡ c → openAt ridge ≡ cond b over (cond c (openAt (placeOf (eqb 1) l)) closed) → ridge < length l
+    go true c q z = absurdly (cc)
+    go false true q z = let k : ridge ≡ placeOf (eqb 1) l = cc in let m = ltb→lt (placeOf (eqb 1) l) (length l) (true→holds q) in omega arith
+    go false false q z = absurdly (cc)

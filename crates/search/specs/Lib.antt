@@ -10,3 +10,5 @@ pub mod Change
 pub mod Stands
 pub mod Places
 pub mod Steps
+pub mod Emission
+pub mod Turns

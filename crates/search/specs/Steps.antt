@@ -25,7 +25,7 @@ use Rattle.search.specs.Sums.{sumAt, judge-sums}
 use Rattle.search.specs.Layout.{verdict, Inputs, Fits, Holds, holds-kept, facetOf, numbers, ridgeOf, totalsPart, usedPart, framesPart, listsPart, withFacet, withoutFacet, path, listTo, frameAt, framesTo, placeAt, lowAt, markAt, kindAt, takenAt, markAfter, itemAt, withPlace, withFrame, Path, Totals, Uses, Stands}
 use Rattle.search.specs.Numbers.{numbers-length, numbers-small, candidate-at, numbers-few}
 use Rattle.search.specs.Latest.{Latest, latest-none, latest-found, facet-small}
-use Rattle.search.specs.Change.{change-frames, change-lists, change-length}
+use Rattle.search.specs.Change.{change-frames, change-tables, change-lists, change-length}
 use Rattle.search.specs.Stands.{list-last, stands-join, stands-leave}
 use Rattle.search.specs.Places.{Below, same-kind, same-places, same-taken, same-list, same-frames, place-length, place-below, place-is, place-taken, place-kind, place-mark, place-frames, frame-length, frame-below, frame-place, frame-kind, frame-frames}
 
@@ -100,16 +100,19 @@ pub record Visited (t : Table) (a : Areas) (s s' : List ℕ) (d place : ℕ) (v 
       ≡ itemAt t (framesPart a s') d
   pub judged : verdict v ≡ judge (totalsPart a s')
   pub lists : listsPart a s' ≡ listsPart a s
+  pub tables : take (a .frames) s' ≡ take (a .frames) s
 
 pub record Withdrawn (t : Table) (a : Areas) (s s' : List ℕ) (d : ℕ) : Type 0 where
   pub stands : Stands t a s' d (d - 1)
   pub frames : framesPart a s' ≡ framesPart a s
   pub lists : listsPart a s' ≡ listsPart a s
+  pub tables : take (a .frames) s' ≡ take (a .frames) s
 
 pub record Entered (t : Table) (a : Areas) (s s' : List ℕ) (d kind : ℕ) : Type 0 where
   pub stands : Stands t a s' (d + 1) d
   pub frames : framesTo t (framesPart a s') (d + 1) ≡ entered t (listTo t (framesPart a s) d) (markAfter t (framesPart a s) (d - 1)) (ridgeOf kind) ∷ framesTo t (framesPart a s) d
   pub lists : listsPart a s' ≡ listsPart a s
+  pub tables : take (a .frames) s' ≡ take (a .frames) s
 
 -- ---- room for the frames
 
@@ -293,6 +296,7 @@ module _ (t : Table) (a : Areas) (s : List ℕ) (d place x : ℕ) (ok : Ready t 
           (sym (ap (listTo t q) (sym again) ∙ (list-last t q k ∙ rw (taken-is, same-list p q k below t k (omega arith)) refl)))));
         judged = e;
         lists = change-lists _+_ a s1 (stands-placed .inputs .fits) x 1 taken-small ∙ put-lists a s q (ok .stands .inputs .fits) long;
+        tables = change-tables _+_ a s1 (stands-placed .inputs .fits) x 1 taken-small ∙ put-tables a s q (ok .stands .inputs .fits) long;
       }
 
 -- ---- the last facet withdrawn
@@ -306,6 +310,7 @@ withdrawn t a s d x st h e =
       stands = stands-leave t a s d (d - 1) x (rw z st) (omega arith) (sym e);
       frames = change-frames _-_ a s (st .inputs .fits) x 0 k;
       lists = change-lists _-_ a s (st .inputs .fits) x 0 k;
+      tables = change-tables _-_ a s (st .inputs .fits) x 0 k;
     }
 
 -- ---- a list entered
@@ -367,6 +372,7 @@ module _ (t : Table) (a : Areas) (s : List ℕ) (d place low mark kind : ℕ) (s
           (frame-frames p' d place low mark kind room' a1 a2 a3 a4 t
           ∙ ap (λ (fr : Frame). fr ∷ framesTo t p' d) (rw (places, lows, marks, numbers-length t kind) refl));
         lists = put-lists a s q' f long';
+        tables = put-tables a s q' f long';
       }
 
 -- ---- the mark, by the kind of the frame

@@ -4,10 +4,16 @@ ghost use mathlib.Core.Path.{_≡_};
 ghost use mathlib.Core.Bool.{Bool};
 ghost use mathlib.Core.List.{List};
 ghost use Prim.Native.Nat.{ℕ, _+_, _*_, _-_, _≤_, _<_};
-ghost use lib.ListN.{length, getD, set};
-ghost use Rattle.definitions.specs.Search.{Table, Facet, judge};
+ghost use lib.ListN.{length, getD, set, take};
+ghost use Rattle.definitions.specs.Search.{Table, Facet, judge, closed};
 ghost use Rattle.laws.specs.Segments.{part, placed};
-ghost use Rattle.search.specs.Layout.{Inputs, Uses, verdict, numbers, ridgeOf, usedPart, totalsPart, touchedPart, codes, amountIn, withFacet, withoutFacet, withPlace, withFrame, framesPart, listTo, placeAt, kindAt, takenAt, frameAt, markAfter, Stands};
+ghost use Rattle.search.specs.Layout.{Fits, Inputs, Uses, verdict, numbers, ridgeOf, usedPart, totalsPart, touchedPart, codes, amountIn, withFacet, withoutFacet, withPlace, withFrame, framesPart, listTo, placeAt, kindAt, takenAt, frameAt, markAfter, Stands, Emitted, listsPart, path, pushedAll, limitOf, limitsOf, outcome, counted};
+ghost use Rattle.search.specs.Emission.{Started};
+ghost use Rattle.search.specs.Turns.{Judged, Followed};
+ghost use Rattle.search.specs.declared.Outcome.the-variants.{Found};
+ghost use Rattle.pool.specs.Pool.{count, ended};
+ghost use Rattle.definitions.specs.Search.{limitReached};
+ghost use Rattle.definitions.specs.Search.{search as searchOf};
 ghost use Rattle.search.specs.Steps.{Next, Visited, Entered, Withdrawn, Ready, Light};
 ghost use Rattle.search.specs.Frames.{candidates as candidatesOf, lowOf};
 ghost use Rattle.search.specs.Latest.{Latest};
@@ -36,6 +42,13 @@ pub struct State {
     pub verdict: Verdict,
     pub depth: usize,
     pub left: u32,
+}
+
+// What follows an examined list: the search goes on with so many frames, the limit is reached, or an entry is past the bound.
+pub enum Step {
+    On(usize),
+    Stopped,
+    Full,
 }
 
 // How many facets, ridge orbits and orbits there are, how many lists may be emitted, and where in the workspace each area begins.
@@ -286,4 +299,172 @@ fn enter(ws: &mut [u8], a: Areas, depth: usize, kind: usize)
     let frames = a.frames;
     let totals = a.totals;
     put_frame(&mut ws[frames..totals], depth, place as u32, low as u32, mark as u16, kind as u16);
+}
+
+// The list joins the emitted ones.
+fn emit(ws: &mut [u8], a: Areas, depth: usize)
+    requires { ⌜ ((t : Table) × Stands t a (now ws) depth depth × Emitted a (listsPart a (now ws)) × (count (listsPart a (now ws)) < a .bound)) ⌝ }
+    ensures { λ _. ⌜ now (ws .exit) ≡ placed (a .lists) (a .end - a .lists) (now (ws .entry)) (ended (pushedAll (a .bound) (listsPart a (now (ws .entry))) (path (framesPart a (now (ws .entry))) depth))) ⌝ }
+{
+    let frames = a.frames;
+    let totals = a.totals;
+    let bound = a.bound;
+    let lists = a.lists;
+    let end = a.end;
+    let mut k = 0;
+    while k < depth {
+        let x = words::get_u16(&ws[frames..totals], 16 * k + 12);
+        pool::push_u16(&mut ws[lists..end], bound, x);
+        k += 1;
+    }
+    let first = a.lists;
+    pool::end_list(&mut ws[first..end]);
+}
+
+// Nothing is counted, nothing is emitted, and every facet alone is due.
+fn start(ws: &mut [u8], a: Areas)
+    requires { ⌜ ((t : Table) × Inputs t a (now ws)) ⌝ }
+    ensures { λ _. ⌜ ((t : Table) → Inputs t a (now (ws .entry)) → Started t a (now (ws .entry)) (now (ws .exit))) ⌝ }
+{
+    let facets = a.facets;
+    let frames = a.frames;
+    let totals = a.totals;
+    let used = a.used;
+    let lists = a.lists;
+    let end = a.end;
+    words::clear(&mut ws[totals..used]);
+    words::clear(&mut ws[used..lists]);
+    pool::clear(&mut ws[lists..end]);
+    put_frame(&mut ws[frames..totals], 0, facets as u32, 0, 0, 0);
+}
+
+// "stop if a limit m is given and at least m are emitted"
+fn reached(limit: Limit, emitted: u32) -> bool
+    ensures { λ r. ⌜ r ≡ limitReached (limitOf limit) emitted ⌝ }
+{
+    match limit {
+        Limit::Absent => false,
+        Limit::Entries(m) => m <= emitted,
+    }
+}
+
+// A closed list is emitted, and then extended by every facet above the mark. The limit is tested behind the emission.
+fn close(ws: &mut [u8], a: Areas, limit: Limit, depth: usize) -> Step
+    requires { ⌜ ((t : Table) × Judged t a (now ws) depth closed) ⌝ }
+    ensures { λ r. ⌜ ((t : Table) → Judged t a (now (ws .entry)) depth closed → Followed t a limit (now (ws .entry)) (now (ws .exit)) depth r) ⌝ }
+{
+    let bound = a.bound;
+    let lists = a.lists;
+    let end = a.end;
+    let emitted = pool::lists(&ws[lists..end]);
+    if bound <= emitted as usize {
+        return Step::Full;
+    }
+    emit(ws, a, depth);
+    if reached(limit, emitted + 1) {
+        return Step::Stopped;
+    }
+    enter(ws, a, depth, 0);
+    Step::On(depth + 1)
+}
+
+// What the verdict says is done: a list that is over is dropped, one that is open is extended where it is open, a closed one is emitted.
+fn follow(ws: &mut [u8], a: Areas, limit: Limit, s: State) -> Step
+    requires { ⌜ ((t : Table) × Judged t a (now ws) (s .depth) (verdict (s .verdict))) ⌝ }
+    ensures { λ r. ⌜ ((t : Table) → Judged t a (now (ws .entry)) (s .depth) (verdict (s .verdict)) → Followed t a limit (now (ws .entry)) (now (ws .exit)) (s .depth) r) ⌝ }
+{
+    let depth = s.depth;
+    let v = s.verdict;
+    match v {
+        Verdict::Over => {
+            withdraw(ws, a, depth);
+            Step::On(depth)
+        }
+        Verdict::Open(ridge) => {
+            enter(ws, a, depth, ridge as usize + 1);
+            Step::On(depth + 1)
+        }
+        Verdict::Closed => close(ws, a, limit, depth),
+    }
+}
+
+// The deepest frame has no candidate left and goes; the facet that led to it leaves the list.
+fn back(ws: &mut [u8], a: Areas, s: State) -> State
+    requires { ⌜ ((t : Table) × Stands t a (now ws) (s .depth) (s .depth - 1) × (0 < s .depth)) ⌝ }
+    ensures { λ r. ⌜ (r .depth ≡ s .depth - 1) × (r .left ≡ s .left) × ((t : Table) → Stands t a (now (ws .entry)) (s .depth) (s .depth - 1) → Withdrawn t a (now (ws .entry)) (now (ws .exit)) (s .depth - 1)) ⌝ }
+{
+    let depth = s.depth - 1;
+    let left = s.left;
+    let v = s.verdict;
+    if 0 < depth {
+        withdraw(ws, a, depth);
+    }
+    State {
+        verdict: v,
+        depth: depth,
+        left: left,
+    }
+}
+
+// The state with another number of frames.
+fn at_depth(s: State, depth: usize) -> State
+    ensures { λ r. ⌜ (r .depth ≡ depth) × (r .left ≡ s .left) ⌝ }
+{
+    let v = s.verdict;
+    let left = s.left;
+    State {
+        verdict: v,
+        depth: depth,
+        left: left,
+    }
+}
+
+// The outcome with the lists that were emitted.
+fn found(ws: &[u8], a: Areas, left: u32) -> Outcome
+    requires { ⌜ Fits a (length (now ws)) ⌝ }
+    ensures { λ r. ⌜ r ≡ Found (count (listsPart a (now (ws .entry)))) left ⌝ }
+{
+    let lists = a.lists;
+    let end = a.end;
+    Outcome::Found(pool::lists(&ws[lists..end]), left)
+}
+
+// The search of document 01: the lists emitted, in order, and what is left of the budget.
+pub fn search(ws: &mut [u8], a: Areas, limit: Limit, budget: u32) -> Outcome
+    requires { ⌜ ((t : Table) × Inputs t a (now ws)) ⌝ }
+    ensures found { λ r. ⌜ ((t : Table) → Inputs t a (now (ws .entry)) → outcome t a r (now (ws .exit)) ≡ searchOf t (limitsOf a limit) budget) ⌝ }
+    ensures many { λ r. ⌜ ((t : Table) → counted t a r (now (ws .exit))) ⌝ }
+    ensures kept { λ _. ⌜ take (a .frames) (now (ws .exit)) ≡ take (a .frames) (now (ws .entry)) ⌝ }
+{
+    start(ws, a);
+    let mut s = State {
+        verdict: Verdict::Closed,
+        depth: 1,
+        left: budget,
+    };
+    while 0 < s.depth {
+        let depth = s.depth;
+        let place = next(ws, a, depth);
+        if place == 0 {
+            s = back(ws, a, s);
+        } else {
+            if s.left == 0 {
+                return Outcome::Refused(16);
+            }
+            s = visit(ws, a, s, place);
+            let step = follow(ws, a, limit, s);
+            match step {
+                Step::On(deep) => {
+                    s = at_depth(s, deep);
+                }
+                Step::Stopped => {
+                    return found(ws, a, s.left);
+                }
+                Step::Full => {
+                    return Outcome::Refused(15);
+                }
+            }
+        }
+    }
+    found(ws, a, s.left)
 }
