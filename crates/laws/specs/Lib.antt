@@ -4,6 +4,8 @@ pub mod Lists
 pub mod Pairs
 pub mod Orders
 pub mod Sorting
+pub mod Ascending
 pub mod Segments
+pub mod Places
 pub mod Floats
 pub mod LowerBounds
