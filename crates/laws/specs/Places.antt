@@ -3,7 +3,7 @@
 use mathlib.Core.Path.{_≡_, refl, sym, ap, _∙_, subst}
 use mathlib.Core.Logic.{_⊎_, inl, inr}
 use mathlib.Core.Bool.{Bool, true, false, cond, not, _||_}
-use mathlib.Core.List.{List, [], _∷_, _++_, map, List·Memᴰ}
+use mathlib.Core.List.{List, [], _∷_, _++_, map, flatMap, List·Memᴰ}
 use Prim.Native.Nat.{ℕ, zero, suc, _+_, _≤_, _<_, Ordering, Ordering·lt, Ordering·eq, Ordering·gt}
 use native.Mathlib.Omega.{arith}
 use lib.Dec.{T, isEq}
@@ -82,6 +82,22 @@ module _ {A : Type 0} (c : A → A → Ordering) (order : Linear c) where
       go : (placeIn l y ≤ placeIn l x) ⊎ (placeIn l x < placeIn l y) → placeIn l x < placeIn l y
       go (inl k) = split (le-or-lt (placeIn l x) (placeIn l y)) k
       go (inr k) = k
+
+-- ---- maps alike on a list's items
+
+module _ {A B : Type 0} where
+  pub map-same : (f g : A → B) (l : List A) → ((x : A) → Mem x l → f x ≡ g x) → map f l ≡ map g l
+  map-same f g [] h = refl
+  map-same f g (x ∷ l) h = let head = h x (here refl) in let tail = map-same f g l (λ y i. h y (there i)) in λ t. head t ∷ tail t
+
+pub map-self : {A : Type 0} (f : A → A) (l : List A) → ((x : A) → Mem x l → f x ≡ x) → map f l ≡ l
+map-self f [] h = refl
+map-self f (x ∷ l) h = let head = h x (here refl) in let tail = map-self f l (λ y i. h y (there i)) in λ t. head t ∷ tail t
+
+pub flat-singles : {A : Type 0} (l : List A) → flatMap (λ (x : A). x ∷ []) l ≡ l
+unfolding flatMap
+flat-singles [] = refl
+flat-singles (x ∷ l) = ap (λ (r : List _). x ∷ r) (flat-singles l)
 
 -- ---- maps that keep items apart
 
