@@ -3,3 +3,4 @@ pub mod Answered
 pub mod Emitted
 pub mod Edges
 pub mod LowRanks
+pub mod Shape
