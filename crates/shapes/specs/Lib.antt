@@ -4,3 +4,4 @@ pub mod Emitted
 pub mod Edges
 pub mod LowRanks
 pub mod Shape
+pub mod Move
