@@ -7,5 +7,6 @@ pub mod Sorting
 pub mod Ascending
 pub mod Segments
 pub mod Places
+pub mod Ranges
 pub mod Floats
 pub mod LowerBounds

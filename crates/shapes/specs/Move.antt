@@ -59,16 +59,15 @@ module _ (b d : ℕ) (to : ℕ → ℕ) (m : Into b d to) where
 
 -- ---- sorting gives a stack its shape
 
--- the numbers that a rank's elements get when it is sorted
-pub numbers-into : (es : Elements) → Distinct es → Into (length es) (length (sortBy compareNats es)) (λ (i : ℕ). numberIn (sortBy compareNats es) (getD es i []))
+-- the numbers that a rank's elements have among others, of which they are some
+pub numbers-into : (es all : Elements) → Distinct es → ((e : List ℕ) → Mem e es → Mem e all) → Into (length es) (length all) (λ (i : ℕ). numberIn all (getD es i []))
 unfolding numberIn
-numbers-into es h =
-    let sorted = sortBy compareNats es in
-    let found : (i : ℕ) → i < length es → Mem (getD es i []) sorted = λ i k. in-sorted compareNats (getD es i []) es (member-at es i [] k) in
+numbers-into es all h within =
+    let found : (i : ℕ) → i < length es → Mem (getD es i []) all = λ i k. within (getD es i []) (member-at es i [] k) in
     record {
-      below = λ i k. place-below compareNats nat-lists (getD es i []) sorted (found i k);
+      below = λ i k. place-below compareNats nat-lists (getD es i []) all (found i k);
       apart = λ i j k l e.
-          let same = place-apart compareNats nat-lists [] (getD es i []) (getD es j []) sorted (found i k) (found j l) e in
+          let same = place-apart compareNats nat-lists [] (getD es i []) (getD es j []) all (found i k) (found j l) e in
           sym (place-at compareNats nat-lists [] es h i k) ∙ ap (placeIn compareNats nat-lists es) same ∙ place-at compareNats nat-lists [] es h j l;
     }
 
@@ -99,7 +98,7 @@ sort-ranks-tower b es [] s k = record { stack = (s .0, tt); sorted = (one-ascend
 sort-ranks-tower b es (next ∷ more) s k =
     let sorted = sortBy compareNats es in
     let number : ℕ → ℕ = λ i. numberIn sorted (getD es i []) in
-    let upper = stack-sent (length es) (length sorted) number (numbers-into es (s .0 .distinct)) next more (s .1) in
+    let upper = stack-sent (length es) (length sorted) number (numbers-into es sorted (s .0 .distinct) (λ e i. in-sorted compareNats e es i)) next more (s .1) in
     let rest = sort-ranks-tower (length sorted) (renumber number next) more upper (crowned-renumbered number next more k) in
     record {
       stack = (rank-sorted b es (s .0), rest .stack);
