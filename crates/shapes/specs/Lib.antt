@@ -5,3 +5,4 @@ pub mod Edges
 pub mod LowRanks
 pub mod Shape
 pub mod Move
+pub mod Assemble

@@ -77,7 +77,7 @@ element-at b (e ∷ es) h (suc i) = element-at b es (λ d m. h d (there m)) i
 
 -- ---- sorting changes nothing
 
-element-sorted : (b : ℕ) (e : List ℕ) → Element b e → sortNats e ≡ e
+pub element-sorted : (b : ℕ) (e : List ℕ) → Element b e → sortNats e ≡ e
 unfolding sortNats
 element-sorted b e h = sort-ascending compare nats e (h .ascends)
 
