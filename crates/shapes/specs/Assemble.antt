@@ -30,25 +30,25 @@ abbrev pub lowestAll : List (List Elements) → Elements
 lowestAll facets = flatMap lowestOf facets
 
 -- a facet without its lowest rank is unchanged, that rank renumbered
-lowestBy : (ℕ → ℕ) → List Elements → List Elements
+unfoldable pub lowestBy : (ℕ → ℕ) → List Elements → List Elements
 lowestBy number [] = []
 lowestBy number (x ∷ more) = renumber number x ∷ more
 
-lowest-element : (b : ℕ) (r : List Elements) → Stack b r → (e : List ℕ) → Mem e (lowestOf r) → Element b e
+pub lowest-element : (b : ℕ) (r : List Elements) → Stack b r → (e : List ℕ) → Mem e (lowestOf r) → Element b e
 lowest-element b [] s e m = elim m [ ]
 lowest-element b (x ∷ more) s e m = s .0 .elements e m
 
-all-elements : (b : ℕ) (facets : List (List Elements)) → Facets b facets → (e : List ℕ) → Mem e (lowestAll facets) → Element b e
+pub all-elements : (b : ℕ) (facets : List (List Elements)) → Facets b facets → (e : List ℕ) → Mem e (lowestAll facets) → Element b e
 all-elements b facets h e m = let r = of-flatMap lowestOf e facets m in lowest-element b (r .0) (h (r .0) (r .1)) e (r .2)
 
-lowest-rank : (b : ℕ) (facets : List (List Elements)) → Facets b facets → Rank b (lowestRanks facets)
+pub lowest-rank : (b : ℕ) (facets : List (List Elements)) → Facets b facets → Rank b (lowestRanks facets)
 unfolding lowestRanks
 lowest-rank b facets h = record {
   elements = λ e m. all-elements b facets h e (of-fresh compareNats nat-lists [] (lowestAll facets) e m .0);
   distinct = fresh-distinct compareNats nat-lists [] (lowestAll facets);
 }
 
-in-lowest : (facets : List (List Elements)) (r : List Elements) → Mem r facets → (e : List ℕ) → Mem e (lowestOf r) → Mem e (lowestRanks facets)
+pub in-lowest : (facets : List (List Elements)) (r : List Elements) → Mem r facets → (e : List ℕ) → Mem e (lowestOf r) → Mem e (lowestRanks facets)
 unfolding lowestRanks
 in-lowest facets r m e i = in-fresh compareNats nat-lists [] (lowestAll facets) e (in-flatMap lowestOf e r facets m i) (λ k. elim k [ ])
 
@@ -101,7 +101,7 @@ module _ (b d : ℕ) (number : ℕ → ℕ) (into : Into b d number) where
       ap (λ (f : ℕ → ℕ). renumber f next ∷ more) (λ t i. same i t)
 
   -- the ranks of renumbered facets are the facets' ranks, the lowest renumbered
-  assemble-sent : (more : ℕ) (facets : List (List Elements)) → Facets b facets → assemble more (map (lowestBy number) facets) ≡ lowestBy number (assemble more facets)
+  pub assemble-sent : (more : ℕ) (facets : List (List Elements)) → Facets b facets → assemble more (map (lowestBy number) facets) ≡ lowestBy number (assemble more facets)
   unfolding assemble lowestBy renumber
   assemble-sent zero facets h =
       let e = lowest-ranks-sent facets h in

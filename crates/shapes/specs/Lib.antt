@@ -6,3 +6,4 @@ pub mod LowRanks
 pub mod Shape
 pub mod Move
 pub mod Assemble
+pub mod Gathered
