@@ -94,7 +94,7 @@ module _ (all : Elements) where
 
 -- ---- assembled and then sorted is gathered
 
-sortAll : List Elements → List Elements
+unfoldable pub sortAll : List Elements → List Elements
 sortAll [] = []
 sortAll (x ∷ more) = sortRanks x more
 
@@ -104,7 +104,7 @@ unfolding assemble sortRanks sortAll lowestBy
 sort-assembled all zero facets = refl
 sort-assembled all (suc more) facets = refl
 
-gather : (b more : ℕ) (facets : List (List Elements)) → Facets b facets → sortAll (assemble more facets) ≡ gathered more facets
+pub gather : (b more : ℕ) (facets : List (List Elements)) → Facets b facets → sortAll (assemble more facets) ≡ gathered more facets
 unfolding assemble sortAll sortRanks gathered elementsOf renumber
 gather b zero facets h =
     let all = lowestRanks facets in

@@ -7,3 +7,4 @@ pub mod Shape
 pub mod Move
 pub mod Assemble
 pub mod Gathered
+pub mod FigureOf

@@ -14,7 +14,7 @@ use Rattle.laws.specs.Orders.{nats, nat-lists, compare-lt, lt-compare}
 use Rattle.laws.specs.Sorting.{in-sorted, of-sorted}
 use Rattle.laws.specs.Ascending.{Differ, Distinct, Ascends, ascends-distinct, sort-ascending, sorted-ascends, below-or}
 use Rattle.laws.specs.Places.{placeIn, place-below, place-at, place-apart, distinct-map, sorted-image-apart, keeps-compare, compare-map, ascends-map, map-same}
-use Rattle.shapes.specs.Shape.{Element, Rank, Stack, Sorted, Crowned, Tower, Shaped, sort-same}
+use Rattle.shapes.specs.Shape.{Element, Rank, Stack, Sorted, Crowned, Tower, Shaped, crowned-above, sort-same}
 
 -- ---- maps that send no two numbers to one
 
@@ -103,12 +103,8 @@ sort-ranks-tower b es (next ∷ more) s k =
     record {
       stack = (rank-sorted b es (s .0), rest .stack);
       sorted = (sorted-ascends compareNats nat-lists es (s .0 .distinct), rest .sorted);
-      crowned = onto sorted (sortRanks (renumber number next) more) (rest .crowned);
+      crowned = crowned-above sorted (sortRanks (renumber number next) more) (rest .crowned);
     }
-  where
-    onto : (x : Elements) (ranks : List Elements) → Crowned ranks → Crowned (x ∷ ranks)
-    onto x [] h = absurd h
-    onto x (y ∷ ranks) h = h
 
 -- ---- moved by a map that sends no two points to one
 

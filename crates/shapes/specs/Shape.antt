@@ -40,6 +40,10 @@ Crowned [] = ⊥
 Crowned (es ∷ []) = length es ≡ 1
 Crowned (es ∷ next ∷ more) = Crowned (next ∷ more)
 
+pub crowned-above : (es : Elements) (ranks : List Elements) → Crowned ranks → Crowned (es ∷ ranks)
+crowned-above es [] h = absurd h
+crowned-above es (next ∷ ranks) h = h
+
 pub record Tower (bound : ℕ) (ranks : List Elements) : Type 0 where
   pub stack : Stack bound ranks
   pub sorted : Sorted ranks
