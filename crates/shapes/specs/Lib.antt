@@ -8,3 +8,4 @@ pub mod Move
 pub mod Assemble
 pub mod Gathered
 pub mod FigureOf
+pub mod Sets
