@@ -9,3 +9,4 @@ pub mod Assemble
 pub mod Gathered
 pub mod FigureOf
 pub mod Sets
+pub mod Calls
