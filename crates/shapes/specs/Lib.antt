@@ -10,3 +10,4 @@ pub mod Gathered
 pub mod FigureOf
 pub mod Sets
 pub mod Calls
+pub mod Jobs
