@@ -15,7 +15,7 @@ use Rattle.laws.specs.Pairs.{Pairs, pairs-map}
 use Rattle.laws.specs.Orders.{Linear, turned}
 use Rattle.laws.specs.Sorting.{sort-perm, in-sorted, of-sorted}
 use Rattle.laws.specs.Segments.{le-or-lt}
-use Rattle.laws.specs.Ascending.{Differ, Distinct, Ascends, SameItems, equal-tested, tested-equal, below-differ, not-both, below-or, same-ascending, sorted-ascends, ascends-distinct}
+use Rattle.laws.specs.Ascending.{Differ, Distinct, Ascends, SameItems, equal-tested, tested-equal, below-differ, not-both, below-or, same-ascending, sorted-ascends, inOrder, in-order-ascends, in-in-order, of-in-order}
 
 module _ {A : Type 0} (c : A → A → Ordering) (order : Linear c) where
   -- the place of the first item that compares equal
@@ -178,3 +178,24 @@ module _ {A B : Type 0} (c : A → A → Ordering) (order : Linear c) (c′ : B 
 
   pub ascends-map : (P : A → Type 0) → ((x y : A) → P x → P y → c x y ≡ Ordering·lt → c′ (f x) (f y) ≡ Ordering·lt) → (l : List A) → ((x : A) → Mem x l → P x) → Ascends c l → Ascends c′ (map f l)
   ascends-map P mono l h = pairs-map (λ x y. c x y ≡ Ordering·lt) (λ x y. c′ x y ≡ Ordering·lt) f l (λ x i y j e. mono x y (h x i) (h y j) e)
+
+  -- a list put in order and then mapped, or mapped and then put in order
+  pub in-order-map : (P : A → Type 0) → ((x y : A) → P x → P y → c x y ≡ Ordering·lt → c′ (f x) (f y) ≡ Ordering·lt) → (l : List A) → ((x : A) → Mem x l → P x)
+      → inOrder c′ order′ (map f l) ≡ map f (inOrder c order l)
+  in-order-map P mono l h =
+      same-ascending c′ order′ (inOrder c′ order′ (map f l)) (map f (inOrder c order l)) (in-order-ascends c′ order′ (map f l))
+      (ascends-map P mono (inOrder c order l) (λ x i. h x (of-in-order c order x l i)) (in-order-ascends c order l))
+      (record {
+        into = λ y i.
+            let r = of-map f y l (of-in-order c′ order′ y (map f l) i) in
+            subst (λ (z : B). Mem z (map f (inOrder c order l))) (sym (r .2)) (in-map f (r .0) (inOrder c order l) (in-in-order c order (r .0) l (r .1)));
+        back = λ y i.
+            let r = of-map f y (inOrder c order l) i in
+            in-in-order c′ order′ y (map f l) (subst (λ (z : B). Mem z (map f l)) (sym (r .2)) (in-map f (r .0) l (of-in-order c order (r .0) l (r .1))));
+      })
+
+-- a list without repeats, sorted, is the list in order
+pub sort-distinct : {A : Type 0} (c : A → A → Ordering) (order : Linear c) (l : List A) → Distinct l → sortBy c l ≡ inOrder c order l
+sort-distinct c order l d =
+    same-ascending c order (sortBy c l) (inOrder c order l) (sorted-ascends c order l d) (in-order-ascends c order l)
+    (record { into = λ x i. in-in-order c order x l (of-sorted c x l i); back = λ x i. in-sorted c x l (of-in-order c order x l i) })

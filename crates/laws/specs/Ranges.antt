@@ -69,6 +69,19 @@ ascending-full a (suc n) (x ∷ l) h r e =
     let rest = ascending-full (suc a) n l (h .1) (λ y i. let s = above y i .0 in let t = above y i .1 in (omega arith, omega arith)) (omega arith) in
     λ t. first t ∷ rest t
 
+-- what is said of the items at all places, in turn, is said of the items
+module _ {B : Type 0} where
+  shifted : (f : ℕ → B) (a n : ℕ) → map f (countFrom (suc a) n) ≡ map (λ (i : ℕ). f (suc i)) (countFrom a n)
+  unfolding countFrom
+  shifted f a zero = refl
+  shifted f a (suc n) = ap (λ (r : List B). f (suc a) ∷ r) (shifted f (suc a) n)
+
+module _ {A B : Type 0} where
+  pub map-places : (g : A → B) (d : A) (l : List A) → map (λ (i : ℕ). g (getD l i d)) (countFrom 0 (length l)) ≡ map g l
+  unfolding countFrom
+  map-places g d [] = refl
+  map-places g d (x ∷ l) = ap (λ (r : List B). g x ∷ r) (shifted (λ (i : ℕ). g (getD (x ∷ l) i d)) 0 (length l) ∙ map-places g d l)
+
 -- ---- permutations
 
 -- two places of a list without repeats

@@ -46,7 +46,7 @@ figure-of n more facets h =
 
 -- ---- its shape
 
-body-element : (n : ℕ) → Rank n (countFrom 0 n ∷ [])
+pub body-element : (n : ℕ) → Rank n (countFrom 0 n ∷ [])
 body-element n = record {
   elements = only;
   distinct = ((λ y i. elim i [ ]), tt);

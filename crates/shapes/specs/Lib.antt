@@ -11,3 +11,4 @@ pub mod FigureOf
 pub mod Sets
 pub mod Calls
 pub mod Jobs
+pub mod EdgeSets
