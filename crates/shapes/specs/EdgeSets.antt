@@ -60,7 +60,7 @@ ends-element n e h = record { ascends = (second, ((λ y i. elim i [ ]), tt)); be
 abbrev pub edgesInOrder : List Pair → List Pair
 edgesInOrder = inOrder comparePair pairs
 
-ends-in-order : (l : List Pair) → inOrder compareNats nat-lists (map ends l) ≡ map ends (edgesInOrder l)
+pub ends-in-order : (l : List Pair) → inOrder compareNats nat-lists (map ends l) ≡ map ends (edgesInOrder l)
 ends-in-order l = in-order-map comparePair pairs compareNats nat-lists ends (λ e. Unit {0}) (λ d e u v q. compare-ends d e ∙ q) l (λ e m. tt)
 
 -- ---- rank 3

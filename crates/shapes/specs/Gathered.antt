@@ -82,7 +82,7 @@ module _ (all : Elements) where
       ap (λ (y : Elements). y ∷ more) each
 
   -- a body names all elements, however they are numbered
-  body-in-order : (b : ℕ) → Rank b all → sortNats (map newNumber (countFrom 0 (length all))) ≡ countFrom 0 (length inPlace)
+  pub body-in-order : (b : ℕ) → Rank b all → sortNats (map newNumber (countFrom 0 (length all))) ≡ countFrom 0 (length inPlace)
   unfolding sortNats
   body-in-order b k =
       let n = length all in

@@ -12,3 +12,4 @@ pub mod Sets
 pub mod Calls
 pub mod Jobs
 pub mod EdgeSets
+pub mod Polygons
