@@ -13,3 +13,4 @@ pub mod Calls
 pub mod Jobs
 pub mod EdgeSets
 pub mod Polygons
+pub mod Compounds
