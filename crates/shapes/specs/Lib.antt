@@ -14,3 +14,4 @@ pub mod Jobs
 pub mod EdgeSets
 pub mod Polygons
 pub mod Compounds
+pub mod Splitting
