@@ -15,3 +15,4 @@ pub mod EdgeSets
 pub mod Polygons
 pub mod Compounds
 pub mod Splitting
+pub mod SplitCalls
