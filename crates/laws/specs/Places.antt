@@ -3,7 +3,7 @@
 use mathlib.Core.Path.{_≡_, refl, sym, ap, _∙_, subst}
 use mathlib.Core.Logic.{_⊎_, inl, inr}
 use mathlib.Core.Bool.{Bool, true, false, cond, not, _||_}
-use mathlib.Core.List.{List, [], _∷_, _++_, map, flatMap, List·Memᴰ}
+use mathlib.Core.List.{List, [], _∷_, _++_, map, flatMap, map-append, List·Memᴰ}
 use Prim.Native.Nat.{ℕ, zero, suc, _+_, _≤_, _<_, Ordering, Ordering·lt, Ordering·eq, Ordering·gt}
 use native.Mathlib.Omega.{arith}
 use lib.Dec.{T, isEq}
@@ -98,6 +98,17 @@ pub flat-singles : {A : Type 0} (l : List A) → flatMap (λ (x : A). x ∷ []) 
 unfolding flatMap
 flat-singles [] = refl
 flat-singles (x ∷ l) = ap (λ (r : List _). x ∷ r) (flat-singles l)
+
+module _ {A B C : Type 0} where
+  pub map-flatMap : (g : B → C) (f : A → List B) (l : List A) → map g (flatMap f l) ≡ flatMap (λ (x : A). map g (f x)) l
+  unfolding flatMap
+  map-flatMap g f [] = refl
+  map-flatMap g f (x ∷ l) = map-append g (f x) (flatMap f l) ∙ ap (λ (r : List C). map g (f x) ++ r) (map-flatMap g f l)
+
+  pub flatMap-map : (g : B → List C) (f : A → B) (l : List A) → flatMap g (map f l) ≡ flatMap (λ (x : A). g (f x)) l
+  unfolding flatMap
+  flatMap-map g f [] = refl
+  flatMap-map g f (x ∷ l) = ap (λ (r : List C). g (f x) ++ r) (flatMap-map g f l)
 
 -- ---- maps that keep items apart
 

@@ -16,3 +16,4 @@ pub mod Polygons
 pub mod Compounds
 pub mod Splitting
 pub mod SplitCalls
+pub mod EntryFigures
