@@ -5,7 +5,7 @@ use mathlib.Core.Logic.{_⊎_, inl, inr}
 use mathlib.Core.List.{List, [], _∷_, map, List·Memᴰ, map-map}
 use Prim.Native.Nat.{ℕ, zero, suc, _≤_, _<_, min, max, compare, Ordering, Ordering·lt, Ordering·eq, Ordering·gt}
 use native.Mathlib.Omega.{arith}
-use lib.ListN.{length, getD, replicate, length-map}
+use lib.ListN.{length, getD, replicate, length-map, length-replicate}
 use Rattle.definitions.specs.Lists.{Pair, thenBy, comparePair, compareNats, sortBy, sortNats, countFrom}
 use Rattle.definitions.specs.Orbits.{Row, image, pairImage}
 use Rattle.definitions.specs.Figures.{Elements, Figure, rankOf, numberIn, renumber, sortRanks, sortStrong, moveEnds}
@@ -132,3 +132,7 @@ edgePairs f = map (λ (e : List ℕ). (getD e 0 0, getD e 1 0)) (rankOf 2 f)
 pub polygon-edges : (k : ℕ) (l : List Pair) → edgePairs (polygon k l) ≡ l
 unfolding edgePairs rankOf polygon ends
 polygon-edges k l = map-map (λ (e : List ℕ). (getD e 0 0, getD e 1 0)) ends l ∙ map-self (λ (e : Pair). (e .0, e .1)) l (λ e i. refl)
+
+pub polygon-points : (k : ℕ) (l : List Pair) → length (rankOf 1 (polygon k l)) ≡ k
+unfolding rankOf polygon
+polygon-points k l = length-replicate {A = List ℕ} k (0 ∷ [])
