@@ -96,8 +96,8 @@ module _ (b d : ℕ) (number : ℕ → ℕ) (into : Into b d number) where
   without-sent all h (x ∷ []) s = refl
   without-sent all h (x ∷ next ∷ more) s =
       let same : (i : ℕ) → numberIn (map sent all) (getD (map sent x) i []) ≡ numberIn all (getD x i []) = λ i.
-          ap (numberIn (map sent all)) (List·getD-map sent x i [])
-          ∙ place-map compareNats nat-lists compareNats nat-lists sent (getD x i []) all (λ e m. sent-apart b d number into (getD x i []) e (element-at b x (s .0 .elements) i) (h e m)) in
+      ap (numberIn (map sent all)) (List·getD-map sent x i [])
+      ∙ place-map compareNats nat-lists compareNats nat-lists sent (getD x i []) all (λ e m. sent-apart b d number into (getD x i []) e (element-at b x (s .0 .elements) i) (h e m)) in
       ap (λ (f : ℕ → ℕ). renumber f next ∷ more) (λ t i. same i t)
 
   -- the ranks of renumbered facets are the facets' ranks, the lowest renumbered
@@ -111,7 +111,7 @@ module _ (b d : ℕ) (number : ℕ → ℕ) (into : Into b d number) where
       let all = lowestRanks facets in
       let e = lowest-ranks-sent facets h in
       let each : map (withoutLowest (map sent all)) (map (lowestBy number) facets) ≡ map (withoutLowest all) facets =
-          map-map (withoutLowest (map sent all)) (lowestBy number) facets
-          ∙ map-same (λ (r : List Elements). withoutLowest (map sent all) (lowestBy number r)) (withoutLowest all) facets (λ r m. without-sent all (lowest-rank b facets h .elements) r (h r m)) in
+      map-map (withoutLowest (map sent all)) (lowestBy number) facets
+      ∙ map-same (λ (r : List Elements). withoutLowest (map sent all) (lowestBy number r)) (withoutLowest all) facets (λ r m. without-sent all (lowest-rank b facets h .elements) r (h r m)) in
       ap (λ (x : Elements). x ∷ assemble more (map (withoutLowest x) (map (lowestBy number) facets))) e
       ∙ ap (λ (fs : List (List Elements)). map sent all ∷ assemble more fs) each

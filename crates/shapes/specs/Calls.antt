@@ -151,7 +151,7 @@ at-or P (x ∷ l) zero d none-so h = h x (here refl)
 at-or P (x ∷ l) (suc i) d none-so h = at-or P l i d none-so (λ y m. h y (there m))
 
 module _ (n more : ℕ) (inner : List Inner) (sets : (i : Inner) → Mem i inner → VertexSet n (i .orbit .vertices))
-  (shaped : (i : Inner) → Mem i inner → ShapedAnswer (length (i .orbit .vertices)) more (i .answer)) where
+    (shaped : (i : Inner) → Mem i inner → ShapedAnswer (length (i .orbit .vertices)) more (i .answer)) where
   -- possible facets: the inner entries, their ends at this call's vertices
   pub possible-shaped : (i : Inner) → Mem i inner → (f : Figure) → Mem f (possibleFacets i) → Shaped n (2 + more) f
   unfolding possibleFacets
@@ -171,8 +171,8 @@ module _ (n more : ℕ) (inner : List Inner) (sets : (i : Inner) → Mem i inner
       at-or ShapedOrNone (getD (map possibleFacets inner) (f .0) []) (f .1) [] (inl refl)
       (at-or (λ (fs : List Figure). (g : Figure) → Mem g fs → ShapedOrNone g) (map possibleFacets inner) (f .0) [] (λ g m. elim m [ ])
       (λ fs m g k.
-        let r = of-map possibleFacets fs inner m in
-        inr (possible-shaped (r .0) (r .1) g (subst (λ (l : List Figure). Mem g l) (r .2) k))))
+      let r = of-map possibleFacets fs inner m in
+      inr (possible-shaped (r .0) (r .1) g (subst (λ (l : List Figure). Mem g l) (r .2) k))))
 
   moved-stack : (row : Row) → Permutes n row → (f : Figure) → ShapedOrNone f → Stack n (drop 2 (moveSorted (image row) f))
   unfolding moveSorted moveEnds sortStrong
@@ -182,7 +182,7 @@ module _ (n more : ℕ) (inner : List Inner) (sets : (i : Inner) → Mem i inner
       subst (Stack n) (sym (shaped-drop n (2 + more) (moveSorted (image row) f) r)) (r .tower .stack)
 
 module _ (p : Prepared) (sets : (i : Inner) → Mem i (p .inner) → VertexSet (p .points) (i .orbit .vertices))
-  (shaped : (i : Inner) → Mem i (p .inner) → ShapedAnswer (length (i .orbit .vertices)) (p .more) (i .answer)) (rows-good : (row : Row) → Mem row (p .rows) → Permutes (p .points) row) where
+    (shaped : (i : Inner) → Mem i (p .inner) → ShapedAnswer (length (i .orbit .vertices)) (p .more) (i .answer)) (rows-good : (row : Row) → Mem row (p .rows) → Permutes (p .points) row) where
   -- all row images of a list's facets stand over the call's points
   pub images-stacked : (list : List Facet) → Stacked (p .points) (flatMap (facetImages p) list)
   unfolding facetImages
@@ -221,15 +221,15 @@ step more rules plane points rows a given c ih =
     let made = c .prepared in
     let call = faceting more rules in
     let sets : (i : Inner) → Mem i (p .inner) → VertexSet (p .points) (i .orbit .vertices) = λ i m.
-        subst (λ (n : ℕ). VertexSet n (i .orbit .vertices)) (sym (made .points-are)) (inner-set more rules call plane points rows p made i m) in
+    subst (λ (n : ℕ). VertexSet n (i .orbit .vertices)) (sym (made .points-are)) (inner-set more rules call plane points rows p made i m) in
     let shaped : (i : Inner) → Mem i (p .inner) → ShapedAnswer (length (i .orbit .vertices)) (p .more) (i .answer) = λ i m.
-        let inner = made .inner .each i m in
-        let here-given = inner-given more rules call plane points rows p made (given .rows-good) i m in
-        let r = ih _ (innerPoints plane points i) (rowsWithin (i .orbit .vertices) rows) (inner .budget) (i .answer) here-given (inner .is) in
-        subst (λ (n : ℕ). ShapedAnswer n (p .more) (i .answer)) (inner-size more rules call plane points rows p made i)
-        (subst (λ (k : ℕ). ShapedAnswer (length (innerPoints plane points i)) k (i .answer)) (sym (made .more-is)) r) in
+    let inner = made .inner .each i m in
+    let here-given = inner-given more rules call plane points rows p made (given .rows-good) i m in
+    let r = ih _ (innerPoints plane points i) (rowsWithin (i .orbit .vertices) rows) (inner .budget) (i .answer) here-given (inner .is) in
+    subst (λ (n : ℕ). ShapedAnswer n (p .more) (i .answer)) (inner-size more rules call plane points rows p made i)
+    (subst (λ (k : ℕ). ShapedAnswer (length (innerPoints plane points i)) k (i .answer)) (sym (made .more-is)) r) in
     let rows-good : (row : Row) → Mem row (p .rows) → Permutes (p .points) row = λ row m.
-        subst (λ (n : ℕ). Permutes n row) (sym (made .points-are)) (given .rows-good .permute row (subst (λ (l : List Row). Mem row l) (made .rows-are) m)) in
+    subst (λ (n : ℕ). Permutes n row) (sym (made .points-are)) (given .rows-good .permute row (subst (λ (l : List Row). Mem row l) (made .rows-are) m)) in
     let whole : ShapedAnswer (p .points) (suc (p .more)) (finish p (c .found)) = finish-shaped p (c .found) sets shaped rows-good in
     let at-points = subst (λ (n : ℕ). ShapedAnswer n (suc (p .more)) (finish p (c .found))) (made .points-are) whole in
     let at-rank = subst (λ (k : ℕ). ShapedAnswer (length points) (suc k) (finish p (c .found))) (made .more-is) at-points in

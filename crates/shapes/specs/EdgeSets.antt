@@ -142,12 +142,12 @@ module _ (all : List Pair) (in-order : Ascends comparePair all) where
   polygon-numbers k l a h =
       let number : List ℕ → ℕ = numberIn (map ends all) in
       let places : map (λ (i : ℕ). number (getD (map ends l) i [])) (countFrom 0 (length l)) ≡ map number (map ends l) =
-          ap (λ (n : ℕ). map (λ (i : ℕ). number (getD (map ends l) i [])) (countFrom 0 n)) (sym (length-map l ends)) ∙ map-places number [] (map ends l) in
+      ap (λ (n : ℕ). map (λ (i : ℕ). number (getD (map ends l) i [])) (countFrom 0 n)) (sym (length-map l ends)) ∙ map-places number [] (map ends l) in
       let each : map number (map ends l) ≡ map (edgeNumber all) l =
-          map-map number ends l
-          ∙ map-same (λ (e : Pair). number (ends e)) (edgeNumber all) l (λ e m. place-map comparePair pairs compareNats nat-lists ends e all (λ d i. ends-equal e d)) in
+      map-map number ends l
+      ∙ map-same (λ (e : Pair). number (ends e)) (edgeNumber all) l (λ e m. place-map comparePair pairs compareNats nat-lists ends e all (λ d i. ends-equal e d)) in
       let sorted : sortNats (map (edgeNumber all) l) ≡ map (edgeNumber all) l =
-          sort-ascending compare nats (map (edgeNumber all) l) (ascends-map comparePair pairs compare nats (edgeNumber all) (λ e. Mem e all) number-rises l h a) in
+      sort-ascending compare nats (map (edgeNumber all) l) (ascends-map comparePair pairs compare nats (edgeNumber all) (λ e. Mem e all) number-rises l h a) in
       ap (λ (x : List ℕ). (x ∷ []) ∷ []) (ap sortNats (places ∙ each) ∙ sorted)
 
   numbers-in-order : (ls : List (List Pair)) → ((l : List Pair) → Mem l ls → Within l) → inOrder compareNats nat-lists (map (map (edgeNumber all)) ls) ≡ map (map (edgeNumber all)) (polygonsInOrder ls)
@@ -189,12 +189,12 @@ figure-of-polygons n xs h =
     let stacked : Stacked n (map polygonOf xs) = λ f m. let r = of-map polygonOf f xs m in subst (λ (g : Figure). Stack n (drop 2 g)) (sym (r .2)) (polygon-stack n (r .0 .0) (r .0 .1) (h (r .0) (r .1))) in
     let edges : inOrder compareNats nat-lists (lowestAll ranks) ≡ map ends all = ap (inOrder compareNats nat-lists) (edges-of-all xs) ∙ ends-in-order (flatMap (λ (x : Sized). x .1) xs) in
     let upper : map (withoutLowest (map ends all)) ranks ≡ map (λ (x : Sized). (number (x .1) ∷ []) ∷ []) xs =
-        map-map (withoutLowest (map ends all)) (drop 2) (map polygonOf xs)
-        ∙ map-map (λ (f : Figure). withoutLowest (map ends all) (drop 2 f)) polygonOf xs
-        ∙ map-same (λ (x : Sized). withoutLowest (map ends all) (drop 2 (polygonOf x))) (λ (x : Sized). (number (x .1) ∷ []) ∷ []) xs (λ x m. polygon-numbers all up (x .0) (x .1) (h x m .ascends) (within x m)) in
+    map-map (withoutLowest (map ends all)) (drop 2) (map polygonOf xs)
+    ∙ map-map (λ (f : Figure). withoutLowest (map ends all) (drop 2 f)) polygonOf xs
+    ∙ map-same (λ (x : Sized). withoutLowest (map ends all) (drop 2 (polygonOf x))) (λ (x : Sized). (number (x .1) ∷ []) ∷ []) xs (λ x m. polygon-numbers all up (x .0) (x .1) (h x m .ascends) (within x m)) in
     let polygons : inOrder compareNats nat-lists (lowestAll (map (λ (x : Sized). (number (x .1) ∷ []) ∷ []) xs)) ≡ map number (polygonsInOrder sets) =
-        ap (inOrder compareNats nat-lists) (singles number xs)
-        ∙ numbers-in-order all up sets (λ l m. let r = of-map (λ (x : Sized). x .1) l xs m in subst (λ (k : List Pair). (e : Pair) → Mem e k → Mem e all) (sym (r .2)) (within (r .0) (r .1))) in
+    ap (inOrder compareNats nat-lists) (singles number xs)
+    ∙ numbers-in-order all up sets (λ l m. let r = of-map (λ (x : Sized). x .1) l xs m in subst (λ (k : List Pair). (e : Pair) → Mem e k → Mem e all) (sym (r .2)) (within (r .0) (r .1))) in
     let top : Elements → List Elements = λ es. es ∷ (countFrom 0 (length es) ∷ []) ∷ [] in
     let bottom : Elements → List Elements → Figure = λ es more. ([] ∷ []) ∷ replicate n (0 ∷ []) ∷ es ∷ more in
     figure-of n 1 (map polygonOf xs) stacked

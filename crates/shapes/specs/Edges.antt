@@ -72,9 +72,9 @@ pub edges-equal : (d e : Pair) → T (isEq (compareFigures (edgeFigure d) (edgeF
 unfolding edgeFigure
 edges-equal d e = (
   (λ t.
-    let q = tested-equal compareFigures figures (edgeFigure d) (edgeFigure e) t in
-    let first = ap (λ (f : Figure). getD (getD (getD f 2 []) 0 []) 0 0) q in
-    let second = ap (λ (f : Figure). getD (getD (getD f 2 []) 0 []) 1 0) q in
-    λ i. (first i, second i)),
+      let q = tested-equal compareFigures figures (edgeFigure d) (edgeFigure e) t in
+      let first = ap (λ (f : Figure). getD (getD (getD f 2 []) 0 []) 0 0) q in
+      let second = ap (λ (f : Figure). getD (getD (getD f 2 []) 0 []) 1 0) q in
+      λ i. (first i, second i)),
   (λ q. equal-tested compareFigures figures (edgeFigure d) (edgeFigure e) (ap edgeFigure q)),
 )

@@ -48,7 +48,7 @@ table-facet rows inner f m =
     let k = ltb→lt (f .1) (length (getD (t .shares) (f .0) [])) (second (ltb (f .0) (length (t .shares))) (ltb (f .1) (length (getD (t .shares) (f .0) []))) possible) in
     let numbered = numberRidges rows noRidges inner in
     let e = zip-lengths (facetShares (numbered .1 .counts)) facetNumber inner (numbered .0) (λ i numbers. length-map (i .answer .entries) (λ (x : Entry). map (shareOf (numbered .1 .counts) i numbers) (x .list)))
-        (map-with-length (λ known (i : Inner). mapWith (mapWith (numberRidge rows (i .orbit .vertices))) known (i .answer .possible)) noRidges inner) (f .0) in
+    (map-with-length (λ known (i : Inner). mapWith (mapWith (numberRidge rows (i .orbit .vertices))) known (i .answer .possible)) noRidges inner) (f .0) in
     subst (λ (n : ℕ). f .1 < n) e k
 
 -- ---- the lists found

@@ -81,7 +81,7 @@ module _ (rules : Rules) (plane : Subspace) (points : List Vec) (rows : List Row
       let own = innerAt (p .inner) (f .0) in
       let e = edgeOf (own .orbit) in
       let at : atOrbit possibleFacets (p .inner) (f .0) ≡ edgeFigure e ∷ [] =
-          at-orbit possibleFacets (p .inner) (f .0) (r .0) ∙ one-edge rules plane points rows a c own (inner-at-member (p .inner) (f .0) (r .0)) in
+      at-orbit possibleFacets (p .inner) (f .0) (r .0) ∙ one-edge rules plane points rows a c own (inner-at-member (p .inner) (f .0) (r .0)) in
       let figure : getD (atOrbit possibleFacets (p .inner) (f .0)) (f .1) [] ≡ edgeFigure e = ap (λ (fs : List Figure). getD fs (f .1) []) at ∙ ap (λ (n : ℕ). getD (edgeFigure e ∷ []) n []) (r .1) in
       ap (λ (g : Figure). map (λ (row : Row). moveSorted (image row) g) (p .rows)) figure
       ∙ map-same (λ (row : Row). moveSorted (image row) (edgeFigure e)) (λ (row : Row). edgeFigure (pairImage e row)) (p .rows) (λ row k. edge-moved (image row) e)
@@ -103,7 +103,7 @@ module _ (rules : Rules) (plane : Subspace) (points : List Vec) (rows : List Row
   unfolding entryOf edgesOfList
   rank-three-figure l m =
       let images : flatMap (facetImages p) l ≡ map edgeFigure (flatMap (edgeImages p) l) =
-          flatMap-same (facetImages p) (λ (f : Facet). map edgeFigure (edgeImages p f)) l (facet-images l m) ∙ sym (map-flatMap edgeFigure (edgeImages p) l) in
+      flatMap-same (facetImages p) (λ (f : Facet). map edgeFigure (edgeImages p f)) l (facet-images l m) ∙ sym (map-flatMap edgeFigure (edgeImages p) l) in
       ap (λ (parts : List Facet). figureOf (p .more) (p .points) (flatMap (facetImages p) parts)) (found-unsplit rules plane points rows a c l m)
       ∙ ap (λ (fs : List Figure). figureOf (p .more) (p .points) fs) images
       ∙ ap (λ (more : ℕ). figureOf more (p .points) (map edgeFigure (flatMap (edgeImages p) l))) (c .prepared .more-is)
@@ -162,7 +162,7 @@ module _ (rules : Rules) (plane : Subspace) (points : List Vec) (rows : List Row
       let within = rowsWithin (i .orbit .vertices) rows in
       let size = inner-size 1 rules call plane points rows q (c .prepared) i in
       let r = entry-polygon rules _ its within (i .answer) (inner-given 1 rules call plane points rows q (c .prepared) (given .rows-good) i m)
-          (answered-call 0 rules _ its within (inner .budget) (i .answer) (inner .is)) e k in
+      (answered-call 0 rules _ its within (inner .budget) (i .answer) (inner .is)) e k in
       (r .0, r .1 ∙ ap (λ (n : ℕ). polygon n (r .0)) size, subst (λ (n : ℕ). EdgeSet n (r .0)) size (r .2))
 
   -- every possible facet is a polygon in this call's vertices
@@ -205,10 +205,10 @@ module _ (rules : Rules) (plane : Subspace) (points : List Vec) (rows : List Row
       let same : edges ≡ r .1 = ap edgePairs (r .2) ∙ polygon-edges (r .0) (r .1) in
       let size : k ≡ r .0 = ap (λ (g : Figure). length (rankOf 1 g)) (r .2) ∙ polygon-points (r .0) (r .1) in
       let one : (row : Row) → Mem row (q .rows) → moveSorted (image row) figure ≡ polygonOf (k, image-of row) = λ row m.
-          ap (moveSorted (image row)) (r .2)
-          ∙ polygon-moved (q .points) (q .points) (image row) (row-into (q .points) row (call-row 1 rules plane points rows a given c row m)) (r .0) (r .1) (r .3)
-          ∙ ap (λ (n : ℕ). polygon n (edgesInOrder (map (edgeVia (image row)) (r .1)))) (sym size)
-          ∙ ap (λ (l : List Pair). polygon k (edgesInOrder (map (edgeVia (image row)) l))) (sym same) in
+      ap (moveSorted (image row)) (r .2)
+      ∙ polygon-moved (q .points) (q .points) (image row) (row-into (q .points) row (call-row 1 rules plane points rows a given c row m)) (r .0) (r .1) (r .3)
+      ∙ ap (λ (n : ℕ). polygon n (edgesInOrder (map (edgeVia (image row)) (r .1)))) (sym size)
+      ∙ ap (λ (l : List Pair). polygon k (edgesInOrder (map (edgeVia (image row)) l))) (sym same) in
       map-same (λ (row : Row). moveSorted (image row) figure) (λ (row : Row). polygonOf (k, image-of row)) (q .rows) one
       ∙ sym (map-map polygonOf (λ (row : Row). (k, image-of row)) (q .rows))
       ∙ ap (map polygonOf) (sym (map-map (λ (l : List Pair). (k, l)) image-of (q .rows)))
@@ -238,11 +238,11 @@ module _ (rules : Rules) (plane : Subspace) (points : List Vec) (rows : List Row
       let inside = found-split-in-call 1 rules plane points rows a given c l m in
       let xs = flatMap sizedImages parts in
       let images : flatMap (facetImages q) parts ≡ map polygonOf xs =
-          flatMap-same (facetImages q) (λ (f : Facet). map polygonOf (sizedImages f)) parts (λ f i. facet-images-polygons f (inside f i)) ∙ sym (map-flatMap polygonOf sizedImages parts) in
+      flatMap-same (facetImages q) (λ (f : Facet). map polygonOf (sizedImages f)) parts (λ f i. facet-images-polygons f (inside f i)) ∙ sym (map-flatMap polygonOf sizedImages parts) in
       let sets : map (λ (x : Sized). x .1) xs ≡ flatMap (polygonImages q) parts =
-          map-flatMap (λ (x : Sized). x .1) sizedImages parts ∙ flatMap-same (λ (f : Facet). map (λ (x : Sized). x .1) (sizedImages f)) (polygonImages q) parts (λ f i. unsized f) in
+      map-flatMap (λ (x : Sized). x .1) sizedImages parts ∙ flatMap-same (λ (f : Facet). map (λ (x : Sized). x .1) (sizedImages f)) (polygonImages q) parts (λ f i. unsized f) in
       let all : flatMap (λ (x : Sized). x .1) xs ≡ flatMap (λ (s : List Pair). s) (flatMap (polygonImages q) parts) =
-          sym (flatMap-map (λ (s : List Pair). s) (λ (x : Sized). x .1) xs) ∙ ap (flatMap (λ (s : List Pair). s)) sets in
+      sym (flatMap-map (λ (s : List Pair). s) (λ (x : Sized). x .1) xs) ∙ ap (flatMap (λ (s : List Pair). s)) sets in
       ap (λ (fs : List Figure). figureOf (q .more) (q .points) fs) images
       ∙ ap (λ (more : ℕ). figureOf more (q .points) (map polygonOf xs)) (c .prepared .more-is)
       ∙ figure-of-polygons (q .points) xs (λ x i. let r = of-flatMap sizedImages x parts i in sized-edges (r .0) (inside (r .0) (r .1)) x (r .2))

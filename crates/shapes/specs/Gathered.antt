@@ -70,15 +70,15 @@ module _ (all : Elements) where
       let to-all = numbers-into x all (s .0 .distinct) within in
       let to-place = numbers-into all inPlace (k .distinct) (λ e m. in-sorted compareNats e all m) in
       let one : (i : ℕ) → i < length x → newNumber (first i) ≡ numberIn inPlace (getD x i []) = λ i h.
-          ap (numberIn inPlace) (at-place compareNats nat-lists [] (getD x i []) all (within (getD x i []) (member-at x i [] h))) in
+      ap (numberIn inPlace) (at-place compareNats nat-lists [] (getD x i []) all (within (getD x i []) (member-at x i [] h))) in
       let each : map (λ (e : List ℕ). sortNats (map newNumber e)) (map (λ (e : List ℕ). sortNats (map first e)) next)
-          ≡ map (λ (e : List ℕ). sortNats (map (λ (i : ℕ). numberIn inPlace (getD x i [])) e)) next =
-          map-map (λ (e : List ℕ). sortNats (map newNumber e)) (λ (e : List ℕ). sortNats (map first e)) next
-          ∙ map-same (λ (e : List ℕ). sortNats (map newNumber (sortNats (map first e)))) (λ (e : List ℕ). sortNats (map (λ (i : ℕ). numberIn inPlace (getD x i [])) e)) next
-          (λ e m.
-            let h = s .1 .0 .elements e m in
-            renumber-twice (length x) (length all) (length inPlace) first newNumber to-all to-place e h
-            ∙ ap sortNats (map-same (λ (i : ℕ). newNumber (first i)) (λ (i : ℕ). numberIn inPlace (getD x i [])) e (λ i j. one i (h .below i j)))) in
+      ≡ map (λ (e : List ℕ). sortNats (map (λ (i : ℕ). numberIn inPlace (getD x i [])) e)) next =
+      map-map (λ (e : List ℕ). sortNats (map newNumber e)) (λ (e : List ℕ). sortNats (map first e)) next
+      ∙ map-same (λ (e : List ℕ). sortNats (map newNumber (sortNats (map first e)))) (λ (e : List ℕ). sortNats (map (λ (i : ℕ). numberIn inPlace (getD x i [])) e)) next
+      (λ e m.
+      let h = s .1 .0 .elements e m in
+      renumber-twice (length x) (length all) (length inPlace) first newNumber to-all to-place e h
+      ∙ ap sortNats (map-same (λ (i : ℕ). newNumber (first i)) (λ (i : ℕ). numberIn inPlace (getD x i [])) e (λ i j. one i (h .below i j)))) in
       ap (λ (y : Elements). y ∷ more) each
 
   -- a body names all elements, however they are numbered
@@ -118,8 +118,8 @@ gather b (suc more) facets h =
     let into = numbers-into all place (rank .distinct) (λ e m. in-sorted compareNats e all m) in
     let up = without-facets b all facets (λ r m e i. in-lowest facets r m e i) h in
     let placed : map (lowestBy number) upper ≡ map (withoutLowest place) facets =
-        map-map (lowestBy number) (withoutLowest all) facets
-        ∙ map-same (λ (r : List Elements). lowestBy number (withoutLowest all r)) (withoutLowest place) facets (λ r m. without-in-order all b rank r (in-lowest facets r m) (h r m)) in
+    map-map (lowestBy number) (withoutLowest all) facets
+    ∙ map-same (λ (r : List Elements). lowestBy number (withoutLowest all r)) (withoutLowest place) facets (λ r m. without-in-order all b rank r (in-lowest facets r m) (h r m)) in
     let over = without-facets b place facets (λ r m e i. in-sorted compareNats e all (in-lowest facets r m e i)) h in
     sort-assembled all more upper
     ∙ ap (λ (ranks : List Elements). place ∷ sortAll ranks) (sym (assemble-sent (length all) (length place) number into more upper up) ∙ ap (assemble more) placed)

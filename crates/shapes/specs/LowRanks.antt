@@ -98,8 +98,8 @@ unfolding split
 split-alone p none-in l h =
     flatMap-same (λ (f : Facet). atOrbit (λ (i : Inner). splitIn i f) (p .inner) (f .0)) (λ (f : Facet). f ∷ []) l
     (λ f m.
-      at-orbit (λ (i : Inner). splitIn i f) (p .inner) (f .0) (h f m)
-      ∙ split-in-alone (innerAt (p .inner) (f .0)) (none-in (innerAt (p .inner) (f .0)) (inner-at-member (p .inner) (f .0) (h f m))) f)
+    at-orbit (λ (i : Inner). splitIn i f) (p .inner) (f .0) (h f m)
+    ∙ split-in-alone (innerAt (p .inner) (f .0)) (none-in (innerAt (p .inner) (f .0)) (inner-at-member (p .inner) (f .0) (h f m))) f)
     ∙ flat-singles l
 
 -- ---- rank 3

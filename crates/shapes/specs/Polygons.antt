@@ -103,7 +103,7 @@ sorted-polygon m l h =
     let many : length (sortBy compareNats all) ≡ length (edgesInOrder l) = ap length edges ∙ length-map (edgesInOrder l) ends in
     let number : ℕ → ℕ = λ i. numberIn (sortBy compareNats all) (getD all i []) in
     let body : sortNats (map number (countFrom 0 (length l))) ≡ countFrom 0 (length (edgesInOrder l)) =
-        ap (λ (n : ℕ). sortNats (map number (countFrom 0 n))) (sym (length-map l ends)) ∙ body-in-order all m h ∙ ap (countFrom 0) many in
+    ap (λ (n : ℕ). sortNats (map number (countFrom 0 n))) (sym (length-map l ends)) ∙ body-in-order all m h ∙ ap (countFrom 0) many in
     λ t. edges t ∷ (body t ∷ []) ∷ []
 
 edges-sent : (to : ℕ → ℕ) (l : List Pair) → renumber to (map ends l) ≡ map ends (map (edgeVia to) l)

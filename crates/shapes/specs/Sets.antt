@@ -124,12 +124,12 @@ module _ (n : ℕ) (vertices : List ℕ) (h : VertexSet n vertices) where
       permutes-of k (rowWithin vertices row)
       (distinct-map compare nats compare nats to (λ v. Mem v vertices)
       (λ v w i j e.
-        permutes-apart n row p v w (h .below v i) (h .below w j)
-        (place-apart compare nats 0 (image row v) (image row w) vertices (kept-image row t v i) (kept-image row t w j) (sym (same v) ∙ e ∙ same w)))
+      permutes-apart n row p v w (h .below v i) (h .below w j)
+      (place-apart compare nats 0 (image row v) (image row w) vertices (kept-image row t v i) (kept-image row t w j) (sym (same v) ∙ e ∙ same w)))
       vertices (λ v i. i) (ascends-distinct compare nats vertices (h .ascends)))
       (λ x m.
-        let r = of-map to x vertices m in
-        subst (λ (z : ℕ). z < k) (sym (r .2 ∙ same (r .0))) (place-below compare nats (image row (r .0)) vertices (kept-image row t (r .0) (r .1))))
+      let r = of-map to x vertices m in
+      subst (λ (z : ℕ). z < k) (sym (r .2 ∙ same (r .0))) (place-below compare nats (image row (r .0)) vertices (kept-image row t (r .0) (r .1))))
       (length-map vertices to)
 
   identity-image : (v : ℕ) → Mem v vertices → image (countFrom 0 n) v ≡ v
@@ -150,15 +150,15 @@ module _ (n : ℕ) (vertices : List ℕ) (h : VertexSet n vertices) where
       ascending-full 0 k (rowWithin vertices (countFrom 0 n))
       (ascends-map compare nats compare nats to (λ v. Mem v vertices)
       (λ v w i j e.
-        let q = place-ascends compare nats 0 v w vertices (h .ascends) i j e in
-        let a = same v i in
-        let b = same w j in
-        lt-compare (to v) (to w) (omega arith))
+      let q = place-ascends compare nats 0 v w vertices (h .ascends) i j e in
+      let a = same v i in
+      let b = same w j in
+      lt-compare (to v) (to w) (omega arith))
       vertices (λ v i. i) (h .ascends))
       (λ x m.
-        let r = of-map to x vertices m in
-        let b = subst (λ (z : ℕ). z < k) (sym (r .2 ∙ same (r .0) (r .1))) (place-below compare nats (r .0) vertices (r .1)) in
-        (omega arith, omega arith))
+      let r = of-map to x vertices m in
+      let b = subst (λ (z : ℕ). z < k) (sym (r .2 ∙ same (r .0) (r .1))) (place-below compare nats (r .0) vertices (r .1)) in
+      (omega arith, omega arith))
       (length-map vertices to)
 
   -- the rows that keep the set, rewritten to positions in it

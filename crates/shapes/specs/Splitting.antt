@@ -82,7 +82,7 @@ module _ (lists : List (List Pair)) (cs : List Compound) (good : (c : Compound) 
   step-items queue a parts e =
       let both = at (parts .0) ++ at (parts .1) in
       let joined : flatMap at (queue ++ (parts .0 ∷ parts .1 ∷ [])) ≡ flatMap at queue ++ both =
-          flatMap-append at queue (parts .0 ∷ parts .1 ∷ []) ∙ ap (λ (l : List Pair). flatMap at queue ++ (at (parts .0) ++ l)) (append-nil (at (parts .1))) in
+      flatMap-append at queue (parts .0 ∷ parts .1 ∷ []) ∙ ap (λ (l : List Pair). flatMap at queue ++ (at (parts .0) ++ l)) (append-nil (at (parts .1))) in
       subst (λ (l : List Pair). List·Permᴰ l (at a ++ flatMap at queue)) (sym joined)
       (List·Permᴰ.List·Permᴰ·trans (Permᴰ·append-left (flatMap at queue) (Permᴰ·symm (step-composed a parts e .items))) (append-turned (flatMap at queue) (at a)))
 
@@ -225,7 +225,7 @@ module _ (lists : List (List Pair)) (cs : List Compound) (good : (c : Compound) 
       go [] r k = tt
       go (b ∷ q) r k = (
         (λ c m e.
-          let one = member-at (at b) 0 (0, 0) (some-size b (r b (here refl))) in
-          k .0 c m (getD (at b) 0 (0, 0)) one (subst (λ (z : ℕ). Mem (getD (at b) 0 (0, 0)) (at z)) e one)),
+            let one = member-at (at b) 0 (0, 0) (some-size b (r b (here refl))) in
+            k .0 c m (getD (at b) 0 (0, 0)) one (subst (λ (z : ℕ). Mem (getD (at b) 0 (0, 0)) (at z)) e one)),
         go q (λ c m. r c (there m)) (k .1),
       )
