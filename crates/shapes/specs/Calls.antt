@@ -18,13 +18,13 @@ use Rattle.definitions.specs.Faceting.{Prepared, possibleFacets, atOrbit, split
 use Rattle.laws.specs.Lists.{Mem, here, there, in-map, of-map, of-flatMap, of-count}
 use Rattle.laws.specs.Orders.{nats, lt-compare}
 use Rattle.laws.specs.Sorting.{of-sorted}
-use Rattle.laws.specs.Ascending.{Ascends}
-use Rattle.laws.specs.Ranges.{Permutes}
+use Rattle.laws.specs.Ascending.{SameItems}
+use Rattle.laws.specs.Ranges.{Permutes, same-flatMap}
 use Rattle.shapes.specs.Answered.{InnerAnswer, Preparation, AnsweredCall, answered-call}
 use Rattle.shapes.specs.LowRanks.{RankTwo, rank-two}
 use Rattle.shapes.specs.Shape.{Element, Rank, Stack, Tower, Shaped, shaped-drop}
 use Rattle.shapes.specs.Move.{Rising, moved-shaped, raised-shaped}
-use Rattle.shapes.specs.FigureOf.{Stacked, figure-shaped}
+use Rattle.shapes.specs.FigureOf.{Stacked, figure-shaped, figure-same}
 use Rattle.shapes.specs.Sets.{VertexSet, Rows, orbit-set, set-rising, row-into, rows-within, points-of-refit}
 
 -- ---- inner calls inherit
@@ -213,29 +213,53 @@ finish-shaped p found sets shaped rows-good = record {
       possible-shaped (p .points) (p .more) (p .inner) sets shaped (r .0) (r .1) f (subst (λ (l : List Figure). Mem f l) (r .2) k);
 }
 
-step : (more : ℕ) (rules : Rules) (plane : Subspace) (points : List Vec) (rows : List Row) (a : Answer) → Given points rows → AnsweredCall more rules plane points rows a
-    → ((plane : Subspace) (points : List Vec) (rows : List Row) (budget : ℕ) (b : Answer) → Given points rows → faceting more rules plane points rows budget ≡ answered b → ShapedAnswer (length points) more b)
-    → ShapedAnswer (length points) (suc more) a
-step more rules plane points rows a given c ih =
-    let p = c .before in
-    let made = c .prepared in
-    let call = faceting more rules in
-    let sets : (i : Inner) → Mem i (p .inner) → VertexSet (p .points) (i .orbit .vertices) = λ i m.
-    subst (λ (n : ℕ). VertexSet n (i .orbit .vertices)) (sym (made .points-are)) (inner-set more rules call plane points rows p made i m) in
-    let shaped : (i : Inner) → Mem i (p .inner) → ShapedAnswer (length (i .orbit .vertices)) (p .more) (i .answer) = λ i m.
-    let inner = made .inner .each i m in
-    let here-given = inner-given more rules call plane points rows p made (given .rows-good) i m in
-    let r = ih _ (innerPoints plane points i) (rowsWithin (i .orbit .vertices) rows) (inner .budget) (i .answer) here-given (inner .is) in
-    subst (λ (n : ℕ). ShapedAnswer n (p .more) (i .answer)) (inner-size more rules call plane points rows p made i)
-    (subst (λ (k : ℕ). ShapedAnswer (length (innerPoints plane points i)) k (i .answer)) (sym (made .more-is)) r) in
-    let rows-good : (row : Row) → Mem row (p .rows) → Permutes (p .points) row = λ row m.
-    subst (λ (n : ℕ). Permutes n row) (sym (made .points-are)) (given .rows-good .permute row (subst (λ (l : List Row). Mem row l) (made .rows-are) m)) in
-    let whole : ShapedAnswer (p .points) (suc (p .more)) (finish p (c .found)) = finish-shaped p (c .found) sets shaped rows-good in
-    let at-points = subst (λ (n : ℕ). ShapedAnswer n (suc (p .more)) (finish p (c .found))) (made .points-are) whole in
-    let at-rank = subst (λ (k : ℕ). ShapedAnswer (length points) (suc k) (finish p (c .found))) (made .more-is) at-points in
-    subst (ShapedAnswer (length points) (suc more)) (sym (c .is)) at-rank
+module _ (more : ℕ) (rules : Rules) (plane : Subspace) (points : List Vec) (rows : List Row) (a : Answer) (given : Given points rows) (c : AnsweredCall more rules plane points rows a) where
+  abbrev before : Prepared
+  before = c .before
+
+  abbrev call : Call
+  call = faceting more rules
+
+  -- an answered call's sets and rows
+  pub call-set : (i : Inner) → Mem i (before .inner) → VertexSet (before .points) (i .orbit .vertices)
+  call-set i m = subst (λ (n : ℕ). VertexSet n (i .orbit .vertices)) (sym (c .prepared .points-are)) (inner-set more rules call plane points rows before (c .prepared) i m)
+
+  pub call-row : (row : Row) → Mem row (before .rows) → Permutes (before .points) row
+  call-row row m = subst (λ (n : ℕ). Permutes n row) (sym (c .prepared .points-are)) (given .rows-good .permute row (subst (λ (l : List Row). Mem row l) (c .prepared .rows-are) m))
+
+  -- what holds of the answers of one rank less
+  abbrev Below : Type 0
+  Below = (plane : Subspace) (points : List Vec) (rows : List Row) (budget : ℕ) (b : Answer) → Given points rows → faceting more rules plane points rows budget ≡ answered b
+      → ShapedAnswer (length points) more b
+
+  call-shaped : Below → (i : Inner) → Mem i (before .inner) → ShapedAnswer (length (i .orbit .vertices)) (before .more) (i .answer)
+  call-shaped ih i m =
+      let inner = c .prepared .inner .each i m in
+      let its = innerPoints plane points i in
+      let r = ih _ its (rowsWithin (i .orbit .vertices) rows) (inner .budget) (i .answer) (inner-given more rules call plane points rows before (c .prepared) (given .rows-good) i m) (inner .is) in
+      subst (λ (n : ℕ). ShapedAnswer n (before .more) (i .answer)) (inner-size more rules call plane points rows before (c .prepared) i)
+      (subst (λ (k : ℕ). ShapedAnswer (length its) k (i .answer)) (sym (c .prepared .more-is)) r)
+
+  step : Below → ShapedAnswer (length points) (suc more) a
+  step ih =
+      let whole : ShapedAnswer (before .points) (suc (before .more)) (finish before (c .found)) = finish-shaped before (c .found) call-set (call-shaped ih) call-row in
+      let at-points = subst (λ (n : ℕ). ShapedAnswer n (suc (before .more)) (finish before (c .found))) (c .prepared .points-are) whole in
+      let at-rank = subst (λ (k : ℕ). ShapedAnswer (length points) (suc k) (finish before (c .found))) (c .prepared .more-is) at-points in
+      subst (ShapedAnswer (length points) (suc more)) (sym (c .is)) at-rank
 
 pub shaped-answer : (more : ℕ) (rules : Rules) (plane : Subspace) (points : List Vec) (rows : List Row) (budget : ℕ) (a : Answer) → Given points rows
     → faceting more rules plane points rows budget ≡ answered a → ShapedAnswer (length points) more a
 shaped-answer zero rules plane points rows budget a given e = two-shaped (length points) budget a (given .two) (rank-two rules plane points rows budget a e)
 shaped-answer (suc more) rules plane points rows budget a given e = step more rules plane points rows a given (answered-call more rules plane points rows budget a e) (shaped-answer more rules)
+
+-- ---- the set of an entry's facets decides its figure
+
+module _ (more : ℕ) (rules : Rules) (plane : Subspace) (points : List Vec) (rows : List Row) (a : Answer) (given : Given points rows) (c : AnsweredCall more rules plane points rows a) where
+  -- two lists whose split lists have the same facets, in whatever order and however often, have the same figure
+  pub figure-decided : (k l : List Facet) → SameItems (split (c .before) k) (split (c .before) l) → entryOf (c .before) k .figure ≡ entryOf (c .before) l .figure
+  unfolding entryOf
+  figure-decided k l same =
+      let p = c .before in
+      figure-same (p .points) (p .more) (flatMap (facetImages p) (split p k)) (flatMap (facetImages p) (split p l))
+      (images-stacked p (call-set more rules plane points rows a given c) (call-shaped more rules plane points rows a given c (shaped-answer more rules)) (call-row more rules plane points rows a given c) (split p k))
+      (same-flatMap (facetImages p) (split p k) (split p l) same)

@@ -24,7 +24,7 @@ use Rattle.shapes.specs.Emitted.{found-facet}
 use Rattle.shapes.specs.Edges.{edgeFigure, edge-moved}
 use Rattle.shapes.specs.LowRanks.{innerAt, inner-at-member, at-orbit, facet-orbit, edgeOf, one-edge, found-first, found-unsplit, entry-list}
 use Rattle.shapes.specs.Sets.{VertexSet, Rows, set-rising, row-into}
-use Rattle.shapes.specs.Calls.{Given, innerPoints, inner-set, inner-size, inner-enough, inner-given}
+use Rattle.shapes.specs.Calls.{Given, innerPoints, inner-size, inner-enough, inner-given, call-set, call-row}
 use Rattle.shapes.specs.EdgeSets.{Proper, EdgeSet, edgesInOrder, polygonsInOrder, polygon, polyhedron, Sized, polygonOf, figure-of-edges, figure-of-polygons}
 use Rattle.shapes.specs.Polygons.{edgeVia, endsVia, via-proper, raised-edges, polygon-raised, moved-edges, polygon-moved, edgePairs, polygon-edges, polygon-points}
 use Rattle.shapes.specs.SplitCalls.{InCall, SplitAnswer, split-answer, split-in-call}
@@ -34,12 +34,6 @@ use Rattle.shapes.specs.SplitCalls.{InCall, SplitAnswer, split-answer, s
 module _ (more : ℕ) (rules : Rules) (plane : Subspace) (points : List Vec) (rows : List Row) (a : Answer) (given : Given points rows) (c : AnsweredCall more rules plane points rows a) where
   abbrev before : Prepared
   before = c .before
-
-  call-set : (i : Inner) → Mem i (before .inner) → VertexSet (before .points) (i .orbit .vertices)
-  call-set i m = subst (λ (n : ℕ). VertexSet n (i .orbit .vertices)) (sym (c .prepared .points-are)) (inner-set more rules (faceting more rules) plane points rows before (c .prepared) i m)
-
-  call-row : (row : Row) → Mem row (before .rows) → Permutes (before .points) row
-  call-row row m = subst (λ (n : ℕ). Permutes n row) (sym (c .prepared .points-are)) (given .rows-good .permute row (subst (λ (l : List Row). Mem row l) (c .prepared .rows-are) m))
 
   call-split : (i : Inner) → Mem i (before .inner) → SplitAnswer (i .answer)
   call-split i m = let inner = c .prepared .inner .each i m in split-answer more rules _ _ _ (inner .budget) (i .answer) (inner .is)
@@ -54,7 +48,7 @@ module _ (more : ℕ) (rules : Rules) (plane : Subspace) (points : List Vec) (ro
   edge-proper i m =
       let vertices = i .orbit .vertices in
       let k = inner-enough more rules (faceting more rules) plane points rows before (c .prepared) i m in
-      let s = call-set i m in
+      let s = call-set more rules plane points rows a given c i m in
       record {
         rises = compare-lt (getD vertices 0 0) (getD vertices 1 0) (ascending-at _ nats 0 vertices (s .ascends) 0 1 (omega arith) (omega arith));
         below = s .below (getD vertices 1 0) (member-at vertices 1 0 (omega arith));
