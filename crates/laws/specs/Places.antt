@@ -113,7 +113,7 @@ module _ {A B C : Type 0} where
 -- ---- maps that keep items apart
 
 module _ {A B : Type 0} (c : A → A → Ordering) (order : Linear c) (c′ : B → B → Ordering) (order′ : Linear c′) (f : A → B) where
-  same-equal-test : (x y : A) → (f x ≡ f y → x ≡ y) → isEq (c′ (f x) (f y)) ≡ isEq (c x y)
+  pub same-equal-test : (x y : A) → (f x ≡ f y → x ≡ y) → isEq (c′ (f x) (f y)) ≡ isEq (c x y)
   same-equal-test x y apart =
       same-test (isEq (c′ (f x) (f y))) (isEq (c x y)) (λ t. equal-tested c order x y (apart (tested-equal c′ order′ (f x) (f y) t)))
       (λ t. equal-tested c′ order′ (f x) (f y) (ap f (tested-equal c order x y t)))

@@ -17,3 +17,4 @@ pub mod Compounds
 pub mod Splitting
 pub mod SplitCalls
 pub mod EntryFigures
+pub mod Ridges
