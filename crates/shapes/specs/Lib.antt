@@ -18,3 +18,4 @@ pub mod Splitting
 pub mod SplitCalls
 pub mod EntryFigures
 pub mod Ridges
+pub mod RidgeCalls
