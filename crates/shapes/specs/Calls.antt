@@ -145,7 +145,7 @@ two-shaped n budget a h r = record {
 -- ---- above rank 2
 
 -- an item at a place, or what stands for none
-at-or : {A : Type 0} (P : A → Type 0) (l : List A) (i : ℕ) (d : A) → P d → ((x : A) → Mem x l → P x) → P (getD l i d)
+pub at-or : {A : Type 0} (P : A → Type 0) (l : List A) (i : ℕ) (d : A) → P d → ((x : A) → Mem x l → P x) → P (getD l i d)
 at-or P [] i d none-so h = none-so
 at-or P (x ∷ l) zero d none-so h = h x (here refl)
 at-or P (x ∷ l) (suc i) d none-so h = at-or P l i d none-so (λ y m. h y (there m))
@@ -255,11 +255,17 @@ shaped-answer (suc more) rules plane points rows budget a given e = step more ru
 -- ---- the set of an entry's facets decides its figure
 
 module _ (more : ℕ) (rules : Rules) (plane : Subspace) (points : List Vec) (rows : List Row) (a : Answer) (given : Given points rows) (c : AnsweredCall more rules plane points rows a) where
+  -- all row images of any facets stand over the call's points
+  pub call-stacked : (list : List Facet) → Stacked (c .before .points) (flatMap (facetImages (c .before)) list)
+  call-stacked =
+      images-stacked (c .before) (call-set more rules plane points rows a given c) (call-shaped more rules plane points rows a given c (shaped-answer more rules))
+      (call-row more rules plane points rows a given c)
+
   -- two lists whose split lists have the same facets, in whatever order and however often, have the same figure
   pub figure-decided : (k l : List Facet) → SameItems (split (c .before) k) (split (c .before) l) → entryOf (c .before) k .figure ≡ entryOf (c .before) l .figure
   unfolding entryOf
   figure-decided k l same =
       let p = c .before in
       figure-same (p .points) (p .more) (flatMap (facetImages p) (split p k)) (flatMap (facetImages p) (split p l))
-      (images-stacked p (call-set more rules plane points rows a given c) (call-shaped more rules plane points rows a given c (shaped-answer more rules)) (call-row more rules plane points rows a given c) (split p k))
+      (call-stacked (split p k))
       (same-flatMap (facetImages p) (split p k) (split p l) same)

@@ -19,3 +19,4 @@ pub mod SplitCalls
 pub mod EntryFigures
 pub mod Ridges
 pub mod RidgeCalls
+pub mod Ends
