@@ -12,6 +12,7 @@ use Rattle.definitions.specs.Lists.{Pair, comparePair, comparePairs, mapAt}
 use Rattle.definitions.specs.Figures.{Compound, componentsOf, consIn, walk, firstAbove, foundInside, seek, compoundOf, labelFrom, labelIrc}
 use Rattle.laws.specs.Bools.{true→holds, first}
 use Rattle.laws.specs.Lists.{Mem, here, there, of-flatMap, of-mapAt, member-at}
+use Rattle.laws.specs.Pairs.{Pairs, pairs-append}
 use Rattle.laws.specs.Orders.{pairs, pair-lists}
 use Rattle.laws.specs.Sorting.{perm-length}
 use Rattle.laws.specs.Ascending.{tested-equal}
@@ -193,3 +194,39 @@ components-of (c ∷ cs) a parts e = go (eqb a (c .whole)) refl e (components-of
         let p : (c .first, c .second) ≡ parts = some-equal (c .first, c .second) parts s in
         here (λ t. record { whole = w t; first = sym p t .0; second = sym p t .1 })
     go false q s ih = there (ih s)
+
+-- ---- "triples ascending"
+
+-- at most one compound for an entry
+label-one : (a : ℕ) (items : List Pair) (ls : List (List Pair)) (from : ℕ) → Pairs (λ (c d : Compound). c .whole < d .whole) (labelFrom a items ls from)
+unfolding labelFrom compoundOf
+label-one a items [] from = tt
+label-one a items (l ∷ ls) from = go (foundInside items l) (label-one a items ls (suc from))
+  where
+    one : (o : Option ℕ) → Pairs (λ (c d : Compound). c .whole < d .whole) (compoundOf a from o)
+    one none = tt
+    one (some second) = ((λ y i. elim i [ ]), tt)
+
+    go : (o : Option (List Pair)) → Pairs (λ (c d : Compound). c .whole < d .whole) (labelFrom a items ls (suc from))
+        → Pairs (λ (c d : Compound). c .whole < d .whole) (elim o [ none ↦ labelFrom a items ls (suc from) | some rest ↦ compoundOf a from (seek rest ls (suc from)) ])
+    go none ih = ih
+    go (some rest) ih = one (seek rest ls (suc from))
+
+-- the compounds strictly ascend by their wholes, so an entry has one at most
+pub compounds-ascend : (lists : List (List Pair)) → Pairs (λ (c d : Compound). c .whole < d .whole) (labelIrc lists)
+unfolding labelIrc flatMap mapAt
+compounds-ascend lists = go 0 lists
+  where
+    within : (a : ℕ) (ls : List (List Pair)) (c : Compound) → Mem c (flatMap (λ (cs : List Compound). cs) (mapAt (λ b items. labelFrom b items lists 0) a ls)) → a ≤ c .whole
+    within a ls c m =
+        let r = of-flatMap (λ (cs : List Compound). cs) c (mapAt (λ b items. labelFrom b items lists 0) a ls) m in
+        let q = of-mapAt (λ b items. labelFrom b items lists 0) [] (r .0) a ls (r .1) in
+        let w = labelled (a + q .0) (getD ls (q .0) []) lists 0 c (subst (λ (cs : List Compound). Mem c cs) (q .2) (r .2)) .whole in
+        omega arith
+
+    go : (a : ℕ) (ls : List (List Pair)) → Pairs (λ (c d : Compound). c .whole < d .whole) (flatMap (λ (cs : List Compound). cs) (mapAt (λ b items. labelFrom b items lists 0) a ls))
+    go a [] = tt
+    go a (items ∷ ls) =
+        pairs-append (λ (c d : Compound). c .whole < d .whole) (labelFrom a items lists 0) (flatMap (λ (cs : List Compound). cs) (mapAt (λ b its. labelFrom b its lists 0) (suc a) ls)) (label-one a items lists 0)
+        (go (suc a) ls)
+        (λ c i d j. let w = labelled a items lists 0 c i .whole in let k = within (suc a) ls d j in omega arith)
