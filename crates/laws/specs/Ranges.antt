@@ -1,11 +1,13 @@
 -- Ascending numbers in a range, and permutations of 0, .., n − 1: what the test by sorting says, and how it is met. And lists with the same items through the words that build lists.
 -- Leans on Places.
 use mathlib.Core.Path.{_≡_, refl, sym, ap, _∙_, subst}
+use mathlib.Core.Bool.{Bool, true, false, cond}
 use mathlib.Core.List.{List, [], _∷_, map, flatMap, List·Memᴰ, List·Permᴰ, Permᴰ·symm}
 use Prim.Native.Nat.{ℕ, zero, suc, _+_, _≤_, _<_, compare, Ordering, Ordering·lt}
 use native.Mathlib.Omega.{arith}
+use lib.Dec.{isEq}
 use lib.ListN.{length, getD}
-use Rattle.definitions.specs.Lists.{sortBy, sortNats, countFrom}
+use Rattle.definitions.specs.Lists.{sortBy, sortNats, countFrom, anyOf, fresh}
 use Rattle.laws.specs.Lists.{Mem, here, there, in-map, of-map, in-flatMap, of-flatMap, member-at, of-count, in-count, count-length}
 use Rattle.laws.specs.Pairs.{Pairs, count-ascends}
 use Rattle.laws.specs.Orders.{nats, compare-lt, lt-compare}
@@ -124,3 +126,49 @@ module _ (n : ℕ) (row : List ℕ) where
     sorted = ascending-full 0 n (sortNats row) (sorted-ascends compare nats row d)
         (λ x i. let k = h x (of-sorted compare x row i) in (omega arith, omega arith)) (sorted-length compare nats row ∙ e);
   }
+
+-- ---- how many items there can be
+
+module _ {A : Type 0} where
+  -- a list without one of its items
+  dropped : (x : A) (m : List A) → Mem x m → List A
+  dropped x (y ∷ m) (List·Memᴰ.List·Memᴰ·head e) = m
+  dropped x (y ∷ m) (List·Memᴰ.List·Memᴰ·tail i) = y ∷ dropped x m i
+
+  dropped-length : (x : A) (m : List A) (i : Mem x m) → length m ≡ suc (length (dropped x m i))
+  unfolding dropped
+  dropped-length x (y ∷ m) (List·Memᴰ.List·Memᴰ·head e) = refl
+  dropped-length x (y ∷ m) (List·Memᴰ.List·Memᴰ·tail i) = ap suc (dropped-length x m i)
+
+  in-dropped : (x : A) (m : List A) (i : Mem x m) (z : A) → Mem z m → Differ x z → Mem z (dropped x m i)
+  unfolding dropped
+  in-dropped x (y ∷ m) (List·Memᴰ.List·Memᴰ·head e) z (List·Memᴰ.List·Memᴰ·head q) d = absurd (d (e ∙ sym q))
+  in-dropped x (y ∷ m) (List·Memᴰ.List·Memᴰ·head e) z (List·Memᴰ.List·Memᴰ·tail j) d = j
+  in-dropped x (y ∷ m) (List·Memᴰ.List·Memᴰ·tail i) z (List·Memᴰ.List·Memᴰ·head q) d = here q
+  in-dropped x (y ∷ m) (List·Memᴰ.List·Memᴰ·tail i) z (List·Memᴰ.List·Memᴰ·tail j) d = there (in-dropped x m i z j d)
+
+  -- a list without repeats is no longer than one that has all its items
+  pub distinct-within : (l m : List A) → Distinct l → ((x : A) → Mem x l → Mem x m) → length l ≤ length m
+  distinct-within [] m h k = omega arith
+  distinct-within (x ∷ l) m h k =
+      let i = k x (here refl) in
+      let e = dropped-length x m i in
+      let r = distinct-within l (dropped x m i) (h .1) (λ z j. in-dropped x m i z (k z (there j)) (h .0 z j)) in
+      omega arith
+
+-- different numbers below n are no more than n
+pub distinct-below : (n : ℕ) (l : List ℕ) → Distinct l → ((x : ℕ) → Mem x l → x < n) → length l ≤ n
+distinct-below n l h k =
+    let r = distinct-within l (countFrom 0 n) h (λ x i. let b = k x i in in-count 0 n x (omega arith) (omega arith)) in
+    let e = count-length 0 n in
+    omega arith
+
+-- the items not seen are no more than the items
+pub fresh-few : {A : Type 0} (c : A → A → Ordering) (seen l : List A) → length (fresh c seen l) ≤ length l
+unfolding fresh
+fresh-few c seen [] = omega arith
+fresh-few c seen (x ∷ l) = go (anyOf (λ s. isEq (c x s)) seen) (fresh-few c seen l) (fresh-few c (x ∷ seen) l)
+  where
+    go : (b : Bool) → length (fresh c seen l) ≤ length l → length (fresh c (x ∷ seen) l) ≤ length l → length (cond b (fresh c seen l) (x ∷ fresh c (x ∷ seen) l)) ≤ suc (length l)
+    go true old new = omega arith
+    go false old new = omega arith

@@ -20,3 +20,4 @@ pub mod EntryFigures
 pub mod Ridges
 pub mod RidgeCalls
 pub mod Ends
+pub mod Sizes
