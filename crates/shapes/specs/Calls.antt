@@ -255,10 +255,14 @@ shaped-answer (suc more) rules plane points rows budget a given e = step more ru
 -- ---- the set of an entry's facets decides its figure
 
 module _ (more : ℕ) (rules : Rules) (plane : Subspace) (points : List Vec) (rows : List Row) (a : Answer) (given : Given points rows) (c : AnsweredCall more rules plane points rows a) where
+  -- the figures of an inner answer
+  pub inner-shaped : (i : Inner) → Mem i (c .before .inner) → ShapedAnswer (length (i .orbit .vertices)) (c .before .more) (i .answer)
+  inner-shaped = call-shaped more rules plane points rows a given c (shaped-answer more rules)
+
   -- all row images of any facets stand over the call's points
   pub call-stacked : (list : List Facet) → Stacked (c .before .points) (flatMap (facetImages (c .before)) list)
   call-stacked =
-      images-stacked (c .before) (call-set more rules plane points rows a given c) (call-shaped more rules plane points rows a given c (shaped-answer more rules))
+      images-stacked (c .before) (call-set more rules plane points rows a given c) inner-shaped
       (call-row more rules plane points rows a given c)
 
   -- two lists whose split lists have the same facets, in whatever order and however often, have the same figure

@@ -21,3 +21,4 @@ pub mod Ridges
 pub mod RidgeCalls
 pub mod Ends
 pub mod Sizes
+pub mod RidgeCounts
