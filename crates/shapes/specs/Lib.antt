@@ -22,3 +22,4 @@ pub mod RidgeCalls
 pub mod Ends
 pub mod Sizes
 pub mod RidgeCounts
+pub mod FigureWords
