@@ -4,7 +4,10 @@ pub mod Lists
 pub mod Pairs
 pub mod Orders
 pub mod Sorting
+pub mod Ascending
 pub mod Segments
+pub mod Places
+pub mod Ranges
 pub mod Floats
 pub mod LowerBounds
 pub mod Parts

@@ -1,0 +1,121 @@
+-- The answer's numbers of figures of rank 2, 3 and 4, from their edges and polygons: what a writer writes that stores edge sets and no figures. Leans on EdgeSets and Edges.
+use mathlib.Core.Path.{_≡_, refl, sym, ap, _∙_, subst}
+use mathlib.Core.List.{List, [], _∷_, _++_, map, flatMap, append-nil}
+use Prim.Native.Nat.{ℕ, zero, suc, _-_}
+use lib.ListN.{length, getD, replicate, length-map, length-replicate}
+use Rattle.definitions.specs.Lists.{Pair, countFrom}
+use Rattle.definitions.specs.Figures.{Elements, Figure, rankOf}
+use Rattle.definitions.specs.Recursion.{Entry, vertexRidge}
+use Rattle.definitions.specs.Job.{counted, figureWords, summaryWords}
+use Rattle.laws.specs.Lists.{Mem, count-length, flatMap-same}
+use Rattle.laws.specs.Places.{flat-singles, flatMap-map}
+use Rattle.shapes.specs.Edges.{edgeFigure}
+use Rattle.shapes.specs.EdgeSets.{ends, edgeNumber, polygon, polyhedron}
+
+-- ---- elements and ranks
+
+-- "per element the number of subs, then the subs"
+element-words : (e : List ℕ) → counted (λ (sub : ℕ). sub ∷ []) e ≡ length e ∷ e
+unfolding counted
+element-words e = ap (λ (l : List ℕ). length e ∷ l) (flat-singles e)
+
+-- "per rank the number of elements"
+unfoldable pub rankWords : Elements → List ℕ
+rankWords es = length es ∷ flatMap (λ (e : List ℕ). length e ∷ e) es
+
+rank-words : (es : Elements) → counted (counted (λ (sub : ℕ). sub ∷ [])) es ≡ rankWords es
+unfolding counted rankWords
+rank-words es = ap (λ (l : List ℕ). length es ∷ l) (flatMap-same (λ (e : List ℕ). length e ∷ flatMap (λ (sub : ℕ). sub ∷ []) e) (λ (e : List ℕ). length e ∷ e) es (λ e m. ap (λ (l : List ℕ). length e ∷ l) (flat-singles e)))
+
+-- "A figure: number of ranks; per rank .."
+pub figure-words : (f : Figure) → figureWords f ≡ length f ∷ flatMap rankWords f
+unfolding figureWords counted
+figure-words f = ap (λ (l : List ℕ). length f ∷ l) (flatMap-same (counted (counted (λ (sub : ℕ). sub ∷ []))) rankWords f (λ es m. rank-words es))
+
+-- an element [0] for each of so many points
+unfoldable pub pointWords : ℕ → List ℕ
+pointWords zero = []
+pointWords (suc n) = 1 ∷ 0 ∷ pointWords n
+
+-- the ends of each edge
+unfoldable pub edgeWords : List Pair → List ℕ
+edgeWords edges = flatMap (λ (e : Pair). 2 ∷ e .0 ∷ e .1 ∷ []) edges
+
+-- a body that names so many facets
+unfoldable pub bodyWords : ℕ → List ℕ
+bodyWords n = 1 ∷ n ∷ countFrom 0 n
+
+points-each : (n : ℕ) → flatMap (λ (e : List ℕ). length e ∷ e) (replicate n (0 ∷ [])) ≡ pointWords n
+unfolding flatMap pointWords
+points-each zero = refl
+points-each (suc n) = ap (λ (l : List ℕ). 1 ∷ 0 ∷ l) (points-each n)
+
+points-rank : (n : ℕ) → rankWords (replicate n (0 ∷ [])) ≡ n ∷ pointWords n
+unfolding rankWords
+points-rank n = λ t. length-replicate {A = List ℕ} n (0 ∷ []) t ∷ points-each n t
+
+edges-rank : (edges : List Pair) → rankWords (map ends edges) ≡ length edges ∷ edgeWords edges
+unfolding rankWords edgeWords ends
+edges-rank edges = λ t. length-map edges ends t ∷ flatMap-map (λ (e : List ℕ). length e ∷ e) ends edges t
+
+body-rank : (n : ℕ) → rankWords (countFrom 0 n ∷ []) ≡ bodyWords n
+unfolding rankWords bodyWords flatMap
+body-rank n = ap (λ (l : List ℕ). 1 ∷ l) (append-nil (length (countFrom 0 n) ∷ countFrom 0 n) ∙ ap (λ (k : ℕ). k ∷ countFrom 0 n) (count-length 0 n))
+
+-- ---- figures
+
+pub edge-words : (e : Pair) → figureWords (edgeFigure e) ≡ 3 ∷ 1 ∷ 0 ∷ 2 ∷ 1 ∷ 0 ∷ 1 ∷ 0 ∷ 1 ∷ 2 ∷ e .0 ∷ e .1 ∷ []
+unfolding figureWords counted edgeFigure flatMap
+edge-words e = refl
+
+pub vertex-words : (v : ℕ) → figureWords (vertexRidge v) ≡ 3 ∷ 0 ∷ 1 ∷ 1 ∷ 0 ∷ 1 ∷ 1 ∷ v ∷ []
+unfolding figureWords counted vertexRidge flatMap
+vertex-words v = refl
+
+pub polygon-words : (n : ℕ) (edges : List Pair)
+    → figureWords (polygon n edges) ≡ 4 ∷ 1 ∷ 0 ∷ n ∷ pointWords n ++ (length edges ∷ edgeWords edges ++ bodyWords (length edges))
+unfolding polygon flatMap rankWords
+polygon-words n edges =
+    let a = points-rank n in
+    let b = edges-rank edges in
+    let c = append-nil (rankWords (countFrom 0 (length edges) ∷ [])) ∙ body-rank (length edges) in
+    figure-words (polygon n edges) ∙ (λ t. 4 ∷ 1 ∷ 0 ∷ a t ++ (b t ++ c t))
+
+polygons-rank : (edges : List Pair) (polygons : List (List Pair))
+    → rankWords (map (map (edgeNumber edges)) polygons) ≡ length polygons ∷ flatMap (λ (s : List Pair). length s ∷ map (edgeNumber edges) s) polygons
+unfolding rankWords
+polygons-rank edges polygons =
+    let number = map (edgeNumber edges) in
+    let each : flatMap (λ (e : List ℕ). length e ∷ e) (map number polygons) ≡ flatMap (λ (s : List Pair). length s ∷ number s) polygons =
+        flatMap-map (λ (e : List ℕ). length e ∷ e) number polygons
+        ∙ flatMap-same (λ (s : List Pair). length (number s) ∷ number s) (λ (s : List Pair). length s ∷ number s) polygons (λ s m. ap (λ (k : ℕ). k ∷ number s) (length-map s (edgeNumber edges))) in
+    λ t. length-map polygons number t ∷ each t
+
+pub polyhedron-words : (n : ℕ) (edges : List Pair) (polygons : List (List Pair))
+    → figureWords (polyhedron n edges polygons)
+    ≡ 5 ∷ 1 ∷ 0 ∷ n ∷ pointWords n ++ (length edges ∷ edgeWords edges ++ (length polygons ∷ flatMap (λ (s : List Pair). length s ∷ map (edgeNumber edges) s) polygons ++ bodyWords (length polygons)))
+unfolding polyhedron flatMap rankWords
+polyhedron-words n edges polygons =
+    let a = points-rank n in
+    let b = edges-rank edges in
+    let c = polygons-rank edges polygons in
+    let d = append-nil (rankWords (countFrom 0 (length polygons) ∷ [])) ∙ body-rank (length polygons) in
+    figure-words (polyhedron n edges polygons) ∙ (λ t. 5 ∷ 1 ∷ 0 ∷ a t ++ (b t ++ (c t ++ d t)))
+
+-- ---- "then per entry a summary: points .., edges .., facets"
+
+pub polygon-summary : (e : Entry) (n : ℕ) (edges : List Pair) → e .figure ≡ polygon n edges → summaryWords e ≡ n ∷ length edges ∷ length edges ∷ []
+unfolding summaryWords rankOf polygon
+polygon-summary e n edges q =
+    let points = length-replicate {A = List ℕ} n (0 ∷ []) in
+    let many = length-map edges ends in
+    ap (λ (f : Figure). length (rankOf 1 f) ∷ length (rankOf 2 f) ∷ length (rankOf (length f - 2) f) ∷ []) q ∙ (λ t. points t ∷ many t ∷ many t ∷ [])
+
+pub polyhedron-summary : (e : Entry) (n : ℕ) (edges : List Pair) (polygons : List (List Pair)) → e .figure ≡ polyhedron n edges polygons
+    → summaryWords e ≡ n ∷ length edges ∷ length polygons ∷ []
+unfolding summaryWords rankOf polyhedron
+polyhedron-summary e n edges polygons q =
+    let points = length-replicate {A = List ℕ} n (0 ∷ []) in
+    let many = length-map edges ends in
+    let facets = length-map polygons (map (edgeNumber edges)) in
+    ap (λ (f : Figure). length (rankOf 1 f) ∷ length (rankOf 2 f) ∷ length (rankOf (length f - 2) f) ∷ []) q ∙ (λ t. points t ∷ many t ∷ facets t ∷ [])

@@ -1,0 +1,90 @@
+-- What a job guarantees of its outermost call: two points at least, and rows that are permutations with the identity first. So every figure of an accepted job's answer has its shape.
+-- Leans on Calls.
+use mathlib.Core.Path.{_≡_, refl, sym, ap, _∙_, subst}
+use mathlib.Core.Bool.{Bool, true, false, not, _&&_}
+use mathlib.Core.List.{List, [], _∷_, map, List·Memᴰ}
+use Prim.Native.Nat.{ℕ, zero, suc, _+_, _-_, _*_, _≤_, _<_}
+use native.Mathlib.Omega.{arith}
+use lib.Dec.{T, leb, leb→le, isEq}
+use lib.ListN.{length, getD, take, drop, length-map}
+use Rattle.definitions.specs.Lists.{countFrom, compareNats, sortNats, allOf}
+use Rattle.definitions.specs.Outcome.{Outcome, answered, andThen, refuseIf}
+use Rattle.definitions.specs.Orbits.{Row}
+use Rattle.definitions.specs.Recursion.{Answer, Bounds}
+use Rattle.definitions.specs.Job.{Bytes, Job, Test, readJob, numberAt, floatsAt, vectorsAt, between, sameNats, isPermutation, tests, passAll, rulesOf, planeOf, callOf, fitting, answerBytes, outcomeWithin}
+use Rattle.laws.specs.Bools.{first, fails→false}
+use Rattle.laws.specs.Lists.{Mem, here, there, all-of, count-length}
+use Rattle.laws.specs.Orders.{nat-lists}
+use Rattle.laws.specs.Ascending.{tested-equal}
+use Rattle.laws.specs.Ranges.{Permutes}
+use Rattle.completeness.specs.Jobs.{not-refused-if}
+use Rattle.shapes.specs.Sets.{Rows}
+use Rattle.shapes.specs.Calls.{Given, ShapedAnswer, shaped-answer}
+
+-- an answer means that every test was passed
+pub passed-test : {A : Type 0} (ts : List Test) (next : Unit {0} → Outcome A) (a : A) → passAll ts next ≡ answered a → (t : Test) → Mem t ts → T (t .passes tt)
+unfolding passAll
+passed-test (t ∷ ts) next a e u (List·Memᴰ.List·Memᴰ·head q) =
+    subst (λ (x : Test). T (x .passes tt)) (sym q) (passes (t .passes tt) (not-refused-if (not (t .passes tt)) (t .number) (λ v. passAll ts next) a e .0))
+  where
+    passes : (b : Bool) → not b ≡ false → T b
+    passes true z = tt
+    passes false z = subst T z tt
+passed-test (t ∷ ts) next a e u (List·Memᴰ.List·Memᴰ·tail m) = passed-test ts next a (not-refused-if (not (t .passes tt)) (t .number) (λ v. passAll ts next) a e .1) u m
+
+-- what refusals 5, 6, 10 and 11 leave
+pub record RowsPassed (job : Job) : Type 0 where
+  pub enough : T (between 2 20 (job .n))
+  pub some-row : T (between 1 120 (job .rowCount))
+  pub first-row : T (sameNats (getD (job .rows) 0 []) (countFrom 0 (job .n)))
+  pub permutations : T (allOf (isPermutation (job .n)) (job .rows))
+
+pub rows-passed : {A : Type 0} (bytes : Bytes) (workspace : ℕ) (next : Unit {0} → Outcome A) (a : A) → passAll (tests bytes workspace) next ≡ answered a → RowsPassed (readJob bytes)
+unfolding tests
+rows-passed bytes workspace next a e =
+    let passed = passed-test (tests bytes workspace) next a e in
+    record {
+      enough = passed _ (there (there (there (there (here refl)))));
+      some-row = passed _ (there (there (there (there (there (here refl))))));
+      first-row = passed _ (there (there (there (there (there (there (there (there (there (here refl))))))))));
+      permutations = passed _ (there (there (there (there (there (there (there (there (there (there (here refl)))))))))));
+    }
+
+-- the numbers of points and rows are those that the job states
+points-length : (bytes : Bytes) → length (readJob bytes .points) ≡ readJob bytes .n
+unfolding readJob vectorsAt
+points-length bytes = length-map (countFrom 0 _) _ ∙ count-length 0 _
+
+rows-length : (bytes : Bytes) → length (readJob bytes .rows) ≡ readJob bytes .rowCount
+unfolding readJob
+rows-length bytes = length-map (countFrom 0 _) _ ∙ count-length 0 _
+
+good-rows : (n : ℕ) (rows : List Row) → 1 ≤ length rows → T (sameNats (getD rows 0 []) (countFrom 0 n)) → T (allOf (isPermutation n) rows) → Rows n rows
+unfolding sameNats isPermutation
+good-rows n [] some one all = absurd (omega arith)
+good-rows n (row ∷ rows) some one all = record {
+  others = rows;
+  identity = ap (λ (r : Row). r ∷ rows) (tested-equal compareNats nat-lists row (countFrom 0 n) one);
+  permute = λ r m. record { sorted = tested-equal compareNats nat-lists (sortNats r) (countFrom 0 n) (all-of (isPermutation n) (row ∷ rows) all r m) };
+}
+
+pub job-given : (bytes : Bytes) → RowsPassed (readJob bytes) → Given (readJob bytes .points) (readJob bytes .rows)
+unfolding between
+job-given bytes h =
+    let job = readJob bytes in
+    let n = points-length bytes in
+    let r = rows-length bytes in
+    let two = leb→le 2 (job .n) (first (leb 2 (job .n)) (leb (job .n) 20) (h .enough)) in
+    let one = leb→le 1 (job .rowCount) (first (leb 1 (job .rowCount)) (leb (job .rowCount) 120) (h .some-row)) in
+    record {
+      two = omega arith;
+      rows-good = subst (λ (k : ℕ). Rows k (job .rows)) (sym n) (good-rows (job .n) (job .rows) (omega arith) (h .first-row) (h .permutations));
+    }
+
+-- every figure of an accepted job's answer has its shape, whatever the bounds
+pub job-shaped : (bounds : Bounds) (bytes : Bytes) → RowsPassed (readJob bytes) → (a : Answer) → callOf bounds (readJob bytes) ≡ answered a → ShapedAnswer (readJob bytes .n) (readJob bytes .rank - 2) a
+unfolding callOf
+job-shaped bounds bytes h a e =
+    let job = readJob bytes in
+    subst (λ (n : ℕ). ShapedAnswer n (job .rank - 2) a) (points-length bytes)
+    (shaped-answer (job .rank - 2) (rulesOf bounds job) (planeOf job) (job .points) (job .rows) (job .budget) a (job-given bytes h) e)
