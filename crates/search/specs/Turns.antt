@@ -1,29 +1,30 @@
 -- The turns of the search: what follows an examined list, and that each turn of the loop is one step of the definition, or none. Leans on Frames, Steps and Emission.
-use mathlib.Core.Path.{_≡_, refl, sym, ap, _∙_, subst}
-use mathlib.Core.Bool.{Bool, true, false}
+use mathlib.Core.Path.{_≡_, refl, sym, ap, _∙_}
+use mathlib.Core.Bool.{true, false}
 use mathlib.Core.List.{List, [], _∷_, _++_}
-use mathlib.Core.Option.{Option, some, none}
+use mathlib.Core.Option.{some, none}
 use Prim.Native.Nat.{ℕ, zero, suc, _+_, _-_, _*_, _≤_, _<_}
 use native.Mathlib.Omega.{arith}
 use native.Mathlib.Numerals.{add-one}
-use lib.Dec.{T}
-use lib.ListN.{length, getD, take}
-use Rattle.definitions.specs.Outcome.{Outcome, refused, answered}
+use lib.ListN.{length, take}
+use Rattle.definitions.specs.Outcome.{refused, answered}
 use Rattle.definitions.specs.Search as def
 use Rattle.definitions.specs.Search.{Table, Facet, Item, judge, over, openAt, closed, examine, search, limitReached}
 use Rattle.laws.specs.Segments.{part-length}
 use Rattle.pool.specs.Pool.{count}
-use Rattle.search.specs.declared.Areas.{Areas}
+use Rattle.facets.specs.declared.Areas.{Areas}
 use Rattle.search.specs.declared.Limit.{Limit}
 use Rattle.search.specs.declared.Step.{Step}
 use Rattle.search.specs.declared.Step.the-variants.{On, Stopped, Full}
-use Rattle.search.specs.declared.Verdict.{Verdict}
-use Rattle.search.specs.Frames.{Frame, root, pending, moved, child, entered, pending-none, pending-latest, search-starts, examine-none, examine-spent, examine-over, examine-open, examine-fifteen, examine-stop, examine-closed}
-use Rattle.search.specs.Sums.{sumAt, judge-sums}
-use Rattle.search.specs.Judged.{Within, judge-light, judge-inside}
-use Rattle.search.specs.Layout.{verdict, Inputs, Fits, holds-kept, ridgeOf, totalsPart, framesPart, listsPart, listTo, frameAt, framesTo, placeAt, markAt, kindAt, markAfter, itemAt, Path, Stands, Emitted, emittedIn, limitOf, limitsOf}
-use Rattle.search.specs.Steps.{Light, Next, Ready, Visited, Withdrawn, Entered, path-short, candidateOf}
-use Rattle.search.specs.Emission.{Started, emitted-count}
+use Rattle.facets.specs.declared.Verdict.{Verdict}
+use Rattle.facets.specs.Frames.{Frame, pending, moved, child, pending-none, pending-latest, search-starts, examine-none, examine-spent, examine-over, examine-open, examine-fifteen, examine-stop, examine-closed}
+use Rattle.facets.specs.Sums.{judge-sums}
+use Rattle.facets.specs.Judged.{Within, judge-light, judge-inside}
+use Rattle.facets.specs.Layout.{verdict, Inputs, Fits, holds-kept, ridgeOf, totalsPart, framesPart, listsPart}
+use Rattle.frames.specs.Paths.{listTo, frameAt, framesTo, itemAt, Stands, Emitted, emittedIn}
+use Rattle.search.specs.Outcomes.{limitOf, limitsOf}
+use Rattle.frames.specs.Steps.{Light, Next, Ready, Visited, Withdrawn, Entered, path-short, candidateOf}
+use Rattle.frames.specs.Emission.{Started, emitted-count}
 
 -- the list that is examined, and the lists that are due behind it
 unfoldable pub due : Table → List ℕ → ℕ → List Item
@@ -102,8 +103,8 @@ follow-open t a limit s s' d ridge j w =
       stands = entered-depth t a s' d (w .stands);
       emitted = rw (w .lists) (j .emitted);
       same = λ left.
-        examine-open t (limitsOf a limit) left (itemAt t (framesPart a s) d) ridge (framesTo t (framesPart a s) d) (emittedIn t a (listsPart a s)) (judged-is t a s d (openAt ridge) j)
-        ∙ sym (rw (w .frames, w .lists, k) refl);
+          examine-open t (limitsOf a limit) left (itemAt t (framesPart a s) d) ridge (framesTo t (framesPart a s) d) (emittedIn t a (listsPart a s)) (judged-is t a s d (openAt ridge) j)
+          ∙ sym (rw (w .frames, w .lists, k) refl);
       tables = w .tables;
     }
 
@@ -131,8 +132,8 @@ module _ (t : Table) (a : Areas) (limit : Limit) (s : List ℕ) (d : ℕ) (j : J
     follow-stop r = record {
       inputs = st .inputs;
       same = λ left.
-        rw ls (examine-stop t limits left (itemAt t (framesPart a s) d) (pending t (framesTo t (framesPart a s) d)) emitted (judged-is t a s d closed j) (omega (arith, many))
-        (ap (limitReached (limitOf limit)) (omega (arith, many)) ∙ r));
+          rw ls (examine-stop t limits left (itemAt t (framesPart a s) d) (pending t (framesTo t (framesPart a s) d)) emitted (judged-is t a s d closed j) (omega (arith, many))
+          (ap (limitReached (limitOf limit)) (omega (arith, many)) ∙ r));
       tables = tb;
     }
 
@@ -143,9 +144,9 @@ module _ (t : Table) (a : Areas) (limit : Limit) (s : List ℕ) (d : ℕ) (j : J
           stands = entered-depth t a s' d (w .stands);
           emitted = rw (w .lists) em;
           same = λ left.
-            examine-closed t limits left (itemAt t (framesPart a s) d) (framesTo t (framesPart a s) d) emitted (judged-is t a s d closed j) (omega (arith, many))
-            (ap (limitReached (limitOf limit)) (omega (arith, many)) ∙ r)
-            ∙ sym (rw (w .frames, w .lists, ls, fr) refl);
+              examine-closed t limits left (itemAt t (framesPart a s) d) (framesTo t (framesPart a s) d) emitted (judged-is t a s d closed j) (omega (arith, many))
+              (ap (limitReached (limitOf limit)) (omega (arith, many)) ∙ r)
+              ∙ sym (rw (w .frames, w .lists, ls, fr) refl);
           tables = w .tables ∙ tb;
         }
 
@@ -193,9 +194,9 @@ module _ (t : Table) (a : Areas) (limit : Limit) (budget : ℕ) (s : List ℕ) (
         stands = w .stands;
         emitted = rw (w .lists) (turn .emitted);
         same =
-          rw (w .frames, w .lists)
-          (ap (λ (l : List Item). examine t (limitsOf a limit) left l (emittedIn t a (listsPart a s))) (sym (ap (pending t) top ∙ pending-none t (frameAt t (framesPart a s) (d - 1)) (framesTo t (framesPart a s) (d - 1)) (n .none refl)))
-          ∙ turn .same);
+            rw (w .frames, w .lists)
+            (ap (λ (l : List Item). examine t (limitsOf a limit) left l (emittedIn t a (listsPart a s))) (sym (ap (pending t) top ∙ pending-none t (frameAt t (framesPart a s) (d - 1)) (framesTo t (framesPart a s) (d - 1)) (n .none refl)))
+            ∙ turn .same);
       }
 
   module _ (r : ℕ) (n : Next t (frameAt t (framesPart a s) (d - 1)) r) (z : 0 < r) where

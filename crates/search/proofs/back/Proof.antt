@@ -1,15 +1,13 @@
 use native.Mathlib.Omega.{arith}
-use mathlib.Core.Path.{_≡_, refl, sym, ap, subst, _∙_}
-use Prim.Native.Nat.{ℕ, suc, _+_, _-_, _*_, _≤_, _<_}
-use lib.ListN.{length, getD, take}
-use Rattle.search.specs.Layout.{Stands}
+use mathlib.Core.Path.{_≡_, refl}
+use Prim.Native.Nat.{_-_}
 use Rattle.search.specs.Turns.{stands-drop}
 use borrow.Author.Needs.{needs}
 use Rattle.search.proofs.back.Statement.{statement}
 use Rattle.search.proofs.back.Tie as tie
 use Rattle.search.proofs.back.Reads as reads
 use Rattle.search.proofs.back.Lts as lts
-use Rattle.search.proofs.withdraw.Reads as withdraw-reads
+use Rattle.frames.proofs.withdraw.Reads as withdraw-reads
 
 -- src/lib.rt:396:17
 sub-depth : tie.Need-sub-depth
@@ -29,8 +27,12 @@ returns c = let s = c .before .before .before .before .before .before .before in
 
 -- src/lib.rt:392:1
 returns-2 : tie.Need-returns-2
-returns-2 c = let s = c .before .before .before in (refl, refl, λ t st. let e : s .args .s .depth - 1 - 1 ≡ s .args .s .depth - 1 = omega arith in
-    record { stands = rw e (stands-drop t (s .args .a) (s .args .ws .now) (s .args .s .depth) st (s .pre .2)); frames = refl; lists = refl; tables = refl })
+returns-2 c = let s = c .before .before .before in (
+  refl,
+  refl,
+  λ t st. let e : s .args .s .depth - 1 - 1 ≡ s .args .s .depth - 1 = omega arith in
+      record { stands = rw e (stands-drop t (s .args .a) (s .args .ws .now) (s .args .s .depth) st (s .pre .2)); frames = refl; lists = refl; tables = refl },
+)
 
 pub back-spec : {M : Type 1} → statement M
 back-spec = tie.close (tie.spec sub-depth withdraw-requires same-length returns returns-2)

@@ -1,24 +1,26 @@
 use native.Mathlib.Omega.{arith}
-use mathlib.Core.Path.{_≡_, refl, sym, ap, subst, _∙_}
-use Prim.Native.Nat.{ℕ, suc, _+_, _-_, _*_, _≤_, _<_}
+use mathlib.Core.Path.{_≡_, sym, _∙_}
+use Prim.Native.Nat.{_+_, _-_, _<_}
 use mathlib.Core.List.{[], _∷_, _++_}
-use lib.ListN.{length, getD, take}
+use lib.ListN.{take}
 use mathlib.Core.Bool.{true, false}
 use Rattle.definitions.specs.Search.{closed, limitReached}
 use Rattle.pool.specs.Pool.{count}
-use Rattle.search.specs.Layout.{Stands, Emitted, listsPart, framesPart, listTo, emittedIn, limitOf}
-use Rattle.search.specs.Judged.{Within}
-use Rattle.search.specs.Steps.{path-short, Light}
-use Rattle.search.specs.Emission.{emit-stands, emit-frames, emit-emitted, emit-lists, emit-tables}
-use Rattle.search.specs.Turns.{Judged, Followed, judged-light, follow-full, follow-stop, follow-closed}
+use Rattle.facets.specs.Layout.{listsPart, framesPart}
+use Rattle.frames.specs.Paths.{Stands, Emitted, listTo, emittedIn}
+use Rattle.search.specs.Outcomes.{limitOf}
+use Rattle.facets.specs.Judged.{Within}
+use Rattle.frames.specs.Steps.{path-short, Light}
+use Rattle.frames.specs.Emission.{emit-stands, emit-frames, emit-emitted, emit-lists, emit-tables}
+use Rattle.search.specs.Turns.{Followed, judged-light, follow-full, follow-stop, follow-closed}
 use borrow.Author.Needs.{needs}
 use Rattle.search.proofs.close.Statement.{statement}
 use Rattle.search.proofs.close.Tie as tie
 use Rattle.search.proofs.close.Reads as reads
 use Rattle.search.proofs.close.Lts as lts
 use Rattle.pool.proofs.lists.Reads as lists-reads
-use Rattle.search.proofs.emit.Reads as emit-reads
-use Rattle.search.proofs.enter.Reads as enter-reads
+use Rattle.frames.proofs.emit.Reads as emit-reads
+use Rattle.frames.proofs.enter.Reads as enter-reads
 use Rattle.search.proofs.reached.Reads as reached-reads
 
 -- src/lib.rt:359:31

@@ -1,11 +1,10 @@
 use native.Mathlib.Omega.{arith}
-use mathlib.Core.Path.{_≡_, refl, sym, ap, subst, _∙_}
-use Prim.Native.Nat.{ℕ, suc, _+_, _-_, _*_, _≤_, _<_}
-use lib.ListN.{length, getD, take}
-use Rattle.definitions.specs.Search.{over, openAt, closed}
-use Rattle.search.specs.Layout.{verdict, framesPart}
-use Rattle.search.specs.Judged.{Within}
-use Rattle.search.specs.Steps.{path-short}
+use mathlib.Core.Path.{refl}
+use Prim.Native.Nat.{_-_}
+use Rattle.definitions.specs.Search.{openAt}
+use Rattle.facets.specs.Layout.{verdict, framesPart}
+use Rattle.facets.specs.Judged.{Within}
+use Rattle.frames.specs.Steps.{path-short}
 use Rattle.search.specs.Turns.{Judged, Followed, judged-light, judged-inside, follow-over, follow-open}
 use borrow.Author.Needs.{needs}
 use Rattle.search.proofs.follow.Statement.{statement}
@@ -13,8 +12,8 @@ use Rattle.search.proofs.follow.Tie as tie
 use Rattle.search.proofs.follow.Reads as reads
 use Rattle.search.proofs.follow.Lts as lts
 use Rattle.search.proofs.close.Reads as close-reads
-use Rattle.search.proofs.enter.Reads as enter-reads
-use Rattle.search.proofs.withdraw.Reads as withdraw-reads
+use Rattle.frames.proofs.enter.Reads as enter-reads
+use Rattle.frames.proofs.withdraw.Reads as withdraw-reads
 
 -- src/lib.rt:380:22
 enum-told : tie.Need-enum-told

@@ -1,6 +1,6 @@
 use mathlib.Core.Path.{refl}
 use Rattle.definitions.specs.Search.{limitReached}
-use Rattle.search.specs.Layout.{limitOf}
+use Rattle.search.specs.Outcomes.{limitOf}
 use borrow.Author.Needs.{needs}
 use Rattle.search.proofs.reached.Statement.{statement}
 use Rattle.search.proofs.reached.Tie as tie

@@ -1,12 +1,13 @@
 use borrow.Author.Needs.{needs}
 use native.Mathlib.Omega.{arith}
-use mathlib.Core.Path.{_≡_, refl, sym, ap, subst, _∙_}
-use Prim.Native.Nat.{ℕ, suc, _+_, _-_, _*_, _≤_, _<_}
-use lib.ListN.{length, getD, take}
+use mathlib.Core.Path.{_≡_, refl, sym, ap, _∙_}
+use Prim.Native.Nat.{ℕ, _+_, _-_, _*_, _<_}
+use lib.ListN.{length, take}
 use Rattle.definitions.specs.Search.{Table}
-use Rattle.search.specs.Layout.{Inputs, framesPart, listsPart, verdict, outcome, counted}
-use Rattle.search.specs.Emission.{emitted-count}
-use Rattle.search.specs.Turns.{Turn, Judged, Followed, Goes, Stops, Fills, turn-start, turn-depth, turn-back, turn-ready, turn-spent, turn-judged, turn-on, turn-stopped, turn-full, turn-end, budget-falls, inputs-before}
+use Rattle.facets.specs.Layout.{Inputs, listsPart, verdict}
+use Rattle.search.specs.Outcomes.{outcome, counted}
+use Rattle.frames.specs.Emission.{emitted-count}
+use Rattle.search.specs.Turns.{Turn, Followed, Goes, Stops, Fills, turn-start, turn-depth, turn-back, turn-ready, turn-spent, turn-judged, turn-on, turn-stopped, turn-full, turn-end, budget-falls, inputs-before}
 use Rattle.search.proofs.search.Statement.{statement}
 use Rattle.search.proofs.search.Tie as tie
 use Rattle.search.proofs.search.Reads as reads
@@ -15,9 +16,9 @@ use Rattle.search.proofs.at_depth.Reads as at-depth-reads
 use Rattle.search.proofs.back.Reads as back-reads
 use Rattle.search.proofs.follow.Reads as follow-reads
 use Rattle.search.proofs.found.Reads as found-reads
-use Rattle.search.proofs.next.Reads as next-reads
-use Rattle.search.proofs.start.Reads as start-reads
-use Rattle.search.proofs.visit.Reads as visit-reads
+use Rattle.frames.proofs.next.Reads as next-reads
+use Rattle.frames.proofs.start.Reads as start-reads
+use Rattle.frames.proofs.visit.Reads as visit-reads
 
 abbrev Inv-loop : tie.InvT-loop
 Inv-loop ws₀ a limit budget s₀ ws s = (length ws ≡ length ws₀) × (take (a .frames) ws ≡ take (a .frames) ws₀) × ((t : Table) → Inputs t a ws₀ → Turn t a limit budget ws (s .depth) (s .left))
@@ -31,9 +32,12 @@ start-requires c κs = search needs
 
 -- src/lib.rt:445:5
 loop-holds : tie.Need-loop-holds Inv-loop μ-loop
-loop-holds c = let s = c .before .before .before .before .before in let go = c .before .before .start .ensures (s .pre .0) (s .pre .1) in
-    (refl, refl, λ t h. turn-start t (s .args .a) (s .args .limit) (s .args .budget) (s .args .ws .now) (c .before .before .start .last .0)
-    (c .before .before .start .ensures t (inputs-before t (s .args .a) (s .args .ws .now) (c .before .before .start .last .0) (s .pre .1 .fits) (go .tables) h)))
+loop-holds c = let s = c .before .before .before .before .before in let go = c .before .before .start .ensures (s .pre .0) (s .pre .1) in (
+  refl,
+  refl,
+  λ t h. turn-start t (s .args .a) (s .args .limit) (s .args .budget) (s .args .ws .now) (c .before .before .start .last .0)
+      (c .before .before .start .ensures t (inputs-before t (s .args .a) (s .args .ws .now) (c .before .before .start .last .0) (s .pre .1 .fits) (go .tables) h)),
+)
 
 -- src/lib.rt:447:13
 next-requires : tie.Need-next-requires Inv-loop μ-loop
@@ -49,11 +53,12 @@ loop-less c = let s = c .before .before .before .before .before .before .before 
 
 -- src/lib.rt:445:5
 loop-again : tie.Need-loop-again Inv-loop μ-loop
-loop-again c = let s = c .before .before .before .before .before .before .before .before .before .before .before .before .before .before .before in let l = c .before .before .before .before .before .before .before .before .before .loop in let go = c .before .before .before .before .before .before .before .before .before .before .before .before .start .ensures (s .pre .0) (s .pre .1) in let turn = l .inv .2 (s .pre .0) (go .stands .inputs) in
-    (c .before .before .back .kept .0 ∙ l .inv .0,
-    c .before .before .back .ensures .2 (s .pre .0) (turn .stands) .tables ∙ l .inv .1,
-    λ t h. let u = l .inv .2 t h in let n = c .before .before .before .before .before .next .ensures t (u .stands) in
-    rw (c .before .before .back .ensures .0, c .before .before .back .ensures .1) (turn-back t (s .args .a) (s .args .limit) (s .args .budget) (l .ws) (l .s .depth) (l .s .left) u (c .before .before .before .before .before .before .before .if1 .taken) (c .before .before .back .last .0) (rw (c .before .before .before .before .if2 .taken) at n) (c .before .before .back .ensures .2 t (u .stands))))
+loop-again c = let s = c .before .before .before .before .before .before .before .before .before .before .before .before .before .before .before in let l = c .before .before .before .before .before .before .before .before .before .loop in let go = c .before .before .before .before .before .before .before .before .before .before .before .before .start .ensures (s .pre .0) (s .pre .1) in let turn = l .inv .2 (s .pre .0) (go .stands .inputs) in (
+  c .before .before .back .kept .0 ∙ l .inv .0,
+  c .before .before .back .ensures .2 (s .pre .0) (turn .stands) .tables ∙ l .inv .1,
+  λ t h. let u = l .inv .2 t h in let n = c .before .before .before .before .before .next .ensures t (u .stands) in
+      rw (c .before .before .back .ensures .0, c .before .before .back .ensures .1) (turn-back t (s .args .a) (s .args .limit) (s .args .budget) (l .ws) (l .s .depth) (l .s .left) u (c .before .before .before .before .before .before .before .if1 .taken) (c .before .before .back .last .0) (rw (c .before .before .before .before .if2 .taken) at n) (c .before .before .back .ensures .2 t (u .stands))),
+)
 
 -- src/lib.rt:452:17
 same-length : tie.Need-same-length Inv-loop μ-loop
@@ -62,8 +67,11 @@ same-length c = let l = c .before .before .before .before .before .before .befor
 -- src/lib.rt:452:17
 returns : tie.Need-returns Inv-loop μ-loop
 unfolding outcome counted
-returns c = let s = c .before .before .before .before .before .before .before .before .before .before .before .before .before in let l = c .before .before .before .before .before .before .before .loop in let go = c .before .before .before .before .before .before .before .before .before .before .start .ensures (s .pre .0) (s .pre .1) in let turn = l .inv .2 (s .pre .0) (go .stands .inputs) in ((λ t h. let back = c .before .before .before .before .before .before .before .before .before .before .start .ensures t h in let u = l .inv .2 t (back .stands .inputs) in let n = c .before .before .before .next .ensures t (u .stands) in
-    turn-spent t (s .args .a) (s .args .limit) (s .args .budget) (l .ws) (l .s .depth) (l .s .left) u (c .before .before .before .before .before .if1 .taken) (c .before .before .before .next .result) n (omega (arith, c .before .before .if2 .left)) (c .if3 .taken)), ((λ t. tt), l .inv .1 ∙ go .tables))
+returns c = let s = c .before .before .before .before .before .before .before .before .before .before .before .before .before in let l = c .before .before .before .before .before .before .before .loop in let go = c .before .before .before .before .before .before .before .before .before .before .start .ensures (s .pre .0) (s .pre .1) in let turn = l .inv .2 (s .pre .0) (go .stands .inputs) in (
+  (λ t h. let back = c .before .before .before .before .before .before .before .before .before .before .start .ensures t h in let u = l .inv .2 t (back .stands .inputs) in let n = c .before .before .before .next .ensures t (u .stands) in
+      turn-spent t (s .args .a) (s .args .limit) (s .args .budget) (l .ws) (l .s .depth) (l .s .left) u (c .before .before .before .before .before .if1 .taken) (c .before .before .before .next .result) n (omega (arith, c .before .before .if2 .left)) (c .if3 .taken)),
+  ((λ t. tt), l .inv .1 ∙ go .tables),
+)
 
 -- src/lib.rt:454:13
 visit-requires : tie.Need-visit-requires Inv-loop μ-loop
@@ -109,16 +117,18 @@ loop-again-2 c = let s = c .before .before .before .before .before .before .befo
     let p : 0 < l .s .left = omega (arith, c .before .before .before .before .before .before .before .before .before .before .before .before .if3 .left) in
     let w = c .before .before .before .before .before .before .before .before .before .before .visit .ensures .2 (s .pre .0) (turn-ready (s .pre .0) (s .args .a) (s .args .limit) (s .args .budget) (l .ws) (l .s .depth) (l .s .left) turn d (c .before .before .before .before .before .before .before .before .before .before .before .before .before .before .before .next .result) n z) in
     let j = turn-judged (s .pre .0) (s .args .a) (s .args .limit) (s .args .budget) (l .ws) (l .s .depth) (l .s .left) turn d (c .before .before .before .before .before .before .before .before .before .before .before .before .before .before .before .next .result) n z (c .before .before .before .before .before .before .before .before .before .before .visit .last .0) (c .before .before .before .before .before .before .before .before .before .before .visit .result .verdict) w p in let g = c .before .before .before .before .before .before .follow .ensures (s .pre .0) (rw (c .before .before .before .before .before .before .before .before .before .before .visit .ensures .0) j) in
-    let q : Goes (s .pre .0) (s .args .a) (s .args .limit) (c .before .before .before .before .before .before .before .before .before .before .visit .last .0) (c .before .before .before .before .before .before .follow .last .0) (l .s .depth) (c .before .before .step .given .0 .0) = rw (c .before .before .step .given .1, c .before .before .before .before .before .before .before .before .before .before .visit .ensures .0) at g in
-    (c .before .before .before .before .before .before .follow .kept .0 ∙ (c .before .before .before .before .before .before .before .before .before .before .visit .kept .0 ∙ l .inv .0), q .tables ∙ (w .tables ∙ l .inv .1), 
-    λ t h. let turn = l .inv .2 t h in let n = c .before .before .before .before .before .before .before .before .before .before .before .before .before .before .before .next .ensures t (turn .stands) in
-    let z : 0 < c .before .before .before .before .before .before .before .before .before .before .before .before .before .before .before .next .result = omega (arith, c .before .before .before .before .before .before .before .before .before .before .before .before .before .before .if2 .left) in
-    let d : 0 < l .s .depth = c .before .before .before .before .before .before .before .before .before .before .before .before .before .before .before .before .before .if1 .taken in
-    let p : 0 < l .s .left = omega (arith, c .before .before .before .before .before .before .before .before .before .before .before .before .if3 .left) in
-    let w = c .before .before .before .before .before .before .before .before .before .before .visit .ensures .2 t (turn-ready t (s .args .a) (s .args .limit) (s .args .budget) (l .ws) (l .s .depth) (l .s .left) turn d (c .before .before .before .before .before .before .before .before .before .before .before .before .before .before .before .next .result) n z) in
-    let j = turn-judged t (s .args .a) (s .args .limit) (s .args .budget) (l .ws) (l .s .depth) (l .s .left) turn d (c .before .before .before .before .before .before .before .before .before .before .before .before .before .before .before .next .result) n z (c .before .before .before .before .before .before .before .before .before .before .visit .last .0) (c .before .before .before .before .before .before .before .before .before .before .visit .result .verdict) w p in let g = c .before .before .before .before .before .before .follow .ensures t (rw (c .before .before .before .before .before .before .before .before .before .before .visit .ensures .0) j) in
-    let q : Goes t (s .args .a) (s .args .limit) (c .before .before .before .before .before .before .before .before .before .before .visit .last .0) (c .before .before .before .before .before .before .follow .last .0) (l .s .depth) (c .before .before .step .given .0 .0) = rw (c .before .before .step .given .1, c .before .before .before .before .before .before .before .before .before .before .visit .ensures .0) at g in
-    rw (c .at-depth .ensures .0, c .at-depth .ensures .1, c .before .before .before .before .before .before .before .before .before .before .visit .ensures .1) (turn-on t (s .args .a) (s .args .limit) (s .args .budget) (l .ws) (l .s .depth) (l .s .left) turn d (c .before .before .before .before .before .before .before .before .before .before .before .before .before .before .before .next .result) n z (c .before .before .before .before .before .before .before .before .before .before .visit .last .0) (c .before .before .before .before .before .before .before .before .before .before .visit .result .verdict) w p (c .before .before .before .before .before .before .follow .last .0) (c .before .before .step .given .0 .0) q))
+    let q : Goes (s .pre .0) (s .args .a) (s .args .limit) (c .before .before .before .before .before .before .before .before .before .before .visit .last .0) (c .before .before .before .before .before .before .follow .last .0) (l .s .depth) (c .before .before .step .given .0 .0) = rw (c .before .before .step .given .1, c .before .before .before .before .before .before .before .before .before .before .visit .ensures .0) at g in (
+      c .before .before .before .before .before .before .follow .kept .0 ∙ (c .before .before .before .before .before .before .before .before .before .before .visit .kept .0 ∙ l .inv .0),
+      q .tables ∙ (w .tables ∙ l .inv .1),
+      λ t h. let turn = l .inv .2 t h in let n = c .before .before .before .before .before .before .before .before .before .before .before .before .before .before .before .next .ensures t (turn .stands) in
+          let z : 0 < c .before .before .before .before .before .before .before .before .before .before .before .before .before .before .before .next .result = omega (arith, c .before .before .before .before .before .before .before .before .before .before .before .before .before .before .if2 .left) in
+          let d : 0 < l .s .depth = c .before .before .before .before .before .before .before .before .before .before .before .before .before .before .before .before .before .if1 .taken in
+          let p : 0 < l .s .left = omega (arith, c .before .before .before .before .before .before .before .before .before .before .before .before .if3 .left) in
+          let w = c .before .before .before .before .before .before .before .before .before .before .visit .ensures .2 t (turn-ready t (s .args .a) (s .args .limit) (s .args .budget) (l .ws) (l .s .depth) (l .s .left) turn d (c .before .before .before .before .before .before .before .before .before .before .before .before .before .before .before .next .result) n z) in
+          let j = turn-judged t (s .args .a) (s .args .limit) (s .args .budget) (l .ws) (l .s .depth) (l .s .left) turn d (c .before .before .before .before .before .before .before .before .before .before .before .before .before .before .before .next .result) n z (c .before .before .before .before .before .before .before .before .before .before .visit .last .0) (c .before .before .before .before .before .before .before .before .before .before .visit .result .verdict) w p in let g = c .before .before .before .before .before .before .follow .ensures t (rw (c .before .before .before .before .before .before .before .before .before .before .visit .ensures .0) j) in
+          let q : Goes t (s .args .a) (s .args .limit) (c .before .before .before .before .before .before .before .before .before .before .visit .last .0) (c .before .before .before .before .before .before .follow .last .0) (l .s .depth) (c .before .before .step .given .0 .0) = rw (c .before .before .step .given .1, c .before .before .before .before .before .before .before .before .before .before .visit .ensures .0) at g in
+          rw (c .at-depth .ensures .0, c .at-depth .ensures .1, c .before .before .before .before .before .before .before .before .before .before .visit .ensures .1) (turn-on t (s .args .a) (s .args .limit) (s .args .budget) (l .ws) (l .s .depth) (l .s .left) turn d (c .before .before .before .before .before .before .before .before .before .before .before .before .before .before .before .next .result) n z (c .before .before .before .before .before .before .before .before .before .before .visit .last .0) (c .before .before .before .before .before .before .before .before .before .before .visit .result .verdict) w p (c .before .before .before .before .before .before .follow .last .0) (c .before .before .step .given .0 .0) q),
+    )
 
 -- src/lib.rt:461:34
 enum-told : tie.Need-enum-told Inv-loop μ-loop
@@ -148,16 +158,17 @@ returns-2 c = let s = c .before .before .before .before .before .before .before 
     let p : 0 < l .s .left = omega (arith, c .before .before .before .before .before .before .before .before .before .before .before .before .if3 .left) in
     let w = c .before .before .before .before .before .before .before .before .before .before .visit .ensures .2 (s .pre .0) (turn-ready (s .pre .0) (s .args .a) (s .args .limit) (s .args .budget) (l .ws) (l .s .depth) (l .s .left) turn d (c .before .before .before .before .before .before .before .before .before .before .before .before .before .before .before .next .result) n z) in
     let j = turn-judged (s .pre .0) (s .args .a) (s .args .limit) (s .args .budget) (l .ws) (l .s .depth) (l .s .left) turn d (c .before .before .before .before .before .before .before .before .before .before .before .before .before .before .before .next .result) n z (c .before .before .before .before .before .before .before .before .before .before .visit .last .0) (c .before .before .before .before .before .before .before .before .before .before .visit .result .verdict) w p in let g = c .before .before .before .before .before .before .follow .ensures (s .pre .0) (rw (c .before .before .before .before .before .before .before .before .before .before .visit .ensures .0) j) in
-    let q : Stops (s .pre .0) (s .args .a) (s .args .limit) (c .before .before .before .before .before .before .before .before .before .before .visit .last .0) (c .before .before .before .before .before .before .follow .last .0) (l .s .depth) = rw (c .before .before .enum-told .given .1, c .before .before .before .before .before .before .before .before .before .before .visit .ensures .0) at g in
-    ((λ t h. let back = c .before .before .before .before .before .before .before .before .before .before .before .before .before .before .before .before .before .before .before .before .before .before .start .ensures t h in let turn = l .inv .2 t (back .stands .inputs) in let n = c .before .before .before .before .before .before .before .before .before .before .before .before .before .before .before .next .ensures t (turn .stands) in
-    let z : 0 < c .before .before .before .before .before .before .before .before .before .before .before .before .before .before .before .next .result = omega (arith, c .before .before .before .before .before .before .before .before .before .before .before .before .before .before .if2 .left) in
-    let d : 0 < l .s .depth = c .before .before .before .before .before .before .before .before .before .before .before .before .before .before .before .before .before .if1 .taken in
-    let p : 0 < l .s .left = omega (arith, c .before .before .before .before .before .before .before .before .before .before .before .before .if3 .left) in
-    let w = c .before .before .before .before .before .before .before .before .before .before .visit .ensures .2 t (turn-ready t (s .args .a) (s .args .limit) (s .args .budget) (l .ws) (l .s .depth) (l .s .left) turn d (c .before .before .before .before .before .before .before .before .before .before .before .before .before .before .before .next .result) n z) in
-    let j = turn-judged t (s .args .a) (s .args .limit) (s .args .budget) (l .ws) (l .s .depth) (l .s .left) turn d (c .before .before .before .before .before .before .before .before .before .before .before .before .before .before .before .next .result) n z (c .before .before .before .before .before .before .before .before .before .before .visit .last .0) (c .before .before .before .before .before .before .before .before .before .before .visit .result .verdict) w p in let g = c .before .before .before .before .before .before .follow .ensures t (rw (c .before .before .before .before .before .before .before .before .before .before .visit .ensures .0) j) in
-    let q : Stops t (s .args .a) (s .args .limit) (c .before .before .before .before .before .before .before .before .before .before .visit .last .0) (c .before .before .before .before .before .before .follow .last .0) (l .s .depth) = rw (c .before .before .enum-told .given .1, c .before .before .before .before .before .before .before .before .before .before .visit .ensures .0) at g in
-    rw (c .found .ensures, c .before .before .before .before .before .before .before .before .before .before .visit .ensures .1) (turn-stopped t (s .args .a) (s .args .limit) (s .args .budget) (l .ws) (l .s .depth) (l .s .left) turn d (c .before .before .before .before .before .before .before .before .before .before .before .before .before .before .before .next .result) n z (c .before .before .before .before .before .before .before .before .before .before .visit .last .0) (c .before .before .before .before .before .before .before .before .before .before .visit .result .verdict) w p (c .before .before .before .before .before .before .follow .last .0) q)),
-    ((λ t. rw (c .found .ensures) (sym (emitted-count t (s .args .a) (listsPart (s .args .a) (c .before .before .before .before .before .before .follow .last .0))))), q .tables ∙ (w .tables ∙ (l .inv .1 ∙ go .tables))))
+    let q : Stops (s .pre .0) (s .args .a) (s .args .limit) (c .before .before .before .before .before .before .before .before .before .before .visit .last .0) (c .before .before .before .before .before .before .follow .last .0) (l .s .depth) = rw (c .before .before .enum-told .given .1, c .before .before .before .before .before .before .before .before .before .before .visit .ensures .0) at g in (
+      (λ t h. let back = c .before .before .before .before .before .before .before .before .before .before .before .before .before .before .before .before .before .before .before .before .before .before .start .ensures t h in let turn = l .inv .2 t (back .stands .inputs) in let n = c .before .before .before .before .before .before .before .before .before .before .before .before .before .before .before .next .ensures t (turn .stands) in
+          let z : 0 < c .before .before .before .before .before .before .before .before .before .before .before .before .before .before .before .next .result = omega (arith, c .before .before .before .before .before .before .before .before .before .before .before .before .before .before .if2 .left) in
+          let d : 0 < l .s .depth = c .before .before .before .before .before .before .before .before .before .before .before .before .before .before .before .before .before .if1 .taken in
+          let p : 0 < l .s .left = omega (arith, c .before .before .before .before .before .before .before .before .before .before .before .before .if3 .left) in
+          let w = c .before .before .before .before .before .before .before .before .before .before .visit .ensures .2 t (turn-ready t (s .args .a) (s .args .limit) (s .args .budget) (l .ws) (l .s .depth) (l .s .left) turn d (c .before .before .before .before .before .before .before .before .before .before .before .before .before .before .before .next .result) n z) in
+          let j = turn-judged t (s .args .a) (s .args .limit) (s .args .budget) (l .ws) (l .s .depth) (l .s .left) turn d (c .before .before .before .before .before .before .before .before .before .before .before .before .before .before .before .next .result) n z (c .before .before .before .before .before .before .before .before .before .before .visit .last .0) (c .before .before .before .before .before .before .before .before .before .before .visit .result .verdict) w p in let g = c .before .before .before .before .before .before .follow .ensures t (rw (c .before .before .before .before .before .before .before .before .before .before .visit .ensures .0) j) in
+          let q : Stops t (s .args .a) (s .args .limit) (c .before .before .before .before .before .before .before .before .before .before .visit .last .0) (c .before .before .before .before .before .before .follow .last .0) (l .s .depth) = rw (c .before .before .enum-told .given .1, c .before .before .before .before .before .before .before .before .before .before .visit .ensures .0) at g in
+          rw (c .found .ensures, c .before .before .before .before .before .before .before .before .before .before .visit .ensures .1) (turn-stopped t (s .args .a) (s .args .limit) (s .args .budget) (l .ws) (l .s .depth) (l .s .left) turn d (c .before .before .before .before .before .before .before .before .before .before .before .before .before .before .before .next .result) n z (c .before .before .before .before .before .before .before .before .before .before .visit .last .0) (c .before .before .before .before .before .before .before .before .before .before .visit .result .verdict) w p (c .before .before .before .before .before .before .follow .last .0) q)),
+      ((λ t. rw (c .found .ensures) (sym (emitted-count t (s .args .a) (listsPart (s .args .a) (c .before .before .before .before .before .before .follow .last .0))))), q .tables ∙ (w .tables ∙ (l .inv .1 ∙ go .tables))),
+    )
 
 -- src/lib.rt:464:21
 enum-told-2 : tie.Need-enum-told-2 Inv-loop μ-loop
@@ -176,16 +187,17 @@ returns-3 c = let s = c .before .before .before .before .before .before .before 
     let p : 0 < l .s .left = omega (arith, c .before .before .before .before .before .before .before .before .before .before .if3 .left) in
     let w = c .before .before .before .before .before .before .before .before .visit .ensures .2 (s .pre .0) (turn-ready (s .pre .0) (s .args .a) (s .args .limit) (s .args .budget) (l .ws) (l .s .depth) (l .s .left) turn d (c .before .before .before .before .before .before .before .before .before .before .before .before .before .next .result) n z) in
     let j = turn-judged (s .pre .0) (s .args .a) (s .args .limit) (s .args .budget) (l .ws) (l .s .depth) (l .s .left) turn d (c .before .before .before .before .before .before .before .before .before .before .before .before .before .next .result) n z (c .before .before .before .before .before .before .before .before .visit .last .0) (c .before .before .before .before .before .before .before .before .visit .result .verdict) w p in let g = c .before .before .before .before .follow .ensures (s .pre .0) (rw (c .before .before .before .before .before .before .before .before .visit .ensures .0) j) in
-    let q : Fills (s .pre .0) (s .args .a) (s .args .limit) (c .before .before .before .before .before .before .before .before .visit .last .0) (c .before .before .before .before .follow .last .0) (l .s .depth) = rw (c .enum-told2 .given .1, c .before .before .before .before .before .before .before .before .visit .ensures .0) at g in
-    ((λ t h. let back = c .before .before .before .before .before .before .before .before .before .before .before .before .before .before .before .before .before .before .before .before .start .ensures t h in let turn = l .inv .2 t (back .stands .inputs) in let n = c .before .before .before .before .before .before .before .before .before .before .before .before .before .next .ensures t (turn .stands) in
-    let z : 0 < c .before .before .before .before .before .before .before .before .before .before .before .before .before .next .result = omega (arith, c .before .before .before .before .before .before .before .before .before .before .before .before .if2 .left) in
-    let d : 0 < l .s .depth = c .before .before .before .before .before .before .before .before .before .before .before .before .before .before .before .if1 .taken in
-    let p : 0 < l .s .left = omega (arith, c .before .before .before .before .before .before .before .before .before .before .if3 .left) in
-    let w = c .before .before .before .before .before .before .before .before .visit .ensures .2 t (turn-ready t (s .args .a) (s .args .limit) (s .args .budget) (l .ws) (l .s .depth) (l .s .left) turn d (c .before .before .before .before .before .before .before .before .before .before .before .before .before .next .result) n z) in
-    let j = turn-judged t (s .args .a) (s .args .limit) (s .args .budget) (l .ws) (l .s .depth) (l .s .left) turn d (c .before .before .before .before .before .before .before .before .before .before .before .before .before .next .result) n z (c .before .before .before .before .before .before .before .before .visit .last .0) (c .before .before .before .before .before .before .before .before .visit .result .verdict) w p in let g = c .before .before .before .before .follow .ensures t (rw (c .before .before .before .before .before .before .before .before .visit .ensures .0) j) in
-    let q : Fills t (s .args .a) (s .args .limit) (c .before .before .before .before .before .before .before .before .visit .last .0) (c .before .before .before .before .follow .last .0) (l .s .depth) = rw (c .enum-told2 .given .1, c .before .before .before .before .before .before .before .before .visit .ensures .0) at g in
-    turn-full t (s .args .a) (s .args .limit) (s .args .budget) (l .ws) (l .s .depth) (l .s .left) turn d (c .before .before .before .before .before .before .before .before .before .before .before .before .before .next .result) n z (c .before .before .before .before .before .before .before .before .visit .last .0) (c .before .before .before .before .before .before .before .before .visit .result .verdict) w p (c .before .before .before .before .follow .last .0) q),
-    ((λ t. tt), q .tables ∙ (w .tables ∙ (l .inv .1 ∙ go .tables))))
+    let q : Fills (s .pre .0) (s .args .a) (s .args .limit) (c .before .before .before .before .before .before .before .before .visit .last .0) (c .before .before .before .before .follow .last .0) (l .s .depth) = rw (c .enum-told2 .given .1, c .before .before .before .before .before .before .before .before .visit .ensures .0) at g in (
+      (λ t h. let back = c .before .before .before .before .before .before .before .before .before .before .before .before .before .before .before .before .before .before .before .before .start .ensures t h in let turn = l .inv .2 t (back .stands .inputs) in let n = c .before .before .before .before .before .before .before .before .before .before .before .before .before .next .ensures t (turn .stands) in
+          let z : 0 < c .before .before .before .before .before .before .before .before .before .before .before .before .before .next .result = omega (arith, c .before .before .before .before .before .before .before .before .before .before .before .before .if2 .left) in
+          let d : 0 < l .s .depth = c .before .before .before .before .before .before .before .before .before .before .before .before .before .before .before .if1 .taken in
+          let p : 0 < l .s .left = omega (arith, c .before .before .before .before .before .before .before .before .before .before .if3 .left) in
+          let w = c .before .before .before .before .before .before .before .before .visit .ensures .2 t (turn-ready t (s .args .a) (s .args .limit) (s .args .budget) (l .ws) (l .s .depth) (l .s .left) turn d (c .before .before .before .before .before .before .before .before .before .before .before .before .before .next .result) n z) in
+          let j = turn-judged t (s .args .a) (s .args .limit) (s .args .budget) (l .ws) (l .s .depth) (l .s .left) turn d (c .before .before .before .before .before .before .before .before .before .before .before .before .before .next .result) n z (c .before .before .before .before .before .before .before .before .visit .last .0) (c .before .before .before .before .before .before .before .before .visit .result .verdict) w p in let g = c .before .before .before .before .follow .ensures t (rw (c .before .before .before .before .before .before .before .before .visit .ensures .0) j) in
+          let q : Fills t (s .args .a) (s .args .limit) (c .before .before .before .before .before .before .before .before .visit .last .0) (c .before .before .before .before .follow .last .0) (l .s .depth) = rw (c .enum-told2 .given .1, c .before .before .before .before .before .before .before .before .visit .ensures .0) at g in
+          turn-full t (s .args .a) (s .args .limit) (s .args .budget) (l .ws) (l .s .depth) (l .s .left) turn d (c .before .before .before .before .before .before .before .before .before .before .before .before .before .next .result) n z (c .before .before .before .before .before .before .before .before .visit .last .0) (c .before .before .before .before .before .before .before .before .visit .result .verdict) w p (c .before .before .before .before .follow .last .0) q),
+      ((λ t. tt), q .tables ∙ (w .tables ∙ (l .inv .1 ∙ go .tables))),
+    )
 
 -- src/lib.rt:469:5
 found-requires-2 : tie.Need-found-requires-2 Inv-loop μ-loop
@@ -198,8 +210,11 @@ same-length-4 c = let l = c .before .before .before .before .loop in l .inv .0 �
 -- src/lib.rt:433:1
 returns-4 : tie.Need-returns-4 Inv-loop μ-loop
 unfolding outcome counted
-returns-4 c = let s = c .before .before .before .before .before .before .before .before .before .before in let l = c .before .before .before .before .loop in let go = c .before .before .before .before .before .before .before .start .ensures (s .pre .0) (s .pre .1) in let turn = l .inv .2 (s .pre .0) (go .stands .inputs) in ((λ t h. let back = c .before .before .before .before .before .before .before .start .ensures t h in let u = l .inv .2 t (back .stands .inputs) in
-    rw (c .found2 .ensures) (turn-end t (s .args .a) (s .args .limit) (s .args .budget) (l .ws) (l .s .depth) (l .s .left) u (omega (arith, c .before .before .if1 .left)))), ((λ t. rw (c .found2 .ensures) (sym (emitted-count t (s .args .a) (listsPart (s .args .a) (l .ws))))), l .inv .1 ∙ go .tables))
+returns-4 c = let s = c .before .before .before .before .before .before .before .before .before .before in let l = c .before .before .before .before .loop in let go = c .before .before .before .before .before .before .before .start .ensures (s .pre .0) (s .pre .1) in let turn = l .inv .2 (s .pre .0) (go .stands .inputs) in (
+  (λ t h. let back = c .before .before .before .before .before .before .before .start .ensures t h in let u = l .inv .2 t (back .stands .inputs) in
+      rw (c .found2 .ensures) (turn-end t (s .args .a) (s .args .limit) (s .args .budget) (l .ws) (l .s .depth) (l .s .left) u (omega (arith, c .before .before .if1 .left)))),
+  ((λ t. rw (c .found2 .ensures) (sym (emitted-count t (s .args .a) (listsPart (s .args .a) (l .ws))))), l .inv .1 ∙ go .tables),
+)
 
 pub search-spec : {M : Type 1} → statement M
 search-spec =

@@ -1,0 +1,107 @@
+-- The next candidate of a frame: the first place above the mark, and the last place whose orbit is not in use. Leans on Frames and Numbers.
+use mathlib.Core.Path.{_≡_, refl, sym, ap, _∙_}
+use mathlib.Core.Bool.{Bool, true, false, not}
+use mathlib.Core.List.{List, [], _∷_, _++_}
+use mathlib.Core.Option.{Option}
+use Prim.Native.Nat.{ℕ, zero, suc, _+_, _-_, _≤_, _<_}
+use native.Mathlib.Omega.{arith}
+use lib.Dec.{T, not-T, ltb, ltb→lt, lt→ltb}
+use lib.ListN.{length, getD, drop}
+use lib.Seq.{getD-take, getD-drop}
+use Rattle.definitions.specs.Search.{Table, Facet, allFacets, usesOrbit}
+use Rattle.laws.specs.Lists.{member-at}
+use Rattle.completeness.specs.Facets.{orbit-below}
+use Rattle.facets.specs.Kept.{place-is}
+use Rattle.facets.specs.declared.Areas.{Areas}
+use Rattle.facets.specs.Frames.{Ascends, candidates, candidates-ascend, above, lowOf, unused, waiting, pass-used, take-unused, none-waits}
+use Rattle.facets.specs.Layout.{Inputs, numbers, ridgeOf, facetOf, Uses, flag, usedPart}
+use Rattle.facets.specs.Numbers.{numbers-length, numbers-small, candidate-at}
+
+-- ---- the first place above the mark
+
+ascends-at : (l : List Facet) (d : Facet) (i j : ℕ) → Ascends l → i ≤ j → j < length l → getD l i d .0 ≤ getD l j d .0
+ascends-at [] d i j h k m = absurd (omega arith)
+ascends-at (x ∷ l) d zero zero h k m = omega arith
+ascends-at (x ∷ l) d zero (suc j) h k m = h .0 (getD l j d) (member-at l j d (omega arith))
+ascends-at (x ∷ l) d (suc i) zero h k m = absurd (omega arith)
+ascends-at (x ∷ l) d (suc i) (suc j) h k m = ascends-at l d i j (h .1) (omega arith) (omega arith)
+
+-- the item before a place is not above the mark, the one at it is
+pub low-is : (t : Table) (mark kind i : ℕ) → i ≤ length (numbers t kind)
+    → (0 < i → getD (candidates t (ridgeOf kind)) (i - 1) (0, 0) .0 ≤ mark) → (i < length (numbers t kind) → mark < getD (candidates t (ridgeOf kind)) i (0, 0) .0)
+    → i ≡ lowOf t mark (ridgeOf kind)
+unfolding lowOf above
+low-is t mark kind i h before at =
+    let n = numbers-length t kind in
+    sym (place-is (λ (f : Facet). ltb mark (f .0)) (0, 0) (candidates t (ridgeOf kind)) i (omega arith)
+    (λ j k. not-T (ltb mark (getD (candidates t (ridgeOf kind)) j (0, 0) .0))
+    (λ z.
+    let x = ltb→lt mark (getD (candidates t (ridgeOf kind)) j (0, 0) .0) z in
+    let b = before (omega arith) in
+    let y = ascends-at (candidates t (ridgeOf kind)) (0, 0) j (i - 1) (candidates-ascend t (ridgeOf kind)) (omega arith) (omega arith) in
+    omega arith))
+    (λ k. lt→ltb mark (getD (candidates t (ridgeOf kind)) i (0, 0) .0) (at (omega arith))))
+
+-- ---- orbits in use
+
+pub orbit-small : (t : Table) (a : Areas) (s : List ℕ) (kind i : ℕ) → Inputs t a s → i < length (numbers t kind) → getD (candidates t (ridgeOf kind)) i (0, 0) .0 < a .orbits
+unfolding facetOf
+orbit-small t a s kind i h k =
+    let e = ap (λ (f : Facet). f .0) (candidate-at t kind i k) in
+    let m = numbers-small t kind i k in
+    let b = orbit-below t (facetOf t (getD (numbers t kind) i 0)) (member-at (allFacets t) (getD (numbers t kind) i 0) (0, 0) m) in
+    let o = h .holds .orbits in
+    omega arith
+
+pub facet-small : (t : Table) (a : Areas) (s : List ℕ) (x : ℕ) → Inputs t a s → x < a .facets → facetOf t x .0 < a .orbits
+unfolding facetOf
+facet-small t a s x h k =
+    let f = h .holds .facets in
+    let b = orbit-below t (facetOf t x) (member-at (allFacets t) x (0, 0) (omega arith)) in
+    let o = h .holds .orbits in
+    omega arith
+
+pub used-at : (a : Areas) (s : List ℕ) (orbit : ℕ) → orbit < a .lists - a .used → getD s (a .used + orbit) 0 ≡ getD (usedPart a s) orbit 0
+used-at a s orbit h = sym (getD-take (a .lists - a .used) (drop (a .used) s) orbit 0 h ∙ getD-drop (a .used) s orbit 0)
+
+flag-free : (b : Bool) → flag b ≡ 0 → T (not b)
+unfolding flag
+flag-free true e = absurd (omega arith)
+flag-free false e = tt
+
+flag-taken : (b : Bool) → (flag b ≡ 0 → ⊥) → T (not (not b))
+unfolding flag
+flag-taken true n = tt
+flag-taken false n = n refl
+
+pub is-unused : (a : Areas) (list : List Facet) (us : List ℕ) (f : Facet) → Uses a list us → f .0 < a .orbits → getD us (f .0) 0 ≡ 0 → T (unused list f)
+unfolding unused
+is-unused a list us f u h e = flag-free (usesOrbit (f .0) list) (sym (u (f .0) h) ∙ e)
+
+pub is-used : (a : Areas) (list : List Facet) (us : List ℕ) (f : Facet) → Uses a list us → f .0 < a .orbits → (getD us (f .0) 0 ≡ 0 → ⊥) → T (not (unused list f))
+unfolding unused
+is-used a list us f u h n = flag-taken (usesOrbit (f .0) list) (λ e. n (u (f .0) h ∙ e))
+
+-- ---- the last unused place
+
+pub record Latest (t : Table) (list : List Facet) (ridge : Option ℕ) (low place r : ℕ) : Type 0 where
+  pub within : r ≤ place
+  pub same : waiting t list ridge low place ≡ waiting t list ridge low r
+  pub free : low < r → T (unused list (getD (candidates t ridge) (r - 1) (0, 0)))
+
+pub latest-none : (t : Table) (list : List Facet) (ridge : Option ℕ) (low place r : ℕ) → Latest t list ridge low place r → r ≤ low → waiting t list ridge low place ≡ []
+latest-none t list ridge low place r l h = l .same ∙ none-waits t list ridge low r h
+
+pub latest-found : (t : Table) (list : List Facet) (ridge : Option ℕ) (low place r : ℕ) → Latest t list ridge low place r → low < r → place ≤ length (candidates t ridge)
+    → waiting t list ridge low place ≡ waiting t list ridge low (r - 1) ++ (getD (candidates t ridge) (r - 1) (0, 0) ∷ [])
+latest-found t list ridge low place r l h k =
+    let e : suc (r - 1) ≡ r = omega arith in
+    let w = l .within in
+    l .same ∙ (ap (waiting t list ridge low) (sym e) ∙ take-unused t list ridge low (r - 1) (0, 0) (omega arith) (omega arith) (l .free h))
+
+-- one place passed over
+pub latest-pass : (t : Table) (list : List Facet) (ridge : Option ℕ) (low place i : ℕ) → waiting t list ridge low place ≡ waiting t list ridge low i → low < i → i ≤ length (candidates t ridge)
+    → T (not (unused list (getD (candidates t ridge) (i - 1) (0, 0)))) → waiting t list ridge low place ≡ waiting t list ridge low (i - 1)
+latest-pass t list ridge low place i w h k n =
+    let e : suc (i - 1) ≡ i = omega arith in
+    w ∙ (ap (waiting t list ridge low) (sym e) ∙ pass-used t list ridge low (i - 1) (0, 0) (omega arith) (omega arith) n)

@@ -1,0 +1,34 @@
+-- The limit on entries and the outcome of a search, in the definition's words. Leans on the emitted lists.
+use mathlib.Core.Path.{_≡_}
+use mathlib.Core.List.{List}
+use mathlib.Core.Option.{Option, some, none}
+use Prim.Native.Nat.{ℕ, _-_}
+use lib.ListN.{length}
+use Rattle.definitions.specs.Search as def
+use Rattle.definitions.specs.Outcome as result
+use Rattle.definitions.specs.Search.{Table}
+use Rattle.words.specs.Words.{words}
+use Rattle.facets.specs.declared.Areas.{Areas}
+use Rattle.search.specs.declared.Limit.{Limit}
+use Rattle.search.specs.declared.Limit.the-variants.{Absent, Entries}
+use Rattle.search.specs.declared.Outcome.{Outcome}
+use Rattle.search.specs.declared.Outcome.the-variants.{Found, Refused}
+use Rattle.facets.specs.Layout.{listsPart}
+use Rattle.frames.specs.Paths.{emittedIn}
+
+unfoldable pub limitOf : Limit → Option ℕ
+limitOf Absent = none
+limitOf (Entries m) = some m
+
+unfoldable pub limitsOf : Areas → Limit → def.EntryLimits
+limitsOf a limit = record { limit = limitOf limit; bound = a .bound }
+
+-- the outcome with the lists that the workspace holds
+unfoldable pub outcome : Table → Areas → Outcome → List ℕ → result.Outcome def.Found
+outcome t a (Found n left) s = result.answered (record { lists = emittedIn t a (listsPart a s); left = left })
+outcome t a (Refused number) s = result.refused number
+
+-- how many lists an outcome says that there are
+unfoldable pub counted : Table → Areas → Outcome → List ℕ → Type 0
+counted t a (Found n left) s = n ≡ length (emittedIn t a (listsPart a s))
+counted t a (Refused number) s = Unit {0}
