@@ -87,8 +87,8 @@ unfolding rankWords
 polygons-rank edges polygons =
     let number = map (edgeNumber edges) in
     let each : flatMap (λ (e : List ℕ). length e ∷ e) (map number polygons) ≡ flatMap (λ (s : List Pair). length s ∷ number s) polygons =
-        flatMap-map (λ (e : List ℕ). length e ∷ e) number polygons
-        ∙ flatMap-same (λ (s : List Pair). length (number s) ∷ number s) (λ (s : List Pair). length s ∷ number s) polygons (λ s m. ap (λ (k : ℕ). k ∷ number s) (length-map s (edgeNumber edges))) in
+    flatMap-map (λ (e : List ℕ). length e ∷ e) number polygons
+    ∙ flatMap-same (λ (s : List Pair). length (number s) ∷ number s) (λ (s : List Pair). length s ∷ number s) polygons (λ s m. ap (λ (k : ℕ). k ∷ number s) (length-map s (edgeNumber edges))) in
     λ t. length-map polygons number t ∷ each t
 
 pub polyhedron-words : (n : ℕ) (edges : List Pair) (polygons : List (List Pair))

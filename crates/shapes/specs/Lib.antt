@@ -23,3 +23,4 @@ pub mod Ends
 pub mod Sizes
 pub mod RidgeCounts
 pub mod FigureWords
+pub mod Example

@@ -75,7 +75,7 @@ module _ (rules : Rules) (p : Prepared) (found : Found) (is-found : searchFrom r
       let orbits = map (λ (f : Facet). f .0) l in
       let e = length-map l (λ (f : Facet). f .0) in
       let r = distinct-below (length (p .inner)) orbits (pairs-map OtherOrbit Differ (λ (f : Facet). f .0) l (λ f i g j other. other) (found-apart rules p found is-found l m))
-          (λ o i. let q = of-map (λ (f : Facet). f .0) o l i in subst (λ (n : ℕ). n < length (p .inner)) (sym (q .2)) (facet-orbit (p .inner) (q .0) (found-facet rules p found is-found l m (q .0) (q .1)) .0)) in
+      (λ o i. let q = of-map (λ (f : Facet). f .0) o l i in subst (λ (n : ℕ). n < length (p .inner)) (sym (q .2)) (facet-orbit (p .inner) (q .0) (found-facet rules p found is-found l m (q .0) (q .1)) .0)) in
       omega arith
 
   -- and its split list no more facets than the call has
