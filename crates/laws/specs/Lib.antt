@@ -8,5 +8,6 @@ pub mod Ascending
 pub mod Segments
 pub mod Places
 pub mod Ranges
+pub mod Sorted
 pub mod Floats
 pub mod LowerBounds

@@ -184,6 +184,18 @@ module _ (rules : Rules) (plane : Subspace) (points : List Vec) (rows : List Row
       possible-polygon own m (facetFigure q f)
       (subst (λ (fs : List Figure). Mem (getD fs (f .1) []) (possibleFacets own)) (sym e) (member-at (possibleFacets own) (f .1) [] (let k = r .1 in omega arith)))
 
+  -- a facet's edges are its inner entry's, at this call's vertices
+  pub facet-edges : (i : Inner) → Mem i (q .inner) → (e : Entry) → Mem e (i .answer .entries)
+      → edgePairs (moveEnds (λ (v : ℕ). getD (i .orbit .vertices) v 0) (e .figure)) ≡ map (endsVia (λ (v : ℕ). getD (i .orbit .vertices) v 0)) (edgePairs (e .figure))
+  facet-edges i m e k =
+      let to : ℕ → ℕ = λ v. getD (i .orbit .vertices) v 0 in
+      let r = inner-polygon i m e k in
+      let n = length (i .orbit .vertices) in
+      ap (λ (f : Figure). edgePairs (moveEnds to f)) (r .1)
+      ∙ ap edgePairs (polygon-raised to n (r .0))
+      ∙ polygon-edges n (map (endsVia to) (r .0))
+      ∙ ap (map (endsVia to)) (sym (ap edgePairs (r .1) ∙ polygon-edges n (r .0)))
+
   -- with the number of points that stands in it
   sizedImages : Facet → List Sized
   sizedImages f = map (λ (edges : List Pair). (length (rankOf 1 (facetFigure q f)), edges)) (polygonImages q f)

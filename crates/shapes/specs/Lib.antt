@@ -24,3 +24,4 @@ pub mod Sizes
 pub mod RidgeCounts
 pub mod FigureWords
 pub mod Example
+pub mod SortedEntries

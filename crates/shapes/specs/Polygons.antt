@@ -124,6 +124,11 @@ polygon-moved n m to into k l h =
     ∙ ap (λ (many : ℕ). bottom (sortRanks (map ends moved) ((countFrom 0 many ∷ []) ∷ []))) (sym (length-map l (edgeVia to)))
     ∙ ap bottom (sorted-polygon m moved rank)
 
+-- an edge raised to a call's vertices and then sent by a row is sent by both at once
+pub via-raised : (to up : ℕ → ℕ) (e : Pair) → edgeVia to (endsVia up e) ≡ edgeVia (λ (v : ℕ). to (up v)) e
+unfolding edgeVia endsVia
+via-raised to up e = refl
+
 -- ---- the edges read off a figure
 
 unfoldable pub edgePairs : Figure → List Pair

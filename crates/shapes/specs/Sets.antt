@@ -17,10 +17,11 @@ use Rattle.laws.specs.Bools.{same-test, true→holds, holds→true}
 use Rattle.laws.specs.Lists.{Mem, kept, of-map, in-map, count-at, member-at}
 use Rattle.laws.specs.Orders.{nats, nat-lists, lt-compare, compare-lt}
 use Rattle.laws.specs.Sorting.{in-sorted}
-use Rattle.laws.specs.Ascending.{Differ, Distinct, Ascends, equal-tested, tested-equal, ascends-distinct, sort-ascending}
+use Rattle.laws.specs.Ascending.{Differ, Distinct, Ascends, SameItems, same-ascending, equal-tested, tested-equal, ascends-distinct, sort-ascending}
 use Rattle.laws.specs.Places.{placeIn, place-below, place-apart, place-ascends, ascending-at, ascends-map, distinct-map, map-self}
 use Rattle.laws.specs.Ranges.{Permutes, permutes-at, permutes-apart, permutes-of, ascending-full, ascending-span}
-use Rattle.shapes.specs.Move.{Into, Rising}
+use Rattle.shapes.specs.Shape.{Element}
+use Rattle.shapes.specs.Move.{Into, Rising, element-sent}
 
 -- ---- sets
 
@@ -96,6 +97,17 @@ pub record Rows (n : ℕ) (rows : List Row) : Type 0 where
 pub row-into : (n : ℕ) (row : Row) → Permutes n row → Into n n (image row)
 unfolding image
 row-into n row p = record { below = permutes-at n row p; apart = permutes-apart n row p }
+
+-- a set's image under a row is a set again
+pub set-image : (n : ℕ) (vertices : List ℕ) (row : Row) → VertexSet n vertices → Permutes n row → VertexSet n (setImage vertices row)
+unfolding setImage sortNats
+set-image n vertices row h p =
+    let e = element-sent n n (image row) (row-into n row p) vertices (record { ascends = h .ascends; below = h .below }) in
+    record { ascends = e .ascends; below = e .below }
+
+-- two sets are equal exactly when they have the same vertices
+pub same-set : (n : ℕ) (k l : List ℕ) → VertexSet n k → VertexSet n l → SameItems k l → k ≡ l
+same-set n k l h j same = same-ascending compare nats k l (h .ascends) (j .ascends) same
 
 -- ---- rows within a set
 
