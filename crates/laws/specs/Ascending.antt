@@ -2,17 +2,16 @@
 -- The order is any linear one. Leans on Orders, Pairs and Sorting.
 use mathlib.Core.Path.{_≡_, refl, sym, ap, _∙_, subst}
 use mathlib.Core.Logic.{_⊎_, inl, inr}
-use mathlib.Core.Bool.{Bool, true, false, cond, not, _||_}
-use mathlib.Core.List.{List, [], _∷_, _++_, map, List·Memᴰ, List·Permᴰ, length-map}
-use Prim.Native.Nat.{ℕ, zero, suc, _+_, _≤_, _<_, Ordering, Ordering·lt, Ordering·eq, Ordering·gt}
-use native.Mathlib.Omega.{arith}
+use mathlib.Core.Bool.{Bool, true, false, cond}
+use mathlib.Core.List.{List, [], _∷_, List·Memᴰ}
+use Prim.Native.Nat.{Ordering, Ordering·lt, Ordering·eq, Ordering·gt}
 use lib.Dec.{T, isEq}
-use lib.ListN.{length, getD}
-use Rattle.definitions.specs.Lists.{isGt, compareList, insertBy, sortBy, anyOf, placeOf, fresh, thenBy}
-use Rattle.laws.specs.Bools.{true→holds, false→fails, same-test}
-use Rattle.laws.specs.Lists.{Mem, here, there, in-map, of-map, any-of, any-witness, member-at, at-member}
-use Rattle.laws.specs.Pairs.{Pairs, pairs-map}
-use Rattle.laws.specs.Orders.{Linear, turned, lt≢eq, lt≢gt, eq≢gt, is-eq}
+use lib.ListN.{length}
+use Rattle.definitions.specs.Lists.{isGt, insertBy, sortBy, anyOf, fresh}
+use Rattle.laws.specs.Bools.{true→holds}
+use Rattle.laws.specs.Lists.{Mem, here, there, any-of, any-witness}
+use Rattle.laws.specs.Pairs.{Pairs}
+use Rattle.laws.specs.Orders.{Linear, turned, lt≢eq, lt≢gt, is-eq}
 use Rattle.laws.specs.Sorting.{insert-perm, sort-perm, perm-member, perm-length, in-sorted, of-sorted}
 
 -- ---- the two kinds of lists

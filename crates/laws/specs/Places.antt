@@ -2,20 +2,20 @@
 -- Leans on Ascending.
 use mathlib.Core.Path.{_≡_, refl, sym, ap, _∙_, subst}
 use mathlib.Core.Logic.{_⊎_, inl, inr}
-use mathlib.Core.Bool.{Bool, true, false, cond, not, _||_}
+use mathlib.Core.Bool.{Bool, true, false, cond, _||_}
 use mathlib.Core.List.{List, [], _∷_, _++_, map, flatMap, map-append, List·Memᴰ}
-use Prim.Native.Nat.{ℕ, zero, suc, _+_, _≤_, _<_, Ordering, Ordering·lt, Ordering·eq, Ordering·gt}
+use Prim.Native.Nat.{ℕ, zero, suc, _≤_, _<_, Ordering, Ordering·lt, Ordering·eq, Ordering·gt}
 use native.Mathlib.Omega.{arith}
 use lib.Dec.{T, isEq}
 use lib.ListN.{length, getD}
-use Rattle.definitions.specs.Lists.{isGt, compareList, insertBy, sortBy, anyOf, placeOf, fresh, thenBy}
-use Rattle.laws.specs.Bools.{true→holds, false→fails, same-test}
-use Rattle.laws.specs.Lists.{Mem, here, there, in-map, of-map, member-at, at-member, place-hit}
-use Rattle.laws.specs.Pairs.{Pairs, pairs-map}
+use Rattle.definitions.specs.Lists.{compareList, sortBy, anyOf, placeOf, fresh, thenBy}
+use Rattle.laws.specs.Bools.{true→holds, same-test}
+use Rattle.laws.specs.Lists.{Mem, here, there, in-map, of-map, member-at, place-hit}
+use Rattle.laws.specs.Pairs.{pairs-map}
 use Rattle.laws.specs.Orders.{Linear, turned}
-use Rattle.laws.specs.Sorting.{sort-perm, in-sorted, of-sorted}
+use Rattle.laws.specs.Sorting.{in-sorted, of-sorted}
 use Rattle.laws.specs.Segments.{le-or-lt}
-use Rattle.laws.specs.Ascending.{Differ, Distinct, Ascends, SameItems, equal-tested, tested-equal, below-differ, not-both, below-or, same-ascending, sorted-ascends, inOrder, in-order-ascends, in-in-order, of-in-order}
+use Rattle.laws.specs.Ascending.{Differ, Distinct, Ascends, equal-tested, tested-equal, below-differ, not-both, same-ascending, sorted-ascends, inOrder, in-order-ascends, in-in-order, of-in-order}
 
 module _ {A : Type 0} (c : A → A → Ordering) (order : Linear c) where
   -- the place of the first item that compares equal

@@ -2,16 +2,16 @@
 -- Leans on Places.
 use mathlib.Core.Path.{_≡_, refl, sym, ap, _∙_, subst}
 use mathlib.Core.Bool.{Bool, true, false, cond}
-use mathlib.Core.List.{List, [], _∷_, map, flatMap, List·Memᴰ, List·Permᴰ, Permᴰ·symm}
-use Prim.Native.Nat.{ℕ, zero, suc, _+_, _≤_, _<_, compare, Ordering, Ordering·lt}
+use mathlib.Core.List.{List, [], _∷_, map, flatMap, List·Memᴰ}
+use Prim.Native.Nat.{ℕ, zero, suc, _+_, _≤_, _<_, compare, Ordering}
 use native.Mathlib.Omega.{arith}
 use lib.Dec.{isEq}
 use lib.ListN.{length, getD}
-use Rattle.definitions.specs.Lists.{sortBy, sortNats, countFrom, anyOf, fresh}
+use Rattle.definitions.specs.Lists.{sortNats, countFrom, anyOf, fresh}
 use Rattle.laws.specs.Lists.{Mem, here, there, in-map, of-map, in-flatMap, of-flatMap, member-at, of-count, in-count, count-length}
 use Rattle.laws.specs.Pairs.{Pairs, count-ascends}
 use Rattle.laws.specs.Orders.{nats, compare-lt, lt-compare}
-use Rattle.laws.specs.Sorting.{perm-length, pairs-perm, sort-perm, in-sorted, of-sorted}
+use Rattle.laws.specs.Sorting.{pairs-perm, sort-perm, in-sorted, of-sorted}
 use Rattle.laws.specs.Ascending.{Differ, Distinct, Ascends, SameItems, ascends-distinct, sorted-ascends, sorted-length}
 use Rattle.laws.specs.Places.{placeIn, place-at}
 

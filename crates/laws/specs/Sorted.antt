@@ -1,18 +1,16 @@
 -- Lists in order, repeats allowed: sorting has one result, whatever the way to it. So code may sort as it likes. Leans on Ascending.
 use mathlib.Core.Path.{_≡_, refl, sym, ap, _∙_, subst}
-use mathlib.Core.Logic.{_⊎_, inl, inr, ∥∥₁-elim}
 use mathlib.Core.Bool.{Bool, true, false, cond, not}
-use mathlib.Core.List.{List, [], _∷_, map, List·Memᴰ, List·Permᴰ, Permᴰ·symm, Pairwise}
-use Prim.Native.Nat.{ℕ, zero, suc, _+_, _≤_, _<_, Ordering, Ordering·lt, Ordering·eq, Ordering·gt}
+use mathlib.Core.List.{List, [], _∷_, List·Memᴰ, List·Permᴰ, Pairwise}
+use Prim.Native.Nat.{ℕ, _+_, _<_, Ordering, Ordering·lt, Ordering·eq, Ordering·gt}
 use native.Mathlib.Omega.{arith}
 use lib.Dec.{T, isEq}
 use lib.ListN.{length}
 use Rattle.definitions.specs.Lists.{isGt, sortBy, keep}
-use Rattle.laws.specs.Bools.{true→holds}
-use Rattle.laws.specs.Lists.{Mem, here, there, in-keep, kept}
+use Rattle.laws.specs.Lists.{Mem, here, kept}
 use Rattle.laws.specs.Pairs.{Pairs}
 use Rattle.laws.specs.Orders.{Linear, turned, is-eq}
-use Rattle.laws.specs.Sorting.{sort-perm, perm-member, perm-length, NotAboveBy, sort-ascends}
+use Rattle.laws.specs.Sorting.{sort-perm, NotAboveBy, sort-ascends}
 use Rattle.laws.specs.Ascending.{equal-tested}
 
 -- 1 where a test holds

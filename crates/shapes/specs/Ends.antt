@@ -1,7 +1,7 @@
 -- Every edge of every figure of a call has two ends, at every rank. Leans on Calls.
 use mathlib.Core.Path.{_≡_, refl, sym, ap, _∙_, subst}
 use mathlib.Core.List.{List, [], _∷_, map, flatMap, List·Memᴰ}
-use Prim.Native.Nat.{ℕ, zero, suc, _+_, compare}
+use Prim.Native.Nat.{ℕ, zero, suc, compare}
 use lib.ListN.{length, getD, drop, replicate, length-map}
 use Rattle.definitions.specs.Lists.{sortBy, sortNats, compareNats, countFrom}
 use Rattle.definitions.specs.Outcome.{answered}
@@ -9,14 +9,14 @@ use Rattle.definitions.specs.Vectors.{Vec}
 use Rattle.definitions.specs.Subspace.{Subspace}
 use Rattle.definitions.specs.Orbits.{Row, image}
 use Rattle.definitions.specs.Figures.{Elements, Figure, rankOf, dyad, moveEnds, sortRanks, sortStrong, lowestRanks, figureOf}
-use Rattle.definitions.specs.Search.{Facet, Found}
+use Rattle.definitions.specs.Search.{Facet}
 use Rattle.definitions.specs.Recursion.{Rules, Entry, Answer, Inner, moveSorted, rowsWithin}
 use Rattle.definitions.specs.Faceting.{Prepared, possibleFacets, atOrbit, split, facetImages, entryOf, finish, faceting}
-use Rattle.laws.specs.Lists.{Mem, here, there, of-map, of-flatMap}
-use Rattle.laws.specs.Orders.{nats, nat-lists}
+use Rattle.laws.specs.Lists.{Mem, of-map, of-flatMap}
+use Rattle.laws.specs.Orders.{nat-lists}
 use Rattle.laws.specs.Sorting.{of-sorted, perm-length, sort-perm}
 use Rattle.laws.specs.Ascending.{of-fresh}
-use Rattle.shapes.specs.Answered.{AnsweredCall, answered-call}
+use Rattle.shapes.specs.Answered.{answered-call}
 use Rattle.shapes.specs.Emitted.{entry-of-list}
 use Rattle.shapes.specs.LowRanks.{rank-two}
 use Rattle.shapes.specs.Assemble.{lowestOf, lowestAll}

@@ -1,9 +1,8 @@
 -- Worked examples: the entries of the square and of a corner's four points as polygons and polyhedra, evaluated. They show that the words of EdgeSets write the definitions' own figures.
-use mathlib.Core.Bool.{Bool, true, false, _&&_}
+use mathlib.Core.Bool.{Bool}
 use mathlib.Core.List.{List, [], _∷_, map}
-use Prim.Native.Nat.{ℕ}
 use lib.Dec.{T, isEq}
-use Rattle.definitions.specs.Lists.{Pair, compareList}
+use Rattle.definitions.specs.Lists.{compareList}
 use Rattle.definitions.specs.Figures.{Figure, compareFigures}
 use Rattle.definitions.specs.Recursion.{Entry}
 use Rattle.definitions.specs.Job.{readJob}

@@ -1,7 +1,7 @@
 -- The ridges of calls of rank 3 and 4: vertices at rank 3, edges at rank 4, so that the table such a call searches is the one numbered by vertices or by pairs of ends. Leans on Ridges.
-use mathlib.Core.Path.{_≡_, refl, sym, ap, _∙_, subst}
-use mathlib.Core.List.{List, [], _∷_, map, List·Memᴰ, map-map}
-use Prim.Native.Nat.{ℕ, zero, suc, compare, _/_}
+use mathlib.Core.Path.{_≡_, sym, ap, _∙_}
+use mathlib.Core.List.{List, [], _∷_, map, map-map}
+use Prim.Native.Nat.{ℕ, compare, _/_}
 use lib.ListN.{length, getD, length-replicate}
 use Rattle.definitions.specs.Lists.{Pair, comparePair, countFrom}
 use Rattle.definitions.specs.Vectors.{Vec}
@@ -9,11 +9,11 @@ use Rattle.definitions.specs.Subspace.{Subspace}
 use Rattle.definitions.specs.Orbits.{Row, Orbit}
 use Rattle.definitions.specs.Figures.{Figure, rankOf}
 use Rattle.definitions.specs.Recursion.{Rules, Answer, Inner, vertexRidge, rowsWithin}
-use Rattle.definitions.specs.Faceting.{Prepared, tableFor}
+use Rattle.definitions.specs.Faceting.{tableFor}
 use Rattle.laws.specs.Lists.{Mem}
 use Rattle.shapes.specs.Answered.{AnsweredCall, answered-call}
 use Rattle.shapes.specs.Edges.{edgeFigure}
-use Rattle.shapes.specs.LowRanks.{RankTwo, inner-rank-two, edgeOf, possible-edges}
+use Rattle.shapes.specs.LowRanks.{inner-rank-two, edgeOf, possible-edges}
 use Rattle.shapes.specs.Calls.{innerPoints}
 use Rattle.shapes.specs.Polygons.{edgeVia}
 use Rattle.shapes.specs.Ridges.{vertices-keyed, edges-keyed, keyTable, table-by-keys}

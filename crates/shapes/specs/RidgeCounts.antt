@@ -5,7 +5,7 @@ use mathlib.Core.Logic.{_⊎_, inl, inr}
 use mathlib.Core.Bool.{Bool, true, false, cond}
 use mathlib.Core.Option.{Option, some, none}
 use mathlib.Core.List.{List, [], _∷_, _++_, map, List·Memᴰ}
-use Prim.Native.Nat.{ℕ, zero, suc, _+_, _≤_, _<_, compare}
+use Prim.Native.Nat.{ℕ, _≤_, _<_}
 use native.Mathlib.Omega.{arith}
 use lib.Dec.{T, isEq}
 use lib.ListN.{length, getD, length-map, length-append}
@@ -15,19 +15,17 @@ use Rattle.definitions.specs.Subspace.{Subspace}
 use Rattle.definitions.specs.Orbits.{Row, image}
 use Rattle.definitions.specs.Figures.{Figure, Elements, compareFigures, moveEnds, sortStrong}
 use Rattle.definitions.specs.Recursion.{Rules, Answer, Inner, Held, RidgeOrbits, noRidges, heldBy, moveSorted, openRidgeOrbit, numberOrOpen, numberRidge, numberRidges}
-use Rattle.definitions.specs.Faceting.{Prepared, faceting}
-use Rattle.laws.specs.Bools.{true→holds, false→fails}
 use Rattle.laws.specs.Lists.{Mem, here, there, in-append, in-map, of-map, count-at}
-use Rattle.laws.specs.Ascending.{equal-tested, tested-equal, in-fresh}
+use Rattle.laws.specs.Ascending.{equal-tested, in-fresh}
 use Rattle.laws.specs.Places.{map-self}
 use Rattle.laws.specs.Ranges.{fresh-few}
 use Rattle.shapes.specs.Answered.{AnsweredCall}
 use Rattle.shapes.specs.Edges.{figures}
 use Rattle.shapes.specs.Compounds.{some-equal, none-is-not-some}
-use Rattle.shapes.specs.Shape.{Element, Tower, Shaped, sort-same}
+use Rattle.shapes.specs.Shape.{Tower, Shaped, sort-same}
 use Rattle.shapes.specs.Move.{raised-into, moved-shaped}
 use Rattle.shapes.specs.Sets.{set-rising}
-use Rattle.shapes.specs.Calls.{Given, facetRank, ShapedAnswer, call-set, inner-shaped}
+use Rattle.shapes.specs.Calls.{Given, facetRank, call-set, inner-shaped}
 use Rattle.shapes.specs.Sizes.{Counted}
 
 -- ---- the identity

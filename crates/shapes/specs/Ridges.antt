@@ -1,13 +1,13 @@
 -- Ridge orbits numbered by keys instead of figures: at rank 3 a ridge is a vertex, at rank 4 a pair of ends. Wherever a ridge's figure is written from a key, moving sends keys to keys, and
 -- the numbering, the counts and the table that a call searches are those of the keys. Over any rows. Leans on Edges and LowRanks.
-use mathlib.Core.Path.{_≡_, refl, sym, ap, _∙_, subst}
-use mathlib.Core.Bool.{Bool, true, false, cond}
+use mathlib.Core.Path.{_≡_, refl, sym, ap, _∙_}
+use mathlib.Core.Bool.{Bool, cond}
 use mathlib.Core.Option.{Option, some, none}
-use mathlib.Core.List.{List, [], _∷_, _++_, map, zipWith, List·Memᴰ, map-map, map-append}
-use Prim.Native.Nat.{ℕ, zero, suc, compare, Ordering}
+use mathlib.Core.List.{List, [], _∷_, _++_, map, zipWith, map-map, map-append}
+use Prim.Native.Nat.{ℕ, compare, Ordering}
 use lib.Dec.{isEq}
 use lib.ListN.{length, getD, length-map}
-use Rattle.definitions.specs.Lists.{Pair, comparePair, fresh, mapWith}
+use Rattle.definitions.specs.Lists.{comparePair, fresh, mapWith}
 use Rattle.definitions.specs.Orbits.{Row, image}
 use Rattle.definitions.specs.Figures.{Figure, compareFigures}
 use Rattle.definitions.specs.Search.{Table}

@@ -1,11 +1,11 @@
 -- A call's entries, from the split lists in order. An entry is a function of its split list, so equal lists have equal entries, and any way of sorting the lists gives the call's entries.
 -- For every rank from 3. Leans on the law that sorting has one result.
-use mathlib.Core.Path.{_≡_, refl, sym, ap, _∙_, subst}
-use mathlib.Core.List.{List, [], _∷_, map, flatMap, map-map, List·Permᴰ, Permᴰ·map}
+use mathlib.Core.Path.{_≡_, refl, sym, ap, _∙_}
+use mathlib.Core.List.{List, map, flatMap, map-map, List·Permᴰ, Permᴰ·map}
 use Rattle.definitions.specs.Lists.{comparePairs, sortBy}
 use Rattle.definitions.specs.Figures.{figureOf, labelIrc}
 use Rattle.definitions.specs.Search.{Facet, Found}
-use Rattle.definitions.specs.Recursion.{Entry, Answer}
+use Rattle.definitions.specs.Recursion.{Entry}
 use Rattle.definitions.specs.Faceting.{Prepared, split, facetImages, entryOf, compareEntries, entriesOf, finish}
 use Rattle.laws.specs.Orders.{pair-lists}
 use Rattle.laws.specs.Places.{map-self}

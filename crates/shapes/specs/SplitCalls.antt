@@ -2,9 +2,8 @@
 -- facets that the call has, none twice. Leans on Splitting, Emitted and LowRanks.
 use mathlib.Core.Path.{_≡_, refl, sym, ap, _∙_, subst}
 use mathlib.Core.Logic.{_⊎_, inl, inr}
-use mathlib.Core.Option.{none}
-use mathlib.Core.List.{List, [], _∷_, _++_, map, flatMap, List·Memᴰ}
-use Prim.Native.Nat.{ℕ, zero, suc, _*_, _≤_, _<_}
+use mathlib.Core.List.{List, [], _∷_, map, flatMap, List·Memᴰ}
+use Prim.Native.Nat.{ℕ, zero, suc, _<_}
 use native.Mathlib.Omega.{arith}
 use lib.ListN.{length, getD, length-map, length-append}
 use Rattle.definitions.specs.Lists.{Pair, countFrom}
@@ -12,15 +11,15 @@ use Rattle.definitions.specs.Outcome.{answered}
 use Rattle.definitions.specs.Vectors.{Vec}
 use Rattle.definitions.specs.Subspace.{Subspace}
 use Rattle.definitions.specs.Orbits.{Row}
-use Rattle.definitions.specs.Figures.{Compound, partsOf, labelIrc}
+use Rattle.definitions.specs.Figures.{Compound, partsOf}
 use Rattle.definitions.specs.Search.{Facet, Found}
 use Rattle.definitions.specs.Recursion.{Rules, Entry, Answer, Inner}
 use Rattle.definitions.specs.Faceting.{Prepared, splitIn, atOrbit, split, entryOf, entriesOf, searchFrom, finish, faceting}
-use Rattle.laws.specs.Lists.{Mem, here, there, in-map, of-map, of-flatMap, member-at, map-at, count-length}
+use Rattle.laws.specs.Lists.{Mem, here, of-map, of-flatMap, member-at, map-at, count-length}
 use Rattle.laws.specs.Pairs.{Pairs, pairs-map, pairs-flatMap, count-ascends}
 use Rattle.laws.specs.Ascending.{Differ, Distinct}
 use Rattle.completeness.specs.Taken.{OtherOrbit}
-use Rattle.shapes.specs.Answered.{facetNumber, AnsweredCall, answered-call}
+use Rattle.shapes.specs.Answered.{facetNumber, answered-call}
 use Rattle.shapes.specs.Emitted.{found-facet, found-apart, found-some, entry-of-list}
 use Rattle.shapes.specs.LowRanks.{RankTwo, rank-two, innerAt, inner-at-member, at-orbit, facet-orbit}
 use Rattle.shapes.specs.Compounds.{Composed, composed}
