@@ -25,3 +25,4 @@ pub mod RidgeCounts
 pub mod FigureWords
 pub mod Example
 pub mod SortedEntries
+pub mod KeyMarks
