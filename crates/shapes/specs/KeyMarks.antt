@@ -1,23 +1,22 @@
 -- Ridge orbits by marks. What code keeps is a mark for each key: the number of the ridge orbit that holds it, or none. Opening a ridge orbit marks the images that have no mark, and nothing
 -- else; a key is held once. Over any keys. Leans on Ridges.
 use mathlib.Core.Path.{_≡_, refl, sym, ap, _∙_, subst}
-use mathlib.Core.Logic.{_⊎_, inl, inr}
-use mathlib.Core.Bool.{Bool, true, false, cond, not, _||_}
+use mathlib.Core.Bool.{Bool, true, false, cond, _||_}
 use mathlib.Core.Option.{Option, some, none}
 use mathlib.Core.List.{List, [], _∷_, _++_, map, List·Memᴰ, map-map, map-append}
 use Prim.Native.Nat.{ℕ, Ordering}
-use lib.Dec.{T, T-not, isEq}
+use lib.Dec.{T, isEq}
 use lib.ListN.{length}
 use Rattle.definitions.specs.Lists.{anyOf, fresh}
 use Rattle.definitions.specs.Orbits.{Row, image}
-use Rattle.laws.specs.Bools.{same-test, false→fails}
-use Rattle.laws.specs.Lists.{Mem, here, there}
+use Rattle.laws.specs.Bools.{same-test}
+use Rattle.laws.specs.Lists.{Mem}
 use Rattle.laws.specs.Pairs.{pairs-append}
 use Rattle.laws.specs.Orders.{Linear}
 use Rattle.laws.specs.Ascending.{Differ, Distinct, seenAmong, seen-member, member-seen, of-fresh, in-fresh, fresh-distinct, equal-tested}
 use Rattle.laws.specs.Places.{map-self}
 use Rattle.shapes.specs.Compounds.{none-is-not-some}
-use Rattle.shapes.specs.Ridges.{KnownKeys, keyHeldBy, openKeyOrbit, numberOrOpenKey}
+use Rattle.shapes.specs.Ridges.{KnownKeys, keyHeldBy, openKeyOrbit}
 
 -- the first mark, or else the second
 unfoldable pub orElse : {A : Type 0} → Option A → Option A → Option A
@@ -87,8 +86,8 @@ module _ {K : Type 0} (c : K → K → Ordering) (order : Linear c) (send : (ℕ
               (λ t. of-fresh c order (keysIn (known .held)) images x (seen-member c order x (fresh c (keysIn (known .held)) images) t) .1 (seen-member c order x (keysIn (known .held)) (marked-held x (known .held) n e))) (λ t. absurd t)
       go none e images =
           let same : seenAmong c order x (fresh c (keysIn (known .held)) images) ≡ seenAmong c order x images = same-test (seenAmong c order x (fresh c (keysIn (known .held)) images)) (seenAmong c order x images)
-              (λ t. member-seen c order x images (of-fresh c order (keysIn (known .held)) images x (seen-member c order x (fresh c (keysIn (known .held)) images) t) .0))
-              (λ t. member-seen c order x (fresh c (keysIn (known .held)) images) (in-fresh c order (keysIn (known .held)) images x (seen-member c order x images t) (held-marked x (known .held) e))) in
+          (λ t. member-seen c order x images (of-fresh c order (keysIn (known .held)) images x (seen-member c order x (fresh c (keysIn (known .held)) images) t) .0))
+          (λ t. member-seen c order x (fresh c (keysIn (known .held)) images) (in-fresh c order (keysIn (known .held)) images x (seen-member c order x images t) (held-marked x (known .held) e))) in
           (λ t. cond (same t) (some number) (e t)) ∙ ap (λ (o : Option ℕ). orElse o (cond (seenAmong c order x images) (some number) none)) (sym e)
 
   -- no key is held twice
@@ -100,8 +99,8 @@ module _ {K : Type 0} (c : K → K → Ordering) (order : Linear c) (send : (ℕ
       let joining = fresh c seen images in
       let number = length (known .counts) in
       let front : map (λ (h : K × ℕ). h .0) (map (λ (x : K). (x, number)) joining) ≡ joining =
-          map-map (λ (h : K × ℕ). h .0) (λ (x : K). (x, number)) joining ∙ map-self (λ (x : K). x) joining (λ x m. refl) in
+      map-map (λ (h : K × ℕ). h .0) (λ (x : K). (x, number)) joining ∙ map-self (λ (x : K). x) joining (λ x m. refl) in
       let whole : keysIn (map (λ (x : K). (x, number)) joining ++ known .held) ≡ joining ++ seen =
-          map-append (λ (h : K × ℕ). h .0) (map (λ (x : K). (x, number)) joining) (known .held) ∙ ap (λ (l : List K). l ++ seen) front in
+      map-append (λ (h : K × ℕ). h .0) (map (λ (x : K). (x, number)) joining) (known .held) ∙ ap (λ (l : List K). l ++ seen) front in
       subst Distinct (sym whole)
       (pairs-append Differ joining seen (fresh-distinct c order seen images) h (λ x i y j e. of-fresh c order seen images x i .1 (subst (λ (z : K). Mem z seen) (sym e) j)))
