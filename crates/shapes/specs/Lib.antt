@@ -26,3 +26,4 @@ pub mod FigureWords
 pub mod Example
 pub mod SortedEntries
 pub mod KeyMarks
+pub mod AllPairs
