@@ -54,10 +54,10 @@ all-pairs-ascend n =
     pairs-flatMap (λ (v w : ℕ). v < w) (λ d e. comparePair d e ≡ Ordering·lt) (λ (v : ℕ). map (λ (w : ℕ). (v, w)) (above n v)) (countFrom 0 n)
     (λ v m. pairs-map (λ (x y : ℕ). x < y) (λ d e. comparePair d e ≡ Ordering·lt) (λ (w : ℕ). (v, w)) (above n v) (λ x i y j k. ap (λ (o : Ordering). thenBy o (compare x y)) (nats .self v) ∙ lt-compare x y k) (count-ascends (suc v) (n - suc v)))
     (λ v i w j k d a e b.
-      let p = of-map (λ (x : ℕ). (v, x)) d (above n v) a in
-      let q = of-map (λ (x : ℕ). (w, x)) e (above n w) b in
-      let first : compare (d .0) (e .0) ≡ Ordering·lt = (λ t. compare (p .2 t .0) (q .2 t .0)) ∙ lt-compare v w k in
-      ap (λ (o : Ordering). thenBy o (compare (d .1) (e .1))) first)
+    let p = of-map (λ (x : ℕ). (v, x)) d (above n v) a in
+    let q = of-map (λ (x : ℕ). (w, x)) e (above n w) b in
+    let first : compare (d .0) (e .0) ≡ Ordering·lt = (λ t. compare (p .2 t .0) (q .2 t .0)) ∙ lt-compare v w k in
+    ap (λ (o : Ordering). thenBy o (compare (d .1) (e .1))) first)
     (count-ascends 0 n)
 
 -- ---- edges and polygons
