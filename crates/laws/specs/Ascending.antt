@@ -2,17 +2,16 @@
 -- The order is any linear one. Leans on Orders, Pairs and Sorting.
 use mathlib.Core.Path.{_≡_, refl, sym, ap, _∙_, subst}
 use mathlib.Core.Logic.{_⊎_, inl, inr}
-use mathlib.Core.Bool.{Bool, true, false, cond, not, _||_}
-use mathlib.Core.List.{List, [], _∷_, _++_, map, List·Memᴰ, List·Permᴰ, length-map}
-use Prim.Native.Nat.{ℕ, zero, suc, _+_, _≤_, _<_, Ordering, Ordering·lt, Ordering·eq, Ordering·gt}
-use native.Mathlib.Omega.{arith}
+use mathlib.Core.Bool.{Bool, true, false, cond}
+use mathlib.Core.List.{List, [], _∷_, List·Memᴰ}
+use Prim.Native.Nat.{Ordering, Ordering·lt, Ordering·eq, Ordering·gt}
 use lib.Dec.{T, isEq}
-use lib.ListN.{length, getD}
-use Rattle.definitions.specs.Lists.{isGt, compareList, insertBy, sortBy, anyOf, placeOf, fresh, thenBy}
-use Rattle.laws.specs.Bools.{true→holds, false→fails, same-test}
-use Rattle.laws.specs.Lists.{Mem, here, there, in-map, of-map, any-of, any-witness, member-at, at-member}
-use Rattle.laws.specs.Pairs.{Pairs, pairs-map}
-use Rattle.laws.specs.Orders.{Linear, turned, lt≢eq, lt≢gt, eq≢gt, is-eq}
+use lib.ListN.{length}
+use Rattle.definitions.specs.Lists.{isGt, insertBy, sortBy, anyOf, fresh}
+use Rattle.laws.specs.Bools.{true→holds}
+use Rattle.laws.specs.Lists.{Mem, here, there, any-of, any-witness}
+use Rattle.laws.specs.Pairs.{Pairs}
+use Rattle.laws.specs.Orders.{Linear, turned, lt≢eq, lt≢gt, is-eq}
 use Rattle.laws.specs.Sorting.{insert-perm, sort-perm, perm-member, perm-length, in-sorted, of-sorted}
 
 -- ---- the two kinds of lists
@@ -133,22 +132,22 @@ module _ {A : Type 0} (c : A → A → Ordering) (order : Linear c) where
 
   -- ---- the items not seen
 
-  abbrev seenIn : A → List A → Bool
-  seenIn x = anyOf (λ (s : A). isEq (c x s))
+  abbrev pub seenAmong : A → List A → Bool
+  seenAmong x = anyOf (λ (s : A). isEq (c x s))
 
-  seen-member : (x : A) (seen : List A) → T (seenIn x seen) → Mem x seen
+  pub seen-member : (x : A) (seen : List A) → T (seenAmong x seen) → Mem x seen
   seen-member x seen t =
       let r = any-witness (λ (s : A). isEq (c x s)) seen t in
       subst (λ (z : A). Mem z seen) (sym (tested-equal x (r .0) (r .2))) (r .1)
 
-  member-seen : (x : A) (seen : List A) → Mem x seen → T (seenIn x seen)
+  pub member-seen : (x : A) (seen : List A) → Mem x seen → T (seenAmong x seen)
   member-seen x seen i = any-of (λ (s : A). isEq (c x s)) x seen i (equal-tested x x refl)
 
   pub of-fresh : (seen l : List A) (x : A) → Mem x (fresh c seen l) → Mem x l × (Mem x seen → ⊥)
   unfolding fresh
-  of-fresh seen (y ∷ l) x i = go (seenIn y seen) refl i (λ j. of-fresh seen l x j) (λ j. of-fresh (y ∷ seen) l x j)
+  of-fresh seen (y ∷ l) x i = go (seenAmong y seen) refl i (λ j. of-fresh seen l x j) (λ j. of-fresh (y ∷ seen) l x j)
     where
-      go : (b : Bool) → seenIn y seen ≡ b → Mem x (cond b (fresh c seen l) (y ∷ fresh c (y ∷ seen) l))
+      go : (b : Bool) → seenAmong y seen ≡ b → Mem x (cond b (fresh c seen l) (y ∷ fresh c (y ∷ seen) l))
           → (Mem x (fresh c seen l) → Mem x l × (Mem x seen → ⊥)) → (Mem x (fresh c (y ∷ seen) l) → Mem x l × (Mem x (y ∷ seen) → ⊥)) → Mem x (y ∷ l) × (Mem x seen → ⊥)
       go true e j old new = let r = old j in (there (r .0), r .1)
       go false e (List·Memᴰ.List·Memᴰ·head q) old new = (here q, λ j. subst T e (member-seen y seen (subst (λ (z : A). Mem z seen) q j)))
@@ -156,7 +155,7 @@ module _ {A : Type 0} (c : A → A → Ordering) (order : Linear c) where
 
   pub in-fresh : (seen l : List A) (x : A) → Mem x l → (Mem x seen → ⊥) → Mem x (fresh c seen l)
   unfolding fresh
-  in-fresh seen (y ∷ l) x i n = go (seenIn y seen) refl i (λ j. in-fresh seen l x j n) (λ j u. in-fresh (y ∷ seen) l x j u)
+  in-fresh seen (y ∷ l) x i n = go (seenAmong y seen) refl i (λ j. in-fresh seen l x j n) (λ j u. in-fresh (y ∷ seen) l x j u)
     where
       unseen : Differ x y → Mem x (y ∷ seen) → ⊥
       unseen d (List·Memᴰ.List·Memᴰ·head e) = d e
@@ -175,7 +174,7 @@ module _ {A : Type 0} (c : A → A → Ordering) (order : Linear c) where
           from (inr (inl e)) = inr (below-differ x y e)
           from (inr (inr e)) = inr (λ q. below-differ y x e (sym q))
 
-      go : (b : Bool) → seenIn y seen ≡ b → Mem x (y ∷ l) → (Mem x l → Mem x (fresh c seen l))
+      go : (b : Bool) → seenAmong y seen ≡ b → Mem x (y ∷ l) → (Mem x l → Mem x (fresh c seen l))
           → (Mem x l → (Mem x (y ∷ seen) → ⊥) → Mem x (fresh c (y ∷ seen) l)) → Mem x (cond b (fresh c seen l) (y ∷ fresh c (y ∷ seen) l))
       go true e (List·Memᴰ.List·Memᴰ·head q) old new = absurd (n (subst (λ (z : A). Mem z seen) (sym q) (seen-member y seen (true→holds e))))
       go true e (List·Memᴰ.List·Memᴰ·tail j) old new = old j
@@ -184,7 +183,7 @@ module _ {A : Type 0} (c : A → A → Ordering) (order : Linear c) where
   pub fresh-distinct : (seen l : List A) → Distinct (fresh c seen l)
   unfolding fresh
   fresh-distinct seen [] = tt
-  fresh-distinct seen (y ∷ l) = go (seenIn y seen) (fresh-distinct seen l) (fresh-distinct (y ∷ seen) l)
+  fresh-distinct seen (y ∷ l) = go (seenAmong y seen) (fresh-distinct seen l) (fresh-distinct (y ∷ seen) l)
     where
       go : (b : Bool) → Distinct (fresh c seen l) → Distinct (fresh c (y ∷ seen) l) → Distinct (cond b (fresh c seen l) (y ∷ fresh c (y ∷ seen) l))
       go true h k = h

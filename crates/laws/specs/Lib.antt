@@ -8,6 +8,7 @@ pub mod Ascending
 pub mod Segments
 pub mod Places
 pub mod Ranges
+pub mod Sorted
 pub mod Floats
 pub mod LowerBounds
 pub mod Parts

@@ -2,17 +2,17 @@
 -- Leans on Places.
 use mathlib.Core.Path.{_≡_, refl, sym, ap, _∙_, subst}
 use mathlib.Core.Bool.{Bool, true, false, cond}
-use mathlib.Core.List.{List, [], _∷_, map, flatMap, List·Memᴰ, List·Permᴰ, Permᴰ·symm}
+use mathlib.Core.List.{List, [], _∷_, map, flatMap, List·Memᴰ}
 use Prim.Native.Nat.{ℕ, zero, suc, _+_, _≤_, _<_, compare, Ordering, Ordering·lt}
 use native.Mathlib.Omega.{arith}
 use lib.Dec.{isEq}
 use lib.ListN.{length, getD}
-use Rattle.definitions.specs.Lists.{sortBy, sortNats, countFrom, anyOf, fresh}
-use Rattle.laws.specs.Lists.{Mem, here, there, in-map, of-map, in-flatMap, of-flatMap, member-at, of-count, in-count, count-length}
-use Rattle.laws.specs.Pairs.{Pairs, count-ascends}
-use Rattle.laws.specs.Orders.{nats, compare-lt, lt-compare}
-use Rattle.laws.specs.Sorting.{perm-length, pairs-perm, sort-perm, in-sorted, of-sorted}
-use Rattle.laws.specs.Ascending.{Differ, Distinct, Ascends, SameItems, ascends-distinct, sorted-ascends, sorted-length}
+use Rattle.definitions.specs.Lists.{sortNats, countFrom, keep, anyOf, fresh}
+use Rattle.laws.specs.Lists.{Mem, here, there, in-map, of-map, in-flatMap, of-flatMap, member-at, of-count, in-count, count-length, in-keep, kept}
+use Rattle.laws.specs.Pairs.{Pairs, count-ascends, pairs-keep}
+use Rattle.laws.specs.Orders.{Linear, nats, compare-lt, lt-compare}
+use Rattle.laws.specs.Sorting.{pairs-perm, sort-perm, in-sorted, of-sorted}
+use Rattle.laws.specs.Ascending.{Differ, Distinct, Ascends, SameItems, ascends-distinct, sorted-ascends, sorted-length, same-ascending, inOrder, in-order-ascends, in-in-order, of-in-order, seenAmong, seen-member, member-seen}
 use Rattle.laws.specs.Places.{placeIn, place-at}
 
 -- ---- the same items
@@ -172,3 +172,20 @@ fresh-few c seen (x ∷ l) = go (anyOf (λ s. isEq (c x s)) seen) (fresh-few c s
     go : (b : Bool) → length (fresh c seen l) ≤ length l → length (fresh c (x ∷ seen) l) ≤ length l → length (cond b (fresh c seen l) (x ∷ fresh c (x ∷ seen) l)) ≤ suc (length l)
     go true old new = omega arith
     go false old new = omega arith
+
+-- ---- read off a larger list
+
+-- the items of a list in order, read off an ascending list that has them all
+pub in-order-kept : {A : Type 0} (c : A → A → Ordering) (order : Linear c) (l all : List A) → Ascends c all → ((x : A) → Mem x l → Mem x all) → inOrder c order l ≡ keep (λ (x : A). seenAmong c order x l) all
+in-order-kept {A} c order l all h within =
+    same-ascending c order (inOrder c order l) (keep (λ (x : A). seenAmong c order x l) all) (in-order-ascends c order l) (pairs-keep (λ x y. c x y ≡ Ordering·lt) (λ (x : A). seenAmong c order x l) all h)
+    (record {
+      into = λ x i. let m = of-in-order c order x l i in in-keep (λ (y : A). seenAmong c order y l) x all (within x m) (member-seen c order x l m);
+      back = λ x i. in-in-order c order x l (seen-member c order x l (kept (λ (y : A). seenAmong c order y l) x all i .1));
+    })
+
+-- and an ascending list so read off is the list itself
+pub ascending-kept : {A : Type 0} (c : A → A → Ordering) (order : Linear c) (l all : List A) → Ascends c l → Ascends c all → ((x : A) → Mem x l → Mem x all) → keep (λ (x : A). seenAmong c order x l) all ≡ l
+ascending-kept {A} c order l all a h within =
+    sym (in-order-kept c order l all h within)
+    ∙ same-ascending c order (inOrder c order l) l (in-order-ascends c order l) a (record { into = λ x i. of-in-order c order x l i; back = λ x i. in-in-order c order x l i })

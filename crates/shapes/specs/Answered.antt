@@ -2,27 +2,21 @@
 -- Leans on the definitions and on completeness.
 use mathlib.Core.Path.{_≡_, refl, sym, ap, _∙_, subst}
 use mathlib.Core.Bool.{Bool, true, false, not}
-use mathlib.Core.Option.{Option, some, none}
 use mathlib.Core.List.{List, [], _∷_, _++_, map, reverseAux, List·Memᴰ}
-use Prim.Native.Nat.{ℕ, zero, suc, _+_, _-_, _≤_, _<_, max}
+use Prim.Native.Nat.{ℕ, zero, suc, _+_, _≤_}
 use native.Mathlib.Omega.{arith}
-use lib.Dec.{T, leb, ltb, eqb, eqb→eq, leb→le, nltb→le, nleb→lt}
-use lib.ListN.{length, getD, length-append, length-map}
+use lib.Dec.{T, leb, ltb, eqb, eqb→eq, nltb→le, nleb→lt}
+use lib.ListN.{length, length-append, length-map}
 use Rattle.definitions.specs.Outcome.{Outcome, refused, answered, andThen, refuseIf}
 use Rattle.definitions.specs.Vectors.{Vec}
 use Rattle.definitions.specs.Subspace.{Subspace, flatten, fromPoints}
 use Rattle.definitions.specs.Orbits.{Row, Orbit, pointAt, hyperplaneOrbits}
-use Rattle.definitions.specs.Search.{Facet, Table, Item, Verdict, over, closed, openAt, EntryLimits, Found, limitReached, emit, emitIf, judge, totals, putIn, examine, search, starts, allFacets}
-use Rattle.definitions.specs.Recursion.{Rules, Entry, Answer, Call, Inner, InnerCalls, innerCall, innerCalls, beforeThese, rowsWithin}
-use Rattle.definitions.specs.Faceting.{Prepared, prepare, tableFor, entryLimits, searchFrom, finish, faceting, entryOf, entriesOf, compareEntries}
-use Rattle.laws.specs.Bools.{false→fails, fails→false}
-use Rattle.laws.specs.Lists.{Mem, here, there, of-map}
-use Rattle.laws.specs.Pairs.{Pairs, in-take}
-use Rattle.laws.specs.Sorting.{of-sorted, perm-length, sort-perm}
+use Rattle.definitions.specs.Search.{Facet, Table, Item, Verdict, over, closed, openAt, EntryLimits, Found, limitReached, emit, emitIf, judge, totals, putIn, examine, search, starts}
+use Rattle.definitions.specs.Recursion.{Rules, Answer, Call, Inner, InnerCalls, innerCall, innerCalls, beforeThese, rowsWithin}
+use Rattle.definitions.specs.Faceting.{Prepared, prepare, searchFrom, finish, faceting}
+use Rattle.laws.specs.Bools.{false→fails}
+use Rattle.laws.specs.Lists.{Mem}
 use Rattle.completeness.specs.Jobs.{answered-before, not-refused-if}
-use Rattle.completeness.specs.Walk.{closedLists, cut, search-emits}
-use Rattle.completeness.specs.Taken.{OtherOrbit, emitted-order, in-choice}
-use Rattle.completeness.specs.Choices.{closed-choice-of}
 
 contents : {A : Type 0} → A → Outcome A → A
 contents otherwise (refused number) = otherwise

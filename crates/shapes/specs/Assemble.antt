@@ -1,20 +1,17 @@
 -- The figure of a list of facets. `figureOf` numbers each rank as its elements come and sorts at the end; here the same figure with each rank put in order at once (`gathered`), which shows
 -- that it depends on the set of its facets alone, and that it has its shape. For every rank from 3. Leans on Move.
 use mathlib.Core.Path.{_≡_, refl, sym, ap, _∙_, subst}
-use mathlib.Core.List.{List, [], _∷_, _++_, map, flatMap, List·Memᴰ, map-map}
-use Prim.Native.Nat.{ℕ, zero, suc, _+_, _≤_, _<_, compare, Ordering}
-use native.Mathlib.Omega.{arith}
-use lib.ListN.{length, getD, drop, replicate, length-map, List·getD-map}
-use Rattle.definitions.specs.Lists.{sortBy, sortNats, compareNats, fresh, countFrom, placeOf}
-use Rattle.definitions.specs.Figures.{Elements, Figure, numberIn, renumber, sortRanks, sortStrong, lowestRanks, withoutLowest, assemble, figureOf}
-use Rattle.laws.specs.Lists.{Mem, here, there, in-map, of-map, in-flatMap, of-flatMap, in-append, of-count, count-length}
-use Rattle.laws.specs.Orders.{nats, nat-lists}
-use Rattle.laws.specs.Sorting.{in-sorted, of-sorted}
-use Rattle.laws.specs.Ascending.{Differ, Distinct, Ascends, SameItems, ascends-distinct, sort-ascending, sorted-ascends, sorted-length, same-ascending, fresh-distinct, of-fresh, in-fresh, inOrder, in-order-ascends, in-in-order, of-in-order, in-order-same}
-use Rattle.laws.specs.Places.{placeIn, at-place, place-map, fresh-map, map-same, map-self}
-use Rattle.laws.specs.Ranges.{same-map, same-flatMap, count-ascending, ascending-full}
-use Rattle.shapes.specs.Shape.{Element, Rank, Stack, Sorted, Crowned, Tower, Shaped, element-at, element-sorted}
-use Rattle.shapes.specs.Move.{Into, element-sent, sent-apart, rank-sent, stack-sent, numbers-into, rank-sorted}
+use mathlib.Core.List.{List, [], _∷_, _++_, map, flatMap, map-map}
+use Prim.Native.Nat.{ℕ, zero, suc}
+use lib.ListN.{length, getD, length-map, List·getD-map}
+use Rattle.definitions.specs.Lists.{sortBy, sortNats, compareNats, fresh, countFrom}
+use Rattle.definitions.specs.Figures.{Elements, numberIn, renumber, lowestRanks, withoutLowest, assemble}
+use Rattle.laws.specs.Lists.{Mem, of-map, in-flatMap, of-flatMap}
+use Rattle.laws.specs.Orders.{nat-lists}
+use Rattle.laws.specs.Ascending.{fresh-distinct, of-fresh, in-fresh}
+use Rattle.laws.specs.Places.{place-map, fresh-map, map-same}
+use Rattle.shapes.specs.Shape.{Element, Rank, Stack, element-at}
+use Rattle.shapes.specs.Move.{Into, sent-apart, stack-sent, numbers-into}
 
 -- ---- facets
 

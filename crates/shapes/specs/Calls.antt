@@ -1,29 +1,29 @@
 -- Every figure of every call has its shape: entries and possible facets, at every rank, by induction on the rank. What a job guarantees of the outermost call (two points at least, rows that
 -- are permutations with the identity first) holds of the inner calls too. Leans on FigureOf, Sets and Answered.
-use mathlib.Core.Path.{_≡_, refl, sym, ap, _∙_, subst}
+use mathlib.Core.Path.{_≡_, refl, sym, subst}
 use mathlib.Core.Logic.{_⊎_, inl, inr}
 use mathlib.Core.List.{List, [], _∷_, map, flatMap, List·Memᴰ}
 use Prim.Native.Nat.{ℕ, zero, suc, _+_, _≤_, _<_, compare, Ordering·lt}
 use native.Mathlib.Omega.{arith}
 use lib.ListN.{length, getD, drop, length-map}
-use Rattle.definitions.specs.Lists.{countFrom, compareNats, sortBy}
+use Rattle.definitions.specs.Lists.{countFrom}
 use Rattle.definitions.specs.Outcome.{answered}
 use Rattle.definitions.specs.Vectors.{Vec}
 use Rattle.definitions.specs.Subspace.{Subspace, flatten}
 use Rattle.definitions.specs.Orbits.{Row, Orbit, image, pointAt, hyperplaneOrbits}
-use Rattle.definitions.specs.Figures.{Figure, Elements, dyad, moveEnds, sortStrong, figureOf}
+use Rattle.definitions.specs.Figures.{Figure, Elements, dyad, moveEnds, sortStrong}
 use Rattle.definitions.specs.Search.{Facet, Found}
 use Rattle.definitions.specs.Recursion.{Rules, Entry, Answer, Call, Inner, vertexRidge, moveSorted, rowsWithin}
 use Rattle.definitions.specs.Faceting.{Prepared, possibleFacets, atOrbit, split, facetImages, entryOf, entriesOf, compareEntries, finish, faceting}
 use Rattle.laws.specs.Lists.{Mem, here, there, in-map, of-map, of-flatMap, of-count}
-use Rattle.laws.specs.Orders.{nats, lt-compare}
+use Rattle.laws.specs.Orders.{lt-compare}
 use Rattle.laws.specs.Sorting.{of-sorted}
 use Rattle.laws.specs.Ascending.{SameItems}
 use Rattle.laws.specs.Ranges.{Permutes, same-flatMap}
-use Rattle.shapes.specs.Answered.{InnerAnswer, Preparation, AnsweredCall, answered-call}
+use Rattle.shapes.specs.Answered.{Preparation, AnsweredCall, answered-call}
 use Rattle.shapes.specs.LowRanks.{RankTwo, rank-two}
-use Rattle.shapes.specs.Shape.{Element, Rank, Stack, Tower, Shaped, shaped-drop}
-use Rattle.shapes.specs.Move.{Rising, moved-shaped, raised-shaped}
+use Rattle.shapes.specs.Shape.{Element, Stack, Shaped, shaped-drop}
+use Rattle.shapes.specs.Move.{moved-shaped, raised-shaped}
 use Rattle.shapes.specs.FigureOf.{Stacked, figure-shaped, figure-same}
 use Rattle.shapes.specs.Sets.{VertexSet, Rows, orbit-set, set-rising, row-into, rows-within, points-of-refit}
 

@@ -3,8 +3,8 @@
 use mathlib.Core.Path.{_≡_, refl, sym, ap, _∙_, subst}
 use mathlib.Core.Bool.{Bool, true, false, cond, not, _&&_}
 use mathlib.Core.Option.{Option, some, none}
-use mathlib.Core.List.{List, [], _∷_, _++_, map, flatMap, List·Memᴰ, List·Permᴰ, Permᴰ·refl, Permᴰ·symm, Permᴰ·middle}
-use Prim.Native.Nat.{ℕ, zero, suc, _+_, _≤_, _<_, Ordering, Ordering·lt, Ordering·eq, Ordering·gt}
+use mathlib.Core.List.{List, [], _∷_, _++_, flatMap, List·Memᴰ, List·Permᴰ, Permᴰ·refl, Permᴰ·symm, Permᴰ·middle}
+use Prim.Native.Nat.{ℕ, suc, _+_, _≤_, _<_, Ordering, Ordering·lt, Ordering·eq, Ordering·gt}
 use native.Mathlib.Omega.{arith}
 use lib.Dec.{T, ltb, ltb→lt, eqb, eqb→eq, isEq}
 use lib.ListN.{length, getD, length-append}

@@ -2,20 +2,19 @@
 -- its polygons, each the list of its edges' numbers, in the order of their lists of edges. `figureOf` of edges, and of polygons, in those terms. Leans on FigureOf.
 use mathlib.Core.Path.{_≡_, refl, sym, ap, _∙_, subst}
 use mathlib.Core.List.{List, [], _∷_, _++_, map, flatMap, List·Memᴰ, map-map}
-use Prim.Native.Nat.{ℕ, zero, suc, _+_, _≤_, _<_, min, max, compare, Ordering, Ordering·lt, Ordering·eq, Ordering·gt}
+use Prim.Native.Nat.{ℕ, _<_, compare, Ordering, Ordering·lt, Ordering·eq, Ordering·gt}
 use native.Mathlib.Omega.{arith}
-use lib.Dec.{isEq}
-use lib.ListN.{length, getD, drop, replicate, length-map, List·getD-map}
-use Rattle.definitions.specs.Lists.{Pair, thenBy, compareList, comparePair, compareNats, comparePairs, sortBy, sortNats, fresh, countFrom}
+use lib.ListN.{length, getD, drop, replicate, length-map}
+use Rattle.definitions.specs.Lists.{Pair, thenBy, compareList, comparePair, compareNats, comparePairs, sortNats, countFrom}
 use Rattle.definitions.specs.Figures.{Elements, Figure, numberIn, renumber, lowestRanks, withoutLowest, figureOf}
-use Rattle.laws.specs.Lists.{Mem, here, there, in-map, of-map, in-flatMap, of-flatMap, of-count, member-at}
-use Rattle.laws.specs.Orders.{nats, pairs, nat-lists, pair-lists, lt-compare, compare-lt}
-use Rattle.laws.specs.Ascending.{Ascends, Distinct, ascends-distinct, sort-ascending, inOrder, in-order-ascends, in-in-order, of-in-order, in-order-same}
-use Rattle.laws.specs.Places.{placeIn, place-below, place-ascends, place-map, keeps-compare, compare-map, ascends-map, in-order-map, map-same}
-use Rattle.laws.specs.Ranges.{count-ascending, map-places}
+use Rattle.laws.specs.Lists.{Mem, of-map, in-flatMap}
+use Rattle.laws.specs.Orders.{nats, pairs, nat-lists, pair-lists, lt-compare}
+use Rattle.laws.specs.Ascending.{Ascends, ascends-distinct, sort-ascending, inOrder, in-order-ascends, in-in-order}
+use Rattle.laws.specs.Places.{placeIn, place-ascends, place-map, keeps-compare, compare-map, ascends-map, in-order-map, map-same}
+use Rattle.laws.specs.Ranges.{map-places}
 use Rattle.shapes.specs.Edges.{edgeFigure}
-use Rattle.shapes.specs.Shape.{Element, Rank, Stack, Shaped}
-use Rattle.shapes.specs.Assemble.{lowestOf, lowestAll}
+use Rattle.shapes.specs.Shape.{Element, Rank, Stack}
+use Rattle.shapes.specs.Assemble.{lowestAll}
 use Rattle.shapes.specs.Gathered.{elementsOf, gathered}
 use Rattle.shapes.specs.FigureOf.{Stacked, body-element, figure-of}
 

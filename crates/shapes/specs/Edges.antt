@@ -1,14 +1,14 @@
 -- The figures of ranks 1 and 2: a vertex as a ridge, an edge with its ends. How they move, and that two are equal exactly when their vertices are. Leans on the definitions and laws.
-use mathlib.Core.Path.{_≡_, refl, sym, ap, _∙_, subst}
+use mathlib.Core.Path.{_≡_, refl, ap, _∙_}
 use mathlib.Core.Logic.{_↔_}
-use mathlib.Core.Bool.{Bool, true, false, cond}
-use mathlib.Core.List.{List, [], _∷_, map}
-use Prim.Native.Nat.{ℕ, zero, suc, _≤_, _<_, min, max, compare, Ordering, Ordering·lt, Ordering·eq, Ordering·gt}
+use mathlib.Core.Bool.{cond}
+use mathlib.Core.List.{List, [], _∷_}
+use Prim.Native.Nat.{ℕ, min, max, compare, Ordering, Ordering·lt, Ordering·eq, Ordering·gt}
 use native.Mathlib.Omega.{arith}
 use lib.Dec.{T, isEq}
-use lib.ListN.{length, getD}
-use Rattle.definitions.specs.Lists.{Pair, isGt, insertBy, sortBy, sortNats, comparePair, compareNats, compareList, thenBy}
-use Rattle.definitions.specs.Figures.{Figure, Elements, compareFigures, sortRanks, sortStrong, moveEnds, dyad}
+use lib.ListN.{getD}
+use Rattle.definitions.specs.Lists.{Pair, isGt, insertBy, sortBy, sortNats, compareNats, compareList}
+use Rattle.definitions.specs.Figures.{Figure, compareFigures, sortRanks, sortStrong, moveEnds, dyad}
 use Rattle.definitions.specs.Recursion.{vertexRidge, moveSorted}
 use Rattle.laws.specs.Orders.{Linear, turned, nats, nat-lists, lists, compare-lt}
 use Rattle.laws.specs.Ascending.{equal-tested, tested-equal}

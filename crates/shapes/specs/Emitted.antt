@@ -1,20 +1,20 @@
 -- What the lists that a call emits hold: facets that the call has, at most one from an orbit. And the call's entries, which are those lists split. Leans on Answered.
-use mathlib.Core.Path.{_≡_, refl, sym, ap, _∙_, subst}
+use mathlib.Core.Path.{_≡_, refl, ap, _∙_, subst}
 use mathlib.Core.Bool.{true}
 use mathlib.Core.Option.{Option, some, none}
 use mathlib.Core.List.{List, [], _∷_, map, zipWith}
 use Prim.Native.Nat.{ℕ, zero, suc, _-_, _≤_, _<_, max}
 use native.Mathlib.Omega.{arith}
-use lib.Dec.{T, ltb, ltb→lt}
+use lib.Dec.{ltb, ltb→lt}
 use lib.ListN.{length, getD, length-map}
-use Rattle.definitions.specs.Lists.{mapWith, sortBy}
+use Rattle.definitions.specs.Lists.{mapWith}
 use Rattle.definitions.specs.Outcome.{answered}
 use Rattle.definitions.specs.Orbits.{Row}
-use Rattle.definitions.specs.Search.{Facet, Share, Table, Found, allFacets}
-use Rattle.definitions.specs.Recursion.{Rules, Entry, Inner, RidgeOrbits, noRidges, numberRidge, numberRidges, shareOf, facetShares, tableOf}
+use Rattle.definitions.specs.Search.{Facet, Found, allFacets}
+use Rattle.definitions.specs.Recursion.{Rules, Entry, Inner, noRidges, numberRidge, numberRidges, shareOf, facetShares, tableOf}
 use Rattle.definitions.specs.Faceting.{Prepared, tableFor, entryLimits, searchFrom, entryOf, entriesOf, compareEntries}
-use Rattle.definitions.specs.Demands.{isPossible, isClosedChoice, choiceOf}
-use Rattle.laws.specs.Bools.{first, second}
+use Rattle.definitions.specs.Demands.{isPossible, choiceOf}
+use Rattle.laws.specs.Bools.{second}
 use Rattle.laws.specs.Lists.{Mem, of-map}
 use Rattle.laws.specs.Pairs.{Pairs, in-take}
 use Rattle.laws.specs.Sorting.{of-sorted, perm-length, sort-perm}

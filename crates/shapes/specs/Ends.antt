@@ -1,7 +1,7 @@
 -- Every edge of every figure of a call has two ends, at every rank. Leans on Calls.
 use mathlib.Core.Path.{_≡_, refl, sym, ap, _∙_, subst}
 use mathlib.Core.List.{List, [], _∷_, map, flatMap, List·Memᴰ}
-use Prim.Native.Nat.{ℕ, zero, suc, _+_, compare}
+use Prim.Native.Nat.{ℕ, zero, suc, compare}
 use lib.ListN.{length, getD, drop, replicate, length-map}
 use Rattle.definitions.specs.Lists.{sortBy, sortNats, compareNats, countFrom}
 use Rattle.definitions.specs.Outcome.{answered}
@@ -9,14 +9,14 @@ use Rattle.definitions.specs.Vectors.{Vec}
 use Rattle.definitions.specs.Subspace.{Subspace}
 use Rattle.definitions.specs.Orbits.{Row, image}
 use Rattle.definitions.specs.Figures.{Elements, Figure, rankOf, dyad, moveEnds, sortRanks, sortStrong, lowestRanks, figureOf}
-use Rattle.definitions.specs.Search.{Facet, Found}
+use Rattle.definitions.specs.Search.{Facet}
 use Rattle.definitions.specs.Recursion.{Rules, Entry, Answer, Inner, moveSorted, rowsWithin}
 use Rattle.definitions.specs.Faceting.{Prepared, possibleFacets, atOrbit, split, facetImages, entryOf, finish, faceting}
-use Rattle.laws.specs.Lists.{Mem, here, there, of-map, of-flatMap}
-use Rattle.laws.specs.Orders.{nats, nat-lists}
+use Rattle.laws.specs.Lists.{Mem, of-map, of-flatMap}
+use Rattle.laws.specs.Orders.{nat-lists}
 use Rattle.laws.specs.Sorting.{of-sorted, perm-length, sort-perm}
 use Rattle.laws.specs.Ascending.{of-fresh}
-use Rattle.shapes.specs.Answered.{AnsweredCall, answered-call}
+use Rattle.shapes.specs.Answered.{answered-call}
 use Rattle.shapes.specs.Emitted.{entry-of-list}
 use Rattle.shapes.specs.LowRanks.{rank-two}
 use Rattle.shapes.specs.Assemble.{lowestOf, lowestAll}
@@ -106,9 +106,9 @@ facet-ends p h list f m =
     let figure = getD (getD (map possibleFacets (p .inner)) (r .0 .0) []) (r .0 .1) [] in
     let q = of-map (λ (row : Row). moveSorted (image row) figure) f (p .rows) (r .2) in
     let good : TwoEnds figure =
-        at-or TwoEnds (getD (map possibleFacets (p .inner)) (r .0 .0) []) (r .0 .1) [] no-ends
-        (at-or (λ (fs : List Figure). (g : Figure) → Mem g fs → TwoEnds g) (map possibleFacets (p .inner)) (r .0 .0) [] (λ g k. elim k [ ])
-        (λ fs k g j. let s = of-map possibleFacets fs (p .inner) k in possible-ends (s .0) (h (s .0) (s .1)) g (subst (λ (l : List Figure). Mem g l) (s .2) j))) in
+    at-or TwoEnds (getD (map possibleFacets (p .inner)) (r .0 .0) []) (r .0 .1) [] no-ends
+    (at-or (λ (fs : List Figure). (g : Figure) → Mem g fs → TwoEnds g) (map possibleFacets (p .inner)) (r .0 .0) [] (λ g k. elim k [ ])
+    (λ fs k g j. let s = of-map possibleFacets fs (p .inner) k in possible-ends (s .0) (h (s .0) (s .1)) g (subst (λ (l : List Figure). Mem g l) (s .2) j))) in
     subst TwoEnds (sym (q .2)) (two-ends-sorted (moveEnds (image (q .0)) figure) (two-ends-moved (image (q .0)) figure good))
 
 one-entry : (ends : ℕ) (e : Entry) → Mem e (record { list = map (λ (v : ℕ). (v, 0)) (countFrom 0 ends); figure = dyad } ∷ []) → TwoEnds (e .figure)
@@ -126,8 +126,8 @@ ends-answer (suc more) rules plane points rows budget a given q e m =
     let r = entry-of-list rules p (c .found) (c .is-found) e (subst (λ (x : Answer). Mem e (x .entries)) (c .is) m) in
     let list = split p (r .0) in
     let inner : (i : Inner) → Mem i (p .inner) → EndsAnswer (i .answer) = λ i k.
-        let its = c .prepared .inner .each i k in
-        ends-answer more rules _ (innerPoints plane points i) (rowsWithin (i .orbit .vertices) rows) (its .budget) (i .answer)
-        (inner-given more rules (faceting more rules) plane points rows p (c .prepared) (given .rows-good) i k) (its .is) in
+    let its = c .prepared .inner .each i k in
+    ends-answer more rules _ (innerPoints plane points i) (rowsWithin (i .orbit .vertices) rows) (its .budget) (i .answer)
+    (inner-given more rules (faceting more rules) plane points rows p (c .prepared) (given .rows-good) i k) (its .is) in
     subst (λ (x : Entry). TwoEnds (x .figure)) (sym (r .2))
     (two-ends-figure (p .points) (p .more) (flatMap (facetImages p) list) (call-stacked more rules plane points rows a given c list) (facet-ends p inner list))

@@ -1,29 +1,27 @@
 -- The figures of entries of rank 3 and 4, from rows and edges alone. The edges of a rank 3 entry are all row images of its facets' edges; the polygons of a rank 4 entry are all row images
 -- of its split facets' edge sets. Leans on Polygons, Calls and SplitCalls.
 use mathlib.Core.Path.{_≡_, refl, sym, ap, _∙_, subst}
-use mathlib.Core.List.{List, [], _∷_, _++_, map, flatMap, List·Memᴰ, map-map}
-use Prim.Native.Nat.{ℕ, zero, suc, _+_, _≤_, _<_, min, max}
+use mathlib.Core.List.{List, [], _∷_, map, flatMap, map-map}
+use Prim.Native.Nat.{ℕ}
 use native.Mathlib.Omega.{arith}
 use lib.ListN.{length, getD, length-map}
 use Rattle.definitions.specs.Lists.{Pair, comparePair}
-use Rattle.definitions.specs.Outcome.{answered}
 use Rattle.definitions.specs.Vectors.{Vec}
 use Rattle.definitions.specs.Subspace.{Subspace}
-use Rattle.definitions.specs.Orbits.{Row, Orbit, image, pairImage}
-use Rattle.definitions.specs.Figures.{Figure, Elements, rankOf, moveEnds, figureOf}
-use Rattle.definitions.specs.Search.{Facet, Found}
+use Rattle.definitions.specs.Orbits.{Row, image, pairImage}
+use Rattle.definitions.specs.Figures.{Figure, rankOf, moveEnds, figureOf}
+use Rattle.definitions.specs.Search.{Facet}
 use Rattle.definitions.specs.Recursion.{Rules, Entry, Answer, Inner, moveSorted, rowsWithin}
-use Rattle.definitions.specs.Faceting.{Prepared, possibleFacets, atOrbit, split, facetImages, entryOf, finish, faceting}
-use Rattle.laws.specs.Lists.{Mem, here, there, of-map, in-map, of-flatMap, member-at, map-at, flatMap-same}
+use Rattle.definitions.specs.Faceting.{Prepared, possibleFacets, atOrbit, split, facetImages, entryOf, faceting}
+use Rattle.laws.specs.Lists.{Mem, of-map, of-flatMap, member-at, flatMap-same}
 use Rattle.laws.specs.Orders.{nats, pairs, compare-lt}
 use Rattle.laws.specs.Ascending.{in-order-ascends, of-in-order}
 use Rattle.laws.specs.Places.{ascending-at, map-same, map-self, map-flatMap, flatMap-map}
-use Rattle.laws.specs.Ranges.{Permutes}
-use Rattle.shapes.specs.Answered.{facetNumber, Preparation, AnsweredCall, answered-call}
+use Rattle.shapes.specs.Answered.{facetNumber, AnsweredCall, answered-call}
 use Rattle.shapes.specs.Emitted.{found-facet}
 use Rattle.shapes.specs.Edges.{edgeFigure, edge-moved}
 use Rattle.shapes.specs.LowRanks.{innerAt, inner-at-member, at-orbit, facet-orbit, edgeOf, one-edge, found-first, found-unsplit, entry-list}
-use Rattle.shapes.specs.Sets.{VertexSet, Rows, set-rising, row-into}
+use Rattle.shapes.specs.Sets.{set-rising, row-into}
 use Rattle.shapes.specs.Calls.{Given, innerPoints, inner-size, inner-enough, inner-given, call-set, call-row}
 use Rattle.shapes.specs.EdgeSets.{Proper, EdgeSet, edgesInOrder, polygonsInOrder, polygon, polyhedron, Sized, polygonOf, figure-of-edges, figure-of-polygons}
 use Rattle.shapes.specs.Polygons.{edgeVia, endsVia, via-proper, raised-edges, polygon-raised, moved-edges, polygon-moved, edgePairs, polygon-edges, polygon-points}
@@ -183,6 +181,18 @@ module _ (rules : Rules) (plane : Subspace) (points : List Vec) (rows : List Row
       let many : length (possibleFacets own) ≡ facetNumber own = facets-many own in
       possible-polygon own m (facetFigure q f)
       (subst (λ (fs : List Figure). Mem (getD fs (f .1) []) (possibleFacets own)) (sym e) (member-at (possibleFacets own) (f .1) [] (let k = r .1 in omega arith)))
+
+  -- a facet's edges are its inner entry's, at this call's vertices
+  pub facet-edges : (i : Inner) → Mem i (q .inner) → (e : Entry) → Mem e (i .answer .entries)
+      → edgePairs (moveEnds (λ (v : ℕ). getD (i .orbit .vertices) v 0) (e .figure)) ≡ map (endsVia (λ (v : ℕ). getD (i .orbit .vertices) v 0)) (edgePairs (e .figure))
+  facet-edges i m e k =
+      let to : ℕ → ℕ = λ v. getD (i .orbit .vertices) v 0 in
+      let r = inner-polygon i m e k in
+      let n = length (i .orbit .vertices) in
+      ap (λ (f : Figure). edgePairs (moveEnds to f)) (r .1)
+      ∙ ap edgePairs (polygon-raised to n (r .0))
+      ∙ polygon-edges n (map (endsVia to) (r .0))
+      ∙ ap (map (endsVia to)) (sym (ap edgePairs (r .1) ∙ polygon-edges n (r .0)))
 
   -- with the number of points that stands in it
   sizedImages : Facet → List Sized

@@ -1,18 +1,18 @@
 -- `figureOf` at every rank from 3: an equation with each rank in order; the shape of what it gives; and that it depends on the set of its facets alone. Leans on Gathered.
 use mathlib.Core.Path.{_≡_, refl, sym, ap, _∙_, subst}
-use mathlib.Core.List.{List, [], _∷_, _++_, map, flatMap, List·Memᴰ, List·Permᴰ, Permᴰ·symm}
-use Prim.Native.Nat.{ℕ, zero, suc, _+_, _≤_, _<_, compare, Ordering}
+use mathlib.Core.List.{List, [], _∷_, map, List·Memᴰ, List·Permᴰ, Permᴰ·symm}
+use Prim.Native.Nat.{ℕ, zero, suc, _+_}
 use native.Mathlib.Omega.{arith}
-use lib.ListN.{length, getD, drop, replicate}
-use Rattle.definitions.specs.Lists.{sortBy, sortNats, compareNats, fresh, countFrom}
+use lib.ListN.{length, drop, replicate}
+use Rattle.definitions.specs.Lists.{sortBy, sortNats, compareNats, countFrom}
 use Rattle.definitions.specs.Figures.{Elements, Figure, sortRanks, sortStrong, lowestRanks, withoutLowest, assemble, figureOf}
-use Rattle.laws.specs.Lists.{Mem, here, there, of-map, of-count}
-use Rattle.laws.specs.Orders.{nats, nat-lists}
+use Rattle.laws.specs.Lists.{Mem, of-map, of-count}
+use Rattle.laws.specs.Orders.{nat-lists}
 use Rattle.laws.specs.Sorting.{in-sorted, perm-member}
-use Rattle.laws.specs.Ascending.{Ascends, SameItems, sorted-ascends, in-order-same}
+use Rattle.laws.specs.Ascending.{SameItems, sorted-ascends, in-order-same}
 use Rattle.laws.specs.Places.{map-self}
 use Rattle.laws.specs.Ranges.{same-map, same-flatMap, count-ascending}
-use Rattle.shapes.specs.Shape.{Element, Rank, Stack, Sorted, Crowned, Tower, Shaped, crowned-above, element-sorted}
+use Rattle.shapes.specs.Shape.{Element, Rank, Stack, Tower, Shaped, crowned-above, element-sorted}
 use Rattle.shapes.specs.Move.{rank-sorted}
 use Rattle.shapes.specs.Assemble.{Facets, lowestOf, lowestAll, lowest-rank, in-lowest, without-facets}
 use Rattle.shapes.specs.Gathered.{elementsOf, gathered, sortAll, gather}

@@ -1,13 +1,13 @@
 -- The answer's numbers of figures of rank 2, 3 and 4, from their edges and polygons: what a writer writes that stores edge sets and no figures. Leans on EdgeSets and Edges.
-use mathlib.Core.Path.{_≡_, refl, sym, ap, _∙_, subst}
+use mathlib.Core.Path.{_≡_, refl, ap, _∙_}
 use mathlib.Core.List.{List, [], _∷_, _++_, map, flatMap, append-nil}
 use Prim.Native.Nat.{ℕ, zero, suc, _-_}
-use lib.ListN.{length, getD, replicate, length-map, length-replicate}
+use lib.ListN.{length, replicate, length-map, length-replicate}
 use Rattle.definitions.specs.Lists.{Pair, countFrom}
 use Rattle.definitions.specs.Figures.{Elements, Figure, rankOf}
 use Rattle.definitions.specs.Recursion.{Entry, vertexRidge}
 use Rattle.definitions.specs.Job.{counted, figureWords, summaryWords}
-use Rattle.laws.specs.Lists.{Mem, count-length, flatMap-same}
+use Rattle.laws.specs.Lists.{count-length, flatMap-same}
 use Rattle.laws.specs.Places.{flat-singles, flatMap-map}
 use Rattle.shapes.specs.Edges.{edgeFigure}
 use Rattle.shapes.specs.EdgeSets.{ends, edgeNumber, polygon, polyhedron}
@@ -87,8 +87,8 @@ unfolding rankWords
 polygons-rank edges polygons =
     let number = map (edgeNumber edges) in
     let each : flatMap (λ (e : List ℕ). length e ∷ e) (map number polygons) ≡ flatMap (λ (s : List Pair). length s ∷ number s) polygons =
-        flatMap-map (λ (e : List ℕ). length e ∷ e) number polygons
-        ∙ flatMap-same (λ (s : List Pair). length (number s) ∷ number s) (λ (s : List Pair). length s ∷ number s) polygons (λ s m. ap (λ (k : ℕ). k ∷ number s) (length-map s (edgeNumber edges))) in
+    flatMap-map (λ (e : List ℕ). length e ∷ e) number polygons
+    ∙ flatMap-same (λ (s : List Pair). length (number s) ∷ number s) (λ (s : List Pair). length s ∷ number s) polygons (λ s m. ap (λ (k : ℕ). k ∷ number s) (length-map s (edgeNumber edges))) in
     λ t. length-map polygons number t ∷ each t
 
 pub polyhedron-words : (n : ℕ) (edges : List Pair) (polygons : List (List Pair))

@@ -1,20 +1,20 @@
 -- The figure of a list of facets with each rank put in order at once: it equals `figureOf`, it has its shape, and facets in another order or repeated give the same. Leans on Assemble.
 use mathlib.Core.Path.{_≡_, refl, sym, ap, _∙_, subst}
-use mathlib.Core.List.{List, [], _∷_, _++_, map, flatMap, List·Memᴰ, map-map}
-use Prim.Native.Nat.{ℕ, zero, suc, _+_, _≤_, _<_, compare, Ordering}
+use mathlib.Core.List.{List, [], _∷_, map, map-map}
+use Prim.Native.Nat.{ℕ, zero, suc, _<_, compare}
 use native.Mathlib.Omega.{arith}
-use lib.ListN.{length, getD, drop, replicate, length-map}
-use Rattle.definitions.specs.Lists.{sortBy, sortNats, compareNats, fresh, countFrom}
-use Rattle.definitions.specs.Figures.{Elements, Figure, numberIn, renumber, sortRanks, sortStrong, lowestRanks, withoutLowest, assemble, figureOf}
-use Rattle.laws.specs.Lists.{Mem, here, there, in-map, of-map, of-count, count-length, member-at}
+use lib.ListN.{length, getD, length-map}
+use Rattle.definitions.specs.Lists.{sortBy, sortNats, compareNats, countFrom}
+use Rattle.definitions.specs.Figures.{Elements, numberIn, renumber, sortRanks, lowestRanks, withoutLowest, assemble}
+use Rattle.laws.specs.Lists.{Mem, in-map, of-map, of-count, count-length, member-at}
 use Rattle.laws.specs.Orders.{nats, nat-lists}
 use Rattle.laws.specs.Sorting.{in-sorted, of-sorted}
-use Rattle.laws.specs.Ascending.{Ascends, SameItems, sorted-ascends, sorted-length, same-ascending, in-order-same}
-use Rattle.laws.specs.Places.{at-place, map-same, map-self}
-use Rattle.laws.specs.Ranges.{same-map, same-flatMap, count-ascending, ascending-full}
-use Rattle.shapes.specs.Shape.{Element, Rank, Stack, Sorted, Crowned, Tower, Shaped, element-sorted}
-use Rattle.shapes.specs.Move.{Into, element-sent, numbers-into, rank-sorted}
-use Rattle.shapes.specs.Assemble.{Facets, lowestOf, lowestAll, lowestBy, lowest-rank, in-lowest, without-stack, without-facets, assemble-sent}
+use Rattle.laws.specs.Ascending.{sorted-length, same-ascending}
+use Rattle.laws.specs.Places.{at-place, map-same}
+use Rattle.laws.specs.Ranges.{count-ascending, ascending-full}
+use Rattle.shapes.specs.Shape.{Element, Rank, Stack}
+use Rattle.shapes.specs.Move.{Into, element-sent, numbers-into}
+use Rattle.shapes.specs.Assemble.{Facets, lowestOf, lowestBy, lowest-rank, in-lowest, without-facets, assemble-sent}
 
 -- the elements of the facets' lowest ranks, each once, ascending
 unfoldable pub elementsOf : List (List Elements) → Elements

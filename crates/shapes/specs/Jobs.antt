@@ -1,22 +1,22 @@
 -- What a job guarantees of its outermost call: two points at least, and rows that are permutations with the identity first. So every figure of an accepted job's answer has its shape.
 -- Leans on Calls.
 use mathlib.Core.Path.{_≡_, refl, sym, ap, _∙_, subst}
-use mathlib.Core.Bool.{Bool, true, false, not, _&&_}
-use mathlib.Core.List.{List, [], _∷_, map, List·Memᴰ}
-use Prim.Native.Nat.{ℕ, zero, suc, _+_, _-_, _*_, _≤_, _<_}
+use mathlib.Core.Bool.{Bool, true, false, not}
+use mathlib.Core.List.{List, [], _∷_, List·Memᴰ}
+use Prim.Native.Nat.{ℕ, _-_, _≤_}
 use native.Mathlib.Omega.{arith}
-use lib.Dec.{T, leb, leb→le, isEq}
-use lib.ListN.{length, getD, take, drop, length-map}
+use lib.Dec.{T, leb, leb→le}
+use lib.ListN.{length, getD, length-map}
 use Rattle.definitions.specs.Lists.{countFrom, compareNats, sortNats, allOf}
-use Rattle.definitions.specs.Outcome.{Outcome, answered, andThen, refuseIf}
+use Rattle.definitions.specs.Outcome.{Outcome, answered, andThen}
 use Rattle.definitions.specs.Orbits.{Row}
 use Rattle.definitions.specs.Recursion.{Answer, Bounds}
-use Rattle.definitions.specs.Job.{Bytes, Job, Test, readJob, numberAt, floatsAt, vectorsAt, between, sameNats, isPermutation, tests, passAll, rulesOf, planeOf, callOf, fitting, answerBytes, outcomeWithin}
-use Rattle.laws.specs.Bools.{first, fails→false}
+use Rattle.definitions.specs.Job.{Bytes, Job, Test, readJob, vectorsAt, between, sameNats, isPermutation, tests, passAll, rulesOf, planeOf, callOf, bounds1, outcome, outcomeWithin, fitting, answerBytes}
+use Rattle.definitions.specs.Demands.{Accepted}
+use Rattle.laws.specs.Bools.{first}
 use Rattle.laws.specs.Lists.{Mem, here, there, all-of, count-length}
 use Rattle.laws.specs.Orders.{nat-lists}
 use Rattle.laws.specs.Ascending.{tested-equal}
-use Rattle.laws.specs.Ranges.{Permutes}
 use Rattle.completeness.specs.Jobs.{not-refused-if}
 use Rattle.shapes.specs.Sets.{Rows}
 use Rattle.shapes.specs.Calls.{Given, ShapedAnswer, shaped-answer}
@@ -88,3 +88,13 @@ job-shaped bounds bytes h a e =
     let job = readJob bytes in
     subst (λ (n : ℕ). ShapedAnswer n (job .rank - 2) a) (points-length bytes)
     (shaped-answer (job .rank - 2) (rulesOf bounds job) (planeOf job) (job .points) (job .rows) (job .budget) a (job-given bytes h) e)
+
+-- what an accepted job passed
+pub accepted-rows : (bytes : Bytes) → Accepted bytes → RowsPassed (readJob bytes)
+unfolding outcome outcomeWithin
+accepted-rows bytes accepted =
+    let job = readJob bytes in
+    rows-passed bytes (accepted .workspace) (λ u. andThen (callOf bounds1 job) (λ (a : Answer). fitting (accepted .room) (answerBytes (job .budget) a))) (accepted .answer) (accepted .is-answered)
+
+pub accepted-shaped : (bytes : Bytes) → Accepted bytes → (a : Answer) → callOf bounds1 (readJob bytes) ≡ answered a → ShapedAnswer (readJob bytes .n) (readJob bytes .rank - 2) a
+accepted-shaped bytes accepted = job-shaped bounds1 bytes (accepted-rows bytes accepted)

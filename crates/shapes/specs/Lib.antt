@@ -23,3 +23,7 @@ pub mod Ends
 pub mod Sizes
 pub mod RidgeCounts
 pub mod FigureWords
+pub mod Example
+pub mod SortedEntries
+pub mod KeyMarks
+pub mod AllPairs

@@ -3,25 +3,24 @@
 use mathlib.Core.Path.{_≡_, refl, sym, ap, _∙_, subst}
 use mathlib.Core.Logic.{_⊎_, inl, inr}
 use mathlib.Core.Bool.{Bool, true, false, cond}
-use mathlib.Core.Option.{Option, some, none}
-use mathlib.Core.List.{List, [], _∷_, map, flatMap, map-map}
+use mathlib.Core.List.{List, [], _∷_, map, map-map}
 use Prim.Native.Nat.{ℕ, zero, suc, _*_, _/_, _≤_, _<_}
 use native.Mathlib.Omega.{arith}
 use lib.Dec.{eqb}
 use lib.ListN.{length, getD, replicate, length-map, List·getD-eq-default}
 use Rattle.definitions.specs.Lists.{Pair, anyOf, countFrom}
-use Rattle.definitions.specs.Outcome.{Outcome, answered}
+use Rattle.definitions.specs.Outcome.{answered}
 use Rattle.definitions.specs.Vectors.{Vec}
-use Rattle.definitions.specs.Subspace.{Subspace, flatten}
-use Rattle.definitions.specs.Orbits.{Row, Orbit, image, hyperplaneOrbits}
-use Rattle.definitions.specs.Figures.{Figure, Compound, dyad, moveEnds, componentsOf, splitQueue, partsOf}
-use Rattle.definitions.specs.Search.{Facet, Found}
+use Rattle.definitions.specs.Subspace.{Subspace}
+use Rattle.definitions.specs.Orbits.{Row, Orbit, image}
+use Rattle.definitions.specs.Figures.{Compound, dyad, moveEnds, componentsOf, splitQueue, partsOf}
+use Rattle.definitions.specs.Search.{Facet}
 use Rattle.definitions.specs.Recursion.{Rules, Entry, Answer, Inner, vertexRidge, swappedEnds, separateEnds, edgeCall}
-use Rattle.definitions.specs.Faceting.{Prepared, possibleFacets, splitIn, atOrbit, split, entryOf, entriesOf, finish, faceting}
+use Rattle.definitions.specs.Faceting.{Prepared, possibleFacets, splitIn, atOrbit, split, entryOf, finish, faceting}
 use Rattle.laws.specs.Lists.{Mem, member-at, map-at, flatMap-same}
 use Rattle.laws.specs.Places.{map-same, flat-singles}
 use Rattle.laws.specs.Segments.{le-or-lt}
-use Rattle.shapes.specs.Answered.{answers-equal, InnerAnswer, facetNumber, AnsweredCall, answered-call}
+use Rattle.shapes.specs.Answered.{answers-equal, facetNumber, AnsweredCall}
 use Rattle.shapes.specs.Emitted.{found-facet, found-few, entry-of-list, entries-number}
 use Rattle.shapes.specs.Edges.{edgeFigure}
 

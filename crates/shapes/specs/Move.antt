@@ -2,19 +2,19 @@
 -- ends alone. And `element_sort_strong` gives any stack of ranks its shape. Leans on Shape.
 use mathlib.Core.Path.{_≡_, refl, sym, ap, _∙_, subst}
 use mathlib.Core.Logic.{_⊎_, inl, inr}
-use mathlib.Core.List.{List, [], _∷_, _++_, map, List·Memᴰ, map-map}
-use Prim.Native.Nat.{ℕ, zero, suc, _+_, _≤_, _<_, compare, Ordering, Ordering·lt}
+use mathlib.Core.List.{List, [], _∷_, map, map-map}
+use Prim.Native.Nat.{ℕ, suc, _<_, compare, Ordering·lt}
 use native.Mathlib.Omega.{arith}
 use lib.ListN.{length, getD, length-map}
 use Rattle.definitions.specs.Lists.{sortBy, sortNats, compareNats}
 use Rattle.definitions.specs.Figures.{Elements, Figure, numberIn, renumber, sortRanks, sortStrong, moveEnds}
 use Rattle.definitions.specs.Recursion.{moveSorted}
-use Rattle.laws.specs.Lists.{Mem, here, there, of-map, member-at}
+use Rattle.laws.specs.Lists.{Mem, of-map, member-at}
 use Rattle.laws.specs.Orders.{nats, nat-lists, compare-lt, lt-compare}
 use Rattle.laws.specs.Sorting.{in-sorted, of-sorted}
-use Rattle.laws.specs.Ascending.{Differ, Distinct, Ascends, ascends-distinct, sort-ascending, sorted-ascends, below-or}
-use Rattle.laws.specs.Places.{placeIn, place-below, place-at, place-apart, distinct-map, sorted-image-apart, keeps-compare, compare-map, ascends-map, map-same}
-use Rattle.shapes.specs.Shape.{Element, Rank, Stack, Sorted, Crowned, Tower, Shaped, crowned-above, sort-same}
+use Rattle.laws.specs.Ascending.{Distinct, Ascends, ascends-distinct, sorted-ascends, below-or}
+use Rattle.laws.specs.Places.{placeIn, place-below, place-at, place-apart, distinct-map, sorted-image-apart, keeps-compare, compare-map, ascends-map}
+use Rattle.shapes.specs.Shape.{Element, Rank, Stack, Crowned, Tower, Shaped, crowned-above, sort-same}
 
 -- ---- maps that send no two numbers to one
 

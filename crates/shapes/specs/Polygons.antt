@@ -2,23 +2,23 @@
 -- Leans on EdgeSets.
 use mathlib.Core.Path.{_≡_, refl, sym, ap, _∙_, subst}
 use mathlib.Core.Logic.{_⊎_, inl, inr}
-use mathlib.Core.List.{List, [], _∷_, map, List·Memᴰ, map-map}
-use Prim.Native.Nat.{ℕ, zero, suc, _≤_, _<_, min, max, compare, Ordering, Ordering·lt, Ordering·eq, Ordering·gt}
+use mathlib.Core.List.{List, [], _∷_, map, map-map}
+use Prim.Native.Nat.{ℕ, _<_, min, max, compare, Ordering, Ordering·lt}
 use native.Mathlib.Omega.{arith}
 use lib.ListN.{length, getD, replicate, length-map, length-replicate}
 use Rattle.definitions.specs.Lists.{Pair, thenBy, comparePair, compareNats, sortBy, sortNats, countFrom}
 use Rattle.definitions.specs.Orbits.{Row, image, pairImage}
 use Rattle.definitions.specs.Figures.{Elements, Figure, rankOf, numberIn, renumber, sortRanks, sortStrong, moveEnds}
 use Rattle.definitions.specs.Recursion.{moveSorted}
-use Rattle.laws.specs.Lists.{Mem, of-map}
+use Rattle.laws.specs.Lists.{of-map}
 use Rattle.laws.specs.Orders.{nats, pairs, nat-lists, lt-compare, compare-lt}
-use Rattle.laws.specs.Ascending.{Ascends, Distinct, inOrder, in-order-ascends, of-in-order, below-or}
+use Rattle.laws.specs.Ascending.{in-order-ascends, of-in-order, below-or}
 use Rattle.laws.specs.Places.{ascends-map, keeps-compare, sort-distinct, map-same, map-self}
 use Rattle.shapes.specs.Edges.{sort-two}
-use Rattle.shapes.specs.Shape.{Element, Rank}
+use Rattle.shapes.specs.Shape.{Rank}
 use Rattle.shapes.specs.Move.{Into, Rising, rank-sent}
 use Rattle.shapes.specs.Gathered.{body-in-order}
-use Rattle.shapes.specs.EdgeSets.{Proper, EdgeSet, ends, compare-ends, edgesInOrder, ends-in-order, polygon, polygon-stack}
+use Rattle.shapes.specs.EdgeSets.{Proper, EdgeSet, ends, edgesInOrder, ends-in-order, polygon, polygon-stack}
 
 -- ---- an edge sent elsewhere
 
@@ -123,6 +123,11 @@ polygon-moved n m to into k l h =
     ap (λ (x : Elements). bottom (sortRanks x ((countFrom 0 (length l) ∷ []) ∷ []))) edges
     ∙ ap (λ (many : ℕ). bottom (sortRanks (map ends moved) ((countFrom 0 many ∷ []) ∷ []))) (sym (length-map l (edgeVia to)))
     ∙ ap bottom (sorted-polygon m moved rank)
+
+-- an edge raised to a call's vertices and then sent by a row is sent by both at once
+pub via-raised : (to up : ℕ → ℕ) (e : Pair) → edgeVia to (endsVia up e) ≡ edgeVia (λ (v : ℕ). to (up v)) e
+unfolding edgeVia endsVia
+via-raised to up e = refl
 
 -- ---- the edges read off a figure
 

@@ -1,19 +1,20 @@
 -- The ridges of calls of rank 3 and 4: vertices at rank 3, edges at rank 4, so that the table such a call searches is the one numbered by vertices or by pairs of ends. Leans on Ridges.
-use mathlib.Core.Path.{_≡_, refl, sym, ap, _∙_, subst}
-use mathlib.Core.List.{List, [], _∷_, map, List·Memᴰ, map-map}
-use Prim.Native.Nat.{ℕ, zero, suc, compare, _/_}
+use mathlib.Core.Path.{_≡_, sym, ap, _∙_}
+use mathlib.Core.List.{List, [], _∷_, map, map-map}
+use Prim.Native.Nat.{ℕ, compare, _/_}
 use lib.ListN.{length, getD, length-replicate}
 use Rattle.definitions.specs.Lists.{Pair, comparePair, countFrom}
 use Rattle.definitions.specs.Vectors.{Vec}
 use Rattle.definitions.specs.Subspace.{Subspace}
 use Rattle.definitions.specs.Orbits.{Row, Orbit}
 use Rattle.definitions.specs.Figures.{Figure, rankOf}
-use Rattle.definitions.specs.Recursion.{Rules, Answer, Inner, vertexRidge, rowsWithin}
-use Rattle.definitions.specs.Faceting.{Prepared, tableFor}
+use Rattle.definitions.specs.Recursion.{Rules, Entry, Answer, Inner, vertexRidge, rowsWithin, shareOf, facetShares}
+use Rattle.definitions.specs.Search.{Share}
+use Rattle.definitions.specs.Faceting.{tableFor}
 use Rattle.laws.specs.Lists.{Mem}
 use Rattle.shapes.specs.Answered.{AnsweredCall, answered-call}
 use Rattle.shapes.specs.Edges.{edgeFigure}
-use Rattle.shapes.specs.LowRanks.{RankTwo, inner-rank-two, edgeOf, possible-edges}
+use Rattle.shapes.specs.LowRanks.{inner-rank-two, edgeOf, possible-edges}
 use Rattle.shapes.specs.Calls.{innerPoints}
 use Rattle.shapes.specs.Polygons.{edgeVia}
 use Rattle.shapes.specs.Ridges.{vertices-keyed, edges-keyed, keyTable, table-by-keys}
@@ -38,6 +39,18 @@ module _ (rules : Rules) (plane : Subspace) (points : List Vec) (rows : List Row
   pub rank-three-table : tableFor (c .before) ≡ keyTable compare (λ to v. to v) vertexRidge vertices-keyed (c .before .rows) vertexKeys (c .before .inner)
   unfolding tableFor
   rank-three-table = table-by-keys compare (λ to v. to v) vertexRidge vertices-keyed (c .before .rows) vertexKeys (c .before .inner) vertex-ridges
+
+  -- the shares of an orbit's one facet: those of its ridge rows, one place each
+  pub rank-three-shares : (ridgeCounts : List ℕ) (numbers : List (List ℕ)) (i : Inner) → Mem i (c .before .inner)
+      → facetShares ridgeCounts i numbers ≡ map (λ (v : ℕ). shareOf ridgeCounts i numbers (v, 0)) (countFrom 0 (length (i .answer .counts))) ∷ []
+  unfolding facetShares
+  rank-three-shares ridgeCounts numbers i m =
+      let r = inner-rank-two rules plane points rows a c i m .1 in
+      let n : length (i .answer .counts) ≡ r .ends = ap length (r .counts) ∙ length-replicate (r .ends) (2 / r .ends) in
+      let shares : List Pair → List Share = map (shareOf ridgeCounts i numbers) in
+      ap (map (λ (e : Entry). shares (e .list))) (r .entries)
+      ∙ ap (λ (l : List Share). l ∷ []) (map-map (shareOf ridgeCounts i numbers) (λ (v : ℕ). (v, 0)) (countFrom 0 (r .ends)))
+      ∙ ap (λ (k : ℕ). map (λ (v : ℕ). shareOf ridgeCounts i numbers (v, 0)) (countFrom 0 k) ∷ []) (sym n)
 
 -- ---- rank 4
 

@@ -5,7 +5,7 @@ use mathlib.Core.Logic.{_⊎_, inl, inr}
 use mathlib.Core.Bool.{Bool, true, false, cond}
 use mathlib.Core.Option.{Option, some, none}
 use mathlib.Core.List.{List, [], _∷_, _++_, map, List·Memᴰ}
-use Prim.Native.Nat.{ℕ, zero, suc, _+_, _≤_, _<_, compare}
+use Prim.Native.Nat.{ℕ, _≤_, _<_}
 use native.Mathlib.Omega.{arith}
 use lib.Dec.{T, isEq}
 use lib.ListN.{length, getD, length-map, length-append}
@@ -15,19 +15,17 @@ use Rattle.definitions.specs.Subspace.{Subspace}
 use Rattle.definitions.specs.Orbits.{Row, image}
 use Rattle.definitions.specs.Figures.{Figure, Elements, compareFigures, moveEnds, sortStrong}
 use Rattle.definitions.specs.Recursion.{Rules, Answer, Inner, Held, RidgeOrbits, noRidges, heldBy, moveSorted, openRidgeOrbit, numberOrOpen, numberRidge, numberRidges}
-use Rattle.definitions.specs.Faceting.{Prepared, faceting}
-use Rattle.laws.specs.Bools.{true→holds, false→fails}
 use Rattle.laws.specs.Lists.{Mem, here, there, in-append, in-map, of-map, count-at}
-use Rattle.laws.specs.Ascending.{equal-tested, tested-equal, in-fresh}
+use Rattle.laws.specs.Ascending.{equal-tested, in-fresh}
 use Rattle.laws.specs.Places.{map-self}
 use Rattle.laws.specs.Ranges.{fresh-few}
 use Rattle.shapes.specs.Answered.{AnsweredCall}
 use Rattle.shapes.specs.Edges.{figures}
 use Rattle.shapes.specs.Compounds.{some-equal, none-is-not-some}
-use Rattle.shapes.specs.Shape.{Element, Tower, Shaped, sort-same}
+use Rattle.shapes.specs.Shape.{Tower, Shaped, sort-same}
 use Rattle.shapes.specs.Move.{raised-into, moved-shaped}
 use Rattle.shapes.specs.Sets.{set-rising}
-use Rattle.shapes.specs.Calls.{Given, facetRank, ShapedAnswer, call-set, inner-shaped}
+use Rattle.shapes.specs.Calls.{Given, facetRank, call-set, inner-shaped}
 use Rattle.shapes.specs.Sizes.{Counted}
 
 -- ---- the identity
@@ -137,7 +135,7 @@ module _ (n : ℕ) (rows : List Row) (identity : Mem (countFrom 0 n) rows) where
   -- ---- ridges in lists
 
   module _ {A B : Type 0} (f : RidgeOrbits → A → B × RidgeOrbits) (P : A → Type 0) (fits : ℕ → B → Type 0) (wider : (k m : ℕ) (b : B) → k ≤ m → fits k b → fits m b)
-    (one : (known : RidgeOrbits) (x : A) → Sound known → P x → Step fits known (f known x)) where
+      (one : (known : RidgeOrbits) (x : A) → Sound known → P x → Step fits known (f known x)) where
     steps : (known : RidgeOrbits) (l : List A) → Sound known → ((x : A) → Mem x l → P x) → Step (λ k bs. (b : B) → Mem b bs → fits k b) known (mapWith f known l)
     unfolding mapWith
     steps known [] h p = (h, omega arith, λ b m. elim m [ ])
@@ -194,8 +192,8 @@ module _ (n : ℕ) (rows : List Row) (identity : Mem (countFrom 0 n) rows) where
   unfolding numberRidges noRidges
   ridges-counted inner stay =
       let ends =
-          steps n rows identity (λ known (i : Inner). mapWith (mapWith (numberRidge rows (i .orbit .vertices))) known (i .answer .possible)) (RidgesStay n) AllIn
-          (λ k m l w a x j y z. below-wider k m y w (a x j y z)) orbit-steps noRidges inner (record { numbered = λ h m. elim m [ ]; counted = λ c m. elim m [ ] }) stay in
+      steps n rows identity (λ known (i : Inner). mapWith (mapWith (numberRidge rows (i .orbit .vertices))) known (i .answer .possible)) (RidgesStay n) AllIn
+      (λ k m l w a x j y z. below-wider k m y w (a x j y z)) orbit-steps noRidges inner (record { numbered = λ h m. elim m [ ]; counted = λ c m. elim m [ ] }) stay in
       record { numbers = ends .2; counts = ends .0 .counted }
 
 -- the ridges of an answered call
@@ -205,11 +203,11 @@ call-ridges more rules plane points rows a given c =
     let p = c .before in
     let n = p .points in
     let identity : Mem (countFrom 0 n) (p .rows) =
-        subst (λ (l : List Row). Mem (countFrom 0 n) l) (sym (c .prepared .rows-are))
-        (subst (λ (k : ℕ). Mem (countFrom 0 k) rows) (sym (c .prepared .points-are)) (subst (λ (l : List Row). Mem (countFrom 0 (length points)) l) (sym (given .rows-good .identity)) (here refl))) in
+    subst (λ (l : List Row). Mem (countFrom 0 n) l) (sym (c .prepared .rows-are))
+    (subst (λ (k : ℕ). Mem (countFrom 0 k) rows) (sym (c .prepared .points-are)) (subst (λ (l : List Row). Mem (countFrom 0 (length points)) l) (sym (given .rows-good .identity)) (here refl))) in
     ridges-counted n (p .rows) identity (p .inner) (λ i m fs k f j.
-      let vertices = i .orbit .vertices in
-      let to : ℕ → ℕ = λ v. getD vertices v 0 in
-      let rank = facetRank (p .more) in
-      let s = inner-shaped more rules plane points rows a given c i m .possible fs k f j in
-      identity-moves n rank (moveSorted to f) (moved-shaped (length vertices) n rank to (raised-into (length vertices) n to (set-rising n vertices (call-set more rules plane points rows a given c i m))) f s))
+    let vertices = i .orbit .vertices in
+    let to : ℕ → ℕ = λ v. getD vertices v 0 in
+    let rank = facetRank (p .more) in
+    let s = inner-shaped more rules plane points rows a given c i m .possible fs k f j in
+    identity-moves n rank (moveSorted to f) (moved-shaped (length vertices) n rank to (raised-into (length vertices) n to (set-rising n vertices (call-set more rules plane points rows a given c i m))) f s))

@@ -1,13 +1,13 @@
 -- Ridge orbits numbered by keys instead of figures: at rank 3 a ridge is a vertex, at rank 4 a pair of ends. Wherever a ridge's figure is written from a key, moving sends keys to keys, and
 -- the numbering, the counts and the table that a call searches are those of the keys. Over any rows. Leans on Edges and LowRanks.
-use mathlib.Core.Path.{_≡_, refl, sym, ap, _∙_, subst}
-use mathlib.Core.Bool.{Bool, true, false, cond}
+use mathlib.Core.Path.{_≡_, refl, sym, ap, _∙_}
+use mathlib.Core.Bool.{Bool, cond}
 use mathlib.Core.Option.{Option, some, none}
-use mathlib.Core.List.{List, [], _∷_, _++_, map, zipWith, List·Memᴰ, map-map, map-append}
-use Prim.Native.Nat.{ℕ, zero, suc, compare, Ordering}
+use mathlib.Core.List.{List, [], _∷_, _++_, map, zipWith, map-map, map-append}
+use Prim.Native.Nat.{ℕ, compare, Ordering}
 use lib.Dec.{isEq}
 use lib.ListN.{length, getD, length-map}
-use Rattle.definitions.specs.Lists.{Pair, comparePair, fresh, mapWith}
+use Rattle.definitions.specs.Lists.{comparePair, fresh, mapWith}
 use Rattle.definitions.specs.Orbits.{Row, image}
 use Rattle.definitions.specs.Figures.{Figure, compareFigures}
 use Rattle.definitions.specs.Search.{Table}
@@ -55,7 +55,7 @@ module _ {K : Type 0} (c : K → K → Ordering) (send : (ℕ → ℕ) → K →
 -- ---- a state that stands for another
 
 module _ {A A′ B S S′ : Type 0} (f : S → A → B × S) (g : S′ → A′ → B × S′) (state : S′ → S) (item : A′ → A)
-  (one : (s : S′) (x : A′) → f (state s) (item x) ≡ (g s x .0, state (g s x .1))) where
+    (one : (s : S′) (x : A′) → f (state s) (item x) ≡ (g s x .0, state (g s x .1))) where
   map-with-items : (s : S′) (l : List A′) → mapWith f (state s) (map item l) ≡ (mapWith g s l .0, state (mapWith g s l .1))
   unfolding mapWith
   map-with-items s [] = refl
@@ -99,10 +99,10 @@ module _ {K : Type 0} (c : K → K → Ordering) (send : (ℕ → ℕ) → K →
       ≡ map write (fresh c (map (λ (h : K × ℕ). h .0) hs) (map (λ (row : Row). send (image row) k) rows))
   joining-by-key rows hs k =
       let seen : map (λ (h : Held). h .ridge) (map heldFigure hs) ≡ map write (map (λ (h : K × ℕ). h .0) hs) =
-          map-map (λ (h : Held). h .ridge) heldFigure hs ∙ sym (map-map write (λ (h : K × ℕ). h .0) hs) in
+      map-map (λ (h : Held). h .ridge) heldFigure hs ∙ sym (map-map write (λ (h : K × ℕ). h .0) hs) in
       let images : map (λ (row : Row). moveSorted (image row) (write k)) rows ≡ map write (map (λ (row : Row). send (image row) k) rows) =
-          map-same (λ (row : Row). moveSorted (image row) (write k)) (λ (row : Row). write (send (image row) k)) rows (λ row m. keyed .moved (image row) k)
-          ∙ sym (map-map write (λ (row : Row). send (image row) k) rows) in
+      map-same (λ (row : Row). moveSorted (image row) (write k)) (λ (row : Row). write (send (image row) k)) rows (λ row m. keyed .moved (image row) k)
+      ∙ sym (map-map write (λ (row : Row). send (image row) k) rows) in
       (λ t. fresh compareFigures (seen t) (images t))
       ∙ fresh-map c (keyed .order) compareFigures figures write (λ k. Unit {0}) (λ x y u v e. keyed .apart x y e) (map (λ (h : K × ℕ). h .0) hs) (map (λ (row : Row). send (image row) k) rows) (λ x m. tt) (λ x m. tt)
 
@@ -115,7 +115,7 @@ module _ {K : Type 0} (c : K → K → Ordering) (send : (ℕ → ℕ) → K →
       let made : List Figure → RidgeOrbits = λ fs. record { held = map hold fs ++ map heldFigure (known .held); counts = known .counts ++ (length fs ∷ []) } in
       let front : map hold (map write joining) ≡ map heldFigure (map (λ (x : K). (x, number)) joining) = map-map hold write joining ∙ sym (map-map heldFigure (λ (x : K). (x, number)) joining) in
       let whole : map hold (map write joining) ++ map heldFigure (known .held) ≡ map heldFigure (map (λ (x : K). (x, number)) joining ++ known .held) =
-          ap (λ (l : List Held). l ++ map heldFigure (known .held)) front ∙ sym (map-append heldFigure (map (λ (x : K). (x, number)) joining) (known .held)) in
+      ap (λ (l : List Held). l ++ map heldFigure (known .held)) front ∙ sym (map-append heldFigure (map (λ (x : K). (x, number)) joining) (known .held)) in
       let many : length (map write joining) ≡ length joining = length-map joining write in
       ap made (joining-by-key rows (known .held) k) ∙ (λ t. record { held = whole t; counts = known .counts ++ (many t ∷ []) })
 

@@ -1,26 +1,26 @@
 -- Hyperplane sets and rows. A set's vertices ascend below the number of points; rows that keep a set, rewritten to positions in it, are permutations of the positions, the identity first;
 -- a refit with so many basis vectors has more points than that. Leans on the definitions and laws.
-use mathlib.Core.Path.{_≡_, refl, sym, ap, _∙_, subst}
+use mathlib.Core.Path.{_≡_, sym, ap, _∙_, subst}
 use mathlib.Core.Bool.{Bool, true, false, cond, not, _&&_}
-use mathlib.Core.List.{List, [], _∷_, _++_, map, flatMap, List·Memᴰ}
-use Prim.Native.Nat.{ℕ, zero, suc, _+_, _-_, _≤_, _<_, compare, Ordering, Ordering·lt}
+use mathlib.Core.List.{List, [], _∷_, _++_, map, List·Memᴰ}
+use Prim.Native.Nat.{ℕ, suc, _+_, _≤_, _<_, compare}
 use native.Mathlib.Omega.{arith}
 use lib.Dec.{T, leb, eqb, eqb→eq, eqb-refl, isEq}
 use lib.ListN.{length, getD, length-append, length-map}
 use lib.Ieee.{Float, lt}
-use Rattle.definitions.specs.Lists.{Pair, sortBy, sortNats, compareNats, keep, anyOf, fresh, placeOf, countFrom}
+use Rattle.definitions.specs.Lists.{sortNats, compareNats, keep, anyOf, fresh, placeOf, countFrom}
 use Rattle.definitions.specs.Vectors.{Vec, norm, normalised}
 use Rattle.definitions.specs.Subspace.{Subspace, residual, distance, addPoint, addPoints, fromPoints, isHyperplane}
 use Rattle.definitions.specs.Orbits.{Row, Limits, Orbit, image, pointAt, pointsNear, setImage, hyperplanes, hyperplaneOrbits}
 use Rattle.definitions.specs.Recursion.{keepsSet, rowWithin, rowsWithin}
-use Rattle.laws.specs.Bools.{same-test, true→holds, holds→true}
+use Rattle.laws.specs.Bools.{same-test, holds→true}
 use Rattle.laws.specs.Lists.{Mem, kept, of-map, in-map, count-at, member-at}
 use Rattle.laws.specs.Orders.{nats, nat-lists, lt-compare, compare-lt}
 use Rattle.laws.specs.Sorting.{in-sorted}
-use Rattle.laws.specs.Ascending.{Differ, Distinct, Ascends, equal-tested, tested-equal, ascends-distinct, sort-ascending}
+use Rattle.laws.specs.Ascending.{Ascends, SameItems, same-ascending, equal-tested, tested-equal, ascends-distinct, sort-ascending}
 use Rattle.laws.specs.Places.{placeIn, place-below, place-apart, place-ascends, ascending-at, ascends-map, distinct-map, map-self}
-use Rattle.laws.specs.Ranges.{Permutes, permutes-at, permutes-apart, permutes-of, ascending-full, ascending-span}
-use Rattle.shapes.specs.Move.{Into, Rising}
+use Rattle.laws.specs.Ranges.{Permutes, permutes-at, permutes-apart, permutes-of, ascending-full}
+use Rattle.shapes.specs.Move.{Into, Rising, element-sent}
 
 -- ---- sets
 
@@ -96,6 +96,17 @@ pub record Rows (n : ℕ) (rows : List Row) : Type 0 where
 pub row-into : (n : ℕ) (row : Row) → Permutes n row → Into n n (image row)
 unfolding image
 row-into n row p = record { below = permutes-at n row p; apart = permutes-apart n row p }
+
+-- a set's image under a row is a set again
+pub set-image : (n : ℕ) (vertices : List ℕ) (row : Row) → VertexSet n vertices → Permutes n row → VertexSet n (setImage vertices row)
+unfolding setImage sortNats
+set-image n vertices row h p =
+    let e = element-sent n n (image row) (row-into n row p) vertices (record { ascends = h .ascends; below = h .below }) in
+    record { ascends = e .ascends; below = e .below }
+
+-- two sets are equal exactly when they have the same vertices
+pub same-set : (n : ℕ) (k l : List ℕ) → VertexSet n k → VertexSet n l → SameItems k l → k ≡ l
+same-set n k l h j same = same-ascending compare nats k l (h .ascends) (j .ascends) same
 
 -- ---- rows within a set
 

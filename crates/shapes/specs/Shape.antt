@@ -1,15 +1,15 @@
 -- The shape of a figure: its ranks from the edges up, each element's subs strictly ascending and naming elements of the rank below, no two elements of a rank equal; sorted, each rank
 -- strictly ascends and the last has one element. `element_sort_strong` leaves such a figure as it is. Leans on the definitions and laws.
-use mathlib.Core.Path.{_≡_, refl, sym, ap, _∙_, subst}
-use mathlib.Core.List.{List, [], _∷_, _++_, map, List·Memᴰ}
-use Prim.Native.Nat.{ℕ, zero, suc, _+_, _≤_, _<_, compare, Ordering, Ordering·lt}
+use mathlib.Core.Path.{_≡_, refl, sym, ap, _∙_}
+use mathlib.Core.List.{List, [], _∷_, map}
+use Prim.Native.Nat.{ℕ, zero, suc, _≤_, _<_, compare}
 use native.Mathlib.Omega.{arith}
 use lib.ListN.{length, getD, drop}
 use Rattle.definitions.specs.Lists.{sortBy, sortNats, compareNats}
 use Rattle.definitions.specs.Figures.{Elements, Figure, numberIn, renumber, sortRanks, sortStrong}
 use Rattle.laws.specs.Lists.{Mem, here, there}
 use Rattle.laws.specs.Orders.{nats, nat-lists}
-use Rattle.laws.specs.Ascending.{Differ, Distinct, Ascends, ascends-distinct, sort-ascending}
+use Rattle.laws.specs.Ascending.{Distinct, Ascends, ascends-distinct, sort-ascending}
 use Rattle.laws.specs.Places.{place-at, map-self}
 
 -- ---- elements, ranks, stacks of ranks

@@ -1,10 +1,9 @@
 -- How much there can be: facets in an emitted list and in a split list, edges of a figure, sets in a hyperplane orbit. Bounds that code needs for its regions and counters, from the
 -- definitions alone. Leans on Emitted, SplitCalls, EdgeSets and Sets.
 use mathlib.Core.Path.{_≡_, refl, sym, ap, _∙_, subst}
-use mathlib.Core.Logic.{_⊎_, inl, inr}
 use mathlib.Core.Bool.{Bool, true, false, cond, not, _&&_}
 use mathlib.Core.List.{List, [], _∷_, _++_, map, List·Memᴰ}
-use Prim.Native.Nat.{ℕ, zero, suc, _+_, _-_, _*_, _≤_, _<_, compare, Ordering}
+use Prim.Native.Nat.{ℕ, zero, suc, _+_, _*_, _≤_, _<_, compare}
 use native.Mathlib.Omega.{arith}
 use lib.Dec.{T, T-not, isEq, eqb, eqb→eq}
 use lib.ListN.{length, getD, length-map, length-append}
@@ -18,17 +17,17 @@ use Rattle.definitions.specs.Search.{Facet, Found}
 use Rattle.definitions.specs.Recursion.{Rules, Inner}
 use Rattle.definitions.specs.Faceting.{Prepared, split, searchFrom}
 use Rattle.laws.specs.Bools.{second, true→holds, apart}
-use Rattle.laws.specs.Lists.{Mem, here, there, in-map, of-map, in-left, in-right, in-count, of-count, count-length, count-at, any-of}
+use Rattle.laws.specs.Lists.{Mem, here, in-map, of-map, in-left, in-right, in-count, count-length, count-at, any-of}
 use Rattle.laws.specs.Orders.{nats, pairs, nat-lists}
-use Rattle.laws.specs.Pairs.{Pairs, pairs-map}
+use Rattle.laws.specs.Pairs.{pairs-map}
 use Rattle.laws.specs.Ascending.{Differ, Distinct, equal-tested, ascends-distinct, sort-ascending, in-fresh}
 use Rattle.laws.specs.Places.{map-self}
-use Rattle.laws.specs.Ranges.{distinct-within, distinct-below, fresh-few, Permutes}
+use Rattle.laws.specs.Ranges.{distinct-within, distinct-below, fresh-few}
 use Rattle.completeness.specs.Taken.{OtherOrbit}
 use Rattle.shapes.specs.Answered.{facetNumber, facetSum}
 use Rattle.shapes.specs.Emitted.{found-facet, found-apart}
 use Rattle.shapes.specs.LowRanks.{facet-orbit}
-use Rattle.shapes.specs.EdgeSets.{Proper, EdgeSet}
+use Rattle.shapes.specs.EdgeSets.{EdgeSet}
 use Rattle.shapes.specs.Sets.{VertexSet, Rows, near-set}
 use Rattle.shapes.specs.SplitCalls.{InCall, SplitAnswer, split-in-call, split-distinct}
 
@@ -75,7 +74,7 @@ module _ (rules : Rules) (p : Prepared) (found : Found) (is-found : searchFrom r
       let orbits = map (λ (f : Facet). f .0) l in
       let e = length-map l (λ (f : Facet). f .0) in
       let r = distinct-below (length (p .inner)) orbits (pairs-map OtherOrbit Differ (λ (f : Facet). f .0) l (λ f i g j other. other) (found-apart rules p found is-found l m))
-          (λ o i. let q = of-map (λ (f : Facet). f .0) o l i in subst (λ (n : ℕ). n < length (p .inner)) (sym (q .2)) (facet-orbit (p .inner) (q .0) (found-facet rules p found is-found l m (q .0) (q .1)) .0)) in
+      (λ o i. let q = of-map (λ (f : Facet). f .0) o l i in subst (λ (n : ℕ). n < length (p .inner)) (sym (q .2)) (facet-orbit (p .inner) (q .0) (found-facet rules p found is-found l m (q .0) (q .1)) .0)) in
       omega arith
 
   -- and its split list no more facets than the call has

@@ -3,7 +3,7 @@
 use mathlib.Core.Path.{_≡_, refl, sym, ap, _∙_, subst}
 use mathlib.Core.Logic.{_⊎_, inl, inr}
 use mathlib.Core.Option.{none}
-use mathlib.Core.List.{List, [], _∷_, _++_, map, flatMap, List·Memᴰ}
+use mathlib.Core.List.{List, [], _∷_, map, flatMap, List·Memᴰ, List·Permᴰ}
 use Prim.Native.Nat.{ℕ, zero, suc, _*_, _≤_, _<_}
 use native.Mathlib.Omega.{arith}
 use lib.ListN.{length, getD, length-map, length-append}
@@ -12,19 +12,20 @@ use Rattle.definitions.specs.Outcome.{answered}
 use Rattle.definitions.specs.Vectors.{Vec}
 use Rattle.definitions.specs.Subspace.{Subspace}
 use Rattle.definitions.specs.Orbits.{Row}
-use Rattle.definitions.specs.Figures.{Compound, partsOf, labelIrc}
+use Rattle.definitions.specs.Figures.{Compound, componentsOf, splitQueue, partsOf}
 use Rattle.definitions.specs.Search.{Facet, Found}
 use Rattle.definitions.specs.Recursion.{Rules, Entry, Answer, Inner}
 use Rattle.definitions.specs.Faceting.{Prepared, splitIn, atOrbit, split, entryOf, entriesOf, searchFrom, finish, faceting}
-use Rattle.laws.specs.Lists.{Mem, here, there, in-map, of-map, of-flatMap, member-at, map-at, count-length}
+use Rattle.laws.specs.Lists.{Mem, here, of-map, of-flatMap, member-at, map-at, count-length}
 use Rattle.laws.specs.Pairs.{Pairs, pairs-map, pairs-flatMap, count-ascends}
 use Rattle.laws.specs.Ascending.{Differ, Distinct}
+use Rattle.laws.specs.Places.{flatMap-map}
 use Rattle.completeness.specs.Taken.{OtherOrbit}
-use Rattle.shapes.specs.Answered.{facetNumber, AnsweredCall, answered-call}
+use Rattle.shapes.specs.Answered.{facetNumber, answered-call}
 use Rattle.shapes.specs.Emitted.{found-facet, found-apart, found-some, entry-of-list}
 use Rattle.shapes.specs.LowRanks.{RankTwo, rank-two, innerAt, inner-at-member, at-orbit, facet-orbit}
 use Rattle.shapes.specs.Compounds.{Composed, composed}
-use Rattle.shapes.specs.Splitting.{parts-range, parts-some, parts-distinct}
+use Rattle.shapes.specs.Splitting.{parts-range, parts-some, parts-distinct, parts-done, parts-items, parts-stable}
 
 -- the entries' lists
 abbrev pub listsOf : Answer → List (List Pair)
@@ -94,6 +95,25 @@ module _ (i : Inner) (h : SplitAnswer (i .answer)) (f : Facet) (is-facet : f .1 
       pairs-map Differ Differ (λ (part : ℕ). (f .0, part)) parts (λ x a y b d e. d (ap (λ (g : Facet). g .1) e))
       (parts-distinct lists (i .answer .compounds) (h .compounds) (h .some-items) (f .1) in-lists (h .distinct (getD lists (f .1) []) (member-at lists (f .1) [] in-lists)))
 
+  -- none of them is compound
+  pub split-in-done : (g : Facet) → Mem g (splitIn i f) → componentsOf (i .answer .compounds) (g .1) ≡ none
+  unfolding splitIn
+  split-in-done g m =
+      let r = of-map (λ (part : ℕ). (f .0, part)) g parts m in
+      ap (λ (x : Facet). componentsOf (i .answer .compounds) (x .1)) (r .2) ∙ parts-done lists (i .answer .compounds) (h .compounds) (h .some-items) (f .1) in-lists (r .0) (r .1)
+
+  -- their lists make up the facet's
+  pub split-in-items : List·Permᴰ (flatMap (λ (g : Facet). getD lists (g .1) []) (splitIn i f)) (getD lists (f .1) [])
+  unfolding splitIn
+  split-in-items =
+      subst (λ (l : List Pair). List·Permᴰ l (getD lists (f .1) [])) (sym (flatMap-map (λ (g : Facet). getD lists (g .1) []) (λ (part : ℕ). (f .0, part)) parts))
+      (parts-items lists (i .answer .compounds) (h .compounds) (h .some-items) (f .1) in-lists)
+
+  -- and so they are after any larger number of steps
+  pub split-in-steps : (steps : ℕ) → 2 * length (getD lists (f .1) []) ≤ steps → map (λ (part : ℕ). (f .0, part)) (splitQueue steps (i .answer .compounds) (f .1 ∷ [])) ≡ splitIn i f
+  unfolding splitIn
+  split-in-steps steps k = ap (map (λ (part : ℕ). (f .0, part))) (parts-stable lists (i .answer .compounds) (h .compounds) (h .some-items) (f .1) in-lists steps k)
+
 -- ---- a list of the call's facets
 
 -- a facet of the call
@@ -127,6 +147,17 @@ module _ (p : Prepared) (h : (i : Inner) → Mem i (p .inner) → SplitAnswer (i
   pub split-in-call : (l : List Facet) → ((f : Facet) → Mem f l → InCall p f) → (g : Facet) → Mem g (split p l) → InCall p g
   unfolding split
   split-in-call l k g m = let r = of-flatMap partsAt g l m in part-in-call (r .0) (k (r .0) (r .1)) g (r .2) .1
+
+  -- and no compound: each facet's orbit has no components for it
+  pub split-final : (l : List Facet) → ((f : Facet) → Mem f l → InCall p f) → (g : Facet) → Mem g (split p l) → componentsOf (innerAt (p .inner) (g .0) .answer .compounds) (g .1) ≡ none
+  unfolding split
+  split-final l k g m =
+      let r = of-flatMap partsAt g l m in
+      let f = r .0 in
+      let inside = k f (r .1) in
+      let same : g .0 ≡ f .0 = part-in-call f inside g (r .2) .0 in
+      ap (λ (o : ℕ). componentsOf (innerAt (p .inner) o .answer .compounds) (g .1)) same
+      ∙ split-in-done (own f inside) (own-split f inside) f (there-is f inside .1) g (subst (λ (x : List Facet). Mem g x) (parts-at f inside) (r .2))
 
   -- none of them twice
   pub split-distinct : (l : List Facet) → ((f : Facet) → Mem f l → InCall p f) → Pairs OtherOrbit l → Distinct (split p l)

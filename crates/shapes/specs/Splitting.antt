@@ -2,17 +2,16 @@
 -- change nothing; the parts' lists are disjoint and make up the facet's list. Over any lists and compounds of them. Leans on Compounds.
 use mathlib.Core.Path.{_≡_, refl, sym, ap, _∙_, subst}
 use mathlib.Core.Logic.{_⊎_, inl, inr}
-use mathlib.Core.Bool.{Bool, true, false}
 use mathlib.Core.Option.{Option, some, none}
-use mathlib.Core.List.{List, [], _∷_, _++_, map, flatMap, append-assoc, append-nil, List·Memᴰ, List·Permᴰ, Permᴰ·refl, Permᴰ·symm, Permᴰ·middle, Permᴰ·append-nil, Permᴰ·append-left, Permᴰ·append-right}
+use mathlib.Core.List.{List, [], _∷_, _++_, flatMap, append-nil, List·Memᴰ, List·Permᴰ, Permᴰ·refl, Permᴰ·symm, Permᴰ·middle, Permᴰ·append-nil, Permᴰ·append-left}
 use Prim.Native.Nat.{ℕ, zero, suc, _+_, _-_, _*_, _≤_, _<_}
 use native.Mathlib.Omega.{arith}
 use lib.ListN.{length, getD}
 use Rattle.definitions.specs.Lists.{Pair}
 use Rattle.definitions.specs.Figures.{Compound, componentsOf, splitQueue, partsOf}
-use Rattle.laws.specs.Lists.{Mem, here, there, in-append, in-left, in-right, in-flatMap, member-at, flatMap-append}
+use Rattle.laws.specs.Lists.{Mem, here, there, in-append, in-right, in-flatMap, member-at, flatMap-append}
 use Rattle.laws.specs.Pairs.{Pairs}
-use Rattle.laws.specs.Sorting.{pairs-perm, perm-member, perm-length}
+use Rattle.laws.specs.Sorting.{pairs-perm, perm-length}
 use Rattle.laws.specs.Ascending.{Differ, Distinct}
 use Rattle.shapes.specs.Compounds.{Composed, parts-shorter, components-of}
 
