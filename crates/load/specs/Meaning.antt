@@ -83,8 +83,16 @@ row-at bytes count n i below = getD-rows 32 n count bytes i below
 
 -- ---- what fields say of a job of its exact length
 
--- The counts are bounded, each part lies in the job, and the parts are those of the definition's job.
+-- The fields are those of the definition's job; the counts are bounded, and each part lies in the job.
 pub record Loadable (bytes : Bytes) (f : Fields) : Type 0 where
+  pub rank-is : f .rank ≡ readJob bytes .rank
+  pub d-is : f .d ≡ readJob bytes .d
+  pub n-is : f .n ≡ readJob bytes .n
+  pub count-is : f .count ≡ readJob bytes .rowCount
+  pub min-is : lengthOf (f .min) ≡ readJob bytes .shortest
+  pub max-is : lengthOf (f .max) ≡ readJob bytes .longest
+  pub entries-is : limitNumber (f .entries) ≡ readJob bytes .entryLimit
+  pub budget-is : f .budget ≡ readJob bytes .budget
   pub rank-least : 2 ≤ f .rank
   pub rank-most : f .rank ≤ 4
   pub d-least : f .rank - 1 ≤ f .d
@@ -108,6 +116,14 @@ own bytes k =
     let h = k .counted in
     let long = k .long in
     record {
+      rank-is = refl;
+      d-is = refl;
+      n-is = refl;
+      count-is = refl;
+      min-is = length-of-limit (readJob bytes .shortest);
+      max-is = length-of-limit (readJob bytes .longest);
+      entries-is = number-of-limit (readJob bytes .entryLimit);
+      budget-is = refl;
       rank-least = h .rank-least;
       rank-most = h .rank-most;
       d-least = h .d-least;
