@@ -1,0 +1,287 @@
+-- What the proofs of the functions cite: each test one step at a time, and the order of the refusals. Assumes nothing.
+use mathlib.Core.Path.{_≡_, refl, sym, ap, _∙_}
+use mathlib.Core.Bool.{Bool, true, false, not, _&&_}
+use mathlib.Core.List.{List, [], _∷_}
+use mathlib.Core.Option.{Option, some, none}
+use Prim.Native.Nat.{ℕ, suc, _+_, _-_, _*_, _≤_, _<_}
+use native.Mathlib.Omega.{arith}
+use borrow.Author.Tests.{leb-true, lt-leb, le-leb, eq-eqb, ne-eqb, eqb-true}
+use lib.Dec.{T, leb, ltb, eqb, leb→le}
+use lib.IntN.{pos}
+use lib.ListN.{length, getD, take, drop}
+use lib.Ieee.{Float, fin, binary64, ofBits, le}
+use Rattle.definitions.specs.Lists.{allOf, countFrom}
+use Rattle.definitions.specs.Vectors.{zero64}
+use Rattle.definitions.specs.Job.{Bytes, readJob, numberAt, floatAt, floatsAt, vectorsAt, between, within, allWithin, limitGood, floatsGood, sameNats, isPermutation, workspaceFor, tests}
+use Rattle.laws.specs.Bools.{true→holds, first, second}
+use Rattle.laws.specs.Tests.{product-at-most, spaced, spaced-first, all-same, all-spaced, same-first, same-none, between-opposites}
+use Rattle.space.specs.Meaning.{lengthOf}
+use Rattle.load.specs.declared.Header.{Header}
+use Rattle.load.specs.declared.Places.{Places}
+use Rattle.load.specs.declared.Fields.{Fields}
+use Rattle.load.specs.Places.{headerOf, placesOf, Counted, Exact, size-is}
+use Rattle.load.specs.Meaning.{fieldsOf, rowsAt, Loadable, loadable}
+use Rattle.job.specs.declared.Checked.{Checked}
+use Rattle.job.specs.declared.Checked.the-variants.{Refused, Passed}
+use Rattle.job.specs.Refusal.{firstRefused, goes-on, stops, checkedAs, checkedOf, hasMark, sizeWithin}
+
+-- ---- the mark
+
+mark-is : (bytes : Bytes) → 11 ≤ length bytes → hasMark bytes ≡ (eqb (getD bytes 0 0) 70 && (eqb (getD bytes 1 0) 67 && eqb (getD bytes 2 0) 84))
+unfolding hasMark
+mark-is [] h = absurd (omega arith)
+mark-is (a ∷ []) h = absurd (omega arith)
+mark-is (a ∷ b ∷ []) h = absurd (omega arith)
+mark-is (a ∷ b ∷ c ∷ rest) h = rw (le-leb 11 (length (a ∷ b ∷ c ∷ rest)) h, same-first, same-first, same-first, same-none) (ends (eqb a 70) (eqb b 67) (eqb c 84))
+  where
+    ends : (x y z : Bool) → (x && (y && (z && true))) ≡ (x && (y && z))
+    ends true true true = refl
+    ends true true false = refl
+    ends true false z = refl
+    ends false y z = refl
+
+module _ (bytes : Bytes) where
+  pub too-short-for-a-mark : length bytes < 11 → false ≡ hasMark bytes
+  unfolding hasMark
+  too-short-for-a-mark h = rw (lt-leb 11 (length bytes) h) refl
+
+  pub first-byte-wrong : 11 ≤ length bytes → (getD bytes 0 0 ≡ 70 → ⊥) → false ≡ hasMark bytes
+  first-byte-wrong h a = rw (mark-is bytes h, ne-eqb (getD bytes 0 0) 70 a) refl
+
+  pub second-byte-wrong : 11 ≤ length bytes → getD bytes 0 0 ≡ 70 → (getD bytes 1 0 ≡ 67 → ⊥) → false ≡ hasMark bytes
+  second-byte-wrong h a b = rw (mark-is bytes h, eq-eqb (getD bytes 0 0) 70 a, ne-eqb (getD bytes 1 0) 67 b) refl
+
+  pub third-byte-decides : 11 ≤ length bytes → getD bytes 0 0 ≡ 70 → getD bytes 1 0 ≡ 67 → eqb (getD bytes 2 0) 84 ≡ hasMark bytes
+  third-byte-decides h a b = rw (mark-is bytes h, eq-eqb (getD bytes 0 0) 70 a, eq-eqb (getD bytes 1 0) 67 b) refl
+
+pub marked-long : (bytes : Bytes) → hasMark bytes ≡ true → 11 ≤ length bytes
+unfolding hasMark
+marked-long bytes e = leb→le 11 (length bytes) (first (leb 11 (length bytes)) (sameNats (take 3 bytes) (70 ∷ 67 ∷ 84 ∷ [])) (true→holds e))
+
+-- ---- sizes
+
+-- the constants of the code stand for whole numbers
+pub within-131072 : (x : Float) → sizeWithin (ofBits binary64 0x4100000000000000) x ≡ within 131072 x
+unfolding sizeWithin ofBits
+within-131072 x = between-opposites 131072 1 (pos 17) refl x
+
+pub within-65536 : (x : Float) → sizeWithin (ofBits binary64 0x40f0000000000000) x ≡ within 65536 x
+unfolding sizeWithin ofBits
+within-65536 x = between-opposites 65536 1 (pos 16) refl x
+
+pub within-1 : (x : Float) → sizeWithin (ofBits binary64 0x3ff0000000000000) x ≡ within 1 x
+unfolding sizeWithin ofBits
+within-1 x = between-opposites 1 1 (pos 0) refl x
+
+module _ (x : Float) (r : Bool) (told : r ≡ sizeWithin (ofBits binary64 0x4100000000000000) x) where
+  pub length-in-size : r ≡ true → le zero64 x ≡ limitGood (some x)
+  unfolding limitGood
+  length-in-size e = rw (← (within-131072 x), ← told, e) refl
+
+  pub length-beyond : r ≡ false → r ≡ limitGood (some x)
+  unfolding limitGood
+  length-beyond e = rw (← (within-131072 x), ← told, e) refl
+
+-- a run of numbers, as one vector and as several
+module _ (c : Float) (most : ℕ) (same : (x : Float) → sizeWithin c x ≡ within most x) (bytes : Bytes) (at : ℕ) where
+  pub vector-good : (d : ℕ) → allOf (sizeWithin c) (floatsAt bytes at d) ≡ allWithin most (floatsAt bytes at d)
+  unfolding allWithin
+  vector-good d = all-same (sizeWithin c) (within most) same (floatsAt bytes at d)
+
+  pub vectors-good : (d many : ℕ) → allOf (sizeWithin c) (floatsAt bytes at (d * many)) ≡ allOf (allWithin most) (vectorsAt bytes at d many)
+  unfolding allWithin floatsAt vectorsAt spaced
+  vectors-good d many = all-same (sizeWithin c) (within most) same (floatsAt bytes at (d * many)) ∙ sym (all-spaced (within most) (floatAt bytes) 8 at d many)
+
+-- the tests of the floats, in terms of the fields
+module _ (bytes : Bytes) (f : Fields) (k : Loadable bytes f) where
+  abbrev minGood : Bool
+  minGood = limitGood (lengthOf (f .min))
+
+  abbrev maxGood : Bool
+  maxGood = limitGood (lengthOf (f .max))
+
+  abbrev offsetGood : Bool
+  offsetGood = allOf (sizeWithin (ofBits binary64 0x40f0000000000000)) (floatsAt bytes (f .offset) (f .d))
+
+  abbrev basisGood : Bool
+  basisGood = allOf (sizeWithin (ofBits binary64 0x3ff0000000000000)) (floatsAt bytes (f .basis) (f .d * (f .rank - 1)))
+
+  abbrev pointsGood : Bool
+  pointsGood = allOf (sizeWithin (ofBits binary64 0x40f0000000000000)) (floatsAt bytes (f .points) (f .d * f .n))
+
+  floats-are : floatsGood (readJob bytes) ≡ (minGood && maxGood && offsetGood && basisGood && pointsGood)
+  unfolding floatsGood
+  floats-are =
+      rw (k .min-is, k .max-is, k .offset-is, k .basis-is, k .points-is, vector-good _ 65536 within-65536 bytes (f .offset) (f .d), vectors-good _ 1 within-1 bytes (f .basis) (f .d) (f .rank - 1), vectors-good _ 65536 within-65536 bytes (f .points) (f .d) (f .n)) refl
+
+  pub min-fails : minGood ≡ false → false ≡ floatsGood (readJob bytes)
+  min-fails p = sym (floats-are ∙ ap (λ (z : Bool). z && maxGood && offsetGood && basisGood && pointsGood) p)
+
+  pub max-fails : minGood ≡ true → maxGood ≡ false → false ≡ floatsGood (readJob bytes)
+  max-fails p q = sym (floats-are ∙ (ap (λ (z : Bool). z && maxGood && offsetGood && basisGood && pointsGood) p ∙ ap (λ (z : Bool). z && offsetGood && basisGood && pointsGood) q))
+
+  behind-limits : minGood ≡ true → maxGood ≡ true → floatsGood (readJob bytes) ≡ (offsetGood && basisGood && pointsGood)
+  behind-limits p q = floats-are ∙ (ap (λ (z : Bool). z && maxGood && offsetGood && basisGood && pointsGood) p ∙ ap (λ (z : Bool). z && offsetGood && basisGood && pointsGood) q)
+
+  pub offset-fails : minGood ≡ true → maxGood ≡ true → offsetGood ≡ false → false ≡ floatsGood (readJob bytes)
+  offset-fails p q r = sym (behind-limits p q ∙ ap (λ (z : Bool). z && basisGood && pointsGood) r)
+
+  behind-offset : minGood ≡ true → maxGood ≡ true → offsetGood ≡ true → floatsGood (readJob bytes) ≡ (basisGood && pointsGood)
+  behind-offset p q r = behind-limits p q ∙ ap (λ (z : Bool). z && basisGood && pointsGood) r
+
+  pub basis-fails : minGood ≡ true → maxGood ≡ true → offsetGood ≡ true → basisGood ≡ false → false ≡ floatsGood (readJob bytes)
+  basis-fails p q r s = sym (behind-offset p q r ∙ ap (λ (z : Bool). z && pointsGood) s)
+
+  pub points-decide : minGood ≡ true → maxGood ≡ true → offsetGood ≡ true → basisGood ≡ true → pointsGood ≡ floatsGood (readJob bytes)
+  points-decide p q r s = sym (behind-offset p q r ∙ ap (λ (z : Bool). z && pointsGood) s)
+
+-- ---- what the tests of the header leave
+
+at-least : (lowest highest x : ℕ) → between lowest highest x ≡ true → lowest ≤ x
+unfolding between
+at-least lowest highest x t = leb→le lowest x (first (leb lowest x) (leb x highest) (true→holds t))
+
+at-most : (lowest highest x : ℕ) → between lowest highest x ≡ true → x ≤ highest
+unfolding between
+at-most lowest highest x t = leb→le x highest (second (leb lowest x) (leb x highest) (true→holds t))
+
+pub counted : (h : Header) → between 2 4 (h .rank) ≡ true → between (h .rank - 1) 4 (h .d) ≡ true → between 2 20 (h .n) ≡ true → between 1 120 (h .count) ≡ true → Counted h
+counted h r d n k = record {
+  rank-least = at-least 2 4 (h .rank) r;
+  rank-most = at-most 2 4 (h .rank) r;
+  d-least = at-least (h .rank - 1) 4 (h .d) d;
+  d-most = at-most (h .rank - 1) 4 (h .d) d;
+  n-least = at-least 2 20 (h .n) n;
+  n-most = at-most 2 20 (h .n) n;
+  count-least = at-least 1 120 (h .count) k;
+  count-most = at-most 1 120 (h .count) k;
+}
+
+pub rank-above-zero : (rank : ℕ) → between 2 4 rank ≡ true → 1 ≤ rank
+rank-above-zero rank e = let l = at-least 2 4 rank e in omega arith
+
+pub exact : (bytes : Bytes) (h : Header) (p : Places) → 11 ≤ length bytes → h ≡ headerOf bytes → Counted h → p ≡ placesOf h → length bytes ≡ p .size → Exact bytes
+exact bytes h p long e k q l = record { header-fits = long; counted = rw e at k; long = l ∙ ap (λ (z : Places). z .size) (q ∙ ap placesOf e) }
+
+first-of : (bytes : Bytes) (at n count : ℕ) → 1 ≤ count → getD (rowsAt bytes at n count) 0 [] ≡ take n (drop at bytes)
+unfolding rowsAt spaced
+first-of bytes at n count h =
+    let e : count ≡ suc (count - 1) = omega arith in
+    ap (λ (k : ℕ). getD (rowsAt bytes at n k) 0 []) e ∙ ap (λ (l : List Bytes). getD l 0 []) (spaced-first (λ (q : ℕ). take n (drop q bytes)) n at (count - 1))
+
+pub first-row-fits : (bytes : Bytes) (f : Fields) → Loadable bytes f → f .rows + f .n ≤ length bytes
+first-row-fits bytes f k = let m = product-at-most (f .n) 1 (f .n) (f .count) (omega arith) (k .count-least) in omega arith
+
+-- row 0, and all rows
+first-row : (bytes : Bytes) (f : Fields) → Loadable bytes f → sameNats (getD (readJob bytes .rows) 0 []) (countFrom 0 (readJob bytes .n)) ≡ sameNats (take (f .n) (drop (f .rows) bytes)) (countFrom 0 (f .n))
+first-row bytes f k = rw (k .rows-is, ← (k .n-is), first-of bytes (f .rows) (f .n) (f .count) (k .count-least)) refl
+
+all-rows : (bytes : Bytes) (f : Fields) → Loadable bytes f → allOf (isPermutation (readJob bytes .n)) (readJob bytes .rows) ≡ allOf (isPermutation (f .n)) (rowsAt bytes (f .rows) (f .n) (f .count))
+all-rows bytes f k = rw (k .rows-is, ← (k .n-is)) refl
+
+-- ---- the order of the refusals
+
+module _ (bytes : Bytes) (workspace : ℕ) where
+  -- the first refusal is the first among the tests behind so many
+  abbrev pub Reached : ℕ → Type 0
+  Reached many = firstRefused (tests bytes workspace) ≡ firstRefused (drop many (tests bytes workspace))
+
+  pub mark-passed : Reached 0 → hasMark bytes ≡ true → Reached 1
+  unfolding tests hasMark
+  mark-passed s t = goes-on (tests bytes workspace) _ _ s (t)
+
+  pub mark-refused : Reached 0 → hasMark bytes ≡ false → Refused 1 ≡ checkedOf bytes workspace
+  unfolding tests hasMark checkedOf checkedAs
+  mark-refused s t = sym (ap (checkedAs bytes) (stops (tests bytes workspace) _ _ s (t)))
+
+  pub version-passed : Reached 1 → eqb (numberAt bytes 3 2) 1 ≡ true → Reached 2
+  unfolding tests
+  version-passed s t = goes-on (tests bytes workspace) _ _ s (t)
+
+  pub version-refused : Reached 1 → eqb (numberAt bytes 3 2) 1 ≡ false → Refused 2 ≡ checkedOf bytes workspace
+  unfolding tests checkedOf checkedAs
+  version-refused s t = sym (ap (checkedAs bytes) (stops (tests bytes workspace) _ _ s (t)))
+
+  pub rank-passed : Reached 2 → (h : Header) → h ≡ headerOf bytes → between 2 4 (h .rank) ≡ true → Reached 3
+  unfolding tests readJob headerOf
+  rank-passed s h e t = goes-on (tests bytes workspace) _ _ s (ap (λ (z : Header). between 2 4 (z .rank)) (sym e) ∙ t)
+
+  pub rank-refused : Reached 2 → (h : Header) → h ≡ headerOf bytes → between 2 4 (h .rank) ≡ false → Refused 3 ≡ checkedOf bytes workspace
+  unfolding tests readJob headerOf checkedOf checkedAs
+  rank-refused s h e t = sym (ap (checkedAs bytes) (stops (tests bytes workspace) _ _ s (ap (λ (z : Header). between 2 4 (z .rank)) (sym e) ∙ t)))
+
+  pub d-passed : Reached 3 → (h : Header) → h ≡ headerOf bytes → between (h .rank - 1) 4 (h .d) ≡ true → Reached 4
+  unfolding tests readJob headerOf
+  d-passed s h e t = goes-on (tests bytes workspace) _ _ s (ap (λ (z : Header). between (z .rank - 1) 4 (z .d)) (sym e) ∙ t)
+
+  pub d-refused : Reached 3 → (h : Header) → h ≡ headerOf bytes → between (h .rank - 1) 4 (h .d) ≡ false → Refused 4 ≡ checkedOf bytes workspace
+  unfolding tests readJob headerOf checkedOf checkedAs
+  d-refused s h e t = sym (ap (checkedAs bytes) (stops (tests bytes workspace) _ _ s (ap (λ (z : Header). between (z .rank - 1) 4 (z .d)) (sym e) ∙ t)))
+
+  pub n-passed : Reached 4 → (h : Header) → h ≡ headerOf bytes → between 2 20 (h .n) ≡ true → Reached 5
+  unfolding tests readJob headerOf
+  n-passed s h e t = goes-on (tests bytes workspace) _ _ s (ap (λ (z : Header). between 2 20 (z .n)) (sym e) ∙ t)
+
+  pub n-refused : Reached 4 → (h : Header) → h ≡ headerOf bytes → between 2 20 (h .n) ≡ false → Refused 5 ≡ checkedOf bytes workspace
+  unfolding tests readJob headerOf checkedOf checkedAs
+  n-refused s h e t = sym (ap (checkedAs bytes) (stops (tests bytes workspace) _ _ s (ap (λ (z : Header). between 2 20 (z .n)) (sym e) ∙ t)))
+
+  pub count-passed : Reached 5 → (h : Header) → h ≡ headerOf bytes → between 1 120 (h .count) ≡ true → Reached 6
+  unfolding tests readJob headerOf
+  count-passed s h e t = goes-on (tests bytes workspace) _ _ s (ap (λ (z : Header). between 1 120 (z .count)) (sym e) ∙ t)
+
+  pub count-refused : Reached 5 → (h : Header) → h ≡ headerOf bytes → between 1 120 (h .count) ≡ false → Refused 6 ≡ checkedOf bytes workspace
+  unfolding tests readJob headerOf checkedOf checkedAs
+  count-refused s h e t = sym (ap (checkedAs bytes) (stops (tests bytes workspace) _ _ s (ap (λ (z : Header). between 1 120 (z .count)) (sym e) ∙ t)))
+
+  pub flags-passed : Reached 6 → (h : Header) → h ≡ headerOf bytes → ltb (h .flags) 8 ≡ true → Reached 7
+  unfolding tests readJob headerOf
+  flags-passed s h e t = goes-on (tests bytes workspace) _ _ s (ap (λ (z : Header). ltb (z .flags) 8) (sym e) ∙ t)
+
+  pub flags-refused : Reached 6 → (h : Header) → h ≡ headerOf bytes → ltb (h .flags) 8 ≡ false → Refused 7 ≡ checkedOf bytes workspace
+  unfolding tests readJob headerOf checkedOf checkedAs
+  flags-refused s h e t = sym (ap (checkedAs bytes) (stops (tests bytes workspace) _ _ s (ap (λ (z : Header). ltb (z .flags) 8) (sym e) ∙ t)))
+
+  pub length-passed : Reached 7 → (p : Places) → p ≡ placesOf (headerOf bytes) → eqb (length bytes) (p .size) ≡ true → Reached 8
+  unfolding tests
+  length-passed s p e t = goes-on (tests bytes workspace) _ _ s (ap (λ (z : ℕ). eqb (length bytes) z) (size-is bytes ∙ ap (λ (z : Places). z .size) (sym e)) ∙ t)
+
+  pub length-refused : Reached 7 → (p : Places) → p ≡ placesOf (headerOf bytes) → eqb (length bytes) (p .size) ≡ false → Refused 8 ≡ checkedOf bytes workspace
+  unfolding tests checkedOf checkedAs
+  length-refused s p e t = sym (ap (checkedAs bytes) (stops (tests bytes workspace) _ _ s (ap (λ (z : ℕ). eqb (length bytes) z) (size-is bytes ∙ ap (λ (z : Places). z .size) (sym e)) ∙ t)))
+
+  pub floats-passed : Reached 8 → floatsGood (readJob bytes) ≡ true → Reached 9
+  unfolding tests
+  floats-passed s t = goes-on (tests bytes workspace) _ _ s (t)
+
+  pub floats-refused : Reached 8 → floatsGood (readJob bytes) ≡ false → Refused 9 ≡ checkedOf bytes workspace
+  unfolding tests checkedOf checkedAs
+  floats-refused s t = sym (ap (checkedAs bytes) (stops (tests bytes workspace) _ _ s (t)))
+
+  pub identity-passed : Reached 9 → (f : Fields) → Loadable bytes f → sameNats (take (f .n) (drop (f .rows) bytes)) (countFrom 0 (f .n)) ≡ true → Reached 10
+  unfolding tests
+  identity-passed s f k t = goes-on (tests bytes workspace) _ _ s (first-row bytes f k ∙ t)
+
+  pub identity-refused : Reached 9 → (f : Fields) → Loadable bytes f → sameNats (take (f .n) (drop (f .rows) bytes)) (countFrom 0 (f .n)) ≡ false → Refused 10 ≡ checkedOf bytes workspace
+  unfolding tests checkedOf checkedAs
+  identity-refused s f k t = sym (ap (checkedAs bytes) (stops (tests bytes workspace) _ _ s (first-row bytes f k ∙ t)))
+
+  pub rows-passed : Reached 10 → (f : Fields) → Loadable bytes f → allOf (isPermutation (f .n)) (rowsAt bytes (f .rows) (f .n) (f .count)) ≡ true → Reached 11
+  unfolding tests
+  rows-passed s f k t = goes-on (tests bytes workspace) _ _ s (all-rows bytes f k ∙ t)
+
+  pub rows-refused : Reached 10 → (f : Fields) → Loadable bytes f → allOf (isPermutation (f .n)) (rowsAt bytes (f .rows) (f .n) (f .count)) ≡ false → Refused 11 ≡ checkedOf bytes workspace
+  unfolding tests checkedOf checkedAs
+  rows-refused s f k t = sym (ap (checkedAs bytes) (stops (tests bytes workspace) _ _ s (all-rows bytes f k ∙ t)))
+
+  pub workspace-passed : Reached 11 → (f : Fields) → Loadable bytes f → leb (workspaceFor (f .rank)) workspace ≡ true → Reached 12
+  unfolding tests
+  workspace-passed s f k t = goes-on (tests bytes workspace) _ _ s (ap (λ (z : ℕ). leb (workspaceFor z) workspace) (sym (k .rank-is)) ∙ t)
+
+  pub workspace-refused : Reached 11 → (f : Fields) → Loadable bytes f → leb (workspaceFor (f .rank)) workspace ≡ false → Refused 12 ≡ checkedOf bytes workspace
+  unfolding tests checkedOf checkedAs
+  workspace-refused s f k t = sym (ap (checkedAs bytes) (stops (tests bytes workspace) _ _ s (ap (λ (z : ℕ). leb (workspaceFor z) workspace) (sym (k .rank-is)) ∙ t)))
+
+  pub all-passed : Reached 12 → (f : Fields) → f ≡ fieldsOf bytes → Passed f ≡ checkedOf bytes workspace
+  unfolding tests firstRefused checkedOf checkedAs
+  all-passed s f e = ap Passed e ∙ sym (ap (checkedAs bytes) s)
