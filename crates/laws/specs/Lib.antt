@@ -9,3 +9,4 @@ pub mod Floats
 pub mod LowerBounds
 pub mod Parts
 pub mod Squares
+pub mod Sets
