@@ -44,3 +44,7 @@ same-images f g n k (suc m) s h =
     ∙ (map-rows-more f 32 n m s
     ∙ (rw (before, h m (omega arith)) refl
     ∙ (sym (map-rows-more g 32 k m s) ∙ ap (λ (j : ℕ). map g (rows 32 k j s)) (add-one m))))
+
+-- row i of a region
+unfoldable pub rowAt : ℕ → ℕ → List ℕ → Row
+rowAt n i s = take n (drop (32 * i) s)
