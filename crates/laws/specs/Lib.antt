@@ -14,3 +14,4 @@ pub mod LowerBounds
 pub mod Parts
 pub mod Squares
 pub mod Tests
+pub mod Sets

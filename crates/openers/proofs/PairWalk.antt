@@ -1,0 +1,340 @@
+-- Pairs walked with marks: a pair is its code, the walk is the definition's, and no more than 190 pairs are walked. Leans on Laws and Marks.
+use mathlib.Core.Path.{_≡_, refl, sym, ap, subst, _∙_}
+use mathlib.Core.Bool.{Bool, true, false, cond, _||_}
+use mathlib.Core.List.{List, [], _∷_, _++_, map, flatMap, append-nil, map-append}
+use Prim.Native.Nat.{ℕ, zero, suc, _+_, _*_, _-_, _/_, _%_, _≤_, _<_, min, max, Ordering·eq}
+use native.Mathlib.Omega.{arith}
+use native.Mathlib.Numerals.{add-one}
+use lib.Dec.{T, eqb, eqb→eq, eqb-refl, isEq}
+use lib.ListN.{length, getD, take, drop, set, length-append, length-take, length-map, length-replicate, getD-replicate, replicate}
+use lib.Seq.{length-take-le, take-suc}
+use Rattle.definitions.specs.Lists.{Pair, anyOf, memberNat, memberPair, comparePair, countFrom}
+use Rattle.definitions.specs.Orbits.{Row, image, pairImage, vertexOpeners, pairOpeners, pairsFrom, above}
+use Rattle.laws.specs.Bools.{same-test}
+use Rattle.laws.specs.Lists.{Mem, here, there, in-map, of-map, of-flatMap, at-member, member-at, count-length, of-count, flatMap-append}
+use Rattle.laws.specs.Orders.{Linear, pairs, is-eq}
+use Rattle.laws.specs.Parts.{rows, getD-rows, length-rows, take-more, take-more-set, map-rows-more}
+use Rattle.openers.specs.Rows.{rowsIn, RowsFit, ImagesBelow, image-at, same-images}
+use Rattle.openers.specs.Marks.{marked, marked-at, marked-length, passed, walked, marksAfter, walked-append, marks-append, walked-fewer, one-passed, one-opened}
+use Rattle.openers.specs.Meaning.{codeOf, pairOf, pairsIn, PairsFit, HoldsPairs, pairCodes, pairsAbove}
+use Rattle.openers.specs.declared.Pairs.{Pairs}
+use Rattle.openers.proofs.Laws.{same-cond, count-more}
+
+-- ---- structs
+
+pub holds-pairs : (r : Pairs) (meaning : List Pair) → r .count ≤ 190 → length (r .codes) ≡ 190 → pairsIn r ≡ meaning → HoldsPairs r meaning
+unfolding pairsIn
+holds-pairs r meaning fits long e = record {
+  fits = record { fits = fits };
+  count-is = sym (length-take-le (r .count) (r .codes) (omega arith)) ∙ (sym (length-map (take (r .count) (r .codes)) pairOf) ∙ ap length e);
+  means = e;
+}
+
+pub pairs-few : (r : Pairs) → length (pairsIn r) ≤ r .count
+unfolding pairsIn
+pairs-few r = let e = length-map (take (r .count) (r .codes)) pairOf in let f = length-take (r .count) (r .codes) in omega arith
+
+pub pair-of-code : (v w : ℕ) → w < 20 → pairOf (20 * v + w) ≡ (v, w)
+unfolding pairOf
+pair-of-code v w h =
+    let a : (20 * v + w) / 20 ≡ v = omega arith in
+    let b : (20 * v + w) % 20 ≡ w = omega arith in
+    λ i. (a i, b i)
+
+pub pairs-pushed : (codes : List ℕ) (count v w : ℕ) → w < 20 → count < length codes → map pairOf (take (count + 1) (set codes count (20 * v + w))) ≡ map pairOf (take count codes) ++ ((v, w) ∷ [])
+pairs-pushed codes count v w h l =
+    ap (map pairOf) (take-more-set codes count (20 * v + w) l)
+    ∙ (map-append pairOf (take count codes) ((20 * v + w) ∷ []) ∙ ap (λ (p : Pair). map pairOf (take count codes) ++ (p ∷ [])) (pair-of-code v w h))
+
+-- ---- images
+
+pub codes-none : (marks : List Bool) (p : Pair) (s : List ℕ) → marks ≡ marked marks (pairCodes (rowsIn 32 0 s) p)
+unfolding marked pairCodes rowsIn rows
+codes-none marks p s = refl
+
+code-at : (n i : ℕ) (s : List ℕ) (v w : ℕ) → v < n → w < n
+    → codeOf (pairImage (v, w) (take n (drop (32 * i) s))) ≡ 20 * min (getD s (32 * i + v) 0) (getD s (32 * i + w) 0) + max (getD s (32 * i + v) 0) (getD s (32 * i + w) 0)
+unfolding codeOf pairImage
+code-at n i s v w h k = rw (image-at n i s v h, image-at n i s w k) refl
+
+pub codes-more : (m v w : ℕ) (s : List ℕ) → v < 32 → w < 32
+    → pairCodes (rowsIn 32 (m + 1) s) (v, w) ≡ pairCodes (rowsIn 32 m s) (v, w) ++ ((20 * min (getD s (32 * m + v) 0) (getD s (32 * m + w) 0) + max (getD s (32 * m + v) 0) (getD s (32 * m + w) 0)) ∷ [])
+unfolding pairCodes rowsIn
+codes-more m v w s h k =
+    map-rows-more (λ (row : Row). codeOf (pairImage (v, w) row)) 32 32 m s
+    ∙ ap (λ (u : ℕ). map (λ (row : Row). codeOf (pairImage (v, w) row)) (rowsIn 32 m s) ++ (u ∷ [])) (code-at 32 m s v w h k)
+
+codes-wide : (n m v w : ℕ) (s : List ℕ) → v < n → w < n → n ≤ 20 → pairCodes (rowsIn 32 m s) (v, w) ≡ pairCodes (rowsIn n m s) (v, w)
+unfolding pairCodes
+codes-wide n m v w s h k l =
+    same-images (λ (row : Row). codeOf (pairImage (v, w) row)) (λ (row : Row). codeOf (pairImage (v, w) row)) 32 n m s
+    (λ i _. code-at 32 i s v w (omega arith) (omega arith) ∙ sym (code-at n i s v w h k))
+
+-- rows that fit send vertices to vertices
+row-below : {n m : ℕ} {s : List ℕ} → RowsFit n m s → (row : Row) → Mem row (rowsIn n m s) → (v : ℕ) → v < n → image row v < n
+unfolding rowsIn
+row-below {n} {m} {s} fits row h v below =
+    let r = at-member row (rows 32 n m s) [] h in
+    let len = length-rows 32 n m s in
+    let k : r .0 < m = omega (arith, r .1) in
+    let is : take n (drop (32 * r .0) s) ≡ row = sym (getD-rows 32 n m s (r .0) k) ∙ r .2 in
+    let e : getD s (32 * r .0 + v) 0 ≡ image row v = sym (image-at n (r .0) s v below) ∙ ap (λ (l : Row). image l v) is in
+    omega (arith, fits .images v below .below (r .0) k)
+
+-- ---- a pair is its code
+
+pair-same : (p q : Pair) → p .0 ≡ q .0 → p .1 ≡ q .1 → p ≡ q
+pair-same p q e f = λ i. (e i, f i)
+
+same-code : (p q : Pair) → p .1 < 20 → q .1 < 20 → isEq (comparePair p q) ≡ eqb (codeOf p) (codeOf q)
+unfolding codeOf
+same-code p q a b =
+    same-test (isEq (comparePair p q)) (eqb (codeOf p) (codeOf q))
+    (λ t. let e = pairs .equal p q (is-eq (comparePair p q) t) in subst (λ (x : Pair). T (eqb (codeOf p) (codeOf x))) e (eqb-refl (codeOf p)))
+    (λ t.
+    let e : 20 * p .0 + p .1 ≡ 20 * q .0 + q .1 = eqb→eq (codeOf p) (codeOf q) t in
+    let same = pair-same p q (omega arith) (omega arith) in
+    subst (λ (x : Pair). T (isEq (comparePair p x))) same (rw (pairs .self p) tt))
+
+code-small : (q : Pair) → q .0 < 20 → q .1 < 20 → codeOf q < 400
+unfolding codeOf
+code-small q h k = omega arith
+
+member-codes : (p : Pair) (ps : List Pair) → p .1 < 20 → ((q : Pair) → Mem q ps → q .1 < 20) → memberNat (codeOf p) (map codeOf ps) ≡ memberPair p ps
+unfolding memberNat memberPair anyOf
+member-codes p [] a h = refl
+member-codes p (q ∷ ps) a h = rw (same-code p q a (h q (here refl)), member-codes p ps a (λ x k. h x (there k))) refl
+
+member-append : (p : Pair) (xs ys : List Pair) → memberPair p (xs ++ ys) ≡ (memberPair p xs || memberPair p ys)
+unfolding memberPair anyOf
+member-append p [] ys = refl
+member-append p (x ∷ xs) ys = rw (member-append p xs ys) (assoc (isEq (comparePair p x)) (memberPair p xs) (memberPair p ys))
+  where
+    assoc : (a b c : Bool) → (a || (b || c)) ≡ ((a || b) || c)
+    assoc true b c = refl
+    assoc false b c = refl
+
+-- ---- marks agree with what was marked
+
+pub record AgreePairs (marks : List Bool) (seen : List Pair) : Type 0 where
+  pub long : length marks ≡ 400
+  pub at : (p : Pair) → p .0 < 20 → p .1 < 20 → getD marks (codeOf p) false ≡ memberPair p seen
+
+pub agree-none : AgreePairs (replicate 400 false) []
+unfolding memberPair anyOf codeOf
+agree-none = record { long = length-replicate 400 false; at = λ p h k. getD-replicate 400 (20 * p .0 + p .1) false false (omega arith) }
+
+map-codes : (rows : List Row) (p : Pair) → pairCodes rows p ≡ map codeOf (map (pairImage p) rows)
+unfolding pairCodes
+map-codes [] p = refl
+map-codes (row ∷ rows) p = ap (λ (l : List ℕ). codeOf (pairImage p row) ∷ l) (map-codes rows p)
+
+module _ (n m : ℕ) (s : List ℕ) (fits : RowsFit n m s) where
+  image-small : (p q : Pair) → p .0 < n → p .1 < n → Mem q (map (pairImage p) (rowsIn n m s)) → q .1 < 20
+  unfolding pairImage
+  image-small p q a b h =
+      let r = of-map (pairImage p) q (rowsIn n m s) h in
+      let e : q .1 ≡ max (image (r .0) (p .0)) (image (r .0) (p .1)) = ap (λ (x : Pair). x .1) (r .2) in
+      omega (arith, row-below fits (r .0) (r .1) (p .0) a, row-below fits (r .0) (r .1) (p .1) b, fits .n-fits)
+
+  agree-more : (marks : List Bool) (seen : List Pair) (p : Pair) → p .0 < n → p .1 < n → AgreePairs marks seen → AgreePairs (marked marks (pairCodes (rowsIn 32 m s) p)) (map (pairImage p) (rowsIn n m s) ++ seen)
+  agree-more marks seen p a b g = record {
+    long = marked-length marks _ ∙ g .long;
+    at = λ q h k.
+        let new = map (pairImage p) (rowsIn n m s) in
+        let codes : pairCodes (rowsIn 32 m s) p ≡ map codeOf new = codes-wide n m (p .0) (p .1) s a b (fits .n-fits) ∙ map-codes (rowsIn n m s) p in
+        marked-at marks (pairCodes (rowsIn 32 m s) p) (codeOf q) (omega (arith, code-small q h k, g .long))
+        ∙ (ap (λ (l : List ℕ). memberNat (codeOf q) l || getD marks (codeOf q) false) codes
+        ∙ (rw (member-codes q new k (λ x i. image-small p x a b i), g .at q h k) refl ∙ sym (member-append q new seen)));
+  }
+
+  pub pairs-walked : (skip : Pair → Bool) (marks : List Bool) (seen ps : List Pair) → AgreePairs marks seen → ((p : Pair) → Mem p ps → (p .0 < n) × (p .1 < n))
+      → walked codeOf (pairCodes (rowsIn 32 m s)) skip marks ps ≡ pairOpeners skip (rowsIn n m s) seen ps
+  unfolding walked passed pairOpeners
+  pairs-walked skip marks seen [] a h = refl
+  pairs-walked skip marks seen (p ∷ ps) a h =
+      let below = h p (here refl) in
+      let old = pairs-walked skip marks seen ps a (λ q k. h q (there k)) in
+      let new = pairs-walked skip (marked marks (pairCodes (rowsIn 32 m s) p)) (map (pairImage p) (rowsIn n m s) ++ seen) ps (agree-more marks seen p (below .0) (below .1) a) (λ q k. h q (there k)) in
+      same-cond (ap (λ (b : Bool). b || skip p) (a .at p (omega (arith, below .0, fits .n-fits)) (omega (arith, below .1, fits .n-fits)))) old (ap (λ (l : List Pair). p ∷ l) new)
+
+-- ---- the openers walked
+
+opener-range : (rows : List Row) (seen : List ℕ) (a m k : ℕ) → k < length (vertexOpeners rows seen (countFrom a m)) → (a + k ≤ getD (vertexOpeners rows seen (countFrom a m)) k 0) × (getD (vertexOpeners rows seen (countFrom a m)) k 0 < a + m)
+unfolding vertexOpeners countFrom
+opener-range rows seen a zero k h = absurd (omega arith)
+opener-range rows seen a (suc m) k h =
+    go (memberNat a seen) k h (λ j l. opener-range rows seen (suc a) m j l) (λ j l. opener-range rows (map (λ (row : Row). image row a) rows ++ seen) (suc a) m j l)
+  where
+    new : List ℕ
+    new = vertexOpeners rows (map (λ (row : Row). image row a) rows ++ seen) (countFrom (suc a) m)
+
+    old : List ℕ
+    old = vertexOpeners rows seen (countFrom (suc a) m)
+
+    go : (b : Bool) (k : ℕ) → k < length (cond b old (a ∷ new))
+        → ((j : ℕ) → j < length old → (suc a + j ≤ getD old j 0) × (getD old j 0 < suc a + m))
+        → ((j : ℕ) → j < length new → (suc a + j ≤ getD new j 0) × (getD new j 0 < suc a + m))
+        → (a + k ≤ getD (cond b old (a ∷ new)) k 0) × (getD (cond b old (a ∷ new)) k 0 < a + suc m)
+    go true k h f g = let r = f k h in (omega (arith, r .0), omega (arith, r .1))
+    go false zero h f g = (omega arith, omega arith)
+    go false (suc k) h f g = let r = g k (omega arith) in (omega (arith, r .0), omega (arith, r .1))
+
+-- ---- how many pairs
+
+-- the number of pairs whose smaller vertex is below k, of n vertices
+unfoldable pub pairsBelow : ℕ → ℕ → ℕ
+pairsBelow n zero = 0
+pairsBelow n (suc k) = pairsBelow n k + (n - suc k)
+
+below-wider : (n k : ℕ) → n ≤ 20 → pairsBelow n k ≤ pairsBelow 20 k
+unfolding pairsBelow
+below-wider n zero h = omega arith
+below-wider n (suc k) h = omega (arith, below-wider n k h)
+
+below-more : (k j : ℕ) → pairsBelow 20 k ≤ pairsBelow 20 (k + j)
+unfolding pairsBelow
+below-more k zero = let e : k + 0 ≡ k = omega arith in rw e (omega arith)
+below-more k (suc j) = let e : k + suc j ≡ suc (k + j) = omega arith in rw e (omega (arith, below-more k j))
+
+below-all : (n k : ℕ) → n ≤ 20 → k ≤ 20 → pairsBelow n k ≤ 190
+unfolding pairsBelow
+below-all n k h l = let e : k + (20 - k) ≡ 20 = omega arith in
+    let all : pairsBelow 20 k ≤ pairsBelow 20 20 = rw e at (below-more k (20 - k)) in omega (arith, below-wider n k h)
+
+from-more : (n : ℕ) (l : List ℕ) (v : ℕ) → pairsFrom n (l ++ (v ∷ [])) ≡ pairsFrom n l ++ pairsAbove n v
+unfolding pairsFrom pairsAbove flatMap
+from-more n l v = flatMap-append (pairsAbove n) l (v ∷ []) ∙ ap (λ (r : List Pair). pairsFrom n l ++ r) (append-nil (pairsAbove n v))
+
+above-length : (n v : ℕ) → length (pairsAbove n v) ≡ n - suc v
+unfolding pairsAbove above
+above-length n v = length-map (countFrom (suc v) (n - suc v)) (λ (w : ℕ). (v, w)) ∙ count-length (suc v) (n - suc v)
+
+-- What the loops over openers need of them: each is a vertex, and no earlier than its place.
+pub record Rising (n : ℕ) (l : List ℕ) : Type 0 where
+  pub at-least : (k : ℕ) → k < length l → k ≤ getD l k 0
+  pub below : (k : ℕ) → k < length l → getD l k 0 < n
+
+pub openers-rise : (rows : List Row) (n : ℕ) → Rising n (vertexOpeners rows [] (countFrom 0 n))
+openers-rise rows n = record {
+  at-least = λ k h. let r = opener-range rows [] 0 n k h in omega (arith, r .0);
+  below = λ k h. let r = opener-range rows [] 0 n k h in omega (arith, r .1);
+}
+
+module _ (n : ℕ) (l : List ℕ) (rise : Rising n l) where
+  from-few : (k : ℕ) → k ≤ length l → length (pairsFrom n (take k l)) ≤ pairsBelow n k
+  unfolding pairsBelow pairsFrom flatMap
+  from-few zero h = omega arith
+  from-few (suc k) h =
+      let e : take (suc k) l ≡ take k l ++ (getD l k 0 ∷ []) = take-suc l k 0 (omega arith) in
+      let len : length (pairsFrom n (take (suc k) l)) ≡ length (pairsFrom n (take k l)) + (n - suc (getD l k 0)) =
+      ap (λ (r : List ℕ). length (pairsFrom n r)) e ∙ (ap length (from-more n (take k l) (getD l k 0)) ∙ (length-append (pairsFrom n (take k l)) (pairsAbove n (getD l k 0)) ∙ ap (λ (j : ℕ). length (pairsFrom n (take k l)) + j) (above-length n (getD l k 0)))) in
+      omega (arith, from-few k (omega arith), rise .at-least k (omega arith))
+
+  -- behind the pairs of the first k openers there is room for those of the next
+  pub room : n ≤ 20 → (k count : ℕ) → k < length l → count ≤ length (pairsFrom n (take k l)) → count + (n - (getD l k 0 + 1)) ≤ 190
+  unfolding pairsBelow
+  room h k count i j = omega (arith, from-few k (omega arith), rise .at-least k i, rise .below k i, below-all n (suc k) h (omega (arith, rise .at-least k i, rise .below k i)))
+
+  pub from-vertices : (p : Pair) → Mem p (pairsFrom n l) → (p .0 < n) × (p .1 < n)
+  unfolding pairsFrom above
+  from-vertices p h =
+      let r = of-flatMap (λ (v : ℕ). map (λ (w : ℕ). (v, w)) (above n v)) p l h in
+      let q = of-map (λ (w : ℕ). (r .0, w)) p (above n (r .0)) (r .2) in
+      let a = at-member (r .0) l 0 (r .1) in
+      let b = of-count (suc (r .0)) (n - suc (r .0)) (q .0) (q .1) in
+      let first : p .0 ≡ r .0 = ap (λ (x : Pair). x .0) (q .2) in
+      let second : p .1 ≡ q .0 = ap (λ (x : Pair). x .1) (q .2) in
+      (omega (arith, rise .below (a .0) (a .1), a .2), omega (arith, rise .below (a .0) (a .1), a .2, b .1))
+
+-- ---- the walk along the pairs of one vertex, and along openers
+
+module _ (images : Pair → List ℕ) (skip : Pair → Bool) (marks : List Bool) where
+  -- the pairs (v, w') with w' below w
+  abbrev pub upTo : ℕ → ℕ → List Pair
+  upTo v w = map (λ (u : ℕ). (v, u)) (countFrom (suc v) (w - suc v))
+
+  up-more : (v w : ℕ) → v < w → upTo v (w + 1) ≡ upTo v w ++ ((v, w) ∷ [])
+  up-more v w h =
+      let e : w + 1 - suc v ≡ w - suc v + 1 = omega arith in
+      let f : suc v + (w - suc v) ≡ w = omega arith in
+      ap (λ (j : ℕ). map (λ (u : ℕ). (v, u)) (countFrom (suc v) j)) e
+      ∙ (ap (map (λ (u : ℕ). (v, u))) (count-more (suc v) (w - suc v) ∙ ap (λ (u : ℕ). countFrom (suc v) (w - suc v) ++ (u ∷ [])) f)
+      ∙ map-append (λ (u : ℕ). (v, u)) (countFrom (suc v) (w - suc v)) (w ∷ []))
+
+  abbrev pub foundUp : ℕ → ℕ → List Pair
+  foundUp v w = walked codeOf images skip marks (upTo v w)
+
+  abbrev pub marksUp : ℕ → ℕ → List Bool
+  marksUp v w = marksAfter codeOf images skip marks (upTo v w)
+
+  pub up-none : (v : ℕ) → (foundUp v (v + 1) ≡ []) × (marksUp v (v + 1) ≡ marks)
+  unfolding walked marksAfter countFrom
+  up-none v = let e : v + 1 - suc v ≡ 0 = omega arith in (rw e refl, rw e refl)
+
+  pub found-up : (v w : ℕ) → v < w → foundUp v (w + 1) ≡ foundUp v w ++ walked codeOf images skip (marksUp v w) ((v, w) ∷ [])
+  found-up v w h = ap (walked codeOf images skip marks) (up-more v w h) ∙ walked-append codeOf images skip marks (upTo v w) ((v, w) ∷ [])
+
+  pub marks-up : (v w : ℕ) → v < w → marksUp v (w + 1) ≡ marksAfter codeOf images skip (marksUp v w) ((v, w) ∷ [])
+  marks-up v w h = ap (marksAfter codeOf images skip marks) (up-more v w h) ∙ marks-append codeOf images skip marks (upTo v w) ((v, w) ∷ [])
+
+  pub up-few : (v w : ℕ) → length (foundUp v w) ≤ w - suc v
+  up-few v w =
+      let e : length (upTo v w) ≡ length (countFrom (suc v) (w - suc v)) = length-map {B = Pair} (countFrom (suc v) (w - suc v)) (λ (u : ℕ). (v, u)) in
+      let f = count-length (suc v) (w - suc v) in
+      omega (arith, walked-fewer codeOf images skip marks (upTo v w))
+
+  pub up-room : (r : Pairs) (before : List Pair) (v w count : ℕ) → HoldsPairs r (before ++ foundUp v w) → length before ≤ count → r .count ≤ count + (w - suc v)
+  up-room r before v w count h l = omega (arith, h .count-is, length-append before (foundUp v w), up-few v w)
+
+  pub up-all : (n v w : ℕ) → w ≡ n → upTo v w ≡ pairsAbove n v
+  unfolding pairsAbove above
+  up-all n v w e = rw e refl
+
+  module _ (n : ℕ) (l : List ℕ) where
+    abbrev pub foundFrom : ℕ → List Pair
+    foundFrom k = walked codeOf images skip marks (pairsFrom n (take k l))
+
+    abbrev pub marksFrom : ℕ → List Bool
+    marksFrom k = marksAfter codeOf images skip marks (pairsFrom n (take k l))
+
+    pub from-none : (foundFrom 0 ≡ []) × (marksFrom 0 ≡ marks)
+    unfolding walked marksAfter pairsFrom flatMap
+    from-none = (refl, refl)
+
+    next : (k : ℕ) → k < length l → pairsFrom n (take (k + 1) l) ≡ pairsFrom n (take k l) ++ pairsAbove n (getD l k 0)
+    next k h = ap (pairsFrom n) (take-more l k 0 h) ∙ from-more n (take k l) (getD l k 0)
+
+    pub found-from : (k : ℕ) → k < length l → foundFrom (k + 1) ≡ foundFrom k ++ walked codeOf images skip (marksFrom k) (pairsAbove n (getD l k 0))
+    found-from k h = ap (walked codeOf images skip marks) (next k h) ∙ walked-append codeOf images skip marks (pairsFrom n (take k l)) (pairsAbove n (getD l k 0))
+
+    pub marks-from : (k : ℕ) → k < length l → marksFrom (k + 1) ≡ marksAfter codeOf images skip (marksFrom k) (pairsAbove n (getD l k 0))
+    marks-from k h = ap (marksAfter codeOf images skip marks) (next k h) ∙ marks-append codeOf images skip marks (pairsFrom n (take k l)) (pairsAbove n (getD l k 0))
+
+-- ---- one pair
+
+module _ (rows : List Row) (skip : Pair → Bool) (marks : List Bool) (v w : ℕ) (found : Pairs) where
+  abbrev joined : List Pair
+  joined = pairsIn found ++ walked codeOf (pairCodes rows) skip marks ((v, w) ∷ [])
+
+  abbrev after : List Bool
+  after = marksAfter codeOf (pairCodes rows) skip marks ((v, w) ∷ [])
+
+  passed-by : found .count ≤ 190 → length (found .codes) ≡ 190 → passed codeOf (pairCodes rows) skip marks (v, w) ≡ true → HoldsPairs found joined × (marks ≡ after)
+  passed-by fits long e =
+      let one = one-passed codeOf (pairCodes rows) skip marks (v, w) e in
+      (holds-pairs found joined fits long (sym (append-nil (pairsIn found)) ∙ ap (λ (l : List Pair). pairsIn found ++ l) (sym (one .0))), sym (one .1))
+
+  pub pair-marked : found .count ≤ 190 → length (found .codes) ≡ 190 → getD marks (20 * v + w) false ≡ true → HoldsPairs found joined × (marks ≡ after)
+  unfolding passed codeOf
+  pair-marked fits long e = passed-by fits long (rw e refl)
+
+  pub pair-skipped : found .count ≤ 190 → length (found .codes) ≡ 190 → getD marks (20 * v + w) false ≡ false → skip (v, w) ≡ true → HoldsPairs found joined × (marks ≡ after)
+  unfolding passed codeOf
+  pair-skipped fits long e f = passed-by fits long (rw (e, f) refl)
+
+  pub pair-opened : getD marks (20 * v + w) false ≡ false → skip (v, w) ≡ false → (r : Pairs) (t : List Bool) → HoldsPairs r (pairsIn found ++ ((v, w) ∷ [])) → t ≡ marked marks (pairCodes rows (v, w)) → HoldsPairs r joined × (t ≡ after)
+  unfolding passed codeOf
+  pair-opened e f r t h g =
+      let one = one-opened codeOf (pairCodes rows) skip marks (v, w) (rw (e, f) refl) in
+      (rw (one .0) h, g ∙ sym (one .1))

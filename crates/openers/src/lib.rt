@@ -1,0 +1,235 @@
+// Openers: the vertices and the pairs of vertices that open an orbit under the rows, in document 01's order. Marks stand in local arrays; a row is read where it lies, at a stride of
+// 32 bytes. Each function equals a definition of "Orbits" for every n up to 20 and any number of rows, which need not be closed under composition.
+use space::Limit;
+use space::Points;
+ghost use mathlib.Core.Path.{_≡_};
+ghost use mathlib.Core.List.{_∷_, [], _++_, map};
+ghost use Prim.Native.Nat.{ℕ, _+_, _*_, _-_, _≤_, _<_, min, max};
+ghost use lib.ListN.{length, getD, take};
+ghost use Rattle.definitions.specs.Lists.{countFrom};
+ghost use Rattle.definitions.specs.Orbits.{vertexOpeners, pairOpeners, pairsFrom, above};
+ghost use Rattle.space.specs.Meaning.{PointsFit, pointsOf, limitsOf};
+ghost use Rattle.openers.specs.Rows.{rowsIn, RowsFit, ImagesBelow};
+ghost use Rattle.openers.specs.Marks.{marked, walked, marksAfter};
+ghost use Rattle.openers.specs.Meaning.{verticesIn, HoldsVertices, vertexImages, noneSkipped, pairsIn, HoldsPairs, PairsFit, codeOf, pairCodes, breaks, pairsAbove};
+
+// ---- rows
+
+fn wide(x: u8) -> usize
+    ensures { λ r. ⌜ r ≡ x ⌝ }
+{
+    x as usize
+}
+
+// Row i's image of v.
+pub fn image(rows: &[u8], i: usize, v: usize) -> usize
+    requires { ⌜ 32 * i + v < length (now rows) ⌝ }
+    ensures { λ r. ⌜ r ≡ getD (now (rows .entry)) (32 * i + v) 0 ⌝ }
+{
+    wide(rows[32 * i + v])
+}
+
+// ---- vertices
+
+// Vertices in order, 20 at most.
+pub struct Vertices {
+    pub at: [usize; 20],
+    pub count: usize,
+}
+
+impl Vertices {
+    pub fn new() -> Vertices
+        ensures { λ r. ⌜ HoldsVertices r [] ⌝ }
+    {
+        Vertices {
+            at: [0; 20],
+            count: 0,
+        }
+    }
+
+    // One vertex more, at the end.
+    pub fn with_vertex(self, v: usize) -> Vertices
+        requires { ⌜ self .count < 20 ⌝ }
+        ensures { λ r. ⌜ HoldsVertices r (verticesIn self ++ (v ∷ [])) ⌝ }
+    {
+        let mut more = self;
+        let count = more.count;
+        more.at[count] = v;
+        more.count = count + 1;
+        more
+    }
+}
+
+// The images of v are marked.
+fn mark_images(rows: &[u8], m: usize, v: usize, marks: &mut [bool; 20])
+    requires { ⌜ (32 * m ≤ length (now rows)) × (v < 32) × ImagesBelow 20 v m (now rows) ⌝ }
+    ensures { λ _. ⌜ now (marks .exit) ≡ marked (now (marks .entry)) (vertexImages (rowsIn 32 m (now (rows .entry))) v) ⌝ }
+{
+    let mut i = 0;
+    while i < m {
+        let u = image(rows, i, v);
+        marks[u] = true;
+        i += 1;
+    }
+}
+
+// A vertex that is not marked joins the openers, and its images are marked.
+fn try_vertex(rows: &[u8], m: usize, v: usize, marks: &mut [bool; 20], found: Vertices) -> Vertices
+    requires { ⌜ (32 * m ≤ length (now rows)) × (v < 20) × ImagesBelow 20 v m (now rows) × (found .count < 20) ⌝ }
+    ensures joins { λ r. ⌜ HoldsVertices r (verticesIn found ++ walked (λ u. u) (vertexImages (rowsIn 32 m (now (rows .entry)))) noneSkipped (now (marks .entry)) (v ∷ [])) ⌝ }
+    ensures marks { λ _. ⌜ now (marks .exit) ≡ marksAfter (λ u. u) (vertexImages (rowsIn 32 m (now (rows .entry)))) noneSkipped (now (marks .entry)) (v ∷ []) ⌝ }
+{
+    if marks[v] {
+        return found;
+    }
+    mark_images(rows, m, v, marks);
+    found.with_vertex(v)
+}
+
+// Walk vertices upward; an unseen one opens an orbit, its images under the rows are marked.
+pub fn vertex_openers(rows: &[u8], m: usize, n: usize) -> Vertices
+    requires { ⌜ RowsFit n m (now rows) ⌝ }
+    ensures { λ r. ⌜ HoldsVertices r (vertexOpeners (rowsIn n m (now (rows .entry))) [] (countFrom 0 n)) ⌝ }
+{
+    let mut marks = [false; 20];
+    let mut found = Vertices::new();
+    let mut v = 0;
+    while v < n {
+        let more = try_vertex(rows, m, v, &mut marks, found);
+        found = more;
+        v += 1;
+    }
+    found
+}
+
+// ---- pairs
+
+// Pairs of vertices in order, 190 at most. A pair (v, w) has the code 20 · v + w.
+pub struct Pairs {
+    pub codes: [usize; 190],
+    pub count: usize,
+}
+
+impl Pairs {
+    pub fn new() -> Pairs
+        ensures { λ r. ⌜ HoldsPairs r [] ⌝ }
+    {
+        Pairs {
+            codes: [0; 190],
+            count: 0,
+        }
+    }
+
+    // One pair more, at the end.
+    pub fn with_pair(self, v: usize, w: usize) -> Pairs
+        requires { ⌜ (self .count < 190) × (v < 20) × (w < 20) ⌝ }
+        ensures { λ r. ⌜ HoldsPairs r (pairsIn self ++ ((v, w) ∷ [])) ⌝ }
+    {
+        let mut more = self;
+        let count = more.count;
+        more.codes[count] = 20 * v + w;
+        more.count = count + 1;
+        more
+    }
+}
+
+// The code of the pair of a and b, smaller first.
+fn code(a: usize, b: usize) -> usize
+    requires { ⌜ (a < 20) × (b < 20) ⌝ }
+    ensures { λ r. ⌜ r ≡ 20 * min a b + max a b ⌝ }
+{
+    if a < b { 20 * a + b } else { 20 * b + a }
+}
+
+// The images of the pair (v, w), smaller first, are marked.
+fn mark_pair_images(rows: &[u8], m: usize, v: usize, w: usize, marks: &mut [bool; 400])
+    requires { ⌜ (32 * m ≤ length (now rows)) × (v < 32) × (w < 32) × ImagesBelow 20 v m (now rows) × ImagesBelow 20 w m (now rows) ⌝ }
+    ensures { λ _. ⌜ now (marks .exit) ≡ marked (now (marks .entry)) (pairCodes (rowsIn 32 m (now (rows .entry))) (v, w)) ⌝ }
+{
+    let mut i = 0;
+    while i < m {
+        let at = code(image(rows, i, v), image(rows, i, w));
+        marks[at] = true;
+        i += 1;
+    }
+}
+
+// A pair that is marked or whose length breaks a limit opens nothing and marks nothing; any other opens an orbit. The length is taken on the points as passed.
+fn try_pair(
+    points: Points,
+    rows: &[u8],
+    m: usize,
+    v: usize,
+    w: usize,
+    min: Limit,
+    max: Limit,
+    tolerance: f64,
+    marks: &mut [bool; 400],
+    found: Pairs,
+) -> Pairs
+    requires { ⌜ PointsFit points × (v < points .n) × (w < points .n) × RowsFit (points .n) m (now rows) × (found .count < 190) ⌝ }
+    ensures joins { λ r. ⌜ HoldsPairs r (pairsIn found ++ walked codeOf (pairCodes (rowsIn 32 m (now (rows .entry)))) (breaks tolerance (limitsOf min max) (pointsOf points)) (now (marks .entry)) ((v, w) ∷ [])) ⌝ }
+    ensures marks { λ _. ⌜ now (marks .exit) ≡ marksAfter codeOf (pairCodes (rowsIn 32 m (now (rows .entry)))) (breaks tolerance (limitsOf min max) (pointsOf points)) (now (marks .entry)) ((v, w) ∷ []) ⌝ }
+{
+    if marks[20 * v + w] {
+        return found;
+    }
+    if points.breaks_limit(v, w, min, max, tolerance) {
+        return found;
+    }
+    mark_pair_images(rows, m, v, w, marks);
+    found.with_pair(v, w)
+}
+
+// The pairs (v, w) for each w > v, in order.
+fn pairs_above(
+    points: Points,
+    rows: &[u8],
+    m: usize,
+    v: usize,
+    min: Limit,
+    max: Limit,
+    tolerance: f64,
+    marks: &mut [bool; 400],
+    found: Pairs,
+) -> Pairs
+    requires { ⌜ PointsFit points × (v < points .n) × RowsFit (points .n) m (now rows) × PairsFit found × (found .count + (points .n - (v + 1)) ≤ 190) ⌝ }
+    ensures joins { λ r. ⌜ HoldsPairs r (pairsIn found ++ walked codeOf (pairCodes (rowsIn 32 m (now (rows .entry)))) (breaks tolerance (limitsOf min max) (pointsOf points)) (now (marks .entry)) (pairsAbove (points .n) v)) ⌝ }
+    ensures marks { λ _. ⌜ now (marks .exit) ≡ marksAfter codeOf (pairCodes (rowsIn 32 m (now (rows .entry)))) (breaks tolerance (limitsOf min max) (pointsOf points)) (now (marks .entry)) (pairsAbove (points .n) v) ⌝ }
+{
+    let n = points.n;
+    let mut pairs = found;
+    let mut w = v + 1;
+    while w < n {
+        let more = try_pair(points, rows, m, v, w, min, max, tolerance, marks, pairs);
+        pairs = more;
+        w += 1;
+    }
+    pairs
+}
+
+// For each orbit's opener v and each w > v, in order.
+pub fn pair_openers(
+    points: Points,
+    rows: &[u8],
+    m: usize,
+    min: Limit,
+    max: Limit,
+    tolerance: f64,
+) -> Pairs
+    requires { ⌜ PointsFit points × RowsFit (points .n) m (now rows) ⌝ }
+    ensures { λ r. ⌜ HoldsPairs r (pairOpeners (breaks tolerance (limitsOf min max) (pointsOf points)) (rowsIn (points .n) m (now (rows .entry))) [] (pairsFrom (points .n) (vertexOpeners (rowsIn (points .n) m (now (rows .entry))) [] (countFrom 0 (points .n))))) ⌝ }
+{
+    let openers = vertex_openers(rows, m, points.n);
+    let count = openers.count;
+    let mut marks = [false; 400];
+    let mut pairs = Pairs::new();
+    let mut k = 0;
+    while k < count {
+        let v = openers.at[k];
+        let more = pairs_above(points, rows, m, v, min, max, tolerance, &mut marks, pairs);
+        pairs = more;
+        k += 1;
+    }
+    pairs
+}

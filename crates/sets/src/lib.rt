@@ -1,0 +1,151 @@
+// Sets of vertices as numbers: the sum of 2 ^ v. The image of a set under a row, the points near a plane as a set, and a set's points with the plane that they fit.
+// Each function equals a definition of document 01's "Orbits" or "Recursion on rank".
+use openers::image;
+use space::Points;
+use space::Subspace;
+ghost use mathlib.Core.Path.{_≡_};
+ghost use mathlib.Core.List.{_∷_, [], _++_, map};
+ghost use mathlib.Core.Bool.{cond};
+ghost use Prim.Native.Nat.{ℕ, _+_, _*_, _%_, _^_, _≤_, _<_};
+ghost use lib.Dec.{eqb};
+ghost use lib.ListN.{length, getD, take, drop};
+ghost use lib.Ieee.{lt};
+ghost use Rattle.definitions.specs.Subspace.{distance, fromPoints};
+ghost use Rattle.definitions.specs.Orbits.{pointAt, pointsNear, setImage};
+ghost use Rattle.laws.specs.Sets.{setNumber, verticesFrom, verticesOf};
+ghost use Rattle.space.specs.Meaning.{PointsFit, pointsOf, HoldsPoints, SubspaceFits, subspaceOf};
+ghost use Rattle.openers.specs.Rows.{rowAt};
+ghost use Rattle.sets.specs.Refitting.{Refitted};
+
+// 2 ^ v
+pub fn power(v: usize) -> u32
+    requires { ⌜ v < 20 ⌝ }
+    ensures { λ r. ⌜ r ≡ 2 ^ v ⌝ }
+{
+    let one: u32 = 1;
+    one << v
+}
+
+// ---- images
+
+// What vertex v adds to the image of a set under row i; `rest` begins with v's bit.
+fn image_bit(rows: &[u8], i: usize, v: usize, rest: u32) -> u32
+    requires { ⌜ (32 * i + v < length (now rows)) × (getD (now rows) (32 * i + v) 0 < 20) ⌝ }
+    ensures { λ r. ⌜ r ≡ cond (eqb (rest % 2) 1) (2 ^ getD (now (rows .entry)) (32 * i + v) 0) 0 ⌝ }
+{
+    if rest % 2 == 1 {
+        power(image(rows, i, v))
+    } else {
+        0
+    }
+}
+
+// The image of a set under row i.
+pub fn set_image(rows: &[u8], i: usize, n: usize, set: u32) -> u32
+    requires { ⌜ (n ≤ 20) × (32 * i + n ≤ length (now rows)) × ((v : ℕ) → v < n → getD (now rows) (32 * i + v) 0 < 20) ⌝ }
+    ensures { λ r. ⌜ r ≡ setNumber (setImage (verticesOf n set) (rowAt n i (now (rows .entry)))) ⌝ }
+{
+    let mut sum = 0;
+    let mut rest = set;
+    let mut v = 0;
+    while v < n {
+        sum += image_bit(rows, i, v, rest);
+        rest = rest / 2;
+        v += 1;
+    }
+    sum
+}
+
+// ---- points near a plane
+
+// What point v adds to the set of points near a plane.
+fn near_bit(flat: Points, plane: Subspace, tolerance: f64, v: usize) -> u32
+    requires { ⌜ PointsFit flat × SubspaceFits plane × (flat .d ≡ plane .d) × (v < flat .n) ⌝ }
+    ensures { λ r. ⌜ r ≡ cond (lt (distance (subspaceOf plane) (pointAt (pointsOf flat) v)) tolerance) (2 ^ v) 0 ⌝ }
+{
+    if plane.distance(flat.point(v)) < tolerance {
+        power(v)
+    } else {
+        0
+    }
+}
+
+// The set of all points at a distance below the tolerance.
+pub fn points_near(flat: Points, plane: Subspace, tolerance: f64) -> u32
+    requires { ⌜ PointsFit flat × SubspaceFits plane × (flat .d ≡ plane .d) ⌝ }
+    ensures { λ r. ⌜ r ≡ setNumber (pointsNear tolerance (subspaceOf plane) (pointsOf flat) 0) ⌝ }
+{
+    let n = flat.n;
+    let mut sum = 0;
+    let mut v = 0;
+    while v < n {
+        sum += near_bit(flat, plane, tolerance, v);
+        v += 1;
+    }
+    sum
+}
+
+// ---- a set's points
+
+// Point v joins the chosen ones if `rest` begins with a bit that is set.
+fn with_chosen(flat: Points, v: usize, rest: u32, chosen: Points) -> Points
+    requires { ⌜ PointsFit flat × (v < flat .n) × PointsFit chosen × (chosen .n < 20) × (flat .d ≡ chosen .d) ⌝ }
+    ensures { λ r. ⌜ HoldsPoints r (flat .d) (pointsOf chosen ++ map (pointAt (pointsOf flat)) (verticesFrom v 1 rest)) ⌝ }
+{
+    if rest % 2 == 1 {
+        chosen.with_point(flat.point(v))
+    } else {
+        chosen
+    }
+}
+
+// The points of a set, ascending.
+pub fn chosen_points(flat: Points, set: u32) -> Points
+    requires { ⌜ PointsFit flat ⌝ }
+    ensures { λ r. ⌜ HoldsPoints r (flat .d) (map (pointAt (pointsOf flat)) (verticesOf (flat .n) set)) ⌝ }
+{
+    let n = flat.n;
+    let mut chosen = Points::new(flat.d);
+    let mut rest = set;
+    let mut v = 0;
+    while v < n {
+        let more = with_chosen(flat, v, rest, chosen);
+        chosen = more;
+        rest = rest / 2;
+        v += 1;
+    }
+    chosen
+}
+
+// ---- a set's plane
+
+// Whether a plane has the rank that is wanted.
+pub enum Fit {
+    Fitted,
+    Refused,
+}
+
+// The plane that a set's points fit, and whether it is refused.
+pub struct SetPlane {
+    pub plane: Subspace,
+    pub fit: Fit,
+}
+
+// The first point is the offset, the others are added in order; another rank than the one wanted is refused.
+pub fn refit(points: Points, tolerance: f64, wanted: usize) -> SetPlane
+    requires { ⌜ PointsFit points ⌝ }
+    ensures { λ r. ⌜ Refitted r points (fromPoints tolerance (pointsOf points)) wanted ⌝ }
+{
+    let plane = Subspace::from_points(points, tolerance);
+    if plane.rank == wanted {
+        SetPlane {
+            plane: plane,
+            fit: Fit::Fitted,
+        }
+    } else {
+        SetPlane {
+            plane: plane,
+            fit: Fit::Refused,
+        }
+    }
+}

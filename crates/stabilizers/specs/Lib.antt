@@ -1,0 +1,3 @@
+-- Rows that are permutations, and the places of a set's vertices in it.
+pub mod Permutations
+pub mod Places
