@@ -1,6 +1,7 @@
 -- The next candidate of a frame: the first place above the mark, and the last place whose orbit is not in use. Leans on Frames and Numbers.
 use mathlib.Core.Path.{_≡_, refl, sym, ap, _∙_}
-use mathlib.Core.Bool.{Bool, true, false, not}
+use mathlib.Core.Logic.{⊎-elim}
+use mathlib.Core.Bool.{Bool, true, false, cond, not}
 use mathlib.Core.List.{List, [], _∷_, _++_}
 use mathlib.Core.Option.{Option}
 use Prim.Native.Nat.{ℕ, zero, suc, _+_, _-_, _≤_, _<_}
@@ -9,6 +10,8 @@ use lib.Dec.{T, not-T, ltb, ltb→lt, lt→ltb}
 use lib.ListN.{length, getD, drop}
 use lib.Seq.{getD-take, getD-drop}
 use Rattle.definitions.specs.Search.{Table, Facet, allFacets, usesOrbit}
+use Rattle.laws.specs.Bools.{true→holds, holds→true, fails→false, decide}
+use Rattle.laws.specs.Segments.{le-or-lt}
 use Rattle.laws.specs.Lists.{member-at}
 use Rattle.completeness.specs.Facets.{orbit-below}
 use Rattle.facets.specs.Kept.{place-is}
@@ -99,9 +102,56 @@ latest-found t list ridge low place r l h k =
     let w = l .within in
     l .same ∙ (ap (waiting t list ridge low) (sym e) ∙ take-unused t list ridge low (r - 1) (0, 0) (omega arith) (omega arith) (l .free h))
 
--- one place passed over
-pub latest-pass : (t : Table) (list : List Facet) (ridge : Option ℕ) (low place i : ℕ) → waiting t list ridge low place ≡ waiting t list ridge low i → low < i → i ≤ length (candidates t ridge)
-    → T (not (unused list (getD (candidates t ridge) (i - 1) (0, 0)))) → waiting t list ridge low place ≡ waiting t list ridge low (i - 1)
-latest-pass t list ridge low place i w h k n =
-    let e : suc (i - 1) ≡ i = omega arith in
-    w ∙ (ap (waiting t list ridge low) (sym e) ∙ pass-used t list ridge low (i - 1) (0, 0) (omega arith) (omega arith) n)
+-- one more than the last place from `low` to below `place` whose facet has an orbit that is not in use; where there is none, a number not above `low`
+unfoldable pub lastFree : Table → List Facet → Option ℕ → ℕ → ℕ → ℕ
+lastFree t list ridge low zero = 0
+lastFree t list ridge low (suc i) =
+    let before = lastFree t list ridge low i in
+    cond (ltb low (suc i)) (cond (unused list (getD (candidates t ridge) i (0, 0))) (suc i) before) (suc i)
+
+pub not-below : (low i : ℕ) → i ≤ low → ltb low i ≡ false
+not-below low i h = go (ltb low i) refl
+  where
+    go : (b : Bool) → ltb low i ≡ b → b ≡ false
+    go true e = absurd (let k = ltb→lt low i (true→holds e) in omega arith)
+    go false e = refl
+
+module _ (t : Table) (list : List Facet) (ridge : Option ℕ) (low : ℕ) where
+  pub free-stop : (i : ℕ) → i ≤ low → lastFree t list ridge low i ≡ i
+  unfolding lastFree
+  free-stop zero h = refl
+  free-stop (suc i) h = rw (not-below low (suc i) h) refl
+
+  free-here : (i : ℕ) → low < suc i → T (unused list (getD (candidates t ridge) i (0, 0))) → lastFree t list ridge low (suc i) ≡ suc i
+  unfolding lastFree
+  free-here i h u = rw (holds→true (ltb low (suc i)) (lt→ltb low (suc i) h), holds→true (unused list (getD (candidates t ridge) i (0, 0))) u) refl
+
+  free-before : (i : ℕ) → low < suc i → T (not (unused list (getD (candidates t ridge) i (0, 0)))) → lastFree t list ridge low (suc i) ≡ lastFree t list ridge low i
+  unfolding lastFree
+  free-before i h u = rw (holds→true (ltb low (suc i)) (lt→ltb low (suc i) h), fails→false (unused list (getD (candidates t ridge) i (0, 0))) u) refl
+
+  pub free-found : (i : ℕ) → low < i → T (unused list (getD (candidates t ridge) (i - 1) (0, 0))) → lastFree t list ridge low i ≡ i
+  free-found i h u = let e : suc (i - 1) ≡ i = omega arith in rw e at (free-here (i - 1) (omega arith) u)
+
+  pub free-pass : (i : ℕ) → low < i → T (not (unused list (getD (candidates t ridge) (i - 1) (0, 0)))) → lastFree t list ridge low i ≡ lastFree t list ridge low (i - 1)
+  free-pass i h u = let e : suc (i - 1) ≡ i = omega arith in ap (lastFree t list ridge low) (sym e) ∙ free-before (i - 1) (omega arith) u
+
+  pub latest-is : (place : ℕ) → place ≤ length (candidates t ridge) → Latest t list ridge low place (lastFree t list ridge low place)
+  latest-is zero k = rw (free-stop 0 (omega arith)) (record { within = omega arith; same = refl; free = λ z. absurd (omega arith) })
+  latest-is (suc i) k = ⊎-elim stop (go (latest-is i (omega arith))) (le-or-lt (suc i) low)
+    where
+      stop : suc i ≤ low → Latest t list ridge low (suc i) (lastFree t list ridge low (suc i))
+      stop h = rw (free-stop (suc i) h) (record { within = omega arith; same = refl; free = λ z. absurd (omega arith) })
+
+      found : low < suc i → T (unused list (getD (candidates t ridge) i (0, 0))) → Latest t list ridge low (suc i) (lastFree t list ridge low (suc i))
+      found h u =
+          let e : suc i - 1 ≡ i = omega arith in
+          rw (free-here i h u) (record { within = omega arith; same = refl; free = λ z. rw e u })
+
+      pass : Latest t list ridge low i (lastFree t list ridge low i) → low < suc i → T (not (unused list (getD (candidates t ridge) i (0, 0)))) → Latest t list ridge low (suc i) (lastFree t list ridge low (suc i))
+      pass ih h u =
+          let w = ih .within in
+          rw (free-before i h u) (record { within = omega arith; same = pass-used t list ridge low i (0, 0) (omega arith) (omega arith) u ∙ ih .same; free = ih .free })
+
+      go : Latest t list ridge low i (lastFree t list ridge low i) → low < suc i → Latest t list ridge low (suc i) (lastFree t list ridge low (suc i))
+      go ih h = ⊎-elim (found h) (pass ih h) (decide (unused list (getD (candidates t ridge) i (0, 0))))

@@ -7,7 +7,7 @@ ghost use lib.ListN.{length, getD};
 ghost use Rattle.definitions.specs.Search.{Table, Facet, judge};
 ghost use Rattle.facets.specs.Layout.{Inputs, Uses, verdict, numbers, ridgeOf, usedPart, totalsPart, touchedPart, codes, amountIn, withFacet, withoutFacet};
 ghost use Rattle.facets.specs.Frames.{candidates as candidatesOf, lowOf};
-ghost use Rattle.facets.specs.Latest.{Latest};
+ghost use Rattle.facets.specs.Latest.{lastFree};
 
 // The verdict on a list, the open case with its ridge orbit.
 pub enum Verdict {
@@ -105,10 +105,10 @@ pub fn binary(ws: &[u8], a: Areas, kind: usize, mark: usize) -> usize
     hi
 }
 
-// One more than the last place from `low` to below `place` whose facet has an orbit that is not in use, or `low`.
+// One more than the last place from `low` to below `place` whose facet has an orbit that is not in use; where there is none, a number not above `low`.
 pub fn latest(ws: &[u8], a: Areas, kind: usize, low: usize, place: usize) -> usize
     requires { ⌜ ((t : Table) × Inputs t a (now ws) × (kind ≤ a .ridges) × (place ≤ length (numbers t kind))) ⌝ }
-    ensures { λ r. ⌜ ((t : Table) (list : List Facet) → Inputs t a (now (ws .entry)) → Uses a list (usedPart a (now (ws .entry))) → Latest t list (ridgeOf kind) low place r) ⌝ }
+    ensures { λ r. ⌜ ((t : Table) (list : List Facet) → Inputs t a (now (ws .entry)) → Uses a list (usedPart a (now (ws .entry))) → r ≡ lastFree t list (ridgeOf kind) low place) ⌝ }
 {
     let used = a.used;
     let mut i = place;

@@ -3,15 +3,16 @@ use mathlib.Core.Path.{_≡_, refl, sym, ap, _∙_}
 use mathlib.Core.Logic.{_⊎_, inl, inr, ⊎-elim}
 use mathlib.Core.Bool.{Bool, true, false, cond, not}
 use mathlib.Core.List.{List, [], _∷_, _++_}
-use mathlib.Core.Option.{none}
+use mathlib.Core.Option.{Option, none}
 use Prim.Native.Nat.{ℕ, zero, suc, _+_, _-_, _*_, _≤_, _<_}
 use native.Mathlib.Omega.{arith}
 use native.Mathlib.Numerals.{add-one}
-use lib.Dec.{T}
+use lib.Dec.{T, ltb, ltb→lt, lt→ltb, nltb→le}
 use lib.ListN.{length, getD, take}
 use Rattle.definitions.specs.Lists.{keep, countFrom}
 use Rattle.definitions.specs.Search as def
 use Rattle.definitions.specs.Search.{Table, Facet, usesOrbit, judge, totals}
+use Rattle.laws.specs.Bools.{true→holds, holds→true, false→fails}
 use Rattle.laws.specs.Lists.{keep-less, in-count, count-length}
 use Rattle.laws.specs.Segments.{placed, part-length, placed-length, part-placed, take-placed, part-placed-off, le-or-lt}
 use Rattle.completeness.specs.Walk.{unused-before, uses-last}
@@ -22,7 +23,7 @@ use Rattle.facets.specs.Sums.{sumAt}
 use Rattle.facets.specs.Layout.{verdict, Inputs, Fits, holds-kept, facetOf, numbers, ridgeOf, totalsPart, usedPart, framesPart, listsPart, withFacet, withoutFacet}
 use Rattle.frames.specs.Paths.{path, listTo, frameAt, framesTo, placeAt, lowAt, markAt, kindAt, takenAt, markAfter, itemAt, withPlace, withFrame, Path, Stands}
 use Rattle.facets.specs.Numbers.{numbers-length, numbers-small, candidate-at, numbers-few}
-use Rattle.facets.specs.Latest.{Latest, latest-none, latest-found, facet-small}
+use Rattle.facets.specs.Latest.{Latest, latest-none, latest-found, latest-is, lastFree, not-below, facet-small}
 use Rattle.facets.specs.Change.{change-frames, change-tables, change-lists}
 use Rattle.frames.specs.Stands.{list-last, stands-join, stands-leave}
 use Rattle.frames.specs.Places.{Below, same-kind, same-places, same-taken, same-list, place-length, place-below, place-is, place-taken, place-kind, place-mark, place-frames, frame-length, frame-below, frame-place, frame-kind, frame-frames}
@@ -77,6 +78,10 @@ pub record Next (t : Table) (fr : Frame) (r : ℕ) : Type 0 where
   pub inside : r ≤ fr .place
   pub free : 0 < r → T (unused (fr .list) (candidateOf t fr r))
   pub found : 0 < r → waiting t (fr .list) (fr .ridge) (fr .low) (fr .place) ≡ waiting t (fr .list) (fr .ridge) (fr .low) (r - 1) ++ (candidateOf t fr r ∷ [])
+
+-- one more than the place of the next candidate, or 0
+unfoldable pub nextPlace : Table → Frame → ℕ
+nextPlace t fr = let r = lastFree t (fr .list) (fr .ridge) (fr .low) (fr .place) in cond (ltb (fr .low) r) r 0
 
 -- a next candidate is there
 pub record Ready (t : Table) (a : Areas) (s : List ℕ) (d place : ℕ) : Type 0 where
@@ -153,33 +158,59 @@ module _ (a : Areas) (s q : List ℕ) (f : Fits a (length s)) (l : length q ≡ 
 
 -- ---- the next candidate
 
-pub next-is : (t : Table) (a : Areas) (s : List ℕ) (d r : ℕ) → Stands t a s d (d - 1) → 0 < d
-    → Latest t (listTo t (framesPart a s) (d - 1)) (ridgeOf (kindAt (framesPart a s) (d - 1))) (lowAt (framesPart a s) (d - 1)) (placeAt (framesPart a s) (d - 1)) r
-    → lowAt (framesPart a s) (d - 1) < r → Next t (frameAt t (framesPart a s) (d - 1)) r
-unfolding frameAt candidateOf
-next-is t a s d r st h l k =
-    let p = framesPart a s in
-    let n = numbers-length t (kindAt p (d - 1)) in
-    let q = st .frames .places (d - 1) (omega arith) in
-    record {
-      none = λ z. absurd (omega arith);
-      inside = l .within;
-      free = λ z. l .free k;
-      found = λ z. latest-found t (listTo t p (d - 1)) (ridgeOf (kindAt p (d - 1))) (lowAt p (d - 1)) (placeAt p (d - 1)) r l k (omega arith);
-    }
+pub next-found : (t : Table) (fr : Frame) (r : ℕ) → r ≡ lastFree t (fr .list) (fr .ridge) (fr .low) (fr .place) → fr .low < r → r ≡ nextPlace t fr
+unfolding nextPlace
+next-found t fr r e h = rw (← e, holds→true (ltb (fr .low) r) (lt→ltb (fr .low) r h)) refl
 
-pub next-none : (t : Table) (a : Areas) (s : List ℕ) (d r : ℕ)
-    → Latest t (listTo t (framesPart a s) (d - 1)) (ridgeOf (kindAt (framesPart a s) (d - 1))) (lowAt (framesPart a s) (d - 1)) (placeAt (framesPart a s) (d - 1)) r
-    → r ≤ lowAt (framesPart a s) (d - 1) → Next t (frameAt t (framesPart a s) (d - 1)) 0
-unfolding frameAt
-next-none t a s d r l k =
-    let p = framesPart a s in
-    record {
-      none = λ z. latest-none t (listTo t p (d - 1)) (ridgeOf (kindAt p (d - 1))) (lowAt p (d - 1)) (placeAt p (d - 1)) r l k;
-      inside = omega arith;
-      free = λ z. absurd (omega arith);
-      found = λ z. absurd (omega arith);
-    }
+pub next-none : (t : Table) (fr : Frame) (r : ℕ) → r ≡ lastFree t (fr .list) (fr .ridge) (fr .low) (fr .place) → r ≤ fr .low → 0 ≡ nextPlace t fr
+unfolding nextPlace
+next-none t fr r e h = rw (← e, not-below (fr .low) r h) refl
+
+pub next-holds : (t : Table) (a : Areas) (s : List ℕ) (d r : ℕ) → Stands t a s d (d - 1) → 0 < d → r ≡ nextPlace t (frameAt t (framesPart a s) (d - 1)) → Next t (frameAt t (framesPart a s) (d - 1)) r
+unfolding frameAt nextPlace candidateOf
+next-holds t a s d r st h e = rw e (go (ltb low last) refl)
+  where
+    p : List ℕ
+    p = framesPart a s
+
+    list : List Facet
+    list = listTo t p (d - 1)
+
+    ridge : Option ℕ
+    ridge = ridgeOf (kindAt p (d - 1))
+
+    low : ℕ
+    low = lowAt p (d - 1)
+
+    place : ℕ
+    place = placeAt p (d - 1)
+
+    last : ℕ
+    last = lastFree t list ridge low place
+
+    inside : place ≤ length (candidates t ridge)
+    inside = let n = numbers-length t (kindAt p (d - 1)) in let q = st .frames .places (d - 1) (omega arith) in omega arith
+
+    latest : Latest t list ridge low place last
+    latest = latest-is t list ridge low place inside
+
+    go : (b : Bool) → ltb low last ≡ b → Next t (frameAt t p (d - 1)) (cond b last 0)
+    go true q =
+        let k = ltb→lt low last (true→holds q) in
+        record {
+          none = λ z. absurd (omega arith);
+          inside = latest .within;
+          free = λ z. latest .free k;
+          found = λ z. latest-found t list ridge low place last latest k inside;
+        }
+    go false q =
+        let k = nltb→le low last (false→fails q) in
+        record {
+          none = λ z. latest-none t list ridge low place last latest k;
+          inside = omega arith;
+          free = λ z. absurd (omega arith);
+          found = λ z. absurd (omega arith);
+        }
 
 -- ---- a place taken
 

@@ -9,7 +9,7 @@ ghost use Rattle.facets.specs.Layout.{Inputs, verdict, framesPart, listsPart};
 ghost use Rattle.frames.specs.Paths.{withPlace, withFrame, listTo, frameAt, markAfter, Stands, Emitted, path, pushedAll};
 ghost use Rattle.frames.specs.Emission.{Started};
 ghost use Rattle.pool.specs.Pool.{count, ended};
-ghost use Rattle.frames.specs.Steps.{Next, Visited, Entered, Withdrawn, Ready, Light};
+ghost use Rattle.frames.specs.Steps.{nextPlace, Visited, Entered, Withdrawn, Ready, Light};
 use facets::Areas;
 use facets::Verdict;
 
@@ -43,7 +43,7 @@ pub fn put_frame(frames: &mut [u8], k: usize, place: u32, low: u32, mark: u16, k
 // One more than the place of the next candidate in the deepest frame, or 0 if none is left.
 pub fn next(ws: &[u8], a: Areas, depth: usize) -> usize
     requires { ⌜ ((t : Table) × Stands t a (now ws) depth (depth - 1) × (0 < depth)) ⌝ }
-    ensures { λ r. ⌜ ((t : Table) → Stands t a (now (ws .entry)) depth (depth - 1) → Next t (frameAt t (framesPart a (now (ws .entry))) (depth - 1)) r) ⌝ }
+    ensures { λ r. ⌜ ((t : Table) → Stands t a (now (ws .entry)) depth (depth - 1) → r ≡ nextPlace t (frameAt t (framesPart a (now (ws .entry))) (depth - 1))) ⌝ }
 {
     let frames = a.frames;
     let totals = a.totals;

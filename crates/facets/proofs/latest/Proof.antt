@@ -5,10 +5,10 @@ use mathlib.Core.List.{List}
 use Prim.Native.Nat.{_-_, _≤_}
 use lib.ListN.{getD}
 use Rattle.definitions.specs.Search.{Table, Facet}
-use Rattle.facets.specs.Frames.{candidates, waiting}
+use Rattle.facets.specs.Frames.{candidates}
 use Rattle.facets.specs.Layout.{Inputs, Uses, ridgeOf, usedPart}
-use Rattle.facets.specs.Latest.{orbit-small, used-at, is-unused, is-used, latest-pass}
-use Rattle.facets.specs.Numbers.{same-length, numbers-length}
+use Rattle.facets.specs.Latest.{orbit-small, used-at, is-unused, is-used, lastFree, free-stop, free-found, free-pass}
+use Rattle.facets.specs.Numbers.{same-length}
 use Rattle.facets.proofs.latest.Statement.{statement}
 use Rattle.facets.proofs.latest.Tie as tie
 use Rattle.facets.proofs.latest.Reads as reads
@@ -16,7 +16,7 @@ use Rattle.facets.proofs.latest.Lts as lts
 use Rattle.facets.proofs.orbit_at.Reads as orbit-at-reads
 
 abbrev Inv-loop : tie.InvT-loop
-Inv-loop ws a kind low place used i₀ i = (i ≤ place) × ((t : Table) (list : List Facet) → Inputs t a ws → Uses a list (usedPart a ws) → waiting t list (ridgeOf kind) low place ≡ waiting t list (ridgeOf kind) low i)
+Inv-loop ws a kind low place used i₀ i = (i ≤ place) × ((t : Table) (list : List Facet) → Inputs t a ws → Uses a list (usedPart a ws) → lastFree t list (ridgeOf kind) low place ≡ lastFree t list (ridgeOf kind) low i)
 
 abbrev μ-loop : tie.MeasureT-loop
 μ-loop ws a kind low place used i₀ i = i
@@ -50,11 +50,8 @@ returns c = λ t list h u. let s = c .before .before .before .before .before .be
     let o = orbit-small t _ _ (s .args .kind) (l .i - 1) h (omega arith) in
     let f = h .fits in
     let w = used-at (s .args .a) (s .args .ws .now) (c .before .before .orbit-at .result) (omega arith) in
-    record {
-      within = l .inv .0;
-      same = l .inv .1 t list h u;
-      free = λ z. is-unused (s .args .a) list (usedPart (s .args .a) (s .args .ws .now)) (getD (candidates t (ridgeOf (s .args .kind))) (l .i - 1) (0, 0)) u o (rw (← e) (sym w ∙ c .if1 .taken));
-    }
+    sym (l .inv .1 t list h u ∙ free-found t list (ridgeOf (s .args .kind)) (s .args .low) (l .i) (omega arith)
+    (is-unused (s .args .a) list (usedPart (s .args .a) (s .args .ws .now)) (getD (candidates t (ridgeOf (s .args .kind))) (l .i - 1) (0, 0)) u o (rw (← e) (sym w ∙ c .if1 .taken))))
 
 -- src/lib.rt:134:9
 sub-i : tie.Need-sub-i Inv-loop μ-loop
@@ -75,14 +72,13 @@ loop-again c = let s = c .before .before .before .before .before .before in let 
       let o = orbit-small t _ _ (s .args .kind) (l .i - 1) h (omega arith) in
       let f = h .fits in
       let w = used-at (s .args .a) (s .args .ws .now) (c .before .before .orbit-at .result) (omega arith) in
-      let m = numbers-length t (s .args .kind) in
-      latest-pass t list (ridgeOf (s .args .kind)) (s .args .low) (s .args .place) (l .i) (l .inv .1 t list h u) (omega arith) (omega arith)
+      l .inv .1 t list h u ∙ free-pass t list (ridgeOf (s .args .kind)) (s .args .low) (l .i) (omega arith)
       (is-used (s .args .a) list (usedPart (s .args .a) (s .args .ws .now)) (getD (candidates t (ridgeOf (s .args .kind))) (l .i - 1) (0, 0)) u o (λ q. c .if1 .left (w ∙ (rw e q)))),
 )
 
 -- src/lib.rt:123:1
 returns-2 : tie.Need-returns-2 Inv-loop μ-loop
-returns-2 c = λ t list h u. let l = c .before .loop in record { within = l .inv .0; same = l .inv .1 t list h u; free = λ z. absurd (omega arith) }
+returns-2 c = λ t list h u. let l = c .before .loop in sym (l .inv .1 t list h u ∙ free-stop t list _ _ (l .i) (omega arith))
 
 pub latest-spec : {M : Type 1} → statement M
 latest-spec =

@@ -2,8 +2,8 @@ use native.Mathlib.Omega.{arith}
 use mathlib.Core.Path.{_≡_}
 use Prim.Native.Nat.{_-_}
 use Rattle.facets.specs.Layout.{framesPart}
-use Rattle.frames.specs.Paths.{kindAt, placeAt, lowAt, listTo}
-use Rattle.frames.specs.Steps.{frame-room, frames-length, next-is, next-none}
+use Rattle.frames.specs.Paths.{kindAt, placeAt, lowAt, listTo, frameAt}
+use Rattle.frames.specs.Steps.{frame-room, frames-length, next-found, next-none}
 use borrow.Author.Needs.{needs}
 use Rattle.frames.proofs.next.Statement.{statement}
 use Rattle.frames.proofs.next.Tie as tie
@@ -99,23 +99,23 @@ latest-requires c κs = let s = c .before .before .before .before .before .befor
 
 -- src/lib.rt:224:9
 returns : tie.Need-returns
-unfolding kindAt placeAt lowAt
+unfolding kindAt placeAt lowAt frameAt
 returns c = λ t st. let s = c .before .before .before .before .before .before .before .before .before in let p = framesPart (s .args .a) (s .args .ws .now) in
     let k : c .before .before .get-u16 .result ≡ kindAt p (s .args .depth - 1) = c .before .before .get-u16 .ensures in
     let q : c .before .before .before .before .before .before .get-u32 .result ≡ placeAt p (s .args .depth - 1) = c .before .before .before .before .before .before .get-u32 .ensures in
     let w : c .before .before .before .before .get-u322 .result ≡ lowAt p (s .args .depth - 1) = c .before .before .before .before .get-u322 .ensures in
     let m = c .before .latest .ensures t (listTo t p (s .args .depth - 1)) (st .inputs) (st .uses) in
-    next-none t (s .args .a) (s .args .ws .now) (s .args .depth) (c .before .latest .result) (rw (k, q, w) at m) (rw w at (c .if1 .taken))
+    next-none t (frameAt t p (s .args .depth - 1)) (c .before .latest .result) (rw (k, q, w) at m) (rw w at (c .if1 .taken))
 
 -- src/lib.rt:212:1
 returns-2 : tie.Need-returns-2
-unfolding kindAt placeAt lowAt
+unfolding kindAt placeAt lowAt frameAt
 returns-2 c = λ t st. let s = c .before .before .before .before .before .before .before .before .before in let p = framesPart (s .args .a) (s .args .ws .now) in
     let k : c .before .before .get-u16 .result ≡ kindAt p (s .args .depth - 1) = c .before .before .get-u16 .ensures in
     let q : c .before .before .before .before .before .before .get-u32 .result ≡ placeAt p (s .args .depth - 1) = c .before .before .before .before .before .before .get-u32 .ensures in
     let w : c .before .before .before .before .get-u322 .result ≡ lowAt p (s .args .depth - 1) = c .before .before .before .before .get-u322 .ensures in
     let m = c .before .latest .ensures t (listTo t p (s .args .depth - 1)) (st .inputs) (st .uses) in
-    next-is t (s .args .a) (s .args .ws .now) (s .args .depth) (c .before .latest .result) st (s .pre .2) (rw (k, q, w) at m) (rw w at (c .if1 .left))
+    next-found t (frameAt t p (s .args .depth - 1)) (c .before .latest .result) (rw (k, q, w) at m) (rw w at (c .if1 .left))
 
 pub next-spec : {M : Type 1} → statement M
 next-spec =

@@ -7,6 +7,7 @@ use Rattle.definitions.specs.Search.{Table}
 use Rattle.facets.specs.Layout.{Inputs, listsPart, verdict}
 use Rattle.search.specs.Outcomes.{outcome, counted}
 use Rattle.frames.specs.Emission.{emitted-count}
+use Rattle.frames.specs.Steps.{next-holds}
 use Rattle.search.specs.Turns.{Turn, Followed, Goes, Stops, Fills, turn-start, turn-depth, turn-back, turn-ready, turn-spent, turn-judged, turn-on, turn-stopped, turn-full, turn-end, budget-falls, inputs-before}
 use Rattle.search.proofs.search.Statement.{statement}
 use Rattle.search.proofs.search.Tie as tie
@@ -56,7 +57,7 @@ loop-again : tie.Need-loop-again Inv-loop μ-loop
 loop-again c = let s = c .before .before .before .before .before .before .before .before .before .before .before .before .before .before .before in let l = c .before .before .before .before .before .before .before .before .before .loop in let go = c .before .before .before .before .before .before .before .before .before .before .before .before .start .ensures (s .pre .0) (s .pre .1) in let turn = l .inv .2 (s .pre .0) (go .stands .inputs) in (
   c .before .before .back .kept .0 ∙ l .inv .0,
   c .before .before .back .ensures .2 (s .pre .0) (turn .stands) .tables ∙ l .inv .1,
-  λ t h. let u = l .inv .2 t h in let n = c .before .before .before .before .before .next .ensures t (u .stands) in
+  λ t h. let u = l .inv .2 t h in let n = next-holds t (s .args .a) (l .ws) (l .s .depth) (c .before .before .before .before .before .next .result) (u .stands) (c .before .before .before .before .before .before .before .if1 .taken) (c .before .before .before .before .before .next .ensures t (u .stands)) in
       rw (c .before .before .back .ensures .0, c .before .before .back .ensures .1) (turn-back t (s .args .a) (s .args .limit) (s .args .budget) (l .ws) (l .s .depth) (l .s .left) u (c .before .before .before .before .before .before .before .if1 .taken) (c .before .before .back .last .0) (rw (c .before .before .before .before .if2 .taken) at n) (c .before .before .back .ensures .2 t (u .stands))),
 )
 
@@ -68,18 +69,18 @@ same-length c = let l = c .before .before .before .before .before .before .befor
 returns : tie.Need-returns Inv-loop μ-loop
 unfolding outcome counted
 returns c = let s = c .before .before .before .before .before .before .before .before .before .before .before .before .before in let l = c .before .before .before .before .before .before .before .loop in let go = c .before .before .before .before .before .before .before .before .before .before .start .ensures (s .pre .0) (s .pre .1) in let turn = l .inv .2 (s .pre .0) (go .stands .inputs) in (
-  (λ t h. let back = c .before .before .before .before .before .before .before .before .before .before .start .ensures t h in let u = l .inv .2 t (back .stands .inputs) in let n = c .before .before .before .next .ensures t (u .stands) in
+  (λ t h. let back = c .before .before .before .before .before .before .before .before .before .before .start .ensures t h in let u = l .inv .2 t (back .stands .inputs) in let n = next-holds t (s .args .a) (l .ws) (l .s .depth) (c .before .before .before .next .result) (u .stands) (c .before .before .before .before .before .if1 .taken) (c .before .before .before .next .ensures t (u .stands)) in
       turn-spent t (s .args .a) (s .args .limit) (s .args .budget) (l .ws) (l .s .depth) (l .s .left) u (c .before .before .before .before .before .if1 .taken) (c .before .before .before .next .result) n (omega (arith, c .before .before .if2 .left)) (c .if3 .taken)),
   ((λ t. tt), l .inv .1 ∙ go .tables),
 )
 
 -- src/lib.rt:454:13
 visit-requires : tie.Need-visit-requires Inv-loop μ-loop
-visit-requires c κs = let s = c .before .before .before .before .before .before .before .before .before .before .before .before .before .before in let l = c .before .before .before .before .before .before .before .before .loop in let go = c .before .before .before .before .before .before .before .before .before .before .before .start .ensures (s .pre .0) (s .pre .1) in let turn = l .inv .2 (s .pre .0) (go .stands .inputs) in let n = c .before .before .before .before .next .ensures (s .pre .0) (turn .stands) in (s .pre .0, turn-ready (s .pre .0) (s .args .a) (s .args .limit) (s .args .budget) (l .ws) (l .s .depth) (l .s .left) turn (c .before .before .before .before .before .before .if1 .taken) (c .before .before .before .before .next .result) n (omega (arith, c .before .before .before .if2 .left)), omega (arith, c .before .if3 .left))
+visit-requires c κs = let s = c .before .before .before .before .before .before .before .before .before .before .before .before .before .before in let l = c .before .before .before .before .before .before .before .before .loop in let go = c .before .before .before .before .before .before .before .before .before .before .before .start .ensures (s .pre .0) (s .pre .1) in let turn = l .inv .2 (s .pre .0) (go .stands .inputs) in let n = next-holds (s .pre .0) (s .args .a) (l .ws) (l .s .depth) (c .before .before .before .before .next .result) (turn .stands) (c .before .before .before .before .before .before .if1 .taken) (c .before .before .before .before .next .ensures (s .pre .0) (turn .stands)) in (s .pre .0, turn-ready (s .pre .0) (s .args .a) (s .args .limit) (s .args .budget) (l .ws) (l .s .depth) (l .s .left) turn (c .before .before .before .before .before .before .if1 .taken) (c .before .before .before .before .next .result) n (omega (arith, c .before .before .before .if2 .left)), omega (arith, c .before .if3 .left))
 
 -- src/lib.rt:455:17
 follow-requires : tie.Need-follow-requires Inv-loop μ-loop
-follow-requires c κs = let s = c .before .before .before .before .before .before .before .before .before .before .before .before .before .before .before .before .before .before in let l = c .before .before .before .before .before .before .before .before .before .before .before .before .loop in let go = c .before .before .before .before .before .before .before .before .before .before .before .before .before .before .before .start .ensures (s .pre .0) (s .pre .1) in let turn = l .inv .2 (s .pre .0) (go .stands .inputs) in let n = c .before .before .before .before .before .before .before .before .next .ensures (s .pre .0) (turn .stands) in
+follow-requires c κs = let s = c .before .before .before .before .before .before .before .before .before .before .before .before .before .before .before .before .before .before in let l = c .before .before .before .before .before .before .before .before .before .before .before .before .loop in let go = c .before .before .before .before .before .before .before .before .before .before .before .before .before .before .before .start .ensures (s .pre .0) (s .pre .1) in let turn = l .inv .2 (s .pre .0) (go .stands .inputs) in let n = next-holds (s .pre .0) (s .args .a) (l .ws) (l .s .depth) (c .before .before .before .before .before .before .before .before .next .result) (turn .stands) (c .before .before .before .before .before .before .before .before .before .before .if1 .taken) (c .before .before .before .before .before .before .before .before .next .ensures (s .pre .0) (turn .stands)) in
     let z : 0 < c .before .before .before .before .before .before .before .before .next .result = omega (arith, c .before .before .before .before .before .before .before .if2 .left) in
     let d : 0 < l .s .depth = c .before .before .before .before .before .before .before .before .before .before .if1 .taken in
     let p : 0 < l .s .left = omega (arith, c .before .before .before .before .before .if3 .left) in
@@ -98,7 +99,7 @@ at-depth-requires c κs = search needs
 -- src/lib.rt:445:5
 loop-less-2 : tie.Need-loop-less-2 Inv-loop μ-loop
 unfolding Followed
-loop-less-2 c = let s = c .before .before .before .before .before .before .before .before .before .before .before .before .before .before .before .before .before .before .before .before .before .before .before .before .before in let l = c .before .before .before .before .before .before .before .before .before .before .before .before .before .before .before .before .before .before .before .loop in let go = c .before .before .before .before .before .before .before .before .before .before .before .before .before .before .before .before .before .before .before .before .before .before .start .ensures (s .pre .0) (s .pre .1) in let turn = l .inv .2 (s .pre .0) (go .stands .inputs) in let n = c .before .before .before .before .before .before .before .before .before .before .before .before .before .before .before .next .ensures (s .pre .0) (turn .stands) in
+loop-less-2 c = let s = c .before .before .before .before .before .before .before .before .before .before .before .before .before .before .before .before .before .before .before .before .before .before .before .before .before in let l = c .before .before .before .before .before .before .before .before .before .before .before .before .before .before .before .before .before .before .before .loop in let go = c .before .before .before .before .before .before .before .before .before .before .before .before .before .before .before .before .before .before .before .before .before .before .start .ensures (s .pre .0) (s .pre .1) in let turn = l .inv .2 (s .pre .0) (go .stands .inputs) in let n = next-holds (s .pre .0) (s .args .a) (l .ws) (l .s .depth) (c .before .before .before .before .before .before .before .before .before .before .before .before .before .before .before .next .result) (turn .stands) (c .before .before .before .before .before .before .before .before .before .before .before .before .before .before .before .before .before .if1 .taken) (c .before .before .before .before .before .before .before .before .before .before .before .before .before .before .before .next .ensures (s .pre .0) (turn .stands)) in
     let z : 0 < c .before .before .before .before .before .before .before .before .before .before .before .before .before .before .before .next .result = omega (arith, c .before .before .before .before .before .before .before .before .before .before .before .before .before .before .if2 .left) in
     let d : 0 < l .s .depth = c .before .before .before .before .before .before .before .before .before .before .before .before .before .before .before .before .before .if1 .taken in
     let p : 0 < l .s .left = omega (arith, c .before .before .before .before .before .before .before .before .before .before .before .before .if3 .left) in
@@ -111,7 +112,7 @@ loop-less-2 c = let s = c .before .before .before .before .before .before .befor
 -- src/lib.rt:445:5
 loop-again-2 : tie.Need-loop-again-2 Inv-loop μ-loop
 unfolding Followed
-loop-again-2 c = let s = c .before .before .before .before .before .before .before .before .before .before .before .before .before .before .before .before .before .before .before .before .before .before .before .before .before in let l = c .before .before .before .before .before .before .before .before .before .before .before .before .before .before .before .before .before .before .before .loop in let go = c .before .before .before .before .before .before .before .before .before .before .before .before .before .before .before .before .before .before .before .before .before .before .start .ensures (s .pre .0) (s .pre .1) in let turn = l .inv .2 (s .pre .0) (go .stands .inputs) in let n = c .before .before .before .before .before .before .before .before .before .before .before .before .before .before .before .next .ensures (s .pre .0) (turn .stands) in
+loop-again-2 c = let s = c .before .before .before .before .before .before .before .before .before .before .before .before .before .before .before .before .before .before .before .before .before .before .before .before .before in let l = c .before .before .before .before .before .before .before .before .before .before .before .before .before .before .before .before .before .before .before .loop in let go = c .before .before .before .before .before .before .before .before .before .before .before .before .before .before .before .before .before .before .before .before .before .before .start .ensures (s .pre .0) (s .pre .1) in let turn = l .inv .2 (s .pre .0) (go .stands .inputs) in let n = next-holds (s .pre .0) (s .args .a) (l .ws) (l .s .depth) (c .before .before .before .before .before .before .before .before .before .before .before .before .before .before .before .next .result) (turn .stands) (c .before .before .before .before .before .before .before .before .before .before .before .before .before .before .before .before .before .if1 .taken) (c .before .before .before .before .before .before .before .before .before .before .before .before .before .before .before .next .ensures (s .pre .0) (turn .stands)) in
     let z : 0 < c .before .before .before .before .before .before .before .before .before .before .before .before .before .before .before .next .result = omega (arith, c .before .before .before .before .before .before .before .before .before .before .before .before .before .before .if2 .left) in
     let d : 0 < l .s .depth = c .before .before .before .before .before .before .before .before .before .before .before .before .before .before .before .before .before .if1 .taken in
     let p : 0 < l .s .left = omega (arith, c .before .before .before .before .before .before .before .before .before .before .before .before .if3 .left) in
@@ -120,7 +121,7 @@ loop-again-2 c = let s = c .before .before .before .before .before .before .befo
     let q : Goes (s .pre .0) (s .args .a) (s .args .limit) (c .before .before .before .before .before .before .before .before .before .before .visit .last .0) (c .before .before .before .before .before .before .follow .last .0) (l .s .depth) (c .before .before .step .given .0 .0) = rw (c .before .before .step .given .1, c .before .before .before .before .before .before .before .before .before .before .visit .ensures .0) at g in (
       c .before .before .before .before .before .before .follow .kept .0 ∙ (c .before .before .before .before .before .before .before .before .before .before .visit .kept .0 ∙ l .inv .0),
       q .tables ∙ (w .tables ∙ l .inv .1),
-      λ t h. let turn = l .inv .2 t h in let n = c .before .before .before .before .before .before .before .before .before .before .before .before .before .before .before .next .ensures t (turn .stands) in
+      λ t h. let turn = l .inv .2 t h in let n = next-holds t (s .args .a) (l .ws) (l .s .depth) (c .before .before .before .before .before .before .before .before .before .before .before .before .before .before .before .next .result) (turn .stands) (c .before .before .before .before .before .before .before .before .before .before .before .before .before .before .before .before .before .if1 .taken) (c .before .before .before .before .before .before .before .before .before .before .before .before .before .before .before .next .ensures t (turn .stands)) in
           let z : 0 < c .before .before .before .before .before .before .before .before .before .before .before .before .before .before .before .next .result = omega (arith, c .before .before .before .before .before .before .before .before .before .before .before .before .before .before .if2 .left) in
           let d : 0 < l .s .depth = c .before .before .before .before .before .before .before .before .before .before .before .before .before .before .before .before .before .if1 .taken in
           let p : 0 < l .s .left = omega (arith, c .before .before .before .before .before .before .before .before .before .before .before .before .if3 .left) in
@@ -137,7 +138,7 @@ enum-told c = search needs
 -- src/lib.rt:461:21
 found-requires : tie.Need-found-requires Inv-loop μ-loop
 unfolding Followed
-found-requires c κs = let s = c .before .before .before .before .before .before .before .before .before .before .before .before .before .before .before .before .before .before .before .before .before .before .before .before in let l = c .before .before .before .before .before .before .before .before .before .before .before .before .before .before .before .before .before .before .loop in let go = c .before .before .before .before .before .before .before .before .before .before .before .before .before .before .before .before .before .before .before .before .before .start .ensures (s .pre .0) (s .pre .1) in let turn = l .inv .2 (s .pre .0) (go .stands .inputs) in let n = c .before .before .before .before .before .before .before .before .before .before .before .before .before .before .next .ensures (s .pre .0) (turn .stands) in
+found-requires c κs = let s = c .before .before .before .before .before .before .before .before .before .before .before .before .before .before .before .before .before .before .before .before .before .before .before .before in let l = c .before .before .before .before .before .before .before .before .before .before .before .before .before .before .before .before .before .before .loop in let go = c .before .before .before .before .before .before .before .before .before .before .before .before .before .before .before .before .before .before .before .before .before .start .ensures (s .pre .0) (s .pre .1) in let turn = l .inv .2 (s .pre .0) (go .stands .inputs) in let n = next-holds (s .pre .0) (s .args .a) (l .ws) (l .s .depth) (c .before .before .before .before .before .before .before .before .before .before .before .before .before .before .next .result) (turn .stands) (c .before .before .before .before .before .before .before .before .before .before .before .before .before .before .before .before .if1 .taken) (c .before .before .before .before .before .before .before .before .before .before .before .before .before .before .next .ensures (s .pre .0) (turn .stands)) in
     let z : 0 < c .before .before .before .before .before .before .before .before .before .before .before .before .before .before .next .result = omega (arith, c .before .before .before .before .before .before .before .before .before .before .before .before .before .if2 .left) in
     let d : 0 < l .s .depth = c .before .before .before .before .before .before .before .before .before .before .before .before .before .before .before .before .if1 .taken in
     let p : 0 < l .s .left = omega (arith, c .before .before .before .before .before .before .before .before .before .before .before .if3 .left) in
@@ -152,14 +153,14 @@ same-length-2 c = let l = c .before .before .before .before .before .before .bef
 -- src/lib.rt:461:21
 returns-2 : tie.Need-returns-2 Inv-loop μ-loop
 unfolding Followed outcome counted
-returns-2 c = let s = c .before .before .before .before .before .before .before .before .before .before .before .before .before .before .before .before .before .before .before .before .before .before .before .before .before in let l = c .before .before .before .before .before .before .before .before .before .before .before .before .before .before .before .before .before .before .before .loop in let go = c .before .before .before .before .before .before .before .before .before .before .before .before .before .before .before .before .before .before .before .before .before .before .start .ensures (s .pre .0) (s .pre .1) in let turn = l .inv .2 (s .pre .0) (go .stands .inputs) in let n = c .before .before .before .before .before .before .before .before .before .before .before .before .before .before .before .next .ensures (s .pre .0) (turn .stands) in
+returns-2 c = let s = c .before .before .before .before .before .before .before .before .before .before .before .before .before .before .before .before .before .before .before .before .before .before .before .before .before in let l = c .before .before .before .before .before .before .before .before .before .before .before .before .before .before .before .before .before .before .before .loop in let go = c .before .before .before .before .before .before .before .before .before .before .before .before .before .before .before .before .before .before .before .before .before .before .start .ensures (s .pre .0) (s .pre .1) in let turn = l .inv .2 (s .pre .0) (go .stands .inputs) in let n = next-holds (s .pre .0) (s .args .a) (l .ws) (l .s .depth) (c .before .before .before .before .before .before .before .before .before .before .before .before .before .before .before .next .result) (turn .stands) (c .before .before .before .before .before .before .before .before .before .before .before .before .before .before .before .before .before .if1 .taken) (c .before .before .before .before .before .before .before .before .before .before .before .before .before .before .before .next .ensures (s .pre .0) (turn .stands)) in
     let z : 0 < c .before .before .before .before .before .before .before .before .before .before .before .before .before .before .before .next .result = omega (arith, c .before .before .before .before .before .before .before .before .before .before .before .before .before .before .if2 .left) in
     let d : 0 < l .s .depth = c .before .before .before .before .before .before .before .before .before .before .before .before .before .before .before .before .before .if1 .taken in
     let p : 0 < l .s .left = omega (arith, c .before .before .before .before .before .before .before .before .before .before .before .before .if3 .left) in
     let w = c .before .before .before .before .before .before .before .before .before .before .visit .ensures .2 (s .pre .0) (turn-ready (s .pre .0) (s .args .a) (s .args .limit) (s .args .budget) (l .ws) (l .s .depth) (l .s .left) turn d (c .before .before .before .before .before .before .before .before .before .before .before .before .before .before .before .next .result) n z) in
     let j = turn-judged (s .pre .0) (s .args .a) (s .args .limit) (s .args .budget) (l .ws) (l .s .depth) (l .s .left) turn d (c .before .before .before .before .before .before .before .before .before .before .before .before .before .before .before .next .result) n z (c .before .before .before .before .before .before .before .before .before .before .visit .last .0) (c .before .before .before .before .before .before .before .before .before .before .visit .result .verdict) w p in let g = c .before .before .before .before .before .before .follow .ensures (s .pre .0) (rw (c .before .before .before .before .before .before .before .before .before .before .visit .ensures .0) j) in
     let q : Stops (s .pre .0) (s .args .a) (s .args .limit) (c .before .before .before .before .before .before .before .before .before .before .visit .last .0) (c .before .before .before .before .before .before .follow .last .0) (l .s .depth) = rw (c .before .before .enum-told .given .1, c .before .before .before .before .before .before .before .before .before .before .visit .ensures .0) at g in (
-      (λ t h. let back = c .before .before .before .before .before .before .before .before .before .before .before .before .before .before .before .before .before .before .before .before .before .before .start .ensures t h in let turn = l .inv .2 t (back .stands .inputs) in let n = c .before .before .before .before .before .before .before .before .before .before .before .before .before .before .before .next .ensures t (turn .stands) in
+      (λ t h. let back = c .before .before .before .before .before .before .before .before .before .before .before .before .before .before .before .before .before .before .before .before .before .before .start .ensures t h in let turn = l .inv .2 t (back .stands .inputs) in let n = next-holds t (s .args .a) (l .ws) (l .s .depth) (c .before .before .before .before .before .before .before .before .before .before .before .before .before .before .before .next .result) (turn .stands) (c .before .before .before .before .before .before .before .before .before .before .before .before .before .before .before .before .before .if1 .taken) (c .before .before .before .before .before .before .before .before .before .before .before .before .before .before .before .next .ensures t (turn .stands)) in
           let z : 0 < c .before .before .before .before .before .before .before .before .before .before .before .before .before .before .before .next .result = omega (arith, c .before .before .before .before .before .before .before .before .before .before .before .before .before .before .if2 .left) in
           let d : 0 < l .s .depth = c .before .before .before .before .before .before .before .before .before .before .before .before .before .before .before .before .before .if1 .taken in
           let p : 0 < l .s .left = omega (arith, c .before .before .before .before .before .before .before .before .before .before .before .before .if3 .left) in
@@ -181,14 +182,14 @@ same-length-3 c = let l = c .before .before .before .before .before .before .bef
 -- src/lib.rt:464:21
 returns-3 : tie.Need-returns-3 Inv-loop μ-loop
 unfolding Followed outcome counted
-returns-3 c = let s = c .before .before .before .before .before .before .before .before .before .before .before .before .before .before .before .before .before .before .before .before .before .before .before in let l = c .before .before .before .before .before .before .before .before .before .before .before .before .before .before .before .before .before .loop in let go = c .before .before .before .before .before .before .before .before .before .before .before .before .before .before .before .before .before .before .before .before .start .ensures (s .pre .0) (s .pre .1) in let turn = l .inv .2 (s .pre .0) (go .stands .inputs) in let n = c .before .before .before .before .before .before .before .before .before .before .before .before .before .next .ensures (s .pre .0) (turn .stands) in
+returns-3 c = let s = c .before .before .before .before .before .before .before .before .before .before .before .before .before .before .before .before .before .before .before .before .before .before .before in let l = c .before .before .before .before .before .before .before .before .before .before .before .before .before .before .before .before .before .loop in let go = c .before .before .before .before .before .before .before .before .before .before .before .before .before .before .before .before .before .before .before .before .start .ensures (s .pre .0) (s .pre .1) in let turn = l .inv .2 (s .pre .0) (go .stands .inputs) in let n = next-holds (s .pre .0) (s .args .a) (l .ws) (l .s .depth) (c .before .before .before .before .before .before .before .before .before .before .before .before .before .next .result) (turn .stands) (c .before .before .before .before .before .before .before .before .before .before .before .before .before .before .before .if1 .taken) (c .before .before .before .before .before .before .before .before .before .before .before .before .before .next .ensures (s .pre .0) (turn .stands)) in
     let z : 0 < c .before .before .before .before .before .before .before .before .before .before .before .before .before .next .result = omega (arith, c .before .before .before .before .before .before .before .before .before .before .before .before .if2 .left) in
     let d : 0 < l .s .depth = c .before .before .before .before .before .before .before .before .before .before .before .before .before .before .before .if1 .taken in
     let p : 0 < l .s .left = omega (arith, c .before .before .before .before .before .before .before .before .before .before .if3 .left) in
     let w = c .before .before .before .before .before .before .before .before .visit .ensures .2 (s .pre .0) (turn-ready (s .pre .0) (s .args .a) (s .args .limit) (s .args .budget) (l .ws) (l .s .depth) (l .s .left) turn d (c .before .before .before .before .before .before .before .before .before .before .before .before .before .next .result) n z) in
     let j = turn-judged (s .pre .0) (s .args .a) (s .args .limit) (s .args .budget) (l .ws) (l .s .depth) (l .s .left) turn d (c .before .before .before .before .before .before .before .before .before .before .before .before .before .next .result) n z (c .before .before .before .before .before .before .before .before .visit .last .0) (c .before .before .before .before .before .before .before .before .visit .result .verdict) w p in let g = c .before .before .before .before .follow .ensures (s .pre .0) (rw (c .before .before .before .before .before .before .before .before .visit .ensures .0) j) in
     let q : Fills (s .pre .0) (s .args .a) (s .args .limit) (c .before .before .before .before .before .before .before .before .visit .last .0) (c .before .before .before .before .follow .last .0) (l .s .depth) = rw (c .enum-told2 .given .1, c .before .before .before .before .before .before .before .before .visit .ensures .0) at g in (
-      (λ t h. let back = c .before .before .before .before .before .before .before .before .before .before .before .before .before .before .before .before .before .before .before .before .start .ensures t h in let turn = l .inv .2 t (back .stands .inputs) in let n = c .before .before .before .before .before .before .before .before .before .before .before .before .before .next .ensures t (turn .stands) in
+      (λ t h. let back = c .before .before .before .before .before .before .before .before .before .before .before .before .before .before .before .before .before .before .before .before .start .ensures t h in let turn = l .inv .2 t (back .stands .inputs) in let n = next-holds t (s .args .a) (l .ws) (l .s .depth) (c .before .before .before .before .before .before .before .before .before .before .before .before .before .next .result) (turn .stands) (c .before .before .before .before .before .before .before .before .before .before .before .before .before .before .before .if1 .taken) (c .before .before .before .before .before .before .before .before .before .before .before .before .before .next .ensures t (turn .stands)) in
           let z : 0 < c .before .before .before .before .before .before .before .before .before .before .before .before .before .next .result = omega (arith, c .before .before .before .before .before .before .before .before .before .before .before .before .if2 .left) in
           let d : 0 < l .s .depth = c .before .before .before .before .before .before .before .before .before .before .before .before .before .before .before .if1 .taken in
           let p : 0 < l .s .left = omega (arith, c .before .before .before .before .before .before .before .before .before .before .if3 .left) in
