@@ -1,0 +1,4 @@
+-- Hyperplane orbits by numbers of sets, and the workspace that holds them.
+pub mod Numbers
+pub mod Hyperplanes
+pub mod Workspace

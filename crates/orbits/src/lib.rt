@@ -1,0 +1,82 @@
+// Hyperplane orbits in the workspace. Its first 2,048 bytes hold up to 256 orbits, eight bytes each: the number of the first set, and how many sets the orbit has. Behind them lie the
+// numbers of all sets seen, ascending, at most 120 for an orbit. Each function equals a step of document 01's "Orbits", at any tolerance and any rank from 3.
+use sets::set_image;
+use sorted::Found;
+
+ghost use mathlib.Core.Path.{_≡_};
+ghost use mathlib.Core.List.{_∷_, [], _++_, map};
+ghost use Prim.Native.Nat.{ℕ, _+_, _*_, _-_, _≤_, _<_};
+ghost use lib.ListN.{length, getD, take, drop};
+ghost use Rattle.definitions.specs.Lists.{memberNat};
+ghost use Rattle.space.specs.Meaning.{PointsFit, pointsOf, SubspaceFits, subspaceOf, limitsOf};
+ghost use Rattle.words.specs.Words.{words};
+ghost use Rattle.sorted.specs.Ascending.{Ascending, added, Gathering};
+ghost use Rattle.openers.specs.Rows.{rowsIn};
+ghost use Rattle.stabilizers.specs.Permutations.{Permutations};
+ghost use Rattle.orbits.specs.Numbers.{imageNumbers, nearNumber, orbitsFrom, seenAfter};
+ghost use Rattle.orbits.specs.Workspace.{seenIn, Room, Opened};
+
+// Whether another orbit was due than the bound allows.
+pub enum Verdict {
+    Going,
+    Refused,
+}
+
+// How many sets were seen and how many orbits found.
+pub struct Progress {
+    pub known: usize,
+    pub count: usize,
+    pub verdict: Verdict,
+}
+
+// ---- sets seen
+
+// Whether a set was seen.
+fn is_seen(ws: &[u8], known: usize, set: u32) -> bool
+    requires { ⌜ (2048 + 4 * known ≤ length (now ws)) × Ascending (seenIn known (now ws)) ⌝ }
+    ensures { λ r. ⌜ r ≡ memberNat set (seenIn known (now (ws .entry))) ⌝ }
+{
+    match sorted::find(&ws[2048..], known, set) {
+        Found::At(_) => true,
+        Found::Absent => false,
+    }
+}
+
+// The images of a set that were not seen, gathered in ascending order; returns how many there are.
+fn gather_images(rows: &[u8], m: usize, n: usize, set: u32, ws: &[u8], known: usize, new: &mut [u32]) -> usize
+    requires { ⌜ Permutations n m (now rows) × (m ≤ length (now new)) × (2048 + 4 * known ≤ length (now ws)) × Ascending (seenIn known (now ws)) ⌝ }
+    ensures few { λ r. ⌜ r ≤ m ⌝ }
+    ensures gathers { λ r. ⌜ Gathering (seenIn known (now (ws .entry))) (imageNumbers n set (rowsIn n m (now (rows .entry)))) (take r (now (new .exit))) ⌝ }
+{
+    let mut k = 0;
+    let mut i = 0;
+    while i < m {
+        k = sorted::gather(&ws[2048..], known, new, k, set_image(rows, i, n, set));
+        i += 1;
+    }
+    k
+}
+
+// An orbit more, unless there are as many as the bound allows: its first set, how many sets it has, and its sets among those seen.
+fn open_orbit(rows: &[u8], m: usize, n: usize, set: u32, bound: usize, known: usize, count: usize, ws: &mut [u8]) -> Progress
+    requires { ⌜ Permutations n m (now rows) × (m ≤ 120) × Room bound known count (now ws) ⌝ }
+    ensures { λ r. ⌜ Opened bound known count (now (ws .entry)) set (imageNumbers n set (rowsIn n m (now (rows .entry)))) r (now (ws .exit)) ⌝ }
+{
+    if count == bound {
+        return Progress {
+            known: known,
+            count: count,
+            verdict: Verdict::Refused,
+        };
+    }
+    let mut new = [0; 120];
+    let k = gather_images(rows, m, n, set, ws, known, &mut new);
+    words::put_u32(ws, 8 * count, set);
+    words::put_u32(ws, 8 * count + 4, k as u32);
+    sorted::merge(&mut ws[2048..], known, &new, k);
+    Progress {
+        known: known + k,
+        count: count + 1,
+        verdict: Verdict::Going,
+    }
+}
