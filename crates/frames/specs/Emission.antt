@@ -17,7 +17,7 @@ use Rattle.facets.specs.declared.Areas.{Areas}
 use Rattle.facets.specs.Kept.{map-last}
 use Rattle.facets.specs.Frames.{root}
 use Rattle.facets.specs.Layout.{Inputs, Fits, holds-kept, facetOf, numbers, ridgeOf, totalsPart, usedPart, framesPart, listsPart, Totals, Uses, flag}
-use Rattle.frames.specs.Paths.{kindAt, placeAt, path, listTo, framesTo, takenAt, Path, Stands, Emitted, emittedIn, pushedAll, withFrame}
+use Rattle.frames.specs.Paths.{kindAt, placeAt, path, listTo, framesTo, takenAt, Path, Stands, Numbered, Emitted, emittedIn, pushedAll, withFrame}
 use Rattle.facets.specs.Change.{placed-placed}
 use Rattle.facets.specs.Sums.{sumAt}
 use Rattle.facets.specs.Numbers.{numbers-all-length, numbers-length}
@@ -109,6 +109,22 @@ module _ (a : Areas) (s q : List ℕ) (f : Fits a (length s)) (l : length q ≡ 
 
 -- ---- one list more
 
+numbered-last : (facets : ℕ) (lists : List (List ℕ)) (l : List ℕ) → Numbered facets lists → ((i : ℕ) → i < length l → getD l i 0 < facets) → Numbered facets (lists ++ (l ∷ []))
+numbered-last facets lists l h f k i m j =
+    ⊎-elim before last (le-or-lt (suc k) (length lists))
+  where
+    before : suc k ≤ length lists → getD (getD (lists ++ (l ∷ [])) k []) i 0 < facets
+    before q =
+        let e = List·getD-append lists (l ∷ []) [] k q in
+        rw e (h k i q (rw e at j))
+
+    last : length lists < suc k → getD (getD (lists ++ (l ∷ [])) k []) i 0 < facets
+    last q =
+        let n = length-append lists (l ∷ []) in
+        let z : k ≡ length lists = omega arith in
+        let e : getD (lists ++ (l ∷ [])) k [] ≡ l = ap (λ (o : ℕ). getD (lists ++ (l ∷ [])) o []) z ∙ getD-append-seam lists l [] [] in
+        rw e (f i (rw e at j))
+
 unfoldable pub afterPushes : Areas → List ℕ → ℕ → List ℕ
 afterPushes a s k = placed (a .lists) (a .end - a .lists) s (pushedAll (a .bound) (listsPart a s) (path (framesPart a s) k))
 
@@ -135,17 +151,19 @@ module _ (t : Table) (a : Areas) (s : List ℕ) (d : ℕ) (st : Stands t a s d d
   few : (k : ℕ) → k ≤ d → used l + k < 4294967296
   few k i = let f = st .inputs .fits in let r = em .room in omega (arith, short, product)
 
-  small : (k : ℕ) → k ≤ d → (i : ℕ) → i < length (path p k) → getD (path p k) i 0 < 65536
+  few-taken : (k : ℕ) → k ≤ d → (i : ℕ) → i < length (path p k) → getD (path p k) i 0 < a .facets
   unfolding path
-  small zero h i j = absurd (omega arith)
-  small (suc k) h i j =
-      let f = st .inputs .fits in
+  few-taken zero h i j = absurd (omega arith)
+  few-taken (suc k) h i j =
       let e = path-length p k in
       let n = length-append (path p k) (takenAt p k ∷ []) in
       ⊎-elim
-      (λ q. rw (List·getD-append (path p k) (takenAt p k ∷ []) 0 i q) (small k (omega arith) i q))
+      (λ q. rw (List·getD-append (path p k) (takenAt p k ∷ []) 0 i q) (few-taken k (omega arith) i q))
       (λ q. let z : i ≡ length (path p k) = omega arith in let v = st .frames .taken k h in let w = ap (λ (o : ℕ). getD (path p k ++ (takenAt p k ∷ [])) o 0) z ∙ getD-append-seam (path p k) (takenAt p k) [] 0 in omega arith)
       (le-or-lt (suc i) (length (path p k)))
+
+  small : (k : ℕ) → k ≤ d → (i : ℕ) → i < length (path p k) → getD (path p k) i 0 < 65536
+  small k h i j = let f = st .inputs .fits in let n = few-taken k h i j in omega arith
 
   pub all-pushed : (k : ℕ) → k ≤ d → Pushed (a .bound) l (path p k) (pushedAll (a .bound) l (path p k))
   all-pushed k i =
@@ -254,6 +272,7 @@ module _ (t : Table) (a : Areas) (s : List ℕ) (d : ℕ) (st : Stands t a s d d
       (record {
         sound = ended-sound 2 (a .bound) (pushedAll (a .bound) l (path p d)) (q .sound) more bounded;
         none = ended-opened 2 (a .bound) (pushedAll (a .bound) l (path p d)) (q .sound) more bounded;
+        numbered = rw (ended-closed 2 (a .bound) (pushedAll (a .bound) l (path p d)) (q .sound) more bounded, q .shut, q .rest, em .none) (numbered-last (a .facets) (closed 2 (a .bound) l) (path p d) (em .numbered) (few-taken d (omega arith)));
         room = rw (z, u) (omega (arith, short));
       })
 
@@ -424,6 +443,7 @@ module _ (t : Table) (a : Areas) (s r1 r2 r3 r4 : List ℕ) (h : Inputs t a s) w
           emitted = rw lists-4 (record {
             sound = emptied-sound 2 (a .bound) (listsPart a s2) b;
             none = emptied-opened 2 (a .bound) (listsPart a s2) b;
+            numbered = rw (emptied-closed 2 (a .bound) (listsPart a s2) b) (λ k i m j. absurd (omega arith));
             room = let u = emptied-used (listsPart a s2) (omega arith) in omega arith;
           });
           none = none-emitted lists-4 b;

@@ -1,13 +1,10 @@
 -- The frames of a path in bytes: what they stand for, with the totals and the orbits in use, and the emitted lists. Leans on the tables' layout and on Pool.
 use mathlib.Core.Path.{_≡_}
 use mathlib.Core.List.{List, [], _∷_, _++_, map}
-use mathlib.Core.Option.{none}
 use Prim.Native.Nat.{ℕ, zero, suc, _+_, _-_, _*_, _≤_, _<_}
 use lib.Dec.{T}
-use lib.ListN.{length}
+use lib.ListN.{length, getD}
 use Rattle.definitions.specs.Job.{numberAt}
-use Rattle.definitions.specs.Search as def
-use Rattle.definitions.specs.Outcome as result
 use Rattle.definitions.specs.Search.{Table, Facet, Item}
 use Rattle.words.specs.Words.{put}
 use Rattle.pool.specs.Pool.{Sound, count, used, closed, opened, pushed}
@@ -85,9 +82,14 @@ withFrame p k place low mark kind = put 2 (put 2 (put 4 (put 4 p (16 * k) place)
 unfoldable pub emittedIn : Table → Areas → List ℕ → List (List Facet)
 emittedIn t a l = map (map (facetOf t)) (closed 2 (a .bound) l)
 
+-- every item of every list is a facet's number
+abbrev pub Numbered : ℕ → List (List ℕ) → Type 0
+Numbered facets lists = (k i : ℕ) → k < length lists → i < length (getD lists k []) → getD (getD lists k []) i 0 < facets
+
 pub record Emitted (a : Areas) (l : List ℕ) : Type 0 where
   pub sound : Sound 2 (a .bound) l
   pub none : opened 2 (a .bound) l ≡ []
+  pub numbered : Numbered (a .facets) (closed 2 (a .bound) l)
   pub room : used l ≤ count l * a .orbits
 
 -- items pushed one after another

@@ -139,17 +139,16 @@ pub fn emit(ws: &mut [u8], a: Areas, depth: usize)
 {
     let frames = a.frames;
     let totals = a.totals;
-    let bound = a.bound;
     let lists = a.lists;
     let end = a.end;
     let mut k = 0;
     while k < depth {
+        let bound = a.bound;
         let x = words::get_u16(&ws[frames..totals], 16 * k + 12);
         pool::push_u16(&mut ws[lists..end], bound, x);
         k += 1;
     }
-    let first = a.lists;
-    pool::end_list(&mut ws[first..end]);
+    pool::end_list(&mut ws[lists..end]);
 }
 
 // Nothing is counted, nothing is emitted, and every facet alone is due.

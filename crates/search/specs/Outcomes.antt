@@ -2,19 +2,18 @@
 use mathlib.Core.Path.{_≡_}
 use mathlib.Core.List.{List}
 use mathlib.Core.Option.{Option, some, none}
-use Prim.Native.Nat.{ℕ, _-_}
+use Prim.Native.Nat.{ℕ}
 use lib.ListN.{length}
 use Rattle.definitions.specs.Search as def
 use Rattle.definitions.specs.Outcome as result
 use Rattle.definitions.specs.Search.{Table}
-use Rattle.words.specs.Words.{words}
 use Rattle.facets.specs.declared.Areas.{Areas}
 use Rattle.search.specs.declared.Limit.{Limit}
 use Rattle.search.specs.declared.Limit.the-variants.{Absent, Entries}
 use Rattle.search.specs.declared.Outcome.{Outcome}
 use Rattle.search.specs.declared.Outcome.the-variants.{Found, Refused}
 use Rattle.facets.specs.Layout.{listsPart}
-use Rattle.frames.specs.Paths.{emittedIn}
+use Rattle.frames.specs.Paths.{Emitted, emittedIn}
 
 unfoldable pub limitOf : Limit → Option ℕ
 limitOf Absent = none
@@ -28,7 +27,11 @@ unfoldable pub outcome : Table → Areas → Outcome → List ℕ → result.Out
 outcome t a (Found n left) s = result.answered (record { lists = emittedIn t a (listsPart a s); left = left })
 outcome t a (Refused number) s = result.refused number
 
--- how many lists an outcome says that there are
+-- what is found lies sound in its area, so many lists, every item a facet's number
+pub record Counted (t : Table) (a : Areas) (n : ℕ) (l : List ℕ) : Type 0 where
+  pub many : n ≡ length (emittedIn t a l)
+  pub emitted : Emitted a l
+
 unfoldable pub counted : Table → Areas → Outcome → List ℕ → Type 0
-counted t a (Found n left) s = n ≡ length (emittedIn t a (listsPart a s))
+counted t a (Found n left) s = Counted t a n (listsPart a s)
 counted t a (Refused number) s = Unit {0}

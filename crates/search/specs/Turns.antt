@@ -48,6 +48,7 @@ pub record Goes (t : Table) (a : Areas) (limit : Limit) (s s' : List ℕ) (d d' 
 -- the limit is reached
 pub record Stops (t : Table) (a : Areas) (limit : Limit) (s s' : List ℕ) (d : ℕ) : Type 0 where
   pub inputs : Inputs t a s'
+  pub emitted : Emitted a (listsPart a s')
   pub same : (left : ℕ) → examine t (limitsOf a limit) (suc left) (due t (framesPart a s) d) (emittedIn t a (listsPart a s)) ≡ answered (record { lists = emittedIn t a (listsPart a s'); left = left })
   pub tables : take (a .frames) s' ≡ take (a .frames) s
 
@@ -126,20 +127,21 @@ module _ (t : Table) (a : Areas) (limit : Limit) (s : List ℕ) (d : ℕ) (j : J
     tables = refl;
   }
 
-  module _ (h : count (listsPart a s) < a .bound) (s1 : List ℕ) (st : Stands t a s1 d d) (fr : framesPart a s1 ≡ framesPart a s) (ls : emittedIn t a (listsPart a s1) ≡ emitted ++ (listTo t (framesPart a s) d ∷ [])) (tb : take (a .frames) s1 ≡ take (a .frames) s) where
+  module _ (h : count (listsPart a s) < a .bound) (s1 : List ℕ) (st : Stands t a s1 d d) (fr : framesPart a s1 ≡ framesPart a s) (ls : emittedIn t a (listsPart a s1) ≡ emitted ++ (listTo t (framesPart a s) d ∷ [])) (tb : take (a .frames) s1 ≡ take (a .frames) s) (em : Emitted a (listsPart a s1)) where
     pub follow-stop : limitReached (limitOf limit) (count (listsPart a s) + 1) ≡ true → Stops t a limit s s1 d
     unfolding due itemAt limitsOf
     follow-stop r = record {
       inputs = st .inputs;
+      emitted = em;
       same = λ left.
           rw ls (examine-stop t limits left (itemAt t (framesPart a s) d) (pending t (framesTo t (framesPart a s) d)) emitted (judged-is t a s d closed j) (omega (arith, many))
           (ap (limitReached (limitOf limit)) (omega (arith, many)) ∙ r));
       tables = tb;
     }
 
-    pub follow-closed : limitReached (limitOf limit) (count (listsPart a s) + 1) ≡ false → (s' : List ℕ) → Emitted a (listsPart a s1) → Entered t a s1 s' d 0 → Goes t a limit s s' d (d + 1)
+    pub follow-closed : limitReached (limitOf limit) (count (listsPart a s) + 1) ≡ false → (s' : List ℕ) → Entered t a s1 s' d 0 → Goes t a limit s s' d (d + 1)
     unfolding due itemAt limitsOf ridgeOf
-    follow-closed r s' em w =
+    follow-closed r s' w =
         record {
           stands = entered-depth t a s' d (w .stands);
           emitted = rw (w .lists) em;

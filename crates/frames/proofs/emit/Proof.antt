@@ -19,10 +19,10 @@ use Rattle.pool.proofs.push_u16.Reads as push-u16-reads
 use Rattle.words.proofs.get_u16.Reads as get-u16-reads
 
 abbrev Inv-loop : tie.InvT-loop
-Inv-loop ws₀ a depth frames totals bound lists end k₀ ws k = (k ≤ depth) × (ws ≡ afterPushes a ws₀ k)
+Inv-loop ws₀ a depth frames totals lists end k₀ ws k = (k ≤ depth) × (ws ≡ afterPushes a ws₀ k)
 
 abbrev μ-loop : tie.MeasureT-loop
-μ-loop ws₀ a depth frames totals bound lists end k₀ ws k = depth - k
+μ-loop ws₀ a depth frames totals lists end k₀ ws k = depth - k
 
 -- src/lib.rt:306:5
 loop-holds : tie.Need-loop-holds Inv-loop μ-loop

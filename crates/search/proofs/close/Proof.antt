@@ -75,7 +75,7 @@ returns-2 c = λ t j. let s = c .before .before .before .before .before .before 
     let h : count (listsPart (s .args .a) (s .args .ws .now)) < s .args .a .bound = rw e at (c .before .before .before .before .before .before .if1 .left) in
     let r : limitReached (limitOf (s .args .limit)) (count (listsPart (s .args .a) (s .args .ws .now)) + 1) ≡ true = rw e at (sym (c .before .reached .ensures) ∙ c .if2 .taken) in
     rw (c .before .before .before .before .emit .ensures)
-    (follow-stop t (s .args .a) (s .args .limit) (s .args .ws .now) (s .args .depth) j h _ (emit-stands t (s .args .a) (s .args .ws .now) (s .args .depth) (j .stands) (j .emitted) h) (emit-frames t (s .args .a) (s .args .ws .now) (s .args .depth) (j .stands) (j .emitted) h) (emit-lists t (s .args .a) (s .args .ws .now) (s .args .depth) (j .stands) (j .emitted) h) (emit-tables t (s .args .a) (s .args .ws .now) (s .args .depth) (j .stands) (j .emitted) h) r)
+    (follow-stop t (s .args .a) (s .args .limit) (s .args .ws .now) (s .args .depth) j h _ (emit-stands t (s .args .a) (s .args .ws .now) (s .args .depth) (j .stands) (j .emitted) h) (emit-frames t (s .args .a) (s .args .ws .now) (s .args .depth) (j .stands) (j .emitted) h) (emit-lists t (s .args .a) (s .args .ws .now) (s .args .depth) (j .stands) (j .emitted) h) (emit-tables t (s .args .a) (s .args .ws .now) (s .args .depth) (j .stands) (j .emitted) h) (emit-emitted t (s .args .a) (s .args .ws .now) (s .args .depth) (j .stands) (j .emitted) h) r)
 
 -- src/lib.rt:367:5
 enter-requires : tie.Need-enter-requires
@@ -108,7 +108,7 @@ returns-3 c = λ t j. let s = c .before .before .before .before .before .before 
     let tb : take (s .args .a .frames) (c .before .before .before .before .before .before .before .before .emit .last .0) ≡ take (s .args .a .frames) (s .args .ws .now) = rw (c .before .before .before .before .before .before .before .before .emit .ensures) (emit-tables t (s .args .a) (s .args .ws .now) (s .args .depth) (j .stands) (j .emitted) h) in
     let em : Emitted (s .args .a) (listsPart (s .args .a) (c .before .before .before .before .before .before .before .before .emit .last .0)) = rw (c .before .before .before .before .before .before .before .before .emit .ensures) (emit-emitted t (s .args .a) (s .args .ws .now) (s .args .depth) (j .stands) (j .emitted) h) in
     let li : Light t (s .args .a) (listTo t (framesPart (s .args .a) (c .before .before .before .before .before .before .before .before .emit .last .0)) (s .args .depth)) = rw fr (judged-light t (s .args .a) (s .args .ws .now) (s .args .depth) closed j within) in
-    follow-closed t (s .args .a) (s .args .limit) (s .args .ws .now) (s .args .depth) j h (c .before .before .before .before .before .before .before .before .emit .last .0) st fr ls tb r (c .before .before .enter .last .0) em (c .before .before .enter .ensures t st li)
+    follow-closed t (s .args .a) (s .args .limit) (s .args .ws .now) (s .args .depth) j h (c .before .before .before .before .before .before .before .before .emit .last .0) st fr ls tb em r (c .before .before .enter .last .0) (c .before .before .enter .ensures t st li)
 
 pub close-spec : {M : Type 1} → statement M
 close-spec =

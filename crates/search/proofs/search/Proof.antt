@@ -168,7 +168,7 @@ returns-2 c = let s = c .before .before .before .before .before .before .before 
           let j = turn-judged t (s .args .a) (s .args .limit) (s .args .budget) (l .ws) (l .s .depth) (l .s .left) turn d (c .before .before .before .before .before .before .before .before .before .before .before .before .before .before .before .next .result) n z (c .before .before .before .before .before .before .before .before .before .before .visit .last .0) (c .before .before .before .before .before .before .before .before .before .before .visit .result .verdict) w p in let g = c .before .before .before .before .before .before .follow .ensures t (rw (c .before .before .before .before .before .before .before .before .before .before .visit .ensures .0) j) in
           let q : Stops t (s .args .a) (s .args .limit) (c .before .before .before .before .before .before .before .before .before .before .visit .last .0) (c .before .before .before .before .before .before .follow .last .0) (l .s .depth) = rw (c .before .before .enum-told .given .1, c .before .before .before .before .before .before .before .before .before .before .visit .ensures .0) at g in
           rw (c .found .ensures, c .before .before .before .before .before .before .before .before .before .before .visit .ensures .1) (turn-stopped t (s .args .a) (s .args .limit) (s .args .budget) (l .ws) (l .s .depth) (l .s .left) turn d (c .before .before .before .before .before .before .before .before .before .before .before .before .before .before .before .next .result) n z (c .before .before .before .before .before .before .before .before .before .before .visit .last .0) (c .before .before .before .before .before .before .before .before .before .before .visit .result .verdict) w p (c .before .before .before .before .before .before .follow .last .0) q)),
-      ((λ t. rw (c .found .ensures) (sym (emitted-count t (s .args .a) (listsPart (s .args .a) (c .before .before .before .before .before .before .follow .last .0))))), q .tables ∙ (w .tables ∙ (l .inv .1 ∙ go .tables))),
+      ((λ t. rw (c .found .ensures) (record { many = sym (emitted-count t (s .args .a) (listsPart (s .args .a) (c .before .before .before .before .before .before .follow .last .0))); emitted = q .emitted })), q .tables ∙ (w .tables ∙ (l .inv .1 ∙ go .tables))),
     )
 
 -- src/lib.rt:464:21
@@ -214,7 +214,7 @@ unfolding outcome counted
 returns-4 c = let s = c .before .before .before .before .before .before .before .before .before .before in let l = c .before .before .before .before .loop in let go = c .before .before .before .before .before .before .before .start .ensures (s .pre .0) (s .pre .1) in let turn = l .inv .2 (s .pre .0) (go .stands .inputs) in (
   (λ t h. let back = c .before .before .before .before .before .before .before .start .ensures t h in let u = l .inv .2 t (back .stands .inputs) in
       rw (c .found2 .ensures) (turn-end t (s .args .a) (s .args .limit) (s .args .budget) (l .ws) (l .s .depth) (l .s .left) u (omega (arith, c .before .before .if1 .left)))),
-  ((λ t. rw (c .found2 .ensures) (sym (emitted-count t (s .args .a) (listsPart (s .args .a) (l .ws))))), l .inv .1 ∙ go .tables),
+  ((λ t. rw (c .found2 .ensures) (record { many = sym (emitted-count t (s .args .a) (listsPart (s .args .a) (l .ws))); emitted = turn .emitted })), l .inv .1 ∙ go .tables),
 )
 
 pub search-spec : {M : Type 1} → statement M
