@@ -9,16 +9,20 @@ use native.Mathlib.Numerals.{add-one}
 use lib.ListN.{length, getD, take, drop, length-append, length-drop, length-take}
 use lib.Seq.{length-take-le, take-at, drop-at, take-take}
 use Rattle.definitions.specs.Lists.{Pair, memberNat}
+use lib.Ieee.{Float}
 use Rattle.definitions.specs.Job.{numberAt}
-use Rattle.definitions.specs.Orbits.{Row, setImage}
+use Rattle.definitions.specs.Vectors.{Vec}
+use Rattle.definitions.specs.Subspace.{Subspace, fromPoints, isHyperplane}
+use Rattle.definitions.specs.Orbits.{Row, setImage, pointsNear}
 use Rattle.laws.specs.Parts.{rows, map-rows-more}
 use Rattle.laws.specs.Sets.{setNumber, verticesOf}
 use Rattle.words.specs.Words.{words, put, put-length, words-take, words-length, take-put, drop-put, numberAt-put, numberAt-put-off}
 use Rattle.sorted.specs.Ascending.{Ascending, insertNew, union, added, gathered, Fresh, Gathering, gathering-none, gathering-more, length-insert, ascending-added}
 use Rattle.sorted.specs.Merging.{Merged}
 use Rattle.openers.specs.Rows.{rowsIn, rowAt}
-use Rattle.orbits.specs.Numbers.{imageNumbers}
-use Rattle.orbits.specs.Workspace.{seenIn, orbitsIn, Room, Holds, Reached, Opened, orbits-length, orbits-front}
+use Rattle.orbits.specs.Numbers.{imageNumbers, nearNumber, opensOrbit, orbitsFrom, seenAfter}
+use Rattle.orbits.specs.Walks.{going, Walked}
+use Rattle.orbits.specs.Workspace.{seenIn, orbitsIn, Room, Holds, ReachedBy, Reached, Opened, orbits-length, orbits-front}
 use Rattle.orbits.specs.declared.Progress.{Progress}
 use Rattle.orbits.specs.declared.Verdict.{Verdict}
 use Rattle.orbits.specs.declared.Verdict.the-variants.{Going, Refused}
@@ -180,3 +184,38 @@ module _ (bound known count : ℕ) (ws : List ℕ) (set : ℕ) (images : List �
 -- the part that is lent has room for the sets seen
 pub lent-room : (known : ℕ) (ws : List ℕ) → 2048 + 4 * known ≤ length ws → 4 * known ≤ length (take (length ws - 2048) (drop 2048 ws))
 lent-room known ws h = rw (length-take-le (length ws - 2048) (drop 2048 ws) (omega (arith, length-drop 2048 ws))) (omega arith)
+
+-- ---- one tuple
+
+module _ (tolerance : Float) (flat : List Vec) (rows : List Row) (seen : List ℕ) (points : List Vec) where
+  pub no-plane : isHyperplane (fromPoints tolerance points) ≡ false → opensOrbit tolerance flat rows seen points ≡ false
+  unfolding opensOrbit
+  no-plane e = rw e refl
+
+  pub seen-before : isHyperplane (fromPoints tolerance points) ≡ true → memberNat (nearNumber tolerance flat rows points) seen ≡ true → opensOrbit tolerance flat rows seen points ≡ false
+  unfolding opensOrbit
+  seen-before e f = rw (e, f) refl
+
+  pub opens-now : isHyperplane (fromPoints tolerance points) ≡ true → memberNat (nearNumber tolerance flat rows points) seen ≡ false → opensOrbit tolerance flat rows seen points ≡ true
+  unfolding opensOrbit
+  opens-now e f = rw (e, f) refl
+
+  pub near-is : (set : ℕ) (plane : Subspace) → plane ≡ fromPoints tolerance points → set ≡ setNumber (pointsNear tolerance plane flat 0) → set ≡ nearNumber tolerance flat rows points
+  unfolding nearNumber
+  near-is set plane e f = f ∙ ap (λ (s : Subspace). setNumber (pointsNear tolerance s flat 0)) e
+
+module _ (tolerance : Float) (flat : List Vec) (rows : List Row) (bound : ℕ) (state : Progress) (ws : List ℕ) (ts : List (List Vec)) where
+  pub stays-refused : state .verdict ≡ Refused → Room bound (state .known) (state .count) ws → Walked tolerance flat rows bound state ws ts state ws
+  stays-refused e room = record {
+    room = room;
+    reached = λ seen orbits h.
+      let over : bound < length orbits = subst (λ (v : Verdict). ReachedBy v bound (state .known) (state .count) ws seen orbits) e h in
+      let more = orbits ++ orbitsFrom tolerance flat rows seen ts in
+      subst (λ (v : Verdict). ReachedBy v bound (state .known) (state .count) ws (seenAfter tolerance flat rows seen ts) more) (sym e) (omega (arith, length-append orbits (orbitsFrom tolerance flat rows seen ts)));
+  }
+
+  pub goes-on : (r : Progress) (after : List ℕ) → state .verdict ≡ Going → Walked tolerance flat rows bound (going (state .known) (state .count)) ws ts r after → Walked tolerance flat rows bound state ws ts r after
+  goes-on r after e w = record {
+    room = w .room;
+    reached = λ seen orbits h. w .reached seen orbits (subst (λ (v : Verdict). ReachedBy v bound (state .known) (state .count) ws seen orbits) e h);
+  }

@@ -2,3 +2,4 @@
 pub mod Numbers
 pub mod Hyperplanes
 pub mod Workspace
+pub mod Walks

@@ -1,7 +1,8 @@
 // Hyperplane orbits in the workspace. Its first 2,048 bytes hold up to 256 orbits, eight bytes each: the number of the first set, and how many sets the orbit has. Behind them lie the
 // numbers of all sets seen, ascending, at most 120 for an orbit. Each function equals a step of document 01's "Orbits", at any tolerance and any rank from 3.
-use sets::set_image;
+use sets::{points_near, set_image};
 use sorted::Found;
+use space::{Limit, Points, Subspace};
 
 ghost use mathlib.Core.Path.{_≡_};
 ghost use mathlib.Core.List.{_∷_, [], _++_, map};
@@ -15,6 +16,7 @@ ghost use Rattle.openers.specs.Rows.{rowsIn};
 ghost use Rattle.stabilizers.specs.Permutations.{Permutations};
 ghost use Rattle.orbits.specs.Numbers.{imageNumbers, nearNumber, orbitsFrom, seenAfter};
 ghost use Rattle.orbits.specs.Workspace.{seenIn, Room, Opened};
+ghost use Rattle.orbits.specs.Walks.{going, Walked, TupleFits, extensions, keepsLimits};
 
 // Whether another orbit was due than the bound allows.
 pub enum Verdict {
@@ -78,5 +80,43 @@ fn open_orbit(rows: &[u8], m: usize, n: usize, set: u32, bound: usize, known: us
         known: known + k,
         count: count + 1,
         verdict: Verdict::Going,
+    }
+}
+
+// ---- tuples
+
+// If the flattened tuple fits a hyperplane whose set was not seen, it opens an orbit.
+fn fit_tuple(flat: Points, tuple: Points, rows: &[u8], m: usize, tolerance: f64, bound: usize, known: usize, count: usize, ws: &mut [u8]) -> Progress
+    requires { ⌜ TupleFits flat tuple m (now rows) × Room bound known count (now ws) ⌝ }
+    ensures { λ r. ⌜ Walked tolerance (pointsOf flat) (rowsIn (flat .n) m (now (rows .entry))) bound (going known count) (now (ws .entry)) (pointsOf tuple ∷ []) r (now (ws .exit)) ⌝ }
+{
+    let plane = Subspace::from_points(tuple, tolerance);
+    if !plane.is_hyperplane() {
+        return Progress {
+            known: known,
+            count: count,
+            verdict: Verdict::Going,
+        };
+    }
+    let set = points_near(flat, plane, tolerance);
+    if is_seen(ws, known, set) {
+        return Progress {
+            known: known,
+            count: count,
+            verdict: Verdict::Going,
+        };
+    }
+    open_orbit(rows, m, flat.n, set, bound, known, count, ws)
+}
+
+// A tuple behind a refusal changes nothing.
+fn try_tuple(flat: Points, tuple: Points, rows: &[u8], m: usize, tolerance: f64, bound: usize, state: Progress, ws: &mut [u8]) -> Progress
+    requires { ⌜ TupleFits flat tuple m (now rows) × Room bound (state .known) (state .count) (now ws) ⌝ }
+    ensures { λ r. ⌜ Walked tolerance (pointsOf flat) (rowsIn (flat .n) m (now (rows .entry))) bound state (now (ws .entry)) (pointsOf tuple ∷ []) r (now (ws .exit)) ⌝ }
+{
+    let verdict = state.verdict;
+    match verdict {
+        Verdict::Refused => state,
+        Verdict::Going => fit_tuple(flat, tuple, rows, m, tolerance, bound, state.known, state.count, ws),
     }
 }
