@@ -4,6 +4,7 @@ pub mod Lists
 pub mod Pairs
 pub mod Orders
 pub mod Sorting
+pub mod Merging
 pub mod Segments
 pub mod Floats
 pub mod LowerBounds

@@ -1,0 +1,3 @@
+-- Splitting, the order of entries and `label_irc` on numbered facets.
+pub mod Numbers
+pub mod Areas
