@@ -2,3 +2,4 @@
 mod Comparing
 mod Walking
 mod Labelling
+mod Ordering

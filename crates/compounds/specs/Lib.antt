@@ -1,4 +1,7 @@
 -- Splitting, the order of entries and `label_irc` on numbered facets.
 pub mod Numbers
 pub mod Areas
+pub mod Runs
 pub mod Labels
+pub mod Later
+pub mod Sorted
