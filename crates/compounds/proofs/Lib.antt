@@ -3,3 +3,4 @@ mod Comparing
 mod Walking
 mod Labelling
 mod Ordering
+mod Splitting

@@ -5,3 +5,4 @@ pub mod Runs
 pub mod Labels
 pub mod Later
 pub mod Sorted
+pub mod Splitting
