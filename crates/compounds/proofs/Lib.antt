@@ -4,3 +4,4 @@ mod Walking
 mod Labelling
 mod Ordering
 mod Splitting
+mod Lists

@@ -8,9 +8,9 @@ use Prim.Native.Nat.{ℕ, zero, suc, _+_, _-_, _*_, _^_, _≤_, _<_}
 use native.Mathlib.Omega.{arith}
 use lib.ListN.{length, getD, take, drop, length-append}
 use Rattle.definitions.specs.Lists.{Pair}
-use Rattle.definitions.specs.Figures.{Compound, componentsOf, splitQueue, partsOf}
 use Rattle.laws.specs.Lists.{Mem, here, there}
 use Rattle.pool.specs.Pool.{count, used, base, closed, opened, pushed, ended, Sound, pushed-length, pushed-count, pushed-used, pushed-sound, pushed-closed, pushed-opened, ended-length, ended-count, ended-used, ended-sound, ended-closed, ended-opened}
+use Rattle.compounds.specs.declared.Layout.{Layout}
 use Rattle.compounds.specs.Labels.{labelsIn}
 use Rattle.compounds.specs.Areas.{listAt}
 
@@ -37,8 +37,39 @@ unfoldable pub fillAll : ℕ → List ℕ → List (List ℕ) → List ℕ
 fillAll most s [] = s
 fillAll most s (l ∷ ls) = fillAll most (ended (pushAll most s l)) ls
 
--- room for so many items more, and for so many lists
+-- room for so many items more
 pub record Room (most : ℕ) (s : List ℕ) (items : ℕ) : Type 0 where
   pub sound : Sound 2 most s
   pub fits : base most + 2 * (used s + items) ≤ length s
   pub small : used s + items < 4294967296
+
+-- t is s with so many items and so many lists more
+pub record Grown (most : ℕ) (s t : List ℕ) (items lists : ℕ) : Type 0 where
+  pub sound : Sound 2 most t
+  pub used : used t ≡ used s + items
+  pub count : count t ≡ count s + lists
+  pub long : length t ≡ length s
+
+-- ---- what splitting reads
+
+abbrev pub tableOf : Layout → List ℕ → List (Option Pair)
+tableOf layout s = labelsIn 0 (layout .facets) s
+
+-- the pool of lists
+abbrev pub poolOf : Layout → List ℕ → List ℕ
+poolOf layout s = take (layout .to - layout .from) (drop (layout .from) s)
+
+-- the pool of split lists
+abbrev pub restOf : Layout → List ℕ → List ℕ
+restOf layout s = drop (layout .to) s
+
+abbrev pub partsOf : Layout → List ℕ → List ℕ → List ℕ
+partsOf layout s = splitList (layout .steps) (tableOf layout s)
+
+pub record Ready (layout : Layout) (s : List ℕ) : Type 0 where
+  pub table : 4 * layout .facets ≤ layout .from
+  pub order : layout .from ≤ layout .to
+  pub inside : layout .to ≤ length s
+  pub short : layout .steps < 512
+  pub few : layout .most < 4294967296
+  pub sound : Sound 2 (layout .most) (poolOf layout s)
