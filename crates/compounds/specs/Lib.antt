@@ -3,6 +3,7 @@ pub mod Numbers
 pub mod Areas
 pub mod Runs
 pub mod Labels
-pub mod Later
 pub mod Sorted
 pub mod Splitting
+pub mod Parts
+pub mod Examples

@@ -13,6 +13,7 @@ use lib.ListN.{length, getD, drop, length-map}
 use Rattle.definitions.specs.Lists.{Pair, isGt, thenBy, compareList, compareNats, comparePair, comparePairs, sortBy, mapAt}
 use Rattle.definitions.specs.Figures.{Compound, consIn, walk, firstAbove, foundInside, seek, compoundOf, labelFrom, labelIrc}
 use Rattle.laws.specs.Lists.{Mem, here, there}
+use Rattle.laws.specs.Pairs.{Pairs}
 use Rattle.laws.specs.Sorting.{sort-map, byKey}
 use Rattle.laws.specs.Merging.{sort-same}
 
@@ -61,6 +62,10 @@ labelNats items (l ∷ ls) b = elim (insideNats items l) [
 -- for each list none, or the places of the two that it is a compound of
 unfoldable pub labelsOf : List (List ℕ) → List (Option Pair)
 labelsOf lists = map (λ (items : List ℕ). labelNats items lists 0) lists
+
+-- no list is above a later one
+abbrev pub Ascending : List (List ℕ) → Type 0
+Ascending = Pairs (λ (x y : List ℕ). T (not (isGt (compareNats x y))))
 
 -- ---- a table of labels as compounds
 
