@@ -1,12 +1,10 @@
--- Small cases, evaluated: `label_irc` of the definition and of numbers, the order of lists, splitting first in first out. Leans on the definitions.
+-- Small cases, evaluated: `label_irc` of the definition, the order of lists, splitting first in first out. Leans on the definitions.
 use mathlib.Core.Path.{_≡_, refl}
-use mathlib.Core.List.{List, [], _∷_}
-use mathlib.Core.Option.{Option, some, none}
-use Prim.Native.Nat.{ℕ, Ordering·lt}
-use Rattle.definitions.specs.Lists.{Pair, compareNats, sortBy}
-use Rattle.definitions.specs.Figures.{Compound, labelIrc}
+use mathlib.Core.List.{[], _∷_}
+use mathlib.Core.Option.{some, none}
+use Rattle.definitions.specs.Lists.{compareNats, sortBy}
+use Rattle.definitions.specs.Figures.{labelIrc}
 use Rattle.definitions.specs.Open.{open-all}
-use Rattle.compounds.specs.Numbers.{consTo, walkNats, firstAboveNats, insideNats, seekNats, with, labelNats, labelsOf}
 use Rattle.compounds.specs.Splitting.{splitNats, splitList}
 
 -- 1 / 2 / 2,1: the last holds 2, and 1 is left, but no list behind the second is 1
@@ -14,23 +12,10 @@ pub left-before : labelIrc (((0, 1) ∷ []) ∷ ((0, 2) ∷ []) ∷ ((0, 2) ∷ 
 unfolding open-all
 left-before = refl
 
-pub left-before-numbers : labelsOf ((1 ∷ []) ∷ (2 ∷ []) ∷ (2 ∷ 1 ∷ []) ∷ []) ≡ none ∷ none ∷ none ∷ []
-unfolding open-all consTo walkNats firstAboveNats insideNats seekNats with labelNats labelsOf
-left-before-numbers = refl
-
 -- 0,1,2 / 0,2 / 1: the first holds the second, and leaves the third
 pub left-behind : labelIrc (((0, 0) ∷ (0, 1) ∷ (0, 2) ∷ []) ∷ ((0, 0) ∷ (0, 2) ∷ []) ∷ ((0, 1) ∷ []) ∷ []) ≡ record { whole = 0; first = 1; second = 2 } ∷ []
 unfolding open-all
 left-behind = refl
-
-pub left-behind-numbers : labelsOf ((0 ∷ 1 ∷ 2 ∷ []) ∷ (0 ∷ 2 ∷ []) ∷ (1 ∷ []) ∷ []) ≡ some (1, 2) ∷ none ∷ none ∷ []
-unfolding open-all consTo walkNats firstAboveNats insideNats seekNats with labelNats labelsOf
-left-behind-numbers = refl
-
--- the first list found inside decides: 0 is found in 0,1,2 and leaves 1,2, which is none of them, so that 0,1 and 2 are not tried
-pub first-decides : labelsOf ((0 ∷ []) ∷ (0 ∷ 1 ∷ []) ∷ (0 ∷ 1 ∷ 2 ∷ []) ∷ (2 ∷ []) ∷ []) ≡ none ∷ none ∷ none ∷ none ∷ []
-unfolding open-all consTo walkNats firstAboveNats insideNats seekNats with labelNats labelsOf
-first-decides = refl
 
 -- a proper prefix first, and items in their own order
 pub prefix-first : sortBy compareNats ((2 ∷ 1 ∷ []) ∷ (1 ∷ 3 ∷ []) ∷ (1 ∷ []) ∷ []) ≡ (1 ∷ []) ∷ (1 ∷ 3 ∷ []) ∷ (2 ∷ 1 ∷ []) ∷ []

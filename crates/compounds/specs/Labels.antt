@@ -1,14 +1,14 @@
 -- A table of labels in bytes: for each list a u32 number, 0 for none, else b in its lower half and c in its upper half. As b < c, no pair has the number 0.
 -- Leans on Numbers and Words. Assumes nothing.
 use mathlib.Core.Path.{_≡_, refl, sym, ap, _∙_}
-use mathlib.Core.Bool.{Bool, true, false, cond, not}
+use mathlib.Core.Bool.{Bool, true, false, cond}
 use mathlib.Core.List.{List, [], _∷_, _++_, map, flatMap}
 use mathlib.Core.Option.{Option, some, none}
-use Prim.Native.Nat.{ℕ, zero, suc, _+_, _*_, _/_, _%_, _^_, _≤_, _<_}
+use Prim.Native.Nat.{ℕ, suc, _+_, _*_, _/_, _%_, _^_, _≤_, _<_}
 use native.Mathlib.Omega.{arith}
 use borrow.Author.Tests.{ne-eqb}
 use lib.Dec.{eqb, isEq}
-use lib.ListN.{length, getD, drop, length-map}
+use lib.ListN.{length, drop, length-map}
 use lib.Seq.{sets}
 use Rattle.definitions.specs.Lists.{Pair, compareNats}
 use Rattle.laws.specs.Lists.{Mem, here, there, of-map}

@@ -6,4 +6,5 @@ pub mod Labels
 pub mod Sorted
 pub mod Splitting
 pub mod Parts
+pub mod Entries
 pub mod Examples

@@ -1,16 +1,16 @@
 -- `label_irc` on lists of numbers. The facets of a call are numbered ascending, so a list of facets is a list of numbers, and what document 01 says of pairs
 -- is said here of numbers, word for word. `labels-numbered` is the one law that carries it back: any numbering that keeps the order keeps the labels.
 -- Leans on the definitions and on the laws of orders. Assumes nothing.
-use mathlib.Core.Path.{_≡_, refl, sym, ap, _∙_, subst}
-use mathlib.Core.Logic.{_⊎_, inl, inr}
+use mathlib.Core.Path.{_≡_, refl, ap, _∙_, subst}
 use mathlib.Core.Bool.{Bool, true, false, cond, not, _&&_}
 use mathlib.Core.List.{List, [], _∷_, _++_, map, flatMap, List·Memᴰ}
 use mathlib.Core.Option.{Option, some, none}
-use Prim.Native.Nat.{ℕ, zero, suc, _+_, _*_, _/_, _%_, _≤_, _<_, compare, Ordering, Ordering·lt, Ordering·eq, Ordering·gt}
+use Prim.Native.Nat.{ℕ, suc, _+_, _<_, compare, Ordering, Ordering·lt, Ordering·eq, Ordering·gt}
 use native.Mathlib.Omega.{arith}
-use lib.Dec.{T, ltb, eqb, isEq}
-use lib.ListN.{length, getD, drop, length-map}
+use lib.Dec.{T, ltb, isEq}
+use lib.ListN.{length, length-map}
 use Rattle.definitions.specs.Lists.{Pair, isGt, thenBy, compareList, compareNats, comparePair, comparePairs, sortBy, mapAt}
+use Rattle.definitions.specs.Open.{open-all}
 use Rattle.definitions.specs.Figures.{Compound, consIn, walk, firstAbove, foundInside, seek, compoundOf, labelFrom, labelIrc}
 use Rattle.laws.specs.Lists.{Mem, here, there}
 use Rattle.laws.specs.Pairs.{Pairs}
@@ -62,6 +62,30 @@ labelNats items (l ∷ ls) b = elim (insideNats items l) [
 -- for each list none, or the places of the two that it is a compound of
 unfoldable pub labelsOf : List (List ℕ) → List (Option Pair)
 labelsOf lists = map (λ (items : List ℕ). labelNats items lists 0) lists
+
+-- ---- small cases, evaluated
+
+-- 1 / 2 / 2,1: the last holds 2, and 1 is left, but no list behind the second is 1
+pub left-before : labelsOf ((1 ∷ []) ∷ (2 ∷ []) ∷ (2 ∷ 1 ∷ []) ∷ []) ≡ none ∷ none ∷ none ∷ []
+unfolding open-all consTo walkNats firstAboveNats insideNats seekNats with labelNats labelsOf
+left-before = refl
+
+-- 0 / 0,0: what is left of the second is the first itself, which is not behind itself
+pub left-itself : labelsOf ((0 ∷ []) ∷ (0 ∷ 0 ∷ []) ∷ []) ≡ none ∷ none ∷ []
+unfolding open-all consTo walkNats firstAboveNats insideNats seekNats with labelNats labelsOf
+left-itself = refl
+
+-- 0,1,2 / 0,2 / 1: the first holds the second, and leaves the third; it does not hold itself
+pub left-behind : labelsOf ((0 ∷ 1 ∷ 2 ∷ []) ∷ (0 ∷ 2 ∷ []) ∷ (1 ∷ []) ∷ []) ≡ some (1, 2) ∷ none ∷ none ∷ []
+unfolding open-all consTo walkNats firstAboveNats insideNats seekNats with labelNats labelsOf
+left-behind = refl
+
+-- the first list found inside decides: 0 is found in 0,1,2 and leaves 1,2, which is none of them, so that 0,1 and 2 are not tried
+pub first-decides : labelsOf ((0 ∷ []) ∷ (0 ∷ 1 ∷ []) ∷ (0 ∷ 1 ∷ 2 ∷ []) ∷ (2 ∷ []) ∷ []) ≡ none ∷ none ∷ none ∷ none ∷ []
+unfolding open-all consTo walkNats firstAboveNats insideNats seekNats with labelNats labelsOf
+first-decides = refl
+
+-- ---- lists in order
 
 -- no list is above a later one
 abbrev pub Ascending : List (List ℕ) → Type 0
@@ -168,7 +192,7 @@ module _ (to : ℕ → Pair) (bound : ℕ) (ordered : (m n : ℕ) → m < bound 
       go true = refl
       go false = refl
 
-  compare-numbered : (a b : List ℕ) → Below bound a → Below bound b → comparePairs (map to a) (map to b) ≡ compareNats a b
+  pub compare-numbered : (a b : List ℕ) → Below bound a → Below bound b → comparePairs (map to a) (map to b) ≡ compareNats a b
   unfolding comparePairs compareNats compareList
   compare-numbered [] [] h k = refl
   compare-numbered [] (y ∷ b) h k = refl

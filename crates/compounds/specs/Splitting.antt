@@ -1,10 +1,9 @@
 -- Splitting on numbered facets, and pools that are pushed to. The table has for each facet of the call none, or the numbers of its two components.
 -- Leans on Pool and Labels. Assumes nothing.
-use mathlib.Core.Path.{_≡_, refl, sym, ap, _∙_, subst}
-use mathlib.Core.Bool.{Bool, true, false, cond}
-use mathlib.Core.List.{List, [], _∷_, _++_, map, flatMap, append-assoc, append-nil}
+use mathlib.Core.Path.{_≡_, refl, sym, ap, _∙_}
+use mathlib.Core.List.{List, [], _∷_, _++_, flatMap, append-assoc, append-nil}
 use mathlib.Core.Option.{Option, some, none}
-use Prim.Native.Nat.{ℕ, zero, suc, _+_, _-_, _*_, _^_, _≤_, _<_}
+use Prim.Native.Nat.{ℕ, zero, suc, _+_, _-_, _*_, _≤_, _<_}
 use native.Mathlib.Omega.{arith}
 use lib.ListN.{length, getD, take, drop, length-append}
 use Rattle.definitions.specs.Lists.{Pair}
@@ -12,7 +11,6 @@ use Rattle.laws.specs.Lists.{Mem, here, there}
 use Rattle.pool.specs.Pool.{count, used, base, closed, opened, pushed, ended, Sound, pushed-length, pushed-count, pushed-used, pushed-sound, pushed-closed, pushed-opened, ended-length, ended-count, ended-used, ended-sound, ended-closed, ended-opened}
 use Rattle.compounds.specs.declared.Layout.{Layout}
 use Rattle.compounds.specs.Labels.{labelsIn}
-use Rattle.compounds.specs.Areas.{listAt}
 
 -- "A compound facet is replaced by its two components, first in first out, until none is compound." The first number bounds the steps.
 unfoldable pub splitNats : ℕ → List (Option Pair) → List ℕ → List ℕ
