@@ -5,6 +5,7 @@ pub mod Pairs
 pub mod Orders
 pub mod Sorting
 pub mod Ascending
+pub mod Merging
 pub mod Segments
 pub mod Places
 pub mod Ranges

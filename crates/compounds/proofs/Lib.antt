@@ -1,0 +1,7 @@
+-- What the proofs of this crate cite.
+mod Comparing
+mod Walking
+mod Labelling
+mod Ordering
+mod Splitting
+mod Lists
