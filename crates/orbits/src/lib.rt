@@ -120,3 +120,27 @@ fn try_tuple(flat: Points, tuple: Points, rows: &[u8], m: usize, tolerance: f64,
         Verdict::Going => fit_tuple(flat, tuple, rows, m, tolerance, bound, state.known, state.count, ws),
     }
 }
+
+// A tuple that begins with v is extended by as many vertices as are wanted, ascending from one on; a vertex whose length from v breaks a limit drops the tuple.
+fn extend(points: Points, flat: Points, tuple: Points, v: usize, from: usize, more: usize, rows: &[u8], m: usize, min: Limit, max: Limit, tolerance: f64, bound: usize, state: Progress, ws: &mut [u8]) -> Progress
+    requires { ⌜ TupleFits flat tuple m (now rows) × Room bound (state .known) (state .count) (now ws) × PointsFit points × (v < points .n) × (points .n ≡ flat .n) × (tuple .n ≤ from) ⌝ }
+    ensures { λ r. ⌜ Walked tolerance (pointsOf flat) (rowsIn (flat .n) m (now (rows .entry))) bound state (now (ws .entry)) (extensions (keepsLimits tolerance (limitsOf min max) (pointsOf points) v) (pointsOf flat) (pointsOf tuple) (flat .n) from more) r (now (ws .exit)) ⌝ }
+{
+    if more == 0 {
+        return try_tuple(flat, tuple, rows, m, tolerance, bound, state, ws);
+    }
+    let n = points.n;
+    let mut reached = state;
+    let mut u = from;
+    while u < n {
+        if points.breaks_limit(v, u, min, max, tolerance) {
+            u += 1;
+            continue;
+        }
+        let longer = tuple.with_point(flat.point(u));
+        let next = extend(points, flat, longer, v, u + 1, more - 1, rows, m, min, max, tolerance, bound, reached, ws);
+        reached = next;
+        u += 1;
+    }
+    reached
+}
