@@ -1,15 +1,15 @@
 -- What the proofs of the functions cite: each test one step at a time, and the order of the refusals. Assumes nothing.
 use mathlib.Core.Path.{_≡_, refl, sym, ap, _∙_}
-use mathlib.Core.Bool.{Bool, true, false, not, _&&_}
+use mathlib.Core.Bool.{Bool, true, false, _&&_}
 use mathlib.Core.List.{List, [], _∷_}
-use mathlib.Core.Option.{Option, some, none}
+use mathlib.Core.Option.{some}
 use Prim.Native.Nat.{ℕ, suc, _+_, _-_, _*_, _≤_, _<_}
 use native.Mathlib.Omega.{arith}
-use borrow.Author.Tests.{leb-true, lt-leb, le-leb, eq-eqb, ne-eqb, eqb-true}
-use lib.Dec.{T, leb, ltb, eqb, leb→le}
+use borrow.Author.Tests.{lt-leb, le-leb, eq-eqb, ne-eqb}
+use lib.Dec.{leb, ltb, eqb, leb→le}
 use lib.IntN.{pos}
 use lib.ListN.{length, getD, take, drop}
-use lib.Ieee.{Float, fin, binary64, ofBits, le}
+use lib.Ieee.{Float, binary64, ofBits, le}
 use Rattle.definitions.specs.Lists.{allOf, countFrom}
 use Rattle.definitions.specs.Vectors.{zero64}
 use Rattle.definitions.specs.Job.{Bytes, readJob, numberAt, floatAt, floatsAt, vectorsAt, between, within, allWithin, limitGood, floatsGood, sameNats, isPermutation, workspaceFor, tests}
@@ -20,8 +20,7 @@ use Rattle.load.specs.declared.Header.{Header}
 use Rattle.load.specs.declared.Places.{Places}
 use Rattle.load.specs.declared.Fields.{Fields}
 use Rattle.load.specs.Places.{headerOf, placesOf, Counted, Exact, size-is}
-use Rattle.load.specs.Meaning.{fieldsOf, rowsAt, Loadable, loadable}
-use Rattle.job.specs.declared.Checked.{Checked}
+use Rattle.load.specs.Meaning.{fieldsOf, rowsAt, Loadable}
 use Rattle.job.specs.declared.Checked.the-variants.{Refused, Passed}
 use Rattle.job.specs.Refusal.{firstRefused, goes-on, stops, checkedAs, checkedOf, hasMark, sizeWithin}
 

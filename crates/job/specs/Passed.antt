@@ -1,6 +1,6 @@
 -- What a caller learns from the answer of the check: the definition's outcome where the job is refused, and where it passes that all tests are passed, that the fields can be loaded,
 -- and that loaded rows send vertices to vertices. Leans on Refusal.
-use mathlib.Core.Path.{_≡_, refl, sym, ap, _∙_, subst}
+use mathlib.Core.Path.{_≡_, refl, _∙_, subst}
 use mathlib.Core.Bool.{Bool, true, false, cond, _&&_}
 use mathlib.Core.List.{List, [], _∷_}
 use mathlib.Core.Option.{Option, some, none}
@@ -11,17 +11,16 @@ use lib.ListN.{length, getD, take, drop, length-drop}
 use lib.Seq.{length-take-le, getD-take, getD-drop}
 use Rattle.definitions.specs.Lists.{allOf}
 use Rattle.definitions.specs.Orbits.{Row}
-use Rattle.definitions.specs.Outcome.{Outcome, refused, andThen}
+use Rattle.definitions.specs.Outcome.{refused, andThen}
 use Rattle.definitions.specs.Recursion.{Bounds, Answer}
-use Rattle.definitions.specs.Job.{Bytes, readJob, between, sameNats, isPermutation, Test, tests, passAll, callOf, fitting, answerBytes, outcomeWithin}
-use Rattle.laws.specs.Bools.{both, first, second, true→holds}
+use Rattle.definitions.specs.Job.{Bytes, readJob, between, sameNats, isPermutation, Test, tests, callOf, fitting, answerBytes, outcomeWithin}
+use Rattle.laws.specs.Bools.{first, second}
 use Rattle.laws.specs.Lists.{Mem, here, there, all-of, member-at}
 use Rattle.laws.specs.Parts.{length-rows}
 use Rattle.laws.specs.Tests.{permutes-once}
 use Rattle.load.specs.declared.Fields.{Fields}
-use Rattle.load.specs.Places.{headerOf, Counted, Exact, size-is}
+use Rattle.load.specs.Places.{headerOf, Exact, size-is}
 use Rattle.load.specs.Meaning.{fieldsOf, rowsIn, row-at}
-use Rattle.job.specs.declared.Checked.{Checked}
 use Rattle.job.specs.declared.Checked.the-variants.{Refused, Passed}
 use Rattle.job.specs.Refusal.{firstRefused, pass-all-refused, pass-all-passed, checkedAs, checkedOf}
 

@@ -9,7 +9,6 @@ use lib.ListN.{length, take}
 use lib.Ieee.{Float, neg, le}
 use Rattle.definitions.specs.Outcome.{Outcome, refused, refuseIf}
 use Rattle.definitions.specs.Job.{Bytes, sameNats, Test, tests, passAll}
-use Rattle.load.specs.declared.Fields.{Fields}
 use Rattle.load.specs.Meaning.{fieldsOf}
 use Rattle.job.specs.declared.Checked.{Checked}
 use Rattle.job.specs.declared.Checked.the-variants.{Refused, Passed}

@@ -1,9 +1,8 @@
 -- What the proofs of the functions cite: a flag that is set or not, a float that was read, and the room that a job of its exact length has for each field. Assumes nothing.
-use mathlib.Core.Path.{_≡_, refl, sym, ap, _∙_}
-use mathlib.Core.Bool.{Bool, true, false, cond}
+use mathlib.Core.Path.{_≡_, refl, ap, _∙_}
+use mathlib.Core.Bool.{true, false, cond}
 use mathlib.Core.List.{List, [], _∷_, _++_}
-use mathlib.Core.Option.{some, none}
-use Prim.Native.Nat.{ℕ, suc, _+_, _-_, _*_, _/_, _%_, _≤_, _<_}
+use Prim.Native.Nat.{ℕ, _+_, _-_, _*_, _/_, _%_, _≤_, _<_}
 use native.Mathlib.Omega.{arith}
 use borrow.Author.Tests.{eq-eqb, ne-eqb}
 use lib.ListN.{length, take, drop, length-drop}
@@ -11,7 +10,6 @@ use lib.Seq.{paste, length-paste, length-take-le, take-all}
 use lib.Ieee.{Float, nan, inf, fin, binary64, ofBits, div}
 use Rattle.definitions.specs.Job.{Bytes, flagSet, present, floatAt, floatsAt, vectorsAt, numberAt, readJob, planeOf}
 use Rattle.words.specs.Floats.{readOf}
-use Rattle.words.specs.declared.Read.{Read}
 use Rattle.words.specs.declared.Read.the-variants.{Number, NotANumber}
 use Rattle.space.specs.declared.Limit.{Limit}
 use Rattle.space.specs.declared.Limit.the-variants.{Absent, Length}

@@ -1,7 +1,7 @@
 -- The header of a job, and where its fields stand: the places that the definition's `readJob` reads at, as the structs of the code hold them. Leans on the definition of a job.
 use mathlib.Core.Path.{_≡_, refl}
 use mathlib.Core.Bool.{cond}
-use Prim.Native.Nat.{ℕ, _+_, _-_, _*_, _≤_}
+use Prim.Native.Nat.{_+_, _-_, _*_, _≤_}
 use lib.ListN.{length, getD}
 use Rattle.definitions.specs.Job.{Bytes, numberAt, flagSet, readJob}
 use Rattle.load.specs.declared.Header.{Header}

@@ -33,7 +33,9 @@ within-requires c κs = search needs
 
 returns : tie.Need-returns Inv-loop μ-loop
 unfolding floatsAt spaced
-returns c = let l = c .before .before .before .before .loop in test-stops (sizeWithin _) (floatAt _) 8 _ _ (l .i) (omega arith) (sym (ap (sizeWithin _) (c .before .before .float-at .ensures)) ∙ sym (c .before .within .ensures) ∙ not-true _ (c .if1 .taken)) (l .inv .1)
+returns c =
+    let l = c .before .before .before .before .loop in
+    test-stops (sizeWithin _) (floatAt _) 8 _ _ (l .i) (omega arith) (sym (ap (sizeWithin _) (c .before .before .float-at .ensures)) ∙ sym (c .before .within .ensures) ∙ not-true _ (c .if1 .taken)) (l .inv .1)
 
 add-i : tie.Need-add-i Inv-loop μ-loop
 add-i c = search needs
@@ -42,7 +44,9 @@ loop-less : tie.Need-loop-less Inv-loop μ-loop
 loop-less c = search needs
 
 loop-again : tie.Need-loop-again Inv-loop μ-loop
-loop-again c = let l = c .before .before .before .before .loop in (omega arith, test-goes-on (sizeWithin _) (floatAt _) 8 _ _ (l .i) (omega arith) (sym (ap (sizeWithin _) (c .before .before .float-at .ensures)) ∙ sym (c .before .within .ensures) ∙ not-false _ (c .if1 .left)) (l .inv .1))
+loop-again c =
+    let l = c .before .before .before .before .loop in
+    (omega arith, test-goes-on (sizeWithin _) (floatAt _) 8 _ _ (l .i) (omega arith) (sym (ap (sizeWithin _) (c .before .before .float-at .ensures)) ∙ sym (c .before .within .ensures) ∙ not-false _ (c .if1 .left)) (l .inv .1))
 
 returns-2 : tie.Need-returns-2 Inv-loop μ-loop
 unfolding floatsAt spaced

@@ -105,7 +105,9 @@ returns : tie.Need-returns
 returns c = mark-refused _ _ refl (sym (c .before .has-mark .ensures) ∙ not-true _ (c .if1 .taken))
 
 get-u16-requires : tie.Need-get-u16-requires
-get-u16-requires c κs = let l = long c in omega arith
+get-u16-requires c κs =
+    let l = long c in
+    omega arith
 
 returns-2 : tie.Need-returns-2
 returns-2 c = version-refused _ _ (behind-1 (c .before .before)) (ne-eqb _ _ (λ e. c .if2 .taken (c .before .get-u16 .ensures ∙ e)))
@@ -165,7 +167,9 @@ returns-10 : tie.Need-returns-10
 returns-10 c = identity-refused _ _ (behind-9 (c .before .before)) _ (fields-load (c .before .before .before .before)) (sym (c .before .is-identity .ensures) ∙ not-true _ (c .if10 .taken))
 
 rows-good-requires : tie.Need-rows-good-requires
-rows-good-requires c κs = let k = fields-load (c .before .before .before .before) in (k .n-most, k .rows-fit)
+rows-good-requires c κs =
+    let k = fields-load (c .before .before .before .before) in
+    (k .n-most, k .rows-fit)
 
 returns-11 : tie.Need-returns-11
 returns-11 c = rows-refused _ _ (behind-10 (c .before .before)) _ (fields-load (c .before .before .before .before .before .before)) (sym (c .before .rows-good .ensures) ∙ not-true _ (c .if11 .taken))

@@ -15,7 +15,9 @@ abbrev μ-loop : tie.MeasureT-loop
 μ-loop job at n i₀ i = n - i
 
 loop-holds : tie.Need-loop-holds Inv-loop μ-loop
-loop-holds c = let a = c .before .args in (omega arith, count-starts (a .job .now) (a .at) (a .n))
+loop-holds c =
+    let a = c .before .args in
+    (omega arith, count-starts (a .job .now) (a .at) (a .n))
 
 add-wide : tie.Need-add-wide Inv-loop μ-loop
 add-wide c = search needs
@@ -27,7 +29,10 @@ wide-requires : tie.Need-wide-requires Inv-loop μ-loop
 wide-requires c κs = search needs
 
 returns : tie.Need-returns Inv-loop μ-loop
-returns c = let a = c .before .before .before .before .before .before .args in let l = c .before .before .before .before .loop in count-stops (a .job .now) (a .at) (a .n) (l .i) (omega arith) (omega arith) (ne-eqb _ _ (λ e. c .if1 .taken (c .before .wide .ensures ∙ e))) (l .inv .1)
+returns c =
+    let a = c .before .before .before .before .before .before .args in
+    let l = c .before .before .before .before .loop in
+    count-stops (a .job .now) (a .at) (a .n) (l .i) (omega arith) (omega arith) (ne-eqb _ _ (λ e. c .if1 .taken (c .before .wide .ensures ∙ e))) (l .inv .1)
 
 add-i : tie.Need-add-i Inv-loop μ-loop
 add-i c = search needs
@@ -36,10 +41,15 @@ loop-less : tie.Need-loop-less Inv-loop μ-loop
 loop-less c = search needs
 
 loop-again : tie.Need-loop-again Inv-loop μ-loop
-loop-again c = let a = c .before .before .before .before .before .before .args in let l = c .before .before .before .before .loop in (omega arith, count-goes-on (a .job .now) (a .at) (a .n) (l .i) (omega arith) (omega arith) (eq-eqb _ _ (sym (c .before .wide .ensures) ∙ c .if1 .left)) (l .inv .1))
+loop-again c =
+    let a = c .before .before .before .before .before .before .args in
+    let l = c .before .before .before .before .loop in
+    (omega arith, count-goes-on (a .job .now) (a .at) (a .n) (l .i) (omega arith) (omega arith) (eq-eqb _ _ (sym (c .before .wide .ensures) ∙ c .if1 .left)) (l .inv .1))
 
 returns-2 : tie.Need-returns-2 Inv-loop μ-loop
-returns-2 c = let a = c .before .before .before .args in count-ends (a .job .now) (a .at) (a .n) (c .before .loop .i) (omega arith) (c .before .loop .inv .1)
+returns-2 c =
+    let a = c .before .before .before .args in
+    count-ends (a .job .now) (a .at) (a .n) (c .before .loop .i) (omega arith) (c .before .loop .inv .1)
 
 pub is-identity-spec : {M : Type 1} → statement M
 is-identity-spec =

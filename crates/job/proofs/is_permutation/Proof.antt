@@ -17,7 +17,9 @@ abbrev μ-loop : tie.MeasureT-loop
 μ-loop job at n marks₀ i₀ marks i = n - i
 
 loop-holds : tie.Need-loop-holds Inv-loop μ-loop
-loop-holds c = let a = c .before .args in (omega arith, refl, marks-start (a .job .now) (a .at) (a .n) 20 (omega arith) (omega arith))
+loop-holds c =
+    let a = c .before .args in
+    (omega arith, refl, marks-start (a .job .now) (a .at) (a .n) 20 (omega arith) (omega arith))
 
 add-wide : tie.Need-add-wide Inv-loop μ-loop
 add-wide c = search needs
@@ -29,13 +31,19 @@ wide-requires : tie.Need-wide-requires Inv-loop μ-loop
 wide-requires c κs = search needs
 
 returns : tie.Need-returns Inv-loop μ-loop
-returns c = let l = c .before .before .before .before .loop in let w = c .before .wide .ensures in marks-stop-beyond _ _ _ (l .marks) (l .i) (omega arith) (omega arith) (le-ltb _ _ (rw w at (c .if1 .taken))) (l .inv .2)
+returns c =
+    let l = c .before .before .before .before .loop in
+    let w = c .before .wide .ensures in
+    marks-stop-beyond _ _ _ (l .marks) (l .i) (omega arith) (omega arith) (le-ltb _ _ (rw w at (c .if1 .taken))) (l .inv .2)
 
 array-read-if2 : tie.Need-array-read-if2 Inv-loop μ-loop
 array-read-if2 c = search needs
 
 returns-2 : tie.Need-returns-2 Inv-loop μ-loop
-returns-2 c = let l = c .before .before .before .before .before .loop in let w = c .before .before .wide .ensures in marks-stop-again _ _ _ (l .marks) (l .i) (omega arith) (omega arith) (lt-ltb _ _ (rw w at (c .before .if1 .left))) (rw w at (c .if2 .taken)) (l .inv .2)
+returns-2 c =
+    let l = c .before .before .before .before .before .loop in
+    let w = c .before .before .wide .ensures in
+    marks-stop-again _ _ _ (l .marks) (l .i) (omega arith) (omega arith) (lt-ltb _ _ (rw w at (c .before .if1 .left))) (rw w at (c .if2 .taken)) (l .inv .2)
 
 array-write-marks : tie.Need-array-write-marks Inv-loop μ-loop
 array-write-marks c = search needs
@@ -47,10 +55,15 @@ loop-less : tie.Need-loop-less Inv-loop μ-loop
 loop-less c = search needs
 
 loop-again : tie.Need-loop-again Inv-loop μ-loop
-loop-again c = let l = c .before .before .before .before .before .loop in let w = c .before .before .wide .ensures in (omega arith, length-set (l .marks) _ true ∙ l .inv .1, rw w (marks-go-on _ _ _ (l .marks) (l .i) (omega arith) (omega arith) (lt-ltb _ _ (rw w at (c .before .if1 .left))) (rw w at (c .if2 .left)) (l .inv .2)))
+loop-again c =
+    let l = c .before .before .before .before .before .loop in
+    let w = c .before .before .wide .ensures in
+    (omega arith, length-set (l .marks) _ true ∙ l .inv .1, rw w (marks-go-on _ _ _ (l .marks) (l .i) (omega arith) (omega arith) (lt-ltb _ _ (rw w at (c .before .if1 .left))) (rw w at (c .if2 .left)) (l .inv .2)))
 
 returns-3 : tie.Need-returns-3 Inv-loop μ-loop
-returns-3 c = let a = c .before .before .before .args in marks-end (a .job .now) (a .at) (a .n) (c .before .loop .marks) (c .before .loop .i) (omega arith) (c .before .loop .inv .2)
+returns-3 c =
+    let a = c .before .before .before .args in
+    marks-end (a .job .now) (a .at) (a .n) (c .before .loop .marks) (c .before .loop .i) (omega arith) (c .before .loop .inv .2)
 
 pub is-permutation-spec : {M : Type 1} → statement M
 is-permutation-spec =

@@ -12,10 +12,14 @@ places-of-requires : tie.Need-places-of-requires
 places-of-requires c κs = rw (c .header-of .ensures) (c .before .before .pre .counted)
 
 limit-at-requires : tie.Need-limit-at-requires
-limit-at-requires c κs = let k = fitting _ _ _ (c .before .before .before .pre) (c .before .header-of .ensures) (c .places-of .ensures) in (omega arith, k .min)
+limit-at-requires c κs =
+    let k = fitting _ _ _ (c .before .before .before .pre) (c .before .header-of .ensures) (c .places-of .ensures) in
+    (omega arith, k .min)
 
 limit-at-requires-2 : tie.Need-limit-at-requires-2
-limit-at-requires-2 c κs = let k = fitting _ _ _ (c .before .before .before .before .pre) (c .before .before .header-of .ensures) (c .before .places-of .ensures) in (omega arith, k .max)
+limit-at-requires-2 c κs =
+    let k = fitting _ _ _ (c .before .before .before .before .pre) (c .before .before .header-of .ensures) (c .before .places-of .ensures) in
+    (omega arith, k .max)
 
 entry-limit-at-requires : tie.Need-entry-limit-at-requires
 entry-limit-at-requires c κs = fitting _ _ _ (c .before .before .before .before .before .pre) (c .before .before .before .header-of .ensures) (c .before .before .places-of .ensures) .limit

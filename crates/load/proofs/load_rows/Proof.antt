@@ -23,13 +23,22 @@ unfolding rowsIn rowsAt countFrom rows
 loop-holds c = (omega arith, refl, refl)
 
 mul-from : tie.Need-mul-from Inv-loop μ-loop
-mul-from c = let k = loadable _ _ (c .before .before .before .before .pre .0) (c .before .before .before .before .pre .1) in let m = next-fits (c .before .before .before .before .args .fields .n) (c .before .loop .i) (c .before .before .before .before .args .fields .count) (omega arith) in omega arith
+mul-from c =
+    let k = loadable _ _ (c .before .before .before .before .pre .0) (c .before .before .before .before .pre .1) in
+    let m = next-fits (c .before .before .before .before .args .fields .n) (c .before .loop .i) (c .before .before .before .before .args .fields .count) (omega arith) in
+    omega arith
 
 add-from : tie.Need-add-from Inv-loop μ-loop
-add-from c = let k = loadable _ _ (c .before .before .before .before .pre .0) (c .before .before .before .before .pre .1) in let m = next-fits (c .before .before .before .before .args .fields .n) (c .before .loop .i) (c .before .before .before .before .args .fields .count) (omega arith) in omega arith
+add-from c =
+    let k = loadable _ _ (c .before .before .before .before .pre .0) (c .before .before .before .before .pre .1) in
+    let m = next-fits (c .before .before .before .before .args .fields .n) (c .before .loop .i) (c .before .before .before .before .args .fields .count) (omega arith) in
+    omega arith
 
 add-to : tie.Need-add-to Inv-loop μ-loop
-add-to c = let k = loadable _ _ (c .before .before .before .before .pre .0) (c .before .before .before .before .pre .1) in let m = next-fits (c .before .before .before .before .args .fields .n) (c .before .loop .i) (c .before .before .before .before .args .fields .count) (omega arith) in omega arith
+add-to c =
+    let k = loadable _ _ (c .before .before .before .before .pre .0) (c .before .before .before .before .pre .1) in
+    let m = next-fits (c .before .before .before .before .args .fields .n) (c .before .loop .i) (c .before .before .before .before .args .fields .count) (omega arith) in
+    omega arith
 
 mul-copy : tie.Need-mul-copy Inv-loop μ-loop
 mul-copy c = search needs
@@ -41,7 +50,10 @@ part-copy-start : tie.Need-part-copy-start Inv-loop μ-loop
 part-copy-start c = search needs
 
 part-copy-end : tie.Need-part-copy-end Inv-loop μ-loop
-part-copy-end c = let k = loadable _ _ (c .before .before .before .before .before .pre .0) (c .before .before .before .before .before .pre .1) in let m = next-fits (c .before .before .before .before .before .args .fields .n) (c .before .before .loop .i) (c .before .before .before .before .before .args .fields .count) (omega arith) in omega arith
+part-copy-end c =
+    let k = loadable _ _ (c .before .before .before .before .before .pre .0) (c .before .before .before .before .before .pre .1) in
+    let m = next-fits (c .before .before .before .before .before .args .fields .n) (c .before .before .loop .i) (c .before .before .before .before .before .args .fields .count) (omega arith) in
+    omega arith
 
 copy-requires : tie.Need-copy-requires Inv-loop μ-loop
 copy-requires c κs =
@@ -68,7 +80,8 @@ same-length : tie.Need-same-length Inv-loop μ-loop
 same-length c = search needs
 
 returns : tie.Need-returns Inv-loop μ-loop
-returns c = let k = loadable _ _ (c .before .before .before .before .pre .0) (c .before .before .before .before .pre .1) in
+returns c =
+    let k = loadable _ _ (c .before .before .before .before .pre .0) (c .before .before .before .before .pre .1) in
     let l = c .before .loop in
     let end : l .i ≡ c .before .before .before .before .args .fields .count = omega arith in
     (rw (k .rows-is, ← end) (l .inv .2), l .inv .1)

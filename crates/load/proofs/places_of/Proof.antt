@@ -38,22 +38,34 @@ sub-points : tie.Need-sub-points
 sub-points c = search needs
 
 mul-points : tie.Need-mul-points
-mul-points c = let b = bounded _ (c .before .before .before .before .before .pre) in omega arith
+mul-points c =
+    let b = bounded _ (c .before .before .before .before .before .pre) in
+    omega arith
 
 add-points : tie.Need-add-points
-add-points c = let b = bounded _ (c .before .before .before .before .before .pre) in omega arith
+add-points c =
+    let b = bounded _ (c .before .before .before .before .before .pre) in
+    omega arith
 
 mul-rows : tie.Need-mul-rows
-mul-rows c = let b = bounded _ (c .before .before .before .before .before .before .pre) in omega arith
+mul-rows c =
+    let b = bounded _ (c .before .before .before .before .before .before .pre) in
+    omega arith
 
 add-rows : tie.Need-add-rows
-add-rows c = let b = bounded _ (c .before .before .before .before .before .before .pre) in omega arith
+add-rows c =
+    let b = bounded _ (c .before .before .before .before .before .before .pre) in
+    omega arith
 
 mul-t12 : tie.Need-mul-t12
-mul-t12 c = let b = bounded _ (c .before .before .before .before .before .before .before .pre) in omega arith
+mul-t12 c =
+    let b = bounded _ (c .before .before .before .before .before .before .before .pre) in
+    omega arith
 
 add-t11 : tie.Need-add-t11
-add-t11 c = let b = bounded _ (c .before .before .before .before .before .before .before .pre) in omega arith
+add-t11 c =
+    let b = bounded _ (c .before .before .before .before .before .before .before .pre) in
+    omega arith
 
 returns : tie.Need-returns
 unfolding placesOf

@@ -17,31 +17,48 @@ abbrev μ-loop : tie.MeasureT-loop
 μ-loop job d rank at plane₀ j₀ plane j = rank - 1 - j
 
 vector-at-requires : tie.Need-vector-at-requires Inv-loop μ-loop
-vector-at-requires c κs = let k = loadable _ _ (c .before .pre .0) (c .before .pre .1) in (omega arith, k .offset-fits)
+vector-at-requires c κs =
+    let k = loadable _ _ (c .before .pre .0) (c .before .pre .1) in
+    (omega arith, k .offset-fits)
 
 new-requires : tie.Need-new-requires Inv-loop μ-loop
-new-requires c κs = let k = loadable _ _ (c .before .before .pre .0) (c .before .before .pre .1) in omega arith
+new-requires c κs =
+    let k = loadable _ _ (c .before .before .pre .0) (c .before .before .pre .1) in
+    omega arith
 
 loop-holds : tie.Need-loop-holds Inv-loop μ-loop
 loop-holds c = (omega arith, c .new .ensures .1, c .new .ensures .2, plane-start _ _ _ _ _ (c .new .ensures .0))
 
 sub-loop : tie.Need-sub-loop Inv-loop μ-loop
-sub-loop c = let k = loadable _ _ (c .before .before .before .before .pre .0) (c .before .before .before .before .pre .1) in omega arith
+sub-loop c =
+    let k = loadable _ _ (c .before .before .before .before .pre .0) (c .before .before .before .before .pre .1) in
+    omega arith
 
 mul-vector-at : tie.Need-mul-vector-at Inv-loop μ-loop
 mul-vector-at c = search needs
 
 mul-vector-at-2 : tie.Need-mul-vector-at-2 Inv-loop μ-loop
-mul-vector-at-2 c = let k = loadable _ _ (c .before .before .before .before .before .pre .0) (c .before .before .before .before .before .pre .1) in let m = next-fits (8 * c .before .before .before .before .before .args .fields .d) (c .before .loop .j) (c .before .before .before .before .before .args .fields .rank - 1) (omega arith) in omega arith
+mul-vector-at-2 c =
+    let k = loadable _ _ (c .before .before .before .before .before .pre .0) (c .before .before .before .before .before .pre .1) in
+    let m = next-fits (8 * c .before .before .before .before .before .args .fields .d) (c .before .loop .j) (c .before .before .before .before .before .args .fields .rank - 1) (omega arith) in
+    omega arith
 
 add-vector-at : tie.Need-add-vector-at Inv-loop μ-loop
-add-vector-at c = let k = loadable _ _ (c .before .before .before .before .before .pre .0) (c .before .before .before .before .before .pre .1) in let m = next-fits (8 * c .before .before .before .before .before .args .fields .d) (c .before .loop .j) (c .before .before .before .before .before .args .fields .rank - 1) (omega arith) in omega arith
+add-vector-at c =
+    let k = loadable _ _ (c .before .before .before .before .before .pre .0) (c .before .before .before .before .before .pre .1) in
+    let m = next-fits (8 * c .before .before .before .before .before .args .fields .d) (c .before .loop .j) (c .before .before .before .before .before .args .fields .rank - 1) (omega arith) in
+    omega arith
 
 vector-at-requires-2 : tie.Need-vector-at-requires-2 Inv-loop μ-loop
-vector-at-requires-2 c κs = let k = loadable _ _ (c .before .before .before .before .before .pre .0) (c .before .before .before .before .before .pre .1) in let m = next-fits (8 * c .before .before .before .before .before .args .fields .d) (c .before .loop .j) (c .before .before .before .before .before .args .fields .rank - 1) (omega arith) in (omega arith, omega arith)
+vector-at-requires-2 c κs =
+    let k = loadable _ _ (c .before .before .before .before .before .pre .0) (c .before .before .before .before .before .pre .1) in
+    let m = next-fits (8 * c .before .before .before .before .before .args .fields .d) (c .before .loop .j) (c .before .before .before .before .before .args .fields .rank - 1) (omega arith) in
+    (omega arith, omega arith)
 
 with-vector-requires : tie.Need-with-vector-requires Inv-loop μ-loop
-with-vector-requires c κs = let k = loadable _ _ (c .before .before .before .before .before .before .pre .0) (c .before .before .before .before .before .before .pre .1) in (c .before .before .loop .inv .3 .fits, omega arith)
+with-vector-requires c κs =
+    let k = loadable _ _ (c .before .before .before .before .before .before .pre .0) (c .before .before .before .before .before .before .pre .1) in
+    (c .before .before .loop .inv .3 .fits, omega arith)
 
 add-j : tie.Need-add-j Inv-loop μ-loop
 add-j c = search needs
@@ -50,12 +67,14 @@ loop-less : tie.Need-loop-less Inv-loop μ-loop
 loop-less c = search needs
 
 loop-again : tie.Need-loop-again Inv-loop μ-loop
-loop-again c = let l = c .before .before .before .loop in
+loop-again c =
+    let l = c .before .before .before .loop in
     let e = l .inv .1 in
     (omega arith, c .with-vector .ensures .1 ∙ e, c .with-vector .ensures .2 ∙ ap (λ (x : ℕ). x + 1) (l .inv .2), plane-turn _ _ _ _ _ _ _ _ (c .with-vector .ensures .0) (l .inv .3 .means) (rw e (c .before .vector-at2 .ensures)))
 
 returns : tie.Need-returns Inv-loop μ-loop
-returns c = let k = loadable _ _ (c .before .before .before .before .before .pre .0) (c .before .before .before .before .before .pre .1) in
+returns c =
+    let k = loadable _ _ (c .before .before .before .before .before .pre .0) (c .before .before .before .before .before .pre .1) in
     let l = c .before .loop in
     let end : l .j ≡ c .before .before .before .before .before .args .fields .rank - 1 = omega arith in
     let offset = offset-alone _ _ (c .before .before .new .ensures .0) ∙ c .before .before .before .vector-at .ensures in

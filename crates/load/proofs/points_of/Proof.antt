@@ -19,7 +19,9 @@ abbrev μ-loop : tie.MeasureT-loop
 μ-loop job d n at points₀ i₀ points i = n - i
 
 new-requires : tie.Need-new-requires Inv-loop μ-loop
-new-requires c κs = let k = loadable _ _ (c .before .pre .0) (c .before .pre .1) in omega arith
+new-requires c κs =
+    let k = loadable _ _ (c .before .pre .0) (c .before .pre .1) in
+    omega arith
 
 loop-holds : tie.Need-loop-holds Inv-loop μ-loop
 unfolding vectorsAt countFrom
@@ -29,16 +31,27 @@ mul-vector-at : tie.Need-mul-vector-at Inv-loop μ-loop
 mul-vector-at c = search needs
 
 mul-vector-at-2 : tie.Need-mul-vector-at-2 Inv-loop μ-loop
-mul-vector-at-2 c = let k = loadable _ _ (c .before .before .before .before .pre .0) (c .before .before .before .before .pre .1) in let m = next-fits (8 * c .before .before .before .before .args .fields .d) (c .before .loop .i) (c .before .before .before .before .args .fields .n) (omega arith) in omega arith
+mul-vector-at-2 c =
+    let k = loadable _ _ (c .before .before .before .before .pre .0) (c .before .before .before .before .pre .1) in
+    let m = next-fits (8 * c .before .before .before .before .args .fields .d) (c .before .loop .i) (c .before .before .before .before .args .fields .n) (omega arith) in
+    omega arith
 
 add-vector-at : tie.Need-add-vector-at Inv-loop μ-loop
-add-vector-at c = let k = loadable _ _ (c .before .before .before .before .pre .0) (c .before .before .before .before .pre .1) in let m = next-fits (8 * c .before .before .before .before .args .fields .d) (c .before .loop .i) (c .before .before .before .before .args .fields .n) (omega arith) in omega arith
+add-vector-at c =
+    let k = loadable _ _ (c .before .before .before .before .pre .0) (c .before .before .before .before .pre .1) in
+    let m = next-fits (8 * c .before .before .before .before .args .fields .d) (c .before .loop .i) (c .before .before .before .before .args .fields .n) (omega arith) in
+    omega arith
 
 vector-at-requires : tie.Need-vector-at-requires Inv-loop μ-loop
-vector-at-requires c κs = let k = loadable _ _ (c .before .before .before .before .pre .0) (c .before .before .before .before .pre .1) in let m = next-fits (8 * c .before .before .before .before .args .fields .d) (c .before .loop .i) (c .before .before .before .before .args .fields .n) (omega arith) in (omega arith, omega arith)
+vector-at-requires c κs =
+    let k = loadable _ _ (c .before .before .before .before .pre .0) (c .before .before .before .before .pre .1) in
+    let m = next-fits (8 * c .before .before .before .before .args .fields .d) (c .before .loop .i) (c .before .before .before .before .args .fields .n) (omega arith) in
+    (omega arith, omega arith)
 
 with-point-requires : tie.Need-with-point-requires Inv-loop μ-loop
-with-point-requires c κs = let k = loadable _ _ (c .before .before .before .before .before .pre .0) (c .before .before .before .before .before .pre .1) in (c .before .before .loop .inv .1 .fits, omega arith)
+with-point-requires c κs =
+    let k = loadable _ _ (c .before .before .before .before .before .pre .0) (c .before .before .before .before .before .pre .1) in
+    (c .before .before .loop .inv .1 .fits, omega arith)
 
 add-i : tie.Need-add-i Inv-loop μ-loop
 add-i c = search needs
@@ -47,12 +60,14 @@ loop-less : tie.Need-loop-less Inv-loop μ-loop
 loop-less c = search needs
 
 loop-again : tie.Need-loop-again Inv-loop μ-loop
-loop-again c = let l = c .before .before .before .loop in
+loop-again c =
+    let l = c .before .before .before .loop in
     let e = l .inv .1 .d-is in
     (omega arith, points-turn _ _ _ _ _ _ _ _ (c .with-point .ensures .0) e (l .inv .1 .means) (rw e (c .before .vector-at .ensures)), c .with-point .ensures .1 ∙ ap (λ (x : ℕ). x + 1) (l .inv .2))
 
 returns : tie.Need-returns Inv-loop μ-loop
-returns c = let k = loadable _ _ (c .before .before .before .before .pre .0) (c .before .before .before .before .pre .1) in
+returns c =
+    let k = loadable _ _ (c .before .before .before .before .pre .0) (c .before .before .before .before .pre .1) in
     let l = c .before .loop in
     let end : l .i ≡ c .before .before .before .before .args .fields .n = omega arith in
     (rw (k .points-is, ← end) (l .inv .1), l .inv .2 ∙ end)

@@ -43,11 +43,15 @@ loop-less : tie.Need-loop-less Inv-loop μ-loop
 loop-less c = search needs
 
 loop-again : tie.Need-loop-again Inv-loop μ-loop
-loop-again c = let l = c .before .before .loop in
+loop-again c =
+    let l = c .before .before .loop in
     (omega arith, length-set (l .v) (l .i) _ ∙ l .inv .1, take-more-set (l .v) (l .i) _ (omega arith) ∙ rw (l .inv .2, c .float-at .ensures, floats-more) refl)
 
 returns : tie.Need-returns Inv-loop μ-loop
-returns c = let l = c .before .loop in let end : l .i ≡ c .before .before .before .args .d = omega arith in rw (← end) (l .inv .2)
+returns c =
+    let l = c .before .loop in
+    let end : l .i ≡ c .before .before .before .args .d = omega arith in
+    rw (← end) (l .inv .2)
 
 pub vector-at-spec : {M : Type 1} → statement M
 vector-at-spec =
