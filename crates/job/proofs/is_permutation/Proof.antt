@@ -1,5 +1,4 @@
 -- `job::is_permutation` meets its contract. The invariant: the bytes from the i-th on decide, with the marks of those before. Assumes nothing.
-use mathlib.Core.Bool.{true}
 use mathlib.Core.Path.{_≡_, refl, _∙_}
 use Prim.Native.Nat.{_-_, _≤_}
 use native.Mathlib.Omega.{arith}
@@ -58,7 +57,7 @@ loop-again : tie.Need-loop-again Inv-loop μ-loop
 loop-again c =
     let l = c .before .before .before .before .before .loop in
     let w = c .before .before .wide .ensures in
-    (omega arith, length-set (l .marks) _ true ∙ l .inv .1, rw w (marks-go-on _ _ _ (l .marks) (l .i) (omega arith) (omega arith) (lt-ltb _ _ (rw w at (c .before .if1 .left))) (rw w at (c .if2 .left)) (l .inv .2)))
+    (omega arith, length-set (l .marks) _ _ ∙ l .inv .1, rw w (marks-go-on _ _ _ (l .marks) (l .i) (omega arith) (omega arith) (lt-ltb _ _ (rw w at (c .before .if1 .left))) (rw w at (c .if2 .left)) (l .inv .2)))
 
 returns-3 : tie.Need-returns-3 Inv-loop μ-loop
 returns-3 c =
