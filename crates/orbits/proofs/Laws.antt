@@ -165,12 +165,12 @@ module _ (bound known count : ℕ) (ws : List ℕ) (set : ℕ) (images : List �
         ascends = rw now-seen (ascending-added (seenIn known ws) images (room .ascends));
       };
       reached = λ seen orbits h.
-        let n : length seen ≡ known = ap length (sym (h .seen-are)) ∙ words-length 4 (drop 2048 ws) known in
-        let m : k ≡ length (added seen images) - length seen = omega (arith, grown, ap (λ (l : List ℕ). length (added l images)) (h .seen-are)) in
-        record {
-          seen-are = now-seen ∙ ap (λ (l : List ℕ). added l images) (h .seen-are);
-          orbits-are = now-orbits ∙ (rw (h .orbits-are, m) refl);
-        };
+          let n : length seen ≡ known = ap length (sym (h .seen-are)) ∙ words-length 4 (drop 2048 ws) known in
+          let m : k ≡ length (added seen images) - length seen = omega (arith, grown, ap (λ (l : List ℕ). length (added l images)) (h .seen-are)) in
+          record {
+            seen-are = now-seen ∙ ap (λ (l : List ℕ). added l images) (h .seen-are);
+            orbits-are = now-orbits ∙ (rw (h .orbits-are, m) refl);
+          };
     }
 
   pub opened-by : (w₁ w₂ part : List ℕ) → w₁ ≡ put 4 ws (8 * count) set → w₂ ≡ put 4 w₁ (8 * count + 4) k → Merged (take (length w₂ - 2048) (drop 2048 w₂)) known (take k new) part
@@ -209,9 +209,9 @@ module _ (tolerance : Float) (flat : List Vec) (rows : List Row) (bound : ℕ) (
   stays-refused e room = record {
     room = room;
     reached = λ seen orbits h.
-      let over : bound < length orbits = subst (λ (v : Verdict). ReachedBy v bound (state .known) (state .count) ws seen orbits) e h in
-      let more = orbits ++ orbitsFrom tolerance flat rows seen ts in
-      subst (λ (v : Verdict). ReachedBy v bound (state .known) (state .count) ws (seenAfter tolerance flat rows seen ts) more) (sym e) (omega (arith, length-append orbits (orbitsFrom tolerance flat rows seen ts)));
+        let over : bound < length orbits = subst (λ (v : Verdict). ReachedBy v bound (state .known) (state .count) ws seen orbits) e h in
+        let more = orbits ++ orbitsFrom tolerance flat rows seen ts in
+        subst (λ (v : Verdict). ReachedBy v bound (state .known) (state .count) ws (seenAfter tolerance flat rows seen ts) more) (sym e) (omega (arith, length-append orbits (orbitsFrom tolerance flat rows seen ts)));
   }
 
   pub goes-on : (r : Progress) (after : List ℕ) → state .verdict ≡ Going → Walked tolerance flat rows bound (going (state .known) (state .count)) ws ts r after → Walked tolerance flat rows bound state ws ts r after

@@ -3,3 +3,4 @@ pub mod Numbers
 pub mod Hyperplanes
 pub mod Workspace
 pub mod Walks
+pub mod Answers

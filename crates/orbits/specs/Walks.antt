@@ -57,8 +57,8 @@ module _ (tolerance : Float) (flat : List Vec) (rows : List Row) (bound : ℕ) w
   walked-append s₀ w₀ ts s₁ w₁ us s₂ w₂ a b = record {
     room = b .room;
     reached = λ seen orbits h.
-      rw (orbits-append tolerance flat rows seen ts us, seen-append tolerance flat rows seen ts us, ← (append-assoc orbits (orbitsFrom tolerance flat rows seen ts) (orbitsFrom tolerance flat rows (seenAfter tolerance flat rows seen ts) us)))
-      (b .reached (seenAfter tolerance flat rows seen ts) (orbits ++ orbitsFrom tolerance flat rows seen ts) (a .reached seen orbits h));
+        rw (orbits-append tolerance flat rows seen ts us, seen-append tolerance flat rows seen ts us, ← (append-assoc orbits (orbitsFrom tolerance flat rows seen ts) (orbitsFrom tolerance flat rows (seenAfter tolerance flat rows seen ts) us)))
+        (b .reached (seenAfter tolerance flat rows seen ts) (orbits ++ orbitsFrom tolerance flat rows seen ts) (a .reached seen orbits h));
   }
 
   -- behind a refusal there are only more orbits
@@ -75,9 +75,9 @@ module _ (tolerance : Float) (flat : List Vec) (rows : List Row) (bound : ℕ) w
   walked-closed known count ws points room e = record {
     room = room;
     reached = λ seen orbits h.
-      let shut : opensOrbit tolerance flat rows seen points ≡ false = ap (λ (l : List ℕ). opensOrbit tolerance flat rows l points) (sym (h .seen-are)) ∙ e in
-      let one = one-closed tolerance flat rows seen points shut in
-      rw (one .0, one .1, append-nil) h;
+        let shut : opensOrbit tolerance flat rows seen points ≡ false = ap (λ (l : List ℕ). opensOrbit tolerance flat rows l points) (sym (h .seen-are)) ∙ e in
+        let one = one-closed tolerance flat rows seen points shut in
+        rw (one .0, one .1, append-nil) h;
   }
 
   -- one that opens an orbit
@@ -88,9 +88,9 @@ module _ (tolerance : Float) (flat : List Vec) (rows : List Row) (bound : ℕ) w
   walked-opened known count ws points r after e o = record {
     room = o .room;
     reached = λ seen orbits h.
-      let opens : opensOrbit tolerance flat rows seen points ≡ true = ap (λ (l : List ℕ). opensOrbit tolerance flat rows l points) (sym (h .seen-are)) ∙ e in
-      let one = one-opened tolerance flat rows seen points opens in
-      rw (one .0, one .1) (o .reached seen orbits h);
+        let opens : opensOrbit tolerance flat rows seen points ≡ true = ap (λ (l : List ℕ). opensOrbit tolerance flat rows l points) (sym (h .seen-are)) ∙ e in
+        let one = one-opened tolerance flat rows seen points opens in
+        rw (one .0, one .1) (o .reached seen orbits h);
   }
 
 -- ---- tuples extended

@@ -1,22 +1,29 @@
 // Hyperplane orbits in the workspace. Its first 2,048 bytes hold up to 256 orbits, eight bytes each: the number of the first set, and how many sets the orbit has. Behind them lie the
 // numbers of all sets seen, ascending, at most 120 for an orbit. Each function equals a step of document 01's "Orbits", at any tolerance and any rank from 3.
-use sets::{points_near, set_image};
+use openers::Pairs;
+use openers::pair_openers;
+use sets::points_near;
+use sets::set_image;
 use sorted::Found;
-use space::{Limit, Points, Subspace};
-
+use space::Limit;
+use space::Points;
+use space::Subspace;
 ghost use mathlib.Core.Path.{_≡_};
 ghost use mathlib.Core.List.{_∷_, [], _++_, map};
 ghost use Prim.Native.Nat.{ℕ, _+_, _*_, _-_, _≤_, _<_};
 ghost use lib.ListN.{length, getD, take, drop};
 ghost use Rattle.definitions.specs.Lists.{memberNat};
-ghost use Rattle.space.specs.Meaning.{PointsFit, pointsOf, SubspaceFits, subspaceOf, limitsOf};
+ghost use Rattle.definitions.specs.Orbits.{pointAt, hyperplaneOrbits};
+ghost use Rattle.space.specs.Meaning.{PointsFit, pointsOf, HoldsPoints, limitsOf};
 ghost use Rattle.words.specs.Words.{words};
 ghost use Rattle.sorted.specs.Ascending.{Ascending, added, Gathering};
 ghost use Rattle.openers.specs.Rows.{rowsIn};
+ghost use Rattle.openers.specs.Meaning.{pairsIn};
 ghost use Rattle.stabilizers.specs.Permutations.{Permutations};
 ghost use Rattle.orbits.specs.Numbers.{imageNumbers, nearNumber, orbitsFrom, seenAfter};
 ghost use Rattle.orbits.specs.Workspace.{seenIn, Room, Opened};
 ghost use Rattle.orbits.specs.Walks.{going, Walked, TupleFits, extensions, keepsLimits};
+ghost use Rattle.orbits.specs.Answers.{CallFits, PairsRise, pairTuples, answerIn, orbitsOrRefusal};
 
 // Whether another orbit was due than the bound allows.
 pub enum Verdict {
@@ -45,7 +52,15 @@ fn is_seen(ws: &[u8], known: usize, set: u32) -> bool
 }
 
 // The images of a set that were not seen, gathered in ascending order; returns how many there are.
-fn gather_images(rows: &[u8], m: usize, n: usize, set: u32, ws: &[u8], known: usize, new: &mut [u32]) -> usize
+fn gather_images(
+    rows: &[u8],
+    m: usize,
+    n: usize,
+    set: u32,
+    ws: &[u8],
+    known: usize,
+    new: &mut [u32],
+) -> usize
     requires { ⌜ Permutations n m (now rows) × (m ≤ length (now new)) × (2048 + 4 * known ≤ length (now ws)) × Ascending (seenIn known (now ws)) ⌝ }
     ensures few { λ r. ⌜ r ≤ m ⌝ }
     ensures gathers { λ r. ⌜ Gathering (seenIn known (now (ws .entry))) (imageNumbers n set (rowsIn n m (now (rows .entry)))) (take r (now (new .exit))) ⌝ }
@@ -60,7 +75,16 @@ fn gather_images(rows: &[u8], m: usize, n: usize, set: u32, ws: &[u8], known: us
 }
 
 // An orbit more, unless there are as many as the bound allows: its first set, how many sets it has, and its sets among those seen.
-fn open_orbit(rows: &[u8], m: usize, n: usize, set: u32, bound: usize, known: usize, count: usize, ws: &mut [u8]) -> Progress
+fn open_orbit(
+    rows: &[u8],
+    m: usize,
+    n: usize,
+    set: u32,
+    bound: usize,
+    known: usize,
+    count: usize,
+    ws: &mut [u8],
+) -> Progress
     requires { ⌜ Permutations n m (now rows) × (m ≤ 120) × Room bound known count (now ws) ⌝ }
     ensures { λ r. ⌜ Opened bound known count (now (ws .entry)) set (imageNumbers n set (rowsIn n m (now (rows .entry)))) r (now (ws .exit)) ⌝ }
 {
@@ -86,7 +110,17 @@ fn open_orbit(rows: &[u8], m: usize, n: usize, set: u32, bound: usize, known: us
 // ---- tuples
 
 // If the flattened tuple fits a hyperplane whose set was not seen, it opens an orbit.
-fn fit_tuple(flat: Points, tuple: Points, rows: &[u8], m: usize, tolerance: f64, bound: usize, known: usize, count: usize, ws: &mut [u8]) -> Progress
+fn fit_tuple(
+    flat: Points,
+    tuple: Points,
+    rows: &[u8],
+    m: usize,
+    tolerance: f64,
+    bound: usize,
+    known: usize,
+    count: usize,
+    ws: &mut [u8],
+) -> Progress
     requires { ⌜ TupleFits flat tuple m (now rows) × Room bound known count (now ws) ⌝ }
     ensures { λ r. ⌜ Walked tolerance (pointsOf flat) (rowsIn (flat .n) m (now (rows .entry))) bound (going known count) (now (ws .entry)) (pointsOf tuple ∷ []) r (now (ws .exit)) ⌝ }
 {
@@ -110,19 +144,53 @@ fn fit_tuple(flat: Points, tuple: Points, rows: &[u8], m: usize, tolerance: f64,
 }
 
 // A tuple behind a refusal changes nothing.
-fn try_tuple(flat: Points, tuple: Points, rows: &[u8], m: usize, tolerance: f64, bound: usize, state: Progress, ws: &mut [u8]) -> Progress
+fn try_tuple(
+    flat: Points,
+    tuple: Points,
+    rows: &[u8],
+    m: usize,
+    tolerance: f64,
+    bound: usize,
+    state: Progress,
+    ws: &mut [u8],
+) -> Progress
     requires { ⌜ TupleFits flat tuple m (now rows) × Room bound (state .known) (state .count) (now ws) ⌝ }
     ensures { λ r. ⌜ Walked tolerance (pointsOf flat) (rowsIn (flat .n) m (now (rows .entry))) bound state (now (ws .entry)) (pointsOf tuple ∷ []) r (now (ws .exit)) ⌝ }
 {
     let verdict = state.verdict;
     match verdict {
         Verdict::Refused => state,
-        Verdict::Going => fit_tuple(flat, tuple, rows, m, tolerance, bound, state.known, state.count, ws),
+        Verdict::Going => fit_tuple(
+            flat,
+            tuple,
+            rows,
+            m,
+            tolerance,
+            bound,
+            state.known,
+            state.count,
+            ws,
+        ),
     }
 }
 
 // A tuple that begins with v is extended by as many vertices as are wanted, ascending from one on; a vertex whose length from v breaks a limit drops the tuple.
-fn extend(points: Points, flat: Points, tuple: Points, v: usize, from: usize, more: usize, rows: &[u8], m: usize, min: Limit, max: Limit, tolerance: f64, bound: usize, state: Progress, ws: &mut [u8]) -> Progress
+fn extend(
+    points: Points,
+    flat: Points,
+    tuple: Points,
+    v: usize,
+    from: usize,
+    more: usize,
+    rows: &[u8],
+    m: usize,
+    min: Limit,
+    max: Limit,
+    tolerance: f64,
+    bound: usize,
+    state: Progress,
+    ws: &mut [u8],
+) -> Progress
     requires { ⌜ TupleFits flat tuple m (now rows) × Room bound (state .known) (state .count) (now ws) × PointsFit points × (v < points .n) × (points .n ≡ flat .n) × (tuple .n ≤ from) ⌝ }
     ensures { λ r. ⌜ Walked tolerance (pointsOf flat) (rowsIn (flat .n) m (now (rows .entry))) bound state (now (ws .entry)) (extensions (keepsLimits tolerance (limitsOf min max) (pointsOf points) v) (pointsOf flat) (pointsOf tuple) (flat .n) from more) r (now (ws .exit)) ⌝ }
 {
@@ -138,9 +206,130 @@ fn extend(points: Points, flat: Points, tuple: Points, v: usize, from: usize, mo
             continue;
         }
         let longer = tuple.with_point(flat.point(u));
-        let next = extend(points, flat, longer, v, u + 1, more - 1, rows, m, min, max, tolerance, bound, reached, ws);
+        let next = extend(
+            points,
+            flat,
+            longer,
+            v,
+            u + 1,
+            more - 1,
+            rows,
+            m,
+            min,
+            max,
+            tolerance,
+            bound,
+            reached,
+            ws,
+        );
         reached = next;
         u += 1;
     }
     reached
+}
+
+// ---- pairs
+
+// The flattened points of a pair.
+fn pair_points(flat: Points, v: usize, w: usize) -> Points
+    requires { ⌜ PointsFit flat × (v < flat .n) × (w < flat .n) ⌝ }
+    ensures { λ r. ⌜ HoldsPoints r (flat .d) (pointAt (pointsOf flat) v ∷ pointAt (pointsOf flat) w ∷ []) ⌝ }
+{
+    let one = Points::new(flat.d).with_point(flat.point(v));
+    one.with_point(flat.point(w))
+}
+
+// Each pair's opener, in order, extended by so many vertices.
+fn walk_pairs(
+    points: Points,
+    flat: Points,
+    pairs: Pairs,
+    more: usize,
+    rows: &[u8],
+    m: usize,
+    min: Limit,
+    max: Limit,
+    tolerance: f64,
+    bound: usize,
+    state: Progress,
+    ws: &mut [u8],
+) -> Progress
+    requires { ⌜ CallFits points flat m (now rows) × PairsRise (flat .n) (pairsIn pairs) × (pairs .count ≤ 190) × Room bound (state .known) (state .count) (now ws) ⌝ }
+    ensures { λ r. ⌜ Walked tolerance (pointsOf flat) (rowsIn (flat .n) m (now (rows .entry))) bound state (now (ws .entry)) (pairTuples tolerance (limitsOf min max) (pointsOf points) (pointsOf flat) (flat .n) more (pairsIn pairs)) r (now (ws .exit)) ⌝ }
+{
+    let count = pairs.count;
+    let mut reached = state;
+    let mut k = 0;
+    while k < count {
+        let code = pairs.codes[k];
+        let v = code / 20;
+        let w = code % 20;
+        let next = extend(
+            points,
+            flat,
+            pair_points(flat, v, w),
+            v,
+            w + 1,
+            more,
+            rows,
+            m,
+            min,
+            max,
+            tolerance,
+            bound,
+            reached,
+            ws,
+        );
+        reached = next;
+        k += 1;
+    }
+    reached
+}
+
+// All hyperplane orbits of a call, or refusal 13 where there are more than the bound.
+pub enum Answer {
+    Orbits(usize),
+    Refused,
+}
+
+pub fn find_orbits(
+    points: Points,
+    flat: Points,
+    more: usize,
+    rows: &[u8],
+    m: usize,
+    min: Limit,
+    max: Limit,
+    tolerance: f64,
+    bound: usize,
+    ws: &mut [u8],
+) -> Answer
+    requires { ⌜ CallFits points flat m (now rows) × (bound ≤ 256) × (124928 ≤ length (now ws)) ⌝ }
+    ensures { λ r. ⌜ answerIn (flat .n) r (now (ws .exit)) ≡ orbitsOrRefusal bound (hyperplaneOrbits tolerance (limitsOf min max) more (pointsOf points) (pointsOf flat) (rowsIn (flat .n) m (now (rows .entry)))) ⌝ }
+{
+    let pairs = pair_openers(points, rows, m, min, max, tolerance);
+    let state = Progress {
+        known: 0,
+        count: 0,
+        verdict: Verdict::Going,
+    };
+    let done = walk_pairs(
+        points,
+        flat,
+        pairs,
+        more,
+        rows,
+        m,
+        min,
+        max,
+        tolerance,
+        bound,
+        state,
+        ws,
+    );
+    let verdict = done.verdict;
+    match verdict {
+        Verdict::Refused => Answer::Refused,
+        Verdict::Going => Answer::Orbits(done.count),
+    }
 }

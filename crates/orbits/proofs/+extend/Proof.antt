@@ -1,30 +1,30 @@
 -- `extend` meets its contract. The measure is the number of vertices still to be added.
 use mathlib.Core.Path.{_≡_, refl, sym, ap, subst, _∙_}
-use mathlib.Core.Bool.{Bool, true, false}
+use mathlib.Core.Bool.{true, false}
 use mathlib.Core.List.{List, [], _∷_, _++_}
+use Prim.Native.Nat.{ℕ, _+_, _-_, _≤_, _<_}
 use native.Mathlib.Omega.{arith}
 use borrow.Author.Needs.{needs}
+use borrow.Fn.Kinds.{In}
+use borrow.Fn.PlainCycle.{Measures, is, falls, and}
 use lib.ListN.{length, length-append}
 use Rattle.definitions.specs.Vectors.{Vec}
 use Rattle.definitions.specs.Orbits.{pointAt}
 use Rattle.vectors.specs.Meaning.{vectorOf}
 use Rattle.space.specs.Meaning.{pointsOf, limitsOf}
 use Rattle.space.specs.Counts.{points-length}
+use Rattle.space.proofs.Points.breaks_limit.Reads as breaks-limit-reads
+use Rattle.space.proofs.Points.point.Reads as point-reads
+use Rattle.space.proofs.Points.with_point.Reads as with-point-reads
 use Rattle.openers.specs.Rows.{rowsIn}
 use Rattle.orbits.specs.Walks.{keepsLimits, extensions}
 use Rattle.orbits.proofs.Extending.{Extending, extend-start, extend-turn, extend-end, none-added, none-left, vertex-fails, vertex-joins, kept, not-kept}
-use Prim.Native.Nat.{ℕ, _+_, _-_, _≤_, _<_}
-use borrow.Fn.Kinds.{In}
-use borrow.Fn.PlainCycle.{Measures, is, falls, and}
+use Rattle.orbits.proofs.+extend.{statement}
+use Rattle.orbits.proofs.+extend.Tie.{close}
 use Rattle.orbits.proofs.extend.Reads as extend
 use Rattle.orbits.proofs.extend.Kinds as extend-kinds
 use Rattle.orbits.proofs.+extend.Lts-extend as extend-lts
 use Rattle.orbits.proofs.try_tuple.Reads as try-tuple-reads
-use Rattle.space.proofs.Points.breaks_limit.Reads as breaks-limit-reads
-use Rattle.space.proofs.Points.point.Reads as point-reads
-use Rattle.space.proofs.Points.with_point.Reads as with-point-reads
-use Rattle.orbits.proofs.+extend.{statement}
-use Rattle.orbits.proofs.+extend.Tie.{close}
 
 abbrev μ-extend : Measures 2 extend-kinds.ps ℕ
 μ-extend κs a = a .1 .1 .1 .1 .1 .0
@@ -43,7 +43,6 @@ abbrev extend-μ-loop : extend-lts.MeasureT-loop
 extend-μ-loop points flat tuple v from more rows m min max tolerance bound ws₀ n reached₀ u₀ ws reached u =
     n - u
 
--- src/lib.rt:130:9
 extend-try-tuple-requires : (t : ℕ) → extend-lts.Need-try-tuple-requires (
   try-tuple-reads.Asked,
   try-tuple-reads.Learnt,
@@ -58,7 +57,6 @@ extend-try-tuple-requires : (t : ℕ) → extend-lts.Need-try-tuple-requires (
 ) (extend-at t) extend.Post extend-Inv-loop extend-μ-loop
 extend-try-tuple-requires t c κs = search needs
 
--- src/lib.rt:130:9
 extend-same-length : (t : ℕ) → extend-lts.Need-same-length (
   try-tuple-reads.Asked,
   try-tuple-reads.Learnt,
@@ -73,7 +71,6 @@ extend-same-length : (t : ℕ) → extend-lts.Need-same-length (
 ) (extend-at t) extend.Post extend-Inv-loop extend-μ-loop
 extend-same-length t c = search needs
 
--- src/lib.rt:130:9
 extend-returns : (t : ℕ) → extend-lts.Need-returns (
   try-tuple-reads.Asked,
   try-tuple-reads.Learnt,
@@ -89,7 +86,6 @@ extend-returns : (t : ℕ) → extend-lts.Need-returns (
 extend-returns t c = let s = c .before .before .before .before .before .before .before in let a = s .args in let p = s .pre .1 in
     rw (none-added (keepsLimits (a .tolerance) (limitsOf (a .min) (a .max)) (pointsOf (a .points)) (a .v)) (pointsOf (a .flat)) (pointsOf (a .tuple)) (a .flat .n) (a .from) (a .more) (c .before .before .before .before .if1 .taken)) (c .before .before .try-tuple .ensures)
 
--- src/lib.rt:135:5
 extend-loop-holds : (t : ℕ) → extend-lts.Need-loop-holds (
   try-tuple-reads.Asked,
   try-tuple-reads.Learnt,
@@ -105,7 +101,6 @@ extend-loop-holds : (t : ℕ) → extend-lts.Need-loop-holds (
 extend-loop-holds t c = let s = c .before .before .before in let a = s .args in let p = s .pre .1 in
     (omega arith, refl, extend-start (a .tolerance) (pointsOf (a .flat)) (rowsIn (a .flat .n) (a .m) (a .rows .now)) (a .bound) (a .state) (a .ws .now) _ (p .1))
 
--- src/lib.rt:136:12
 extend-breaks-limit-requires : (t : ℕ) → extend-lts.Need-breaks-limit-requires (
   try-tuple-reads.Asked,
   try-tuple-reads.Learnt,
@@ -120,7 +115,6 @@ extend-breaks-limit-requires : (t : ℕ) → extend-lts.Need-breaks-limit-requir
 ) (extend-at t) extend.Post extend-Inv-loop extend-μ-loop
 extend-breaks-limit-requires t c κs = search needs
 
--- src/lib.rt:137:13
 extend-add-u : (t : ℕ) → extend-lts.Need-add-u (
   try-tuple-reads.Asked,
   try-tuple-reads.Learnt,
@@ -135,7 +129,6 @@ extend-add-u : (t : ℕ) → extend-lts.Need-add-u (
 ) (extend-at t) extend.Post extend-Inv-loop extend-μ-loop
 extend-add-u t c = let s = c .before .before .before .before .before .before .before in let a = s .args in let p = s .pre .1 in omega (arith, p .2 .n-fits)
 
--- src/lib.rt:135:5
 extend-loop-less : (t : ℕ) → extend-lts.Need-loop-less (
   try-tuple-reads.Asked,
   try-tuple-reads.Learnt,
@@ -150,7 +143,6 @@ extend-loop-less : (t : ℕ) → extend-lts.Need-loop-less (
 ) (extend-at t) extend.Post extend-Inv-loop extend-μ-loop
 extend-loop-less t c = search needs
 
--- src/lib.rt:135:5
 extend-loop-again : (t : ℕ) → extend-lts.Need-loop-again (
   try-tuple-reads.Asked,
   try-tuple-reads.Learnt,
@@ -173,7 +165,6 @@ extend-loop-again t c = let s = c .before .before .before .before .before .befor
     let fails : passes (l .u) ≡ false = not-kept (a .tolerance) (limitsOf (a .min) (a .max)) (pointsOf (a .points)) (a .v) (l .u) (sym (c .before .breaks-limit .ensures) ∙ c .if2 .taken) in
     (omega arith, l .inv .1, subst (λ (rest : List (List Vec)). Extending (a .tolerance) flat rows (a .bound) (a .state) (a .ws .now) (extensions passes flat tuple (a .flat .n) (a .from) (a .more)) rest (l .reached) (l .ws)) (vertex-fails passes flat tuple (a .flat .n) (l .u) (a .more) positive (omega (arith, p .4)) fails) (l .inv .2))
 
--- src/lib.rt:140:39
 extend-point-requires : (t : ℕ) → extend-lts.Need-point-requires (
   try-tuple-reads.Asked,
   try-tuple-reads.Learnt,
@@ -188,7 +179,6 @@ extend-point-requires : (t : ℕ) → extend-lts.Need-point-requires (
 ) (extend-at t) extend.Post extend-Inv-loop extend-μ-loop
 extend-point-requires t c κs = let s = c .before .before .before .before .before .before .before in let a = s .args in let p = s .pre .1 in (p .0 .flat-fits, omega (arith, p .4))
 
--- src/lib.rt:140:13
 extend-with-point-requires : (t : ℕ) → extend-lts.Need-with-point-requires (
   try-tuple-reads.Asked,
   try-tuple-reads.Learnt,
@@ -203,7 +193,6 @@ extend-with-point-requires : (t : ℕ) → extend-lts.Need-with-point-requires (
 ) (extend-at t) extend.Post extend-Inv-loop extend-μ-loop
 extend-with-point-requires t c κs = let s = c .before .before .before .before .before .before .before .before in let a = s .args in let p = s .pre .1 in let l = c .before .before .before .before .loop in (p .0 .tuple-fits, omega (arith, l .inv .0, p .5, p .2 .n-fits))
 
--- src/lib.rt:141:52
 extend-add-extend : (t : ℕ) → extend-lts.Need-add-extend (
   try-tuple-reads.Asked,
   try-tuple-reads.Learnt,
@@ -218,7 +207,6 @@ extend-add-extend : (t : ℕ) → extend-lts.Need-add-extend (
 ) (extend-at t) extend.Post extend-Inv-loop extend-μ-loop
 extend-add-extend t c = let s = c .before .before .before .before .before .before .before .before .before in let a = s .args in let p = s .pre .1 in omega (arith, p .2 .n-fits, c .before .before .before .before .loop-test .taken)
 
--- src/lib.rt:141:59
 extend-sub-extend : (t : ℕ) → extend-lts.Need-sub-extend (
   try-tuple-reads.Asked,
   try-tuple-reads.Learnt,
@@ -233,7 +221,6 @@ extend-sub-extend : (t : ℕ) → extend-lts.Need-sub-extend (
 ) (extend-at t) extend.Post extend-Inv-loop extend-μ-loop
 extend-sub-extend t c = search needs
 
--- src/lib.rt:141:13
 extend-extend-requires : (t : ℕ) → extend-lts.Need-extend-requires (
   try-tuple-reads.Asked,
   try-tuple-reads.Learnt,
@@ -251,7 +238,6 @@ extend-extend-requires t c κs = let s = c .before .before .before .before .befo
     let longer : c .before .with-point .result .n ≡ a .tuple .n + 1 = h .n-is ∙ (length-append (pointsOf (a .tuple)) _ ∙ (omega (arith, points-length (a .tuple)))) in
     (omega (arith, s .pre .0, c .before .before .before .before .before .before .before .if1 .left), (record { flat-fits = p .0 .flat-fits; tuple-fits = h .fits; some-point = omega arith; same-d = h .d-is ∙ p .0 .same-d; permute = p .0 .permute; few = p .0 .few }, l .inv .2 .walked .room, p .2, p .3, p .4, omega (arith, l .inv .0, p .5)))
 
--- src/lib.rt:143:9
 extend-add-u-2 : (t : ℕ) → extend-lts.Need-add-u-2 (
   try-tuple-reads.Asked,
   try-tuple-reads.Learnt,
@@ -266,7 +252,6 @@ extend-add-u-2 : (t : ℕ) → extend-lts.Need-add-u-2 (
 ) (extend-at t) extend.Post extend-Inv-loop extend-μ-loop
 extend-add-u-2 t c = let s = c .before .before .before .before .before .before .before .before .before .before .before .before .before in let a = s .args in let p = s .pre .1 in omega (arith, p .2 .n-fits, c .before .before .before .before .before .before .before .before .loop-test .taken)
 
--- src/lib.rt:135:5
 extend-loop-less-2 : (t : ℕ) → extend-lts.Need-loop-less-2 (
   try-tuple-reads.Asked,
   try-tuple-reads.Learnt,
@@ -281,7 +266,6 @@ extend-loop-less-2 : (t : ℕ) → extend-lts.Need-loop-less-2 (
 ) (extend-at t) extend.Post extend-Inv-loop extend-μ-loop
 extend-loop-less-2 t c = search needs
 
--- src/lib.rt:135:5
 extend-loop-again-2 : (t : ℕ) → extend-lts.Need-loop-again-2 (
   try-tuple-reads.Asked,
   try-tuple-reads.Learnt,
@@ -304,12 +288,13 @@ extend-loop-again-2 t c = let s = c .before .before .before .before .before .bef
     let joins : passes (l .u) ≡ true = kept (a .tolerance) (limitsOf (a .min) (a .max)) (pointsOf (a .points)) (a .v) (l .u) (sym (c .before .before .before .before .before .before .before .breaks-limit .ensures) ∙ c .before .before .before .before .before .before .if2 .left) in
     let h = c .before .before .before .before .with-point .ensures in
     let point : vectorOf (a .tuple .d) (c .before .before .before .before .before .point .result) ≡ pointAt flat (l .u) = rw (p .0 .same-d) (c .before .before .before .before .before .point .ensures) in
-    let longer : pointsOf (c .before .before .before .before .with-point .result) ≡ tuple ++ (pointAt flat (l .u) ∷ []) = h .means ∙ ap (λ (x : Vec). tuple ++ (x ∷ [])) point in
-    (omega arith, c .before .ws2 .given ∙ l .inv .1,
-    extend-turn (a .tolerance) flat rows (a .bound) (a .state) (a .ws .now) (extensions passes flat tuple (a .flat .n) (a .from) (a .more)) (extensions passes flat tuple (a .flat .n) (l .u) (a .more)) _ _ (l .reached) (l .ws) _ _ (l .inv .2)
-    (vertex-joins passes flat tuple (a .flat .n) (l .u) (a .more) (pointsOf (c .before .before .before .before .with-point .result)) positive (omega (arith, p .4, c .before .before .before .before .before .before .before .before .loop-test .taken)) joins longer) (c .before .before .extend .ensures))
+    let longer : pointsOf (c .before .before .before .before .with-point .result) ≡ tuple ++ (pointAt flat (l .u) ∷ []) = h .means ∙ ap (λ (x : Vec). tuple ++ (x ∷ [])) point in (
+      omega arith,
+      c .before .ws2 .given ∙ l .inv .1,
+      extend-turn (a .tolerance) flat rows (a .bound) (a .state) (a .ws .now) (extensions passes flat tuple (a .flat .n) (a .from) (a .more)) (extensions passes flat tuple (a .flat .n) (l .u) (a .more)) _ _ (l .reached) (l .ws) _ _ (l .inv .2)
+          (vertex-joins passes flat tuple (a .flat .n) (l .u) (a .more) (pointsOf (c .before .before .before .before .with-point .result)) positive (omega (arith, p .4, c .before .before .before .before .before .before .before .before .loop-test .taken)) joins longer) (c .before .before .extend .ensures),
+    )
 
--- src/lib.rt:125:1
 extend-same-length-2 : (t : ℕ) → extend-lts.Need-same-length-2 (
   try-tuple-reads.Asked,
   try-tuple-reads.Learnt,
@@ -324,7 +309,6 @@ extend-same-length-2 : (t : ℕ) → extend-lts.Need-same-length-2 (
 ) (extend-at t) extend.Post extend-Inv-loop extend-μ-loop
 extend-same-length-2 t c = c .before .loop .inv .1
 
--- src/lib.rt:125:1
 extend-returns-2 : (t : ℕ) → extend-lts.Need-returns-2 (
   try-tuple-reads.Asked,
   try-tuple-reads.Learnt,

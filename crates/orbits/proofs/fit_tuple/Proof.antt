@@ -1,7 +1,8 @@
-use mathlib.Core.Path.{_≡_, refl, sym, ap, subst, _∙_}
+-- `fit_tuple` meets its contract.
+use mathlib.Core.Path.{_≡_, sym, ap, _∙_}
 use mathlib.Core.Bool.{true, false}
-use native.Mathlib.Omega.{arith}
 use borrow.Author.Tests.{not-true, not-false}
+use borrow.Author.Needs.{needs}
 use Rattle.definitions.specs.Subspace.{fromPoints, isHyperplane}
 use Rattle.space.specs.Meaning.{pointsOf, subspaceOf}
 use Rattle.space.specs.Counts.{points-length}
@@ -9,26 +10,15 @@ use Rattle.openers.specs.Rows.{rowsIn}
 use Rattle.orbits.specs.Walks.{walked-closed, walked-opened}
 use Rattle.orbits.specs.Workspace.{seenIn}
 use Rattle.orbits.proofs.Laws.{no-plane, seen-before, opens-now, near-is}
-use borrow.Author.Needs.{needs}
 use Rattle.orbits.proofs.fit_tuple.Statement.{statement}
 use Rattle.orbits.proofs.fit_tuple.Tie as tie
-use Rattle.orbits.proofs.fit_tuple.Reads as reads
-use Rattle.orbits.proofs.fit_tuple.Lts as lts
-use Rattle.orbits.proofs.is_seen.Reads as is-seen-reads
-use Rattle.orbits.proofs.open_orbit.Reads as open-orbit-reads
-use Rattle.sets.proofs.points_near.Reads as points-near-reads
-use Rattle.space.proofs.Subspace.from_points.Reads as from-points-reads
-use Rattle.space.proofs.Subspace.is_hyperplane.Reads as is-hyperplane-reads
 
--- src/lib.rt:93:9
 from-points-requires : tie.Need-from-points-requires
 from-points-requires c κs = search needs
 
--- src/lib.rt:94:9
 is-hyperplane-requires : tie.Need-is-hyperplane-requires
 is-hyperplane-requires c κs = search needs
 
--- src/lib.rt:95:9
 returns : tie.Need-returns
 returns c = let s = c .before .before .before .before .before in let a = s .args in
     let p = c .before .before .from-points .ensures .0 in
@@ -36,20 +26,16 @@ returns c = let s = c .before .before .before .before .before in let a = s .args
     walked-closed (a .tolerance) (pointsOf (a .flat)) (rowsIn (a .flat .n) (a .m) (a .rows .now)) (a .bound) (a .known) (a .count) (a .ws .now) (pointsOf (a .tuple)) (s .pre .1)
     (no-plane (a .tolerance) (pointsOf (a .flat)) (rowsIn (a .flat .n) (a .m) (a .rows .now)) (seenIn (a .known) (a .ws .now)) (pointsOf (a .tuple)) flat)
 
--- src/lib.rt:101:9
 points-near-requires : tie.Need-points-near-requires
 points-near-requires c κs = let s = c .before .before .before .before .before in let e = c .before .before .from-points .ensures in
     (s .pre .0 .flat-fits, e .0 .fits, sym (e .1 (s .pre .0 .some-point) ∙ s .pre .0 .same-d))
 
--- src/lib.rt:102:8
 is-seen-requires : tie.Need-is-seen-requires
 is-seen-requires c κs = search needs
 
--- src/lib.rt:103:9
 same-length : tie.Need-same-length
 same-length c = search needs
 
--- src/lib.rt:103:9
 returns-2 : tie.Need-returns-2
 returns-2 c = let s = c .before .before .before .before .before .before .before .before .before in let a = s .args in
     let p = c .before .before .before .before .before .before .from-points .ensures .0 in
@@ -59,15 +45,12 @@ returns-2 c = let s = c .before .before .before .before .before .before .before 
     walked-closed (a .tolerance) (pointsOf (a .flat)) rows (a .bound) (a .known) (a .count) (a .ws .now) (pointsOf (a .tuple)) (s .pre .1)
     (seen-before (a .tolerance) (pointsOf (a .flat)) rows (seenIn (a .known) (a .ws .now)) (pointsOf (a .tuple)) flat (rw (← near) (sym (c .before .is-seen .ensures) ∙ c .if2 .taken)))
 
--- src/lib.rt:109:5
 open-orbit-requires : tie.Need-open-orbit-requires
 open-orbit-requires c κs = search needs
 
--- src/lib.rt:89:1
 same-length-2 : tie.Need-same-length-2
 same-length-2 c = search needs
 
--- src/lib.rt:89:1
 returns-3 : tie.Need-returns-3
 returns-3 c = let s = c .before .before .before .before .before .before .before .before .before .before .before .before .before in let a = s .args in
     let p = c .before .before .before .before .before .before .before .before .before .before .from-points .ensures .0 in

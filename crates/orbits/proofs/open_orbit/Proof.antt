@@ -1,86 +1,62 @@
-use lib.ListN.{length}
-use Rattle.orbits.proofs.Laws.{opened-by}
-use mathlib.Core.Path.{_≡_, refl, sym, ap, subst, _∙_}
+-- `open_orbit` meets its contract.
 use native.Mathlib.Omega.{arith}
-use Rattle.orbits.proofs.Laws.{opened-none, opened-one}
 use borrow.Author.Needs.{needs}
+use Rattle.orbits.proofs.Laws.{opened-by}
+use Rattle.orbits.proofs.Laws.{opened-none}
 use Rattle.orbits.proofs.open_orbit.Statement.{statement}
 use Rattle.orbits.proofs.open_orbit.Tie as tie
-use Rattle.orbits.proofs.open_orbit.Reads as reads
-use Rattle.orbits.proofs.open_orbit.Lts as lts
-use Rattle.orbits.proofs.gather_images.Reads as gather-images-reads
-use Rattle.sorted.proofs.merge.Reads as merge-reads
-use Rattle.words.proofs.put_u32.Reads as put-u32-reads
 
--- src/lib.rt:66:9
 returns : tie.Need-returns
 returns c = let s = c .before .before .before in opened-none (s .args .bound) (s .args .known) (s .args .count) (s .args .ws .now) (s .args .set) _ (s .pre .2) (c .if1 .taken)
 
--- src/lib.rt:73:55
 slice-aggregate-gather-images : tie.Need-slice-aggregate-gather-images
 slice-aggregate-gather-images c = search needs
 
--- src/lib.rt:73:9
 gather-images-requires : tie.Need-gather-images-requires
 gather-images-requires c κs = search needs
 
--- src/lib.rt:74:24
 mul-put-u32 : tie.Need-mul-put-u32
 mul-put-u32 c = search needs
 
--- src/lib.rt:74:5
 put-u32-requires : tie.Need-put-u32-requires
 put-u32-requires c κs = search needs
 
--- src/lib.rt:75:24
 mul-put-u32-2 : tie.Need-mul-put-u32-2
 mul-put-u32-2 c = search needs
 
--- src/lib.rt:75:24
 add-put-u32 : tie.Need-add-put-u32
 add-put-u32 c = search needs
 
--- src/lib.rt:75:39
 cast-put-u32 : tie.Need-cast-put-u32
 cast-put-u32 c = search needs
 
--- src/lib.rt:75:5
 put-u32-requires-2 : tie.Need-put-u32-requires-2
 put-u32-requires-2 c κs = search needs
 
--- src/lib.rt:76:19
 sub-merge : tie.Need-sub-merge
 sub-merge c = search needs
 
--- src/lib.rt:76:19
 part-merge-start : tie.Need-part-merge-start
 part-merge-start c = search needs
 
--- src/lib.rt:76:19
 part-merge-end : tie.Need-part-merge-end
 part-merge-end c = search needs
 
--- src/lib.rt:76:43
 slice-aggregate-merge : tie.Need-slice-aggregate-merge
 slice-aggregate-merge c = search needs
 
--- src/lib.rt:76:5
 merge-requires : tie.Need-merge-requires
 merge-requires c κs = search needs
 
--- src/lib.rt:78:16
 add-t23 : tie.Need-add-t23
 add-t23 c = search needs
 
--- src/lib.rt:79:16
 add-t20 : tie.Need-add-t20
 add-t20 c = search needs
 
--- src/lib.rt:61:1
 same-length : tie.Need-same-length
 same-length c = search needs
 
--- src/lib.rt:61:1
 returns-2 : tie.Need-returns-2
 returns-2 c = let s = c .before .before .before .before .before .before .before .before .before .before .before .before .before .before .before .before .before .before .before .before in
     let g = c .before .before .before .before .before .before .before .before .before .before .before .before .before .before .gather-images in

@@ -1,36 +1,28 @@
+-- `try_tuple` meets its contract.
+use mathlib.Core.List.{_∷_, []}
+use borrow.Author.Needs.{needs}
 use Rattle.space.specs.Meaning.{pointsOf}
 use Rattle.openers.specs.Rows.{rowsIn}
-use mathlib.Core.List.{_∷_, []}
 use Rattle.orbits.proofs.Laws.{stays-refused, goes-on}
-use borrow.Author.Needs.{needs}
 use Rattle.orbits.proofs.try_tuple.Statement.{statement}
 use Rattle.orbits.proofs.try_tuple.Tie as tie
-use Rattle.orbits.proofs.try_tuple.Reads as reads
-use Rattle.orbits.proofs.try_tuple.Lts as lts
-use Rattle.orbits.proofs.fit_tuple.Reads as fit-tuple-reads
 
--- src/lib.rt:119:29
 enum-told : tie.Need-enum-told
 enum-told c = search needs
 
--- src/lib.rt:120:103
 enum-told-2 : tie.Need-enum-told-2
 enum-told-2 c = search needs
 
--- src/lib.rt:120:27
 fit-tuple-requires : tie.Need-fit-tuple-requires
 fit-tuple-requires c κs = search needs
 
--- src/lib.rt:113:1
 returns : tie.Need-returns
 returns c = let s = c .before .before .before .before in let a = s .args in
     stays-refused (a .tolerance) (pointsOf (a .flat)) (rowsIn (a .flat .n) (a .m) (a .rows .now)) (a .bound) (a .state) (a .ws .now) (pointsOf (a .tuple) ∷ []) (c .enum-told .given .1) (s .pre .1)
 
--- src/lib.rt:113:1
 same-length : tie.Need-same-length
 same-length c = search needs
 
--- src/lib.rt:113:1
 returns-2 : tie.Need-returns-2
 returns-2 c = let s = c .before .before .before .before .before .before .before .before in let a = s .args in
     goes-on (a .tolerance) (pointsOf (a .flat)) (rowsIn (a .flat .n) (a .m) (a .rows .now)) (a .bound) (a .state) (a .ws .now) (pointsOf (a .tuple) ∷ []) _ _ (c .before .before .before .before .enum-told2 .given .1) (c .before .before .fit-tuple .ensures)

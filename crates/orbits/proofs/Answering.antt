@@ -1,0 +1,46 @@
+-- The answer of the whole, from the walk along all pairs. Leans on Answers.
+use mathlib.Core.Path.{_≡_, refl, sym, ap, subst, _∙_}
+use mathlib.Core.List.{List, []}
+use Prim.Native.Nat.{ℕ}
+use lib.ListN.{length}
+use lib.Ieee.{Float}
+use Rattle.definitions.specs.Lists.{Pair, countFrom}
+use Rattle.definitions.specs.Vectors.{Vec}
+use Rattle.definitions.specs.Orbits.{Row, Limits, pairOpeners, pairsFrom, vertexOpeners, hyperplaneOrbits}
+use Rattle.laws.specs.Lists.{Mem}
+use Rattle.words.specs.Words.{words}
+use Rattle.sorted.specs.Ascending.{Ascending, ascending-nil}
+use Rattle.openers.specs.Rows.{rowsIn}
+use Rattle.openers.specs.Meaning.{breaks}
+use Rattle.orbits.specs.Hyperplanes.{Permutes}
+use Rattle.orbits.specs.Workspace.{seenIn}
+use Rattle.orbits.specs.Walks.{going, Walked}
+use Rattle.orbits.specs.Answers.{answerIn, orbitsOrRefusal, pairTuples, all-found, too-many}
+use Rattle.orbits.specs.declared.Progress.{Progress}
+use Rattle.orbits.specs.declared.Verdict.the-variants.{Going, Refused}
+use Rattle.orbits.specs.declared.Answer.the-variants.{Orbits, Refused as RefusedAnswer}
+
+-- nothing was seen yet
+pub none-ascend : (ws : List ℕ) → Ascending (seenIn 0 ws)
+unfolding seenIn words
+none-ascend ws = ascending-nil
+
+-- the openers of n vertices, where n is said in two ways
+pub openers-same : (tolerance : Float) (limits : Limits) (points : List Vec) (m : ℕ) (s : List ℕ) (ps : List Pair) (n k : ℕ) → n ≡ k
+    → ps ≡ pairOpeners (breaks tolerance limits points) (rowsIn n m s) [] (pairsFrom n (vertexOpeners (rowsIn n m s) [] (countFrom 0 n)))
+    → ps ≡ pairOpeners (breaks tolerance limits points) (rowsIn k m s) [] (pairsFrom k (vertexOpeners (rowsIn k m s) [] (countFrom 0 k)))
+openers-same tolerance limits points m s ps n k e h =
+    subst (λ (j : ℕ). ps ≡ pairOpeners (breaks tolerance limits points) (rowsIn j m s) [] (pairsFrom j (vertexOpeners (rowsIn j m s) [] (countFrom 0 j)))) e h
+
+module _ (tolerance : Float) (limits : Limits) (more : ℕ) (points flat : List Vec) (rows : List Row) (bound : ℕ) (ps : List Pair) (ws : List ℕ) (r : Progress) (after : List ℕ) where
+  abbrev whole : ℕ → Type 0
+  whole n = (r .verdict ≡ Going → answerIn n (Orbits (r .count)) after ≡ orbitsOrRefusal bound (hyperplaneOrbits tolerance limits more points flat rows))
+      × (r .verdict ≡ Refused → answerIn n RefusedAnswer after ≡ orbitsOrRefusal bound (hyperplaneOrbits tolerance limits more points flat rows))
+
+  pub answers : (n : ℕ) → length flat ≡ n → length points ≡ n → ((row : Row) → Mem row rows → Permutes n row)
+      → ps ≡ pairOpeners (breaks tolerance limits points) rows [] (pairsFrom n (vertexOpeners rows [] (countFrom 0 n)))
+      → Walked tolerance flat rows bound (going 0 0) ws (pairTuples tolerance limits points flat n more ps) r after → whole n
+  answers n e =
+      subst (λ (k : ℕ). length points ≡ k → ((row : Row) → Mem row rows → Permutes k row) → ps ≡ pairOpeners (breaks tolerance limits points) rows [] (pairsFrom k (vertexOpeners rows [] (countFrom 0 k)))
+      → Walked tolerance flat rows bound (going 0 0) ws (pairTuples tolerance limits points flat k more ps) r after → whole k) e
+      (λ same permute openers walk. (all-found tolerance limits more points flat rows bound same permute ps openers ws r after walk, too-many tolerance limits more points flat rows bound same permute ps openers ws r after walk))
