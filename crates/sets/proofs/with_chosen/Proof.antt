@@ -23,7 +23,7 @@ returns : tie.Need-returns
 returns c = let s = c .before .before .before in
     let at = pointAt (pointsOf (s .args .flat)) (s .args .v) in
     let e : vectorOf (s .args .chosen .d) (c .before .point .result) ≡ at = rw (← (s .pre .4)) (c .before .point .ensures) in
-    let h : HoldsPoints (c .with-point .result) (s .args .chosen .d) (pointsOf (s .args .chosen) ++ (at ∷ [])) = rw (← e) (c .with-point .ensures) in
+    let h : HoldsPoints (c .with-point .result) (s .args .chosen .d) (pointsOf (s .args .chosen) ++ (at ∷ [])) = rw (← e) (c .with-point .ensures .0) in
     rw (point-chosen (pointsOf (s .args .flat)) (s .args .v) (s .args .rest) (c .before .before .if1 .taken)) (subst (λ (d : ℕ). HoldsPoints (c .with-point .result) d (pointsOf (s .args .chosen) ++ (at ∷ []))) (sym (s .pre .4)) h)
 
 returns-2 : tie.Need-returns-2
