@@ -17,7 +17,8 @@ use Rattle.definitions.specs.Orbits.{Row, setImage, pointsNear}
 use Rattle.laws.specs.Parts.{rows, map-rows-more}
 use Rattle.laws.specs.Sets.{setNumber, verticesOf}
 use Rattle.words.specs.Words.{words, put, put-length, words-take, words-length, take-put, drop-put, numberAt-put, numberAt-put-off}
-use Rattle.sorted.specs.Ascending.{Ascending, insertNew, union, added, gathered, Fresh, Gathering, gathering-none, gathering-more, length-insert, ascending-added}
+use Rattle.sorted.specs.Ascending.{Ascending, insertNew, union, length-insert}
+use Rattle.sorted.specs.Gathering.{added, gathered, Gathered, first-gathered, Fresh, Gathering, gathering-none, gathering-more, ascending-added}
 use Rattle.sorted.specs.Merging.{Merged}
 use Rattle.openers.specs.Rows.{rowsIn, rowAt}
 use Rattle.orbits.specs.Numbers.{imageNumbers, nearNumber, opensOrbit, orbitsFrom, seenAfter}
@@ -42,39 +43,17 @@ pub images-more : (n set i : ℕ) (s : List ℕ) → imageNumbers n set (rowsIn 
 unfolding imageNumbers rowsIn rowAt
 images-more n set i s = map-rows-more (λ (row : Row). setNumber (setImage (verticesOf n set) row)) 32 n i s
 
-gathered-few : (l b : List ℕ) (x : ℕ) → Ascending b → length (gathered l b x) ≤ length b + 1
-unfolding gathered
-gathered-few l b x a = go (memberNat x l)
-  where
-    grown : (t : Bool) → cond t (length b) (suc (length b)) ≤ length b + 1
-    grown true = omega arith
-    grown false = omega arith
-
-    go : (t : Bool) → length (cond t b (insertNew x b)) ≤ length b + 1
-    go true = omega arith
-    go false = rw (length-insert x b a) (grown (memberNat x b))
-
-pub gather-turn : (l xs new after : List ℕ) (k r x : ℕ) → Ascending l → Gathering l xs (take k new) → k ≤ length new
-    → r ≡ length (gathered l (take k new) x) → after ≡ gathered l (take k new) x ++ drop (length (gathered l (take k new) x)) new
-    → Gathering l (xs ++ (x ∷ [])) (take r after) × (r ≤ k + 1)
-gather-turn l xs new after k r x a g h e f =
-    let b = take k new in
-    let taken : take r after ≡ gathered l b x = ap (take r) f ∙ take-at (gathered l b x) (drop (length (gathered l b x)) new) r (sym e) in
-    let long : length b ≡ k = length-take-le k new h in
-    (rw taken (gathering-more l xs b x a g), omega (arith, gathered-few l b x (g .ascends)))
-
--- the same turn, as the part that is lent tells it
+-- one image more, as the part that is lent tells it
 module _ (known : ℕ) (ws : List ℕ) (fits : 2048 + 4 * known ≤ length ws) (ascends : Ascending (seenIn known ws)) where
   abbrev pub lent : List ℕ
   lent = words 4 (take (length ws - 2048) (drop 2048 ws)) known
 
-  pub gather-step : (xs new after : List ℕ) (k r x : ℕ) → Gathering (seenIn known ws) xs (take k new) → k ≤ length new
-      → (Ascending lent → r ≡ length (gathered lent (take k new) x)) → (Ascending lent → after ≡ gathered lent (take k new) x ++ drop (length (gathered lent (take k new) x)) new)
+  pub gather-step : (xs new after : List ℕ) (k r x : ℕ) → Gathering (seenIn known ws) xs (take k new) → Gathered lent new k x r after
       → Gathering (seenIn known ws) (xs ++ (x ∷ [])) (take r after) × (r ≤ k + 1)
-  gather-step xs new after k r x g h e f =
+  gather-step xs new after k r x g d =
       let part = seen-part known ws fits in
-      let a : Ascending lent = rw part ascends in
-      gather-turn (seenIn known ws) xs new after k r x ascends g h (e a ∙ (rw part refl)) (f a ∙ (rw part refl))
+      let taken : take r after ≡ gathered (seenIn known ws) (take k new) x = first-gathered d (rw part ascends) ∙ ap (λ (l : List ℕ). gathered l (take k new) x) part in
+      (rw taken (gathering-more (seenIn known ws) xs (take k new) x ascends g), d .few)
 
 -- ---- an orbit opened
 

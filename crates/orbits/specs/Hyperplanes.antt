@@ -15,7 +15,8 @@ use Rattle.laws.specs.Segments.{cons-same}
 use Rattle.laws.specs.Lists.{Mem, here, there, of-map}
 use Rattle.laws.specs.Sets.{setNumber, verticesOf, SetFrom, compare-sets, image-set, vertices-number}
 use Rattle.sets.specs.Steps.{near-set}
-use Rattle.sorted.specs.Ascending.{Ascending, insertNew, added, ascending-insert, member-insert, length-insert, insert-member}
+use Rattle.sorted.specs.Ascending.{Ascending, insertNew, ascending-insert, member-insert, length-insert, insert-member}
+use Rattle.sorted.specs.Gathering.{added}
 use Rattle.orbits.specs.Numbers.{imageNumbers, orbitOf, nearNumber, opensOrbit, withImages, orbitsFrom, seenAfter}
 
 -- a row sends vertices below n to such, no two to one

@@ -11,7 +11,8 @@ use Rattle.definitions.specs.Vectors.{Vec}
 use Rattle.definitions.specs.Subspace.{Subspace, fromPoints, isHyperplane}
 use Rattle.definitions.specs.Orbits.{Row, Orbit, pointsNear, setImage}
 use Rattle.laws.specs.Sets.{setNumber, verticesOf}
-use Rattle.sorted.specs.Ascending.{Ascending, added, ascending-added}
+use Rattle.sorted.specs.Ascending.{Ascending}
+use Rattle.sorted.specs.Gathering.{added, ascending-added}
 
 -- the numbers of a set's images under the rows
 unfoldable pub imageNumbers : ℕ → ℕ → List Row → List ℕ

@@ -7,7 +7,8 @@ use lib.ListN.{length, take, drop, length-append}
 use Rattle.definitions.specs.Lists.{Pair}
 use Rattle.definitions.specs.Job.{numberAt}
 use Rattle.words.specs.Words.{words, numberAt-take}
-use Rattle.sorted.specs.Ascending.{Ascending, added}
+use Rattle.sorted.specs.Ascending.{Ascending}
+use Rattle.sorted.specs.Gathering.{added}
 use Rattle.orbits.specs.declared.Progress.{Progress}
 use Rattle.orbits.specs.declared.Verdict.{Verdict}
 use Rattle.orbits.specs.declared.Verdict.the-variants.{Going, Refused}

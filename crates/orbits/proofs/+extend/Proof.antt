@@ -234,7 +234,7 @@ extend-extend-requires : (t : ℕ) → extend-lts.Need-extend-requires (
   extend.Post,
 ) (extend-at t) extend.Post extend-Inv-loop extend-μ-loop
 extend-extend-requires t c κs = let s = c .before .before .before .before .before .before .before .before .before .before in let a = s .args in let p = s .pre .1 in let l = c .before .before .before .before .before .before .loop in
-    let h = c .before .with-point .ensures in
+    let h = c .before .with-point .ensures .0 in
     let longer : c .before .with-point .result .n ≡ a .tuple .n + 1 = h .n-is ∙ (length-append (pointsOf (a .tuple)) _ ∙ (omega (arith, points-length (a .tuple)))) in
     (omega (arith, s .pre .0, c .before .before .before .before .before .before .before .if1 .left), (record { flat-fits = p .0 .flat-fits; tuple-fits = h .fits; some-point = omega arith; same-d = h .d-is ∙ p .0 .same-d; permute = p .0 .permute; few = p .0 .few }, l .inv .2 .walked .room, p .2, p .3, p .4, omega (arith, l .inv .0, p .5)))
 
@@ -286,7 +286,7 @@ extend-loop-again-2 t c = let s = c .before .before .before .before .before .bef
     let l = c .before .before .before .before .before .before .before .before .before .loop in
     let positive : 0 < a .more = omega (arith, c .before .before .before .before .before .before .before .before .before .before .if1 .left) in
     let joins : passes (l .u) ≡ true = kept (a .tolerance) (limitsOf (a .min) (a .max)) (pointsOf (a .points)) (a .v) (l .u) (sym (c .before .before .before .before .before .before .before .breaks-limit .ensures) ∙ c .before .before .before .before .before .before .if2 .left) in
-    let h = c .before .before .before .before .with-point .ensures in
+    let h = c .before .before .before .before .with-point .ensures .0 in
     let point : vectorOf (a .tuple .d) (c .before .before .before .before .before .point .result) ≡ pointAt flat (l .u) = rw (p .0 .same-d) (c .before .before .before .before .before .point .ensures) in
     let longer : pointsOf (c .before .before .before .before .with-point .result) ≡ tuple ++ (pointAt flat (l .u) ∷ []) = h .means ∙ ap (λ (x : Vec). tuple ++ (x ∷ [])) point in (
       omega arith,

@@ -4,7 +4,7 @@ use Prim.Native.Nat.{_-_, _≤_}
 use native.Mathlib.Omega.{arith}
 use borrow.Author.Needs.{needs}
 use lib.ListN.{length, take}
-use Rattle.sorted.specs.Ascending.{Gathering}
+use Rattle.sorted.specs.Gathering.{Gathering}
 use Rattle.openers.specs.Rows.{rowsIn}
 use Rattle.orbits.specs.Numbers.{imageNumbers}
 use Rattle.orbits.specs.Workspace.{seenIn}
@@ -48,8 +48,7 @@ loop-less c = search needs
 
 loop-again : tie.Need-loop-again Inv-loop μ-loop
 loop-again c = let s = c .before .before .before .before .before .before .before .before .before .before .before in let l = c .before .before .before .before .before .before .before .loop in
-    let g = c .before .before .gather .ensures in
-    let turn = gather-step (s .args .known) (s .args .ws .now) (s .pre .2) (s .pre .3) (imageNumbers (s .args .n) (s .args .set) (rowsIn (s .args .n) (l .i) (s .args .rows .now))) (l .new) _ (l .k) _ _ (l .inv .3) (omega (arith, l .inv .1, l .inv .2, s .pre .1)) (g .0) (g .1) in
+    let turn = gather-step (s .args .known) (s .args .ws .now) (s .pre .2) (s .pre .3) (imageNumbers (s .args .n) (s .args .set) (rowsIn (s .args .n) (l .i) (s .args .rows .now))) (l .new) _ (l .k) _ _ (l .inv .3) (c .before .before .gather .ensures) in
     (omega arith, omega (arith, turn .1, l .inv .1), c .before .new .given ∙ l .inv .2, rw (images-more (s .args .n) (s .args .set) (l .i) (s .args .rows .now), ← (c .before .before .before .set-image .ensures)) (turn .0))
 
 same-length : tie.Need-same-length Inv-loop μ-loop

@@ -24,16 +24,16 @@ point-requires-2 : tie.Need-point-requires-2
 point-requires-2 c κs = search needs
 
 with-point-requires-2 : tie.Need-with-point-requires-2
-with-point-requires-2 c κs = let h = c .before .with-point .ensures in let e = c .before .before .before .new .ensures in
+with-point-requires-2 c κs = let h = c .before .with-point .ensures .0 in let e = c .before .before .before .new .ensures in
     (h .fits, omega (arith, simp length-append at (h .n-is), points-length (c .before .before .before .new .result), e .n-is))
 
 returns : tie.Need-returns
 returns c = let s = c .before .before .before .before .before in let a = s .args in
     let e = c .before .before .before .before .new .ensures in
-    let h = c .before .before .with-point .ensures in
+    let h = c .before .before .with-point .ensures .0 in
     let d = h .d-is ∙ e .d-is in
     let one : pointsOf (c .before .before .with-point .result) ≡ pointAt (pointsOf (a .flat)) (a .v) ∷ [] = h .means ∙ (rw (e .means, e .d-is, c .before .before .before .point .ensures) refl) in
-    let g = c .with-point2 .ensures in
+    let g = c .with-point2 .ensures .0 in
     holds-points (c .with-point2 .result) (a .flat .d) _ (g .fits) (g .d-is ∙ d) (g .means ∙ (rw (one, d, c .before .point2 .ensures) refl))
 
 pub pair-points-spec : {M : Type 1} → statement M
