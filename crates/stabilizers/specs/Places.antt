@@ -97,7 +97,7 @@ module _ (n i : ℕ) (s : List ℕ) (row-fits : Permutation n i s) where
   unfolding rowAt
   image-below u h = rw (image-at n i s u h) (row-fits .below u h)
 
-  image-one : (u w : ℕ) → u < n → w < n → image (rowAt n i s) u ≡ image (rowAt n i s) w → u ≡ w
+  pub image-one : (u w : ℕ) → u < n → w < n → image (rowAt n i s) u ≡ image (rowAt n i s) w → u ≡ w
   unfolding rowAt
   image-one u w h k e = row-fits .one u w h k (sym (image-at n i s u h) ∙ (e ∙ image-at n i s w k))
 
@@ -110,7 +110,7 @@ module _ (n i : ℕ) (s : List ℕ) (row-fits : Permutation n i s) where
       ap (eqb (setNumber (setImage (verticesOf n x) (rowAt n i s)))) (sym (number-vertices n x h)) ∙ sym (compare-sets moved own)
 
   -- where a row keeps a set, the places of the images are the row rewritten
-  stays : (x : ℕ) → keepsSet (verticesOf n x) (rowAt n i s) ≡ true → (u : ℕ) → Mem u (verticesOf n x) → Mem (image (rowAt n i s) u) (verticesOf n x)
+  pub stays : (x : ℕ) → keepsSet (verticesOf n x) (rowAt n i s) ≡ true → (u : ℕ) → Mem u (verticesOf n x) → Mem (image (rowAt n i s) u) (verticesOf n x)
   unfolding keepsSet setImage sortNats
   stays x e u h =
       let same = nat-lists .equal (setImage (verticesOf n x) (rowAt n i s)) (verticesOf n x) (is-eq _ (true→holds e)) in
