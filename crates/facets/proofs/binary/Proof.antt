@@ -1,3 +1,4 @@
+-- `facets::binary` meets its contract. The loop's invariant: the place before `lo` is not above the mark, and the place `hi` is, where there are such places. The measure is what lies between. Assumes nothing.
 use borrow.Author.Needs.{needs}
 use native.Mathlib.Omega.{arith}
 use mathlib.Core.Path.{_≡_}
@@ -10,10 +11,6 @@ use Rattle.facets.specs.Latest.{low-is}
 use Rattle.facets.specs.Numbers.{numbers-few}
 use Rattle.facets.proofs.binary.Statement.{statement}
 use Rattle.facets.proofs.binary.Tie as tie
-use Rattle.facets.proofs.binary.Reads as reads
-use Rattle.facets.proofs.binary.Lts as lts
-use Rattle.facets.proofs.candidates.Reads as candidates-reads
-use Rattle.facets.proofs.orbit_at.Reads as orbit-at-reads
 
 abbrev Inv-loop : tie.InvT-loop
 Inv-loop ws a kind mark lo₀ hi₀ lo hi = (lo ≤ hi) × ((t : Table) → Inputs t a ws → (hi ≤ length (numbers t kind)) × (0 < lo → getD (candidates t (ridgeOf kind)) (lo - 1) (0, 0) .0 ≤ mark) × (hi < length (numbers t kind) → mark < getD (candidates t (ridgeOf kind)) hi (0, 0) .0))
@@ -21,47 +18,36 @@ Inv-loop ws a kind mark lo₀ hi₀ lo hi = (lo ≤ hi) × ((t : Table) → Inpu
 abbrev μ-loop : tie.MeasureT-loop
 μ-loop ws a kind mark lo₀ hi₀ lo hi = hi - lo
 
--- src/lib.rt:110:9
 candidates-requires : tie.Need-candidates-requires Inv-loop μ-loop
 candidates-requires c κs = search needs
 
--- src/lib.rt:111:5
 loop-holds : tie.Need-loop-holds Inv-loop μ-loop
 loop-holds c = (omega arith, λ t h. let e = c .candidates .ensures t h in (omega arith, (λ z. absurd (omega arith)), (λ z. absurd (omega arith))))
 
--- src/lib.rt:112:28
 sub-middle : tie.Need-sub-middle Inv-loop μ-loop
 sub-middle c = search needs
 
--- src/lib.rt:112:22
 add-middle : tie.Need-add-middle Inv-loop μ-loop
 add-middle c = let s = c .before .before .before .before in let l = c .before .loop in let n = l .inv .1 (s .pre .0) (s .pre .1) .0 in let f = numbers-few (s .pre .0) _ _ (s .pre .1) (s .args .kind) (s .pre .2) in omega arith
 
--- src/lib.rt:113:19
 orbit-at-requires : tie.Need-orbit-at-requires Inv-loop μ-loop
 orbit-at-requires c κs = let s = c .before .before .before .before in let l = c .before .loop in let n = l .inv .1 (s .pre .0) (s .pre .1) .0 in (s .pre .0, s .pre .1, s .pre .2, omega arith)
 
--- src/lib.rt:111:5
 loop-less : tie.Need-loop-less Inv-loop μ-loop
 loop-less c = search needs
 
--- src/lib.rt:111:5
 loop-again : tie.Need-loop-again Inv-loop μ-loop
 loop-again c = let l = c .before .before .before .loop in (omega arith, λ t h. let n = l .inv .1 t h in let k = n .0 in let e = c .before .orbit-at .ensures t h in let q = c .if1 .taken in (omega arith, n .1, (λ z. omega arith)))
 
--- src/lib.rt:116:18
 add-lo : tie.Need-add-lo Inv-loop μ-loop
 add-lo c = let s = c .before .before .before .before .before .before in let l = c .before .before .before .loop in let n = l .inv .1 (s .pre .0) (s .pre .1) .0 in let f = numbers-few (s .pre .0) _ _ (s .pre .1) (s .args .kind) (s .pre .2) in omega arith
 
--- src/lib.rt:111:5
 loop-less-2 : tie.Need-loop-less-2 Inv-loop μ-loop
 loop-less-2 c = search needs
 
--- src/lib.rt:111:5
 loop-again-2 : tie.Need-loop-again-2 Inv-loop μ-loop
 loop-again-2 c = let l = c .before .before .before .loop in (omega arith, λ t h. let n = l .inv .1 t h in let e = c .before .orbit-at .ensures t h in let q = c .if1 .left in (n .0, (λ z. let m : l .lo + (l .hi - l .lo) / 2 + 1 - 1 ≡ l .lo + (l .hi - l .lo) / 2 = omega arith in rw m (omega arith)), n .2))
 
--- src/lib.rt:105:1
 returns : tie.Need-returns Inv-loop μ-loop
 returns c = λ t h. let l = c .before .loop in let n = l .inv .1 t h in let e : l .lo ≡ l .hi = omega arith in low-is t _ _ (l .hi) (n .0) (λ z. rw e at (n .1 (omega arith))) (n .2)
 

@@ -1,42 +1,32 @@
+-- `facets::candidates` meets its contract. How many candidates there are follows from the laws of Numbers. Assumes nothing.
 use native.Mathlib.Omega.{arith}
 use mathlib.Core.Path.{_≡_, sym, _∙_}
 use Rattle.facets.specs.Numbers.{kind-length, numbers-all-length}
 use borrow.Author.Needs.{needs}
 use Rattle.facets.proofs.candidates.Statement.{statement}
 use Rattle.facets.proofs.candidates.Tie as tie
-use Rattle.facets.proofs.candidates.Reads as reads
-use Rattle.facets.proofs.candidates.Lts as lts
-use Rattle.pool.proofs.list_length.Reads as list-length-reads
 
--- src/lib.rt:72:9
 returns : tie.Need-returns
 returns c = λ t h. let e : c .before .before .args .kind ≡ 0 = c .if1 .taken in rw e (h .holds .facets ∙ sym (numbers-all-length t))
 
--- src/lib.rt:76:23
 sub-list-length : tie.Need-sub-list-length
 sub-list-length c = search needs
 
--- src/lib.rt:76:23
 part-list-length-start : tie.Need-part-list-length-start
 part-list-length-start c = search needs
 
--- src/lib.rt:76:23
 part-list-length-end : tie.Need-part-list-length-end
 part-list-length-end c = search needs
 
--- src/lib.rt:76:42
 sub-list-length-2 : tie.Need-sub-list-length-2
 sub-list-length-2 c = search needs
 
--- src/lib.rt:76:5
 list-length-requires : tie.Need-list-length-requires
 list-length-requires c κs = search needs
 
--- src/lib.rt:76:5
 cast-result : tie.Need-cast-result
 cast-result c = search needs
 
--- src/lib.rt:67:1
 returns-2 : tie.Need-returns-2
 returns-2 c = λ t h. c .list-length .ensures ∙ kind-length t _ _ h _ (omega arith) (omega arith)
 

@@ -1,3 +1,4 @@
+-- `facets::join` meets its contract. The loop's invariant: the workspace is the one at the start with the totals of the first i codes added. The measure is what is left of the codes. Assumes nothing.
 use borrow.Author.Needs.{needs}
 use native.Mathlib.Omega.{arith}
 use mathlib.Core.Path.{_≡_, refl, ap, _∙_}
@@ -10,11 +11,6 @@ use Rattle.facets.specs.Numbers.{orbit-is}
 use Rattle.facets.specs.Change.{afterCodes, codes-none, touched-room, touched-length, code-length, code-place, code-is, code-next, code-total, code-end, add-fits, here-is, change-use}
 use Rattle.facets.proofs.join.Statement.{statement}
 use Rattle.facets.proofs.join.Tie as tie
-use Rattle.facets.proofs.join.Reads as reads
-use Rattle.facets.proofs.join.Lts as lts
-use Rattle.pool.proofs.item_u16.Reads as item-u16-reads
-use Rattle.pool.proofs.list_length.Reads as list-length-reads
-use Rattle.words.proofs.get_u16.Reads as get-u16-reads
 
 abbrev Inv-loop : tie.InvT-loop
 Inv-loop ws₀ a x facets touched ones totals n i₀ ws i = (i ≤ n) × (ws ≡ afterCodes _+_ a ws₀ x i)
@@ -22,100 +18,77 @@ Inv-loop ws₀ a x facets touched ones totals n i₀ ws i = (i ≤ n) × (ws ≡
 abbrev μ-loop : tie.MeasureT-loop
 μ-loop ws₀ a x facets touched ones totals n i₀ ws i = n - i
 
--- src/lib.rt:148:31
 sub-list-length : tie.Need-sub-list-length Inv-loop μ-loop
 sub-list-length c = search needs
 
--- src/lib.rt:148:31
 part-list-length-start : tie.Need-part-list-length-start Inv-loop μ-loop
 part-list-length-start c = search needs
 
--- src/lib.rt:148:31
 part-list-length-end : tie.Need-part-list-length-end Inv-loop μ-loop
 part-list-length-end c = search needs
 
--- src/lib.rt:148:13
 list-length-requires : tie.Need-list-length-requires Inv-loop μ-loop
 list-length-requires c κs = let s = c .before .before .before in touched-room (s .pre .0) (s .args .a) (s .args .ws .now) (s .pre .1) (s .args .x) (s .pre .2)
 
--- src/lib.rt:148:13
 cast-n : tie.Need-cast-n Inv-loop μ-loop
 cast-n c = search needs
 
--- src/lib.rt:150:5
 loop-holds : tie.Need-loop-holds Inv-loop μ-loop
 loop-holds c = let s = c .before .before .before .before in (omega arith, codes-none _+_ (s .args .a) (s .args .ws .now) (s .pre .1 .fits) (s .args .x))
 
--- src/lib.rt:151:35
 sub-item-u16 : tie.Need-sub-item-u16 Inv-loop μ-loop
 sub-item-u16 c = search needs
 
--- src/lib.rt:151:35
 part-item-u16-start : tie.Need-part-item-u16-start Inv-loop μ-loop
 part-item-u16-start c = let s = c .before .before .before .before .before .before .before in let l = c .before .before .loop in let n = touched-length (s .pre .0) (s .args .a) (s .args .ws .now) (s .pre .1) (s .args .x) (s .pre .2) in let m = c .before .before .before .list-length .ensures in let q = code-length (s .pre .0) _+_ (s .args .a) (s .args .ws .now) (s .pre .1) (s .args .x) (s .pre .2) (l .ws) (l .i) (l .inv .1) in let f = s .pre .1 .fits in omega arith
 
--- src/lib.rt:151:35
 part-item-u16-end : tie.Need-part-item-u16-end Inv-loop μ-loop
 part-item-u16-end c = let s = c .before .before .before .before .before .before .before in let l = c .before .before .loop in let n = touched-length (s .pre .0) (s .args .a) (s .args .ws .now) (s .pre .1) (s .args .x) (s .pre .2) in let m = c .before .before .before .list-length .ensures in let q = code-length (s .pre .0) _+_ (s .args .a) (s .args .ws .now) (s .pre .1) (s .args .x) (s .pre .2) (l .ws) (l .i) (l .inv .1) in let f = s .pre .1 .fits in omega arith
 
--- src/lib.rt:151:20
 item-u16-requires : tie.Need-item-u16-requires Inv-loop μ-loop
 item-u16-requires c κs = let s = c .before .before .before .before .before .before .before .before in let l = c .before .before .before .loop in let n = touched-length (s .pre .0) (s .args .a) (s .args .ws .now) (s .pre .1) (s .args .x) (s .pre .2) in let m = c .before .before .before .before .list-length .ensures in let q = code-length (s .pre .0) _+_ (s .args .a) (s .args .ws .now) (s .pre .1) (s .args .x) (s .pre .2) (l .ws) (l .i) (l .inv .1) in let f = s .pre .1 .fits in code-place (s .pre .0) _+_ (s .args .a) (s .args .ws .now) (s .pre .1) (s .args .x) (s .pre .2) (l .ws) (l .i) (l .inv .1) (omega arith)
 
--- src/lib.rt:151:20
 cast-code : tie.Need-cast-code Inv-loop μ-loop
 cast-code c = search needs
 
--- src/lib.rt:152:18
 add-at : tie.Need-add-at Inv-loop μ-loop
 add-at c = let s = c .before .before .before .before .before .before .before .before .before in let l = c .before .before .before .before .loop in let n = touched-length (s .pre .0) (s .args .a) (s .args .ws .now) (s .pre .1) (s .args .x) (s .pre .2) in let m = c .before .before .before .before .before .list-length .ensures in let q = code-length (s .pre .0) _+_ (s .args .a) (s .args .ws .now) (s .pre .1) (s .args .x) (s .pre .2) (l .ws) (l .i) (l .inv .1) in let f = s .pre .1 .fits in
     let w = code-is (s .pre .0) _+_ (s .args .a) (s .args .ws .now) (s .pre .1) (s .args .x) (s .pre .2) (l .ws) (l .i) (l .inv .1) (omega arith) in let e = c .item-u16 .ensures ∙ w in let z = s .pre .1 .holds .within (s .args .x) (s .pre .2) (l .i) (omega arith) in omega arith
 
--- src/lib.rt:153:18
 slice-read-ws : tie.Need-slice-read-ws Inv-loop μ-loop
 slice-read-ws c = let s = c .before .before .before .before .before .before .before .before .before .before in let l = c .before .before .before .before .before .loop in let n = touched-length (s .pre .0) (s .args .a) (s .args .ws .now) (s .pre .1) (s .args .x) (s .pre .2) in let m = c .before .before .before .before .before .before .list-length .ensures in let q = code-length (s .pre .0) _+_ (s .args .a) (s .args .ws .now) (s .pre .1) (s .args .x) (s .pre .2) (l .ws) (l .i) (l .inv .1) in let f = s .pre .1 .fits in
     let w = code-is (s .pre .0) _+_ (s .args .a) (s .args .ws .now) (s .pre .1) (s .args .x) (s .pre .2) (l .ws) (l .i) (l .inv .1) (omega arith) in let e = c .before .item-u16 .ensures ∙ w in let z = s .pre .1 .holds .within (s .args .x) (s .pre .2) (l .i) (omega arith) in omega arith
 
--- src/lib.rt:153:27
 cast-ws : tie.Need-cast-ws Inv-loop μ-loop
 cast-ws c = search needs
 
--- src/lib.rt:153:18
 add-ws : tie.Need-add-ws Inv-loop μ-loop
 add-ws c = let s = c .before .before .before .before .before .before .before .before .before .before in let l = c .before .before .before .before .before .loop in let n = touched-length (s .pre .0) (s .args .a) (s .args .ws .now) (s .pre .1) (s .args .x) (s .pre .2) in let m = c .before .before .before .before .before .before .list-length .ensures in let q = code-length (s .pre .0) _+_ (s .args .a) (s .args .ws .now) (s .pre .1) (s .args .x) (s .pre .2) (l .ws) (l .i) (l .inv .1) in let f = s .pre .1 .fits in
     let w = code-is (s .pre .0) _+_ (s .args .a) (s .args .ws .now) (s .pre .1) (s .args .x) (s .pre .2) (l .ws) (l .i) (l .inv .1) (omega arith) in let e = c .before .item-u16 .ensures ∙ w in let z = s .pre .1 .holds .within (s .args .x) (s .pre .2) (l .i) (omega arith) in let g = code-total (s .pre .0) _+_ (s .args .a) (s .args .ws .now) (s .pre .1) (s .args .x) (s .pre .2) (l .ws) (l .i) (l .inv .1) (c .before .item-u16 .result) (omega arith) e in let y = add-fits (s .pre .0) (s .args .a) (s .args .ws .now) (s .pre .1) (s .args .x) (s .pre .2) (l .i) (omega arith) (s .pre .3 _ z) in rw (g, e) (omega arith)
 
--- src/lib.rt:153:9
 slice-write-ws : tie.Need-slice-write-ws Inv-loop μ-loop
 slice-write-ws c = let s = c .before .before .before .before .before .before .before .before .before .before in let l = c .before .before .before .before .before .loop in let n = touched-length (s .pre .0) (s .args .a) (s .args .ws .now) (s .pre .1) (s .args .x) (s .pre .2) in let m = c .before .before .before .before .before .before .list-length .ensures in let q = code-length (s .pre .0) _+_ (s .args .a) (s .args .ws .now) (s .pre .1) (s .args .x) (s .pre .2) (l .ws) (l .i) (l .inv .1) in let f = s .pre .1 .fits in
     let w = code-is (s .pre .0) _+_ (s .args .a) (s .args .ws .now) (s .pre .1) (s .args .x) (s .pre .2) (l .ws) (l .i) (l .inv .1) (omega arith) in let e = c .before .item-u16 .ensures ∙ w in let z = s .pre .1 .holds .within (s .args .x) (s .pre .2) (l .i) (omega arith) in omega arith
 
--- src/lib.rt:154:9
 add-i : tie.Need-add-i Inv-loop μ-loop
 add-i c = search needs
 
--- src/lib.rt:150:5
 loop-less : tie.Need-loop-less Inv-loop μ-loop
 loop-less c = search needs
 
--- src/lib.rt:150:5
 loop-again : tie.Need-loop-again Inv-loop μ-loop
 loop-again c = let s = c .before .before .before .before .before .before .before .before .before .before in let l = c .before .before .before .before .before .loop in let n = touched-length (s .pre .0) (s .args .a) (s .args .ws .now) (s .pre .1) (s .args .x) (s .pre .2) in let m = c .before .before .before .before .before .before .list-length .ensures in let q = code-length (s .pre .0) _+_ (s .args .a) (s .args .ws .now) (s .pre .1) (s .args .x) (s .pre .2) (l .ws) (l .i) (l .inv .1) in let f = s .pre .1 .fits in
     let w = code-is (s .pre .0) _+_ (s .args .a) (s .args .ws .now) (s .pre .1) (s .args .x) (s .pre .2) (l .ws) (l .i) (l .inv .1) (omega arith) in let e = c .before .item-u16 .ensures ∙ w in let z = s .pre .1 .holds .within (s .args .x) (s .pre .2) (l .i) (omega arith) in (omega arith, code-next (s .pre .0) _+_ (s .args .a) (s .args .ws .now) (s .pre .1) (s .args .x) (s .pre .2) (l .ws) (l .i) (l .inv .1) (c .before .item-u16 .result) _ (omega arith) e refl)
 
--- src/lib.rt:157:36
 mul-get-u16 : tie.Need-mul-get-u16 Inv-loop μ-loop
 mul-get-u16 c = let s = c .before .before .before .before .before .before .before in let l = c .before .before .loop in let n = touched-length (s .pre .0) (s .args .a) (s .args .ws .now) (s .pre .1) (s .args .x) (s .pre .2) in let m = c .before .before .before .list-length .ensures in let q = code-length (s .pre .0) _+_ (s .args .a) (s .args .ws .now) (s .pre .1) (s .args .x) (s .pre .2) (l .ws) (l .i) (l .inv .1) in let f = s .pre .1 .fits in omega arith
 
--- src/lib.rt:157:17
 get-u16-requires : tie.Need-get-u16-requires Inv-loop μ-loop
 get-u16-requires c κs = let s = c .before .before .before .before .before .before .before in let l = c .before .before .loop in let n = touched-length (s .pre .0) (s .args .a) (s .args .ws .now) (s .pre .1) (s .args .x) (s .pre .2) in let m = c .before .before .before .list-length .ensures in let q = code-length (s .pre .0) _+_ (s .args .a) (s .args .ws .now) (s .pre .1) (s .args .x) (s .pre .2) (l .ws) (l .i) (l .inv .1) in let f = s .pre .1 .fits in omega arith
 
--- src/lib.rt:157:17
 cast-orbit : tie.Need-cast-orbit Inv-loop μ-loop
 cast-orbit c = search needs
 
--- src/lib.rt:158:8
 add-ws-2 : tie.Need-add-ws-2 Inv-loop μ-loop
 add-ws-2 c = let s = c .before .before .before .before .before .before .before .before in let l = c .before .before .before .loop in let n = touched-length (s .pre .0) (s .args .a) (s .args .ws .now) (s .pre .1) (s .args .x) (s .pre .2) in let m = c .before .before .before .before .list-length .ensures in let q = code-length (s .pre .0) _+_ (s .args .a) (s .args .ws .now) (s .pre .1) (s .args .x) (s .pre .2) (l .ws) (l .i) (l .inv .1) in let f = s .pre .1 .fits in
     let w = code-end (s .pre .0) _+_ (s .args .a) (s .args .ws .now) (s .pre .1) (s .args .x) (s .pre .2) (l .ws) (l .i) (l .inv .1) (omega arith) in
@@ -123,7 +96,6 @@ add-ws-2 c = let s = c .before .before .before .before .before .before .before .
     let b : c .get-u16 .result ≡ facetOf (s .pre .0) (s .args .x) .0 = o ∙ (here-is _+_ (s .args .a) (s .args .ws .now) (s .pre .1 .fits) (s .args .x) 1 (s .pre .2) ∙ orbit-is (s .pre .0) (s .args .a) (s .args .ws .now) (s .pre .1) (s .args .x) (s .pre .2)) in
     let z = facet-small (s .pre .0) (s .args .a) (s .args .ws .now) (s .args .x) (s .pre .1) (s .pre .2) in omega arith
 
--- src/lib.rt:158:5
 slice-write-ws-2 : tie.Need-slice-write-ws-2 Inv-loop μ-loop
 slice-write-ws-2 c = let s = c .before .before .before .before .before .before .before .before in let l = c .before .before .before .loop in let n = touched-length (s .pre .0) (s .args .a) (s .args .ws .now) (s .pre .1) (s .args .x) (s .pre .2) in let m = c .before .before .before .before .list-length .ensures in let q = code-length (s .pre .0) _+_ (s .args .a) (s .args .ws .now) (s .pre .1) (s .args .x) (s .pre .2) (l .ws) (l .i) (l .inv .1) in let f = s .pre .1 .fits in
     let w = code-end (s .pre .0) _+_ (s .args .a) (s .args .ws .now) (s .pre .1) (s .args .x) (s .pre .2) (l .ws) (l .i) (l .inv .1) (omega arith) in
@@ -131,11 +103,9 @@ slice-write-ws-2 c = let s = c .before .before .before .before .before .before .
     let b : c .get-u16 .result ≡ facetOf (s .pre .0) (s .args .x) .0 = o ∙ (here-is _+_ (s .args .a) (s .args .ws .now) (s .pre .1 .fits) (s .args .x) 1 (s .pre .2) ∙ orbit-is (s .pre .0) (s .args .a) (s .args .ws .now) (s .pre .1) (s .args .x) (s .pre .2)) in
     let z = facet-small (s .pre .0) (s .args .a) (s .args .ws .now) (s .args .x) (s .pre .1) (s .pre .2) in omega arith
 
--- src/lib.rt:140:1
 same-length : tie.Need-same-length Inv-loop μ-loop
 same-length c = let s = c .before .before .before .before .before .before .before .before in let l = c .before .before .before .loop in let n = touched-length (s .pre .0) (s .args .a) (s .args .ws .now) (s .pre .1) (s .args .x) (s .pre .2) in let m = c .before .before .before .before .list-length .ensures in let q = code-length (s .pre .0) _+_ (s .args .a) (s .args .ws .now) (s .pre .1) (s .args .x) (s .pre .2) (l .ws) (l .i) (l .inv .1) in let f = s .pre .1 .fits in length-set (l .ws) (s .args .a .used + c .get-u16 .result) _ ∙ q
 
--- src/lib.rt:140:1
 returns : tie.Need-returns Inv-loop μ-loop
 unfolding withFacet
 returns c = let s = c .before .before .before .before .before .before .before .before in let l = c .before .before .before .loop in let n = touched-length (s .pre .0) (s .args .a) (s .args .ws .now) (s .pre .1) (s .args .x) (s .pre .2) in let m = c .before .before .before .before .list-length .ensures in let q = code-length (s .pre .0) _+_ (s .args .a) (s .args .ws .now) (s .pre .1) (s .args .x) (s .pre .2) (l .ws) (l .i) (l .inv .1) in let f = s .pre .1 .fits in

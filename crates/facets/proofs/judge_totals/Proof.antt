@@ -1,3 +1,4 @@
+-- `facets::judge_totals` meets its contract. The loop's invariant: the verdict so far is that on the totals already read, from the last on, and it is not over. The measure is what is left to read. Assumes nothing.
 use borrow.Author.Needs.{needs}
 use native.Mathlib.Omega.{arith}
 use mathlib.Core.Path.{_≡_, refl, sym, _∙_}
@@ -7,8 +8,6 @@ use Rattle.facets.specs.Layout.{verdict}
 use Rattle.facets.specs.Judged.{judgeFrom, Within, judge-none, judge-over, judge-open, judge-same, judge-all}
 use Rattle.facets.proofs.judge_totals.Statement.{statement}
 use Rattle.facets.proofs.judge_totals.Tie as tie
-use Rattle.facets.proofs.judge_totals.Reads as reads
-use Rattle.facets.proofs.judge_totals.Lts as lts
 
 abbrev Inv-loop : tie.InvT-loop
 Inv-loop totals v₀ i₀ v i = (i ≤ length totals) × (verdict v ≡ judgeFrom i (drop i totals)) × Within (verdict v)
@@ -16,46 +15,36 @@ Inv-loop totals v₀ i₀ v i = (i ≤ length totals) × (verdict v ≡ judgeFro
 abbrev μ-loop : tie.MeasureT-loop
 μ-loop totals v₀ i₀ v i = i
 
--- src/lib.rt:53:5
 loop-holds : tie.Need-loop-holds Inv-loop μ-loop
 unfolding verdict Within
 loop-holds c = (omega arith, judge-none (c .args .totals .now), tt)
 
--- src/lib.rt:54:9
 sub-i : tie.Need-sub-i Inv-loop μ-loop
 sub-i c = search needs
 
--- src/lib.rt:55:17
 shared-slice-read-x : tie.Need-shared-slice-read-x Inv-loop μ-loop
 shared-slice-read-x c = search needs
 
--- src/lib.rt:57:13
 returns : tie.Need-returns Inv-loop μ-loop
 unfolding verdict
 returns c = let l = c .before .before .before .loop in judge-over _ (l .i) (c .before .before .loop-test .taken) (l .inv .0) (c .if1 .taken)
 
--- src/lib.rt:60:31
 cast-t8 : tie.Need-cast-t8 Inv-loop μ-loop
 cast-t8 c = search needs
 
--- src/lib.rt:53:5
 loop-less : tie.Need-loop-less Inv-loop μ-loop
 loop-less c = search needs
 
--- src/lib.rt:53:5
 loop-again : tie.Need-loop-again Inv-loop μ-loop
 unfolding verdict Within
 loop-again c = let l = c .before .before .before .before .loop in (omega arith, judge-open _ (l .i) (verdict (l .v)) (c .before .before .before .loop-test .taken) (l .inv .0) (l .inv .1) (l .inv .2) (c .if2 .taken), tt)
 
--- src/lib.rt:53:5
 loop-less-2 : tie.Need-loop-less-2 Inv-loop μ-loop
 loop-less-2 c = search needs
 
--- src/lib.rt:53:5
 loop-again-2 : tie.Need-loop-again-2 Inv-loop μ-loop
 loop-again-2 c = let l = c .before .before .before .before .loop in (omega arith, judge-same _ (l .i) (verdict (l .v)) (c .before .before .before .loop-test .taken) (l .inv .0) (l .inv .1) (l .inv .2) (c .before .if1 .left) (c .if2 .left), l .inv .2)
 
--- src/lib.rt:47:1
 returns-2 : tie.Need-returns-2 Inv-loop μ-loop
 returns-2 c = let l = c .before .loop in let e : l .i ≡ 0 = omega arith in l .inv .1 ∙ (rw e refl ∙ sym (judge-all _))
 

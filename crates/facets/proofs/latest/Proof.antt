@@ -1,3 +1,4 @@
+-- `facets::latest` meets its contract. The loop's invariant: below `place` and below `i` the last free place is the same. The measure is `i`. Assumes nothing.
 use borrow.Author.Needs.{needs}
 use native.Mathlib.Omega.{arith}
 use mathlib.Core.Path.{_≡_, refl, sym, _∙_}
@@ -11,9 +12,6 @@ use Rattle.facets.specs.Latest.{orbit-small, used-at, is-unused, is-used
 use Rattle.facets.specs.Numbers.{same-length}
 use Rattle.facets.proofs.latest.Statement.{statement}
 use Rattle.facets.proofs.latest.Tie as tie
-use Rattle.facets.proofs.latest.Reads as reads
-use Rattle.facets.proofs.latest.Lts as lts
-use Rattle.facets.proofs.orbit_at.Reads as orbit-at-reads
 
 abbrev Inv-loop : tie.InvT-loop
 Inv-loop ws a kind low place used i₀ i = (i ≤ place) × ((t : Table) (list : List Facet) → Inputs t a ws → Uses a list (usedPart a ws) → lastFree t list (ridgeOf kind) low place ≡ lastFree t list (ridgeOf kind) low i)
@@ -21,27 +19,21 @@ Inv-loop ws a kind low place used i₀ i = (i ≤ place) × ((t : Table) (list :
 abbrev μ-loop : tie.MeasureT-loop
 μ-loop ws a kind low place used i₀ i = i
 
--- src/lib.rt:129:5
 loop-holds : tie.Need-loop-holds Inv-loop μ-loop
 loop-holds c = (omega arith, λ t list h u. refl)
 
--- src/lib.rt:130:43
 sub-orbit-at : tie.Need-sub-orbit-at Inv-loop μ-loop
 sub-orbit-at c = search needs
 
--- src/lib.rt:130:13
 orbit-at-requires : tie.Need-orbit-at-requires Inv-loop μ-loop
 orbit-at-requires c κs = let s = c .before .before .before in let l = c .before .loop in (s .pre .0, s .pre .1, s .pre .2, let k = s .pre .3 in omega arith)
 
--- src/lib.rt:131:15
 add-if1 : tie.Need-add-if1 Inv-loop μ-loop
 add-if1 c = let s = c .before .before .before .before in let l = c .before .before .loop in let k = s .pre .3 in let e = c .orbit-at .ensures (s .pre .0) (s .pre .1) in let o = orbit-small (s .pre .0) _ _ (s .args .kind) (l .i - 1) (s .pre .1) (omega arith) in let f = s .pre .1 .fits in omega arith
 
--- src/lib.rt:131:12
 shared-slice-read-if1 : tie.Need-shared-slice-read-if1 Inv-loop μ-loop
 shared-slice-read-if1 c = let s = c .before .before .before .before .before in let l = c .before .before .before .loop in let k = s .pre .3 in let e = c .before .orbit-at .ensures (s .pre .0) (s .pre .1) in let o = orbit-small (s .pre .0) _ _ (s .args .kind) (l .i - 1) (s .pre .1) (omega arith) in let f = s .pre .1 .fits in omega arith
 
--- src/lib.rt:132:13
 returns : tie.Need-returns Inv-loop μ-loop
 returns c = λ t list h u. let s = c .before .before .before .before .before .before in let l = c .before .before .before .before .loop in
     let k = s .pre .3 in
@@ -53,15 +45,12 @@ returns c = λ t list h u. let s = c .before .before .before .before .before .be
     sym (l .inv .1 t list h u ∙ free-found t list (ridgeOf (s .args .kind)) (s .args .low) (l .i) (omega arith)
     (is-unused (s .args .a) list (usedPart (s .args .a) (s .args .ws .now)) (getD (candidates t (ridgeOf (s .args .kind))) (l .i - 1) (0, 0)) u o (rw (← e) (sym w ∙ c .if1 .taken))))
 
--- src/lib.rt:134:9
 sub-i : tie.Need-sub-i Inv-loop μ-loop
 sub-i c = search needs
 
--- src/lib.rt:129:5
 loop-less : tie.Need-loop-less Inv-loop μ-loop
 loop-less c = search needs
 
--- src/lib.rt:129:5
 loop-again : tie.Need-loop-again Inv-loop μ-loop
 loop-again c = let s = c .before .before .before .before .before .before in let l = c .before .before .before .before .loop in (
   omega arith,
@@ -76,7 +65,6 @@ loop-again c = let s = c .before .before .before .before .before .before in let 
       (is-used (s .args .a) list (usedPart (s .args .a) (s .args .ws .now)) (getD (candidates t (ridgeOf (s .args .kind))) (l .i - 1) (0, 0)) u o (λ q. c .if1 .left (w ∙ (rw e q)))),
 )
 
--- src/lib.rt:123:1
 returns-2 : tie.Need-returns-2 Inv-loop μ-loop
 returns-2 c = λ t list h u. let l = c .before .loop in sym (l .inv .1 t list h u ∙ free-stop t list _ _ (l .i) (omega arith))
 

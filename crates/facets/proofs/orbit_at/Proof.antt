@@ -1,3 +1,4 @@
+-- `facets::orbit_at` meets its contract. The orbit that is read is that of the candidate. Assumes nothing.
 use native.Mathlib.Omega.{arith}
 use mathlib.Core.Path.{sym, ap, _∙_}
 use Rattle.definitions.specs.Search.{Facet}
@@ -5,28 +6,19 @@ use Rattle.facets.specs.Numbers.{numbers-small, candidate-at, orbit-is, 
 use borrow.Author.Needs.{needs}
 use Rattle.facets.proofs.orbit_at.Statement.{statement}
 use Rattle.facets.proofs.orbit_at.Tie as tie
-use Rattle.facets.proofs.orbit_at.Reads as reads
-use Rattle.facets.proofs.orbit_at.Lts as lts
-use Rattle.facets.proofs.candidate.Reads as candidate-reads
-use Rattle.words.proofs.get_u16.Reads as get-u16-reads
 
--- src/lib.rt:100:9
 candidate-requires : tie.Need-candidate-requires
 candidate-requires c κs = search needs
 
--- src/lib.rt:101:24
 mul-get-u16 : tie.Need-mul-get-u16
 mul-get-u16 c = let s = c .before .before in let x = c .candidate .ensures (s .pre .0) (s .pre .1) in let n = numbers-small (s .pre .0) (s .args .kind) (s .args .i) (s .pre .3) in let e = s .pre .1 .holds .facets in omega arith
 
--- src/lib.rt:101:5
 get-u16-requires : tie.Need-get-u16-requires
 get-u16-requires c κs = let s = c .before .before in let x = c .candidate .ensures (s .pre .0) (s .pre .1) in let n = numbers-small (s .pre .0) (s .args .kind) (s .args .i) (s .pre .3) in let e = s .pre .1 .holds .facets in omega arith
 
--- src/lib.rt:101:5
 cast-result : tie.Need-cast-result
 cast-result c = search needs
 
--- src/lib.rt:96:1
 returns : tie.Need-returns
 returns c = λ t h. let s = c .before .before .before in let l = same-length t (s .pre .0) _ _ h (s .pre .1) (s .args .kind) (s .pre .2) in
     let m = s .pre .3 in

@@ -1,3 +1,4 @@
+-- `frames::enter` meets its contract. The frame that is written is the one with which a list is entered. Assumes nothing.
 use native.Mathlib.Omega.{arith}
 use mathlib.Core.Path.{_≡_}
 use Prim.Native.Nat.{_-_}
@@ -10,42 +11,28 @@ use Rattle.frames.specs.Steps.{frame-room, entered-is}
 use borrow.Author.Needs.{needs}
 use Rattle.frames.proofs.enter.Statement.{statement}
 use Rattle.frames.proofs.enter.Tie as tie
-use Rattle.frames.proofs.enter.Reads as reads
-use Rattle.frames.proofs.enter.Lts as lts
-use Rattle.facets.proofs.binary.Reads as binary-reads
-use Rattle.facets.proofs.candidates.Reads as candidates-reads
-use Rattle.frames.proofs.mark_after.Reads as mark-after-reads
-use Rattle.frames.proofs.put_frame.Reads as put-frame-reads
 
--- src/lib.rt:283:9
 mark-after-requires : tie.Need-mark-after-requires
 mark-after-requires c κs = search needs
 
--- src/lib.rt:284:9
 binary-requires : tie.Need-binary-requires
 binary-requires c κs = search needs
 
--- src/lib.rt:285:9
 candidates-requires : tie.Need-candidates-requires
 candidates-requires c κs = search needs
 
--- src/lib.rt:288:15
 sub-put-frame : tie.Need-sub-put-frame
 sub-put-frame c = search needs
 
--- src/lib.rt:288:15
 part-put-frame-start : tie.Need-part-put-frame-start
 part-put-frame-start c = search needs
 
--- src/lib.rt:288:15
 part-put-frame-end : tie.Need-part-put-frame-end
 part-put-frame-end c = search needs
 
--- src/lib.rt:288:47
 cast-put-frame : tie.Need-cast-put-frame
 cast-put-frame c = let s = c .before .before .before .before .before .before .before .before in let e = c .before .candidates .ensures (s .pre .0) (s .pre .1 .inputs) in let n = numbers-few (s .pre .0) (s .args .a) (s .args .ws .now) (s .pre .1 .inputs) (s .args .kind) (s .pre .3) in omega arith
 
--- src/lib.rt:288:61
 cast-put-frame-2 : tie.Need-cast-put-frame-2
 unfolding lowOf
 cast-put-frame-2 c = let s = c .before .before .before .before .before .before .before .before in
@@ -54,23 +41,18 @@ cast-put-frame-2 c = let s = c .before .before .before .before .before .before .
     let m = numbers-length (s .pre .0) (s .args .kind) in
     let n = numbers-few (s .pre .0) (s .args .a) (s .args .ws .now) (s .pre .1 .inputs) (s .args .kind) (s .pre .3) in omega arith
 
--- src/lib.rt:288:73
 cast-put-frame-3 : tie.Need-cast-put-frame-3
 cast-put-frame-3 c = search needs
 
--- src/lib.rt:288:86
 cast-put-frame-4 : tie.Need-cast-put-frame-4
 cast-put-frame-4 c = search needs
 
--- src/lib.rt:288:5
 put-frame-requires : tie.Need-put-frame-requires
 put-frame-requires c κs = let s = c .before .before .before .before .before .before .before .before in frame-room (s .pre .0) (s .args .a) (s .args .ws .now) (s .args .depth) (s .args .depth) (s .pre .1) (s .args .depth) (omega arith)
 
--- src/lib.rt:279:1
 same-length : tie.Need-same-length
 same-length c = search needs
 
--- src/lib.rt:279:1
 returns : tie.Need-returns
 returns c = λ t st light. let s = c .before .before .before .before .before .before .before .before .before .before .before in
     rw (c .before .before .put-frame .ensures)

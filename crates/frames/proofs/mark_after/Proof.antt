@@ -1,3 +1,4 @@
+-- `frames::mark_after` meets its contract. By the kind of the frame: the orbit of the facet, or the frame's mark. Assumes nothing.
 use native.Mathlib.Omega.{arith}
 use mathlib.Core.Path.{_≡_, sym, ap, _∙_}
 use Prim.Native.Nat.{ℕ, _-_}
@@ -8,76 +9,56 @@ use Rattle.frames.specs.Steps.{frame-room, frames-length, mark-closed, m
 use borrow.Author.Needs.{needs}
 use Rattle.frames.proofs.mark_after.Statement.{statement}
 use Rattle.frames.proofs.mark_after.Tie as tie
-use Rattle.frames.proofs.mark_after.Reads as reads
-use Rattle.frames.proofs.mark_after.Lts as lts
-use Rattle.words.proofs.get_u16.Reads as get-u16-reads
 
--- src/lib.rt:269:20
 sub-at : tie.Need-sub-at
 sub-at c = search needs
 
--- src/lib.rt:269:14
 mul-at : tie.Need-mul-at
 mul-at c = let s = c .before in let r = frame-room (s .pre .0) (s .args .a) (s .args .ws .now) (s .args .depth) (s .args .depth) (s .pre .1) (s .args .depth - 1) (omega arith) in let l = frames-length (s .pre .0) (s .args .a) (s .args .ws .now) (s .args .depth) (s .args .depth) (s .pre .1) in let f = s .pre .1 .inputs .fits in omega arith
 
--- src/lib.rt:270:31
 sub-get-u16 : tie.Need-sub-get-u16
 sub-get-u16 c = search needs
 
--- src/lib.rt:270:31
 part-get-u16-start : tie.Need-part-get-u16-start
 part-get-u16-start c = search needs
 
--- src/lib.rt:270:31
 part-get-u16-end : tie.Need-part-get-u16-end
 part-get-u16-end c = search needs
 
--- src/lib.rt:270:52
 add-get-u16 : tie.Need-add-get-u16
 add-get-u16 c = let s = c .before .before in let r = frame-room (s .pre .0) (s .args .a) (s .args .ws .now) (s .args .depth) (s .args .depth) (s .pre .1) (s .args .depth - 1) (omega arith) in let l = frames-length (s .pre .0) (s .args .a) (s .args .ws .now) (s .args .depth) (s .args .depth) (s .pre .1) in let f = s .pre .1 .inputs .fits in omega arith
 
--- src/lib.rt:270:9
 get-u16-requires : tie.Need-get-u16-requires
 get-u16-requires c κs = let s = c .before .before in let r = frame-room (s .pre .0) (s .args .a) (s .args .ws .now) (s .args .depth) (s .args .depth) (s .pre .1) (s .args .depth - 1) (omega arith) in let l = frames-length (s .pre .0) (s .args .a) (s .args .ws .now) (s .args .depth) (s .args .depth) (s .pre .1) in let f = s .pre .1 .inputs .fits in omega arith
 
--- src/lib.rt:272:32
 sub-get-u16-2 : tie.Need-sub-get-u16-2
 sub-get-u16-2 c = search needs
 
--- src/lib.rt:272:32
 part-get-u16-start-2 : tie.Need-part-get-u16-start-2
 part-get-u16-start-2 c = search needs
 
--- src/lib.rt:272:32
 part-get-u16-end-2 : tie.Need-part-get-u16-end-2
 part-get-u16-end-2 c = search needs
 
--- src/lib.rt:272:53
 add-get-u16-2 : tie.Need-add-get-u16-2
 add-get-u16-2 c = let s = c .before .before .before .before .before in let r = frame-room (s .pre .0) (s .args .a) (s .args .ws .now) (s .args .depth) (s .args .depth) (s .pre .1) (s .args .depth - 1) (omega arith) in let l = frames-length (s .pre .0) (s .args .a) (s .args .ws .now) (s .args .depth) (s .args .depth) (s .pre .1) in let f = s .pre .1 .inputs .fits in omega arith
 
--- src/lib.rt:272:17
 get-u16-requires-2 : tie.Need-get-u16-requires-2
 get-u16-requires-2 c κs = let s = c .before .before .before .before .before in let r = frame-room (s .pre .0) (s .args .a) (s .args .ws .now) (s .args .depth) (s .args .depth) (s .pre .1) (s .args .depth - 1) (omega arith) in let l = frames-length (s .pre .0) (s .args .a) (s .args .ws .now) (s .args .depth) (s .args .depth) (s .pre .1) in let f = s .pre .1 .inputs .fits in omega arith
 
--- src/lib.rt:272:17
 cast-x : tie.Need-cast-x
 cast-x c = search needs
 
--- src/lib.rt:273:35
 mul-get-u16 : tie.Need-mul-get-u16
 mul-get-u16 c = search needs
 
--- src/lib.rt:273:16
 get-u16-requires-3 : tie.Need-get-u16-requires-3
 unfolding takenAt
 get-u16-requires-3 c κs = let s = c .before .before .before .before .before .before in let st = s .pre .1 in let x : c .get-u162 .result ≡ takenAt (framesPart (s .args .a) (s .args .ws .now)) (s .args .depth - 1) = c .get-u162 .ensures in let n = st .frames .taken (s .args .depth - 1) (omega arith) in let f = st .inputs .fits in omega arith
 
--- src/lib.rt:273:16
 cast-result : tie.Need-cast-result
 cast-result c = search needs
 
--- src/lib.rt:273:9
 returns : tie.Need-returns
 unfolding kindAt takenAt
 returns c = (
@@ -89,31 +70,24 @@ returns c = (
       c .get-u163 .ensures ∙ (orbit-is t (s .args .a) (s .args .ws .now) (st .inputs) (c .before .get-u162 .result) (omega arith) ∙ (ap (λ (i : ℕ). facetOf t i .0) x ∙ sym (mark-closed t p (s .args .depth - 1) k))),
 )
 
--- src/lib.rt:275:20
 sub-get-u16-3 : tie.Need-sub-get-u16-3
 sub-get-u16-3 c = search needs
 
--- src/lib.rt:275:20
 part-get-u16-start-3 : tie.Need-part-get-u16-start-3
 part-get-u16-start-3 c = search needs
 
--- src/lib.rt:275:20
 part-get-u16-end-3 : tie.Need-part-get-u16-end-3
 part-get-u16-end-3 c = search needs
 
--- src/lib.rt:275:41
 add-get-u16-3 : tie.Need-add-get-u16-3
 add-get-u16-3 c = let s = c .before .before .before .before .before in let r = frame-room (s .pre .0) (s .args .a) (s .args .ws .now) (s .args .depth) (s .args .depth) (s .pre .1) (s .args .depth - 1) (omega arith) in let l = frames-length (s .pre .0) (s .args .a) (s .args .ws .now) (s .args .depth) (s .args .depth) (s .pre .1) in let f = s .pre .1 .inputs .fits in omega arith
 
--- src/lib.rt:275:5
 get-u16-requires-4 : tie.Need-get-u16-requires-4
 get-u16-requires-4 c κs = let s = c .before .before .before .before .before in let r = frame-room (s .pre .0) (s .args .a) (s .args .ws .now) (s .args .depth) (s .args .depth) (s .pre .1) (s .args .depth - 1) (omega arith) in let l = frames-length (s .pre .0) (s .args .a) (s .args .ws .now) (s .args .depth) (s .args .depth) (s .pre .1) in let f = s .pre .1 .inputs .fits in omega arith
 
--- src/lib.rt:275:5
 cast-result-2 : tie.Need-cast-result-2
 cast-result-2 c = search needs
 
--- src/lib.rt:263:1
 returns-2 : tie.Need-returns-2
 unfolding kindAt markAt
 returns-2 c = (

@@ -1,3 +1,4 @@
+-- `frames::next` meets its contract. What is read is the deepest frame, and `latest` finds its last free place. Assumes nothing.
 use native.Mathlib.Omega.{arith}
 use mathlib.Core.Path.{_≡_}
 use Prim.Native.Nat.{_-_}
@@ -7,89 +8,64 @@ use Rattle.frames.specs.Steps.{frame-room, frames-length, next-found, ne
 use borrow.Author.Needs.{needs}
 use Rattle.frames.proofs.next.Statement.{statement}
 use Rattle.frames.proofs.next.Tie as tie
-use Rattle.frames.proofs.next.Reads as reads
-use Rattle.frames.proofs.next.Lts as lts
-use Rattle.facets.proofs.latest.Reads as latest-reads
-use Rattle.words.proofs.get_u16.Reads as get-u16-reads
-use Rattle.words.proofs.get_u32.Reads as get-u32-reads
 
--- src/lib.rt:218:20
 sub-at : tie.Need-sub-at
 sub-at c = search needs
 
--- src/lib.rt:218:14
 mul-at : tie.Need-mul-at
 mul-at c = let s = c .before in let r = frame-room (s .pre .0) (s .args .a) (s .args .ws .now) (s .args .depth) (s .args .depth - 1) (s .pre .1) (s .args .depth - 1) (omega arith) in let l = frames-length (s .pre .0) (s .args .a) (s .args .ws .now) (s .args .depth) (s .args .depth - 1) (s .pre .1) in let f = s .pre .1 .inputs .fits in omega arith
 
--- src/lib.rt:219:32
 sub-get-u32 : tie.Need-sub-get-u32
 sub-get-u32 c = search needs
 
--- src/lib.rt:219:32
 part-get-u32-start : tie.Need-part-get-u32-start
 part-get-u32-start c = search needs
 
--- src/lib.rt:219:32
 part-get-u32-end : tie.Need-part-get-u32-end
 part-get-u32-end c = search needs
 
--- src/lib.rt:219:17
 get-u32-requires : tie.Need-get-u32-requires
 get-u32-requires c κs = let s = c .before .before in let r = frame-room (s .pre .0) (s .args .a) (s .args .ws .now) (s .args .depth) (s .args .depth - 1) (s .pre .1) (s .args .depth - 1) (omega arith) in let l = frames-length (s .pre .0) (s .args .a) (s .args .ws .now) (s .args .depth) (s .args .depth - 1) (s .pre .1) in let f = s .pre .1 .inputs .fits in omega arith
 
--- src/lib.rt:219:17
 cast-place : tie.Need-cast-place
 cast-place c = search needs
 
--- src/lib.rt:220:30
 sub-get-u32-2 : tie.Need-sub-get-u32-2
 sub-get-u32-2 c = search needs
 
--- src/lib.rt:220:30
 part-get-u32-start-2 : tie.Need-part-get-u32-start-2
 part-get-u32-start-2 c = search needs
 
--- src/lib.rt:220:30
 part-get-u32-end-2 : tie.Need-part-get-u32-end-2
 part-get-u32-end-2 c = search needs
 
--- src/lib.rt:220:51
 add-get-u32 : tie.Need-add-get-u32
 add-get-u32 c = let s = c .before .before .before .before in let r = frame-room (s .pre .0) (s .args .a) (s .args .ws .now) (s .args .depth) (s .args .depth - 1) (s .pre .1) (s .args .depth - 1) (omega arith) in let l = frames-length (s .pre .0) (s .args .a) (s .args .ws .now) (s .args .depth) (s .args .depth - 1) (s .pre .1) in let f = s .pre .1 .inputs .fits in omega arith
 
--- src/lib.rt:220:15
 get-u32-requires-2 : tie.Need-get-u32-requires-2
 get-u32-requires-2 c κs = let s = c .before .before .before .before in let r = frame-room (s .pre .0) (s .args .a) (s .args .ws .now) (s .args .depth) (s .args .depth - 1) (s .pre .1) (s .args .depth - 1) (omega arith) in let l = frames-length (s .pre .0) (s .args .a) (s .args .ws .now) (s .args .depth) (s .args .depth - 1) (s .pre .1) in let f = s .pre .1 .inputs .fits in omega arith
 
--- src/lib.rt:220:15
 cast-low : tie.Need-cast-low
 cast-low c = search needs
 
--- src/lib.rt:221:31
 sub-get-u16 : tie.Need-sub-get-u16
 sub-get-u16 c = search needs
 
--- src/lib.rt:221:31
 part-get-u16-start : tie.Need-part-get-u16-start
 part-get-u16-start c = search needs
 
--- src/lib.rt:221:31
 part-get-u16-end : tie.Need-part-get-u16-end
 part-get-u16-end c = search needs
 
--- src/lib.rt:221:52
 add-get-u16 : tie.Need-add-get-u16
 add-get-u16 c = let s = c .before .before .before .before .before .before in let r = frame-room (s .pre .0) (s .args .a) (s .args .ws .now) (s .args .depth) (s .args .depth - 1) (s .pre .1) (s .args .depth - 1) (omega arith) in let l = frames-length (s .pre .0) (s .args .a) (s .args .ws .now) (s .args .depth) (s .args .depth - 1) (s .pre .1) in let f = s .pre .1 .inputs .fits in omega arith
 
--- src/lib.rt:221:16
 get-u16-requires : tie.Need-get-u16-requires
 get-u16-requires c κs = let s = c .before .before .before .before .before .before in let r = frame-room (s .pre .0) (s .args .a) (s .args .ws .now) (s .args .depth) (s .args .depth - 1) (s .pre .1) (s .args .depth - 1) (omega arith) in let l = frames-length (s .pre .0) (s .args .a) (s .args .ws .now) (s .args .depth) (s .args .depth - 1) (s .pre .1) in let f = s .pre .1 .inputs .fits in omega arith
 
--- src/lib.rt:221:16
 cast-kind : tie.Need-cast-kind
 cast-kind c = search needs
 
--- src/lib.rt:222:9
 latest-requires : tie.Need-latest-requires
 unfolding kindAt placeAt
 latest-requires c κs = let s = c .before .before .before .before .before .before .before in let st = s .pre .1 in let p = framesPart (s .args .a) (s .args .ws .now) in
@@ -97,7 +73,6 @@ latest-requires c κs = let s = c .before .before .before .before .before .befor
     let q : c .before .before .before .before .get-u32 .result ≡ placeAt p (s .args .depth - 1) = c .before .before .before .before .get-u32 .ensures in
     (s .pre .0, st .inputs, rw k (st .frames .kinds (s .args .depth - 1) (omega arith)), rw (k, q) (st .frames .places (s .args .depth - 1) (omega arith)))
 
--- src/lib.rt:224:9
 returns : tie.Need-returns
 unfolding kindAt placeAt lowAt frameAt
 returns c = λ t st. let s = c .before .before .before .before .before .before .before .before .before in let p = framesPart (s .args .a) (s .args .ws .now) in
@@ -107,7 +82,6 @@ returns c = λ t st. let s = c .before .before .before .before .before .before .
     let m = c .before .latest .ensures t (listTo t p (s .args .depth - 1)) (st .inputs) (st .uses) in
     next-none t (frameAt t p (s .args .depth - 1)) (c .before .latest .result) (rw (k, q, w) at m) (rw w at (c .if1 .taken))
 
--- src/lib.rt:212:1
 returns-2 : tie.Need-returns-2
 unfolding kindAt placeAt lowAt frameAt
 returns-2 c = λ t st. let s = c .before .before .before .before .before .before .before .before .before in let p = framesPart (s .args .a) (s .args .ws .now) in

@@ -1,3 +1,4 @@
+-- `frames::visit` meets its contract. The place and the facet are written, the facet joins, and the totals are judged: `visited` says what that makes of the workspace. Assumes nothing.
 use native.Mathlib.Omega.{arith}
 use mathlib.Core.Path.{_≡_, refl}
 use Prim.Native.Nat.{_-_}
@@ -8,82 +9,58 @@ use Rattle.frames.specs.Steps.{frame-room, frames-length, place-inside, 
 use borrow.Author.Needs.{needs}
 use Rattle.frames.proofs.visit.Statement.{statement}
 use Rattle.frames.proofs.visit.Tie as tie
-use Rattle.frames.proofs.visit.Reads as reads
-use Rattle.frames.proofs.visit.Lts as lts
-use Rattle.facets.proofs.candidate.Reads as candidate-reads
-use Rattle.facets.proofs.join.Reads as join-reads
-use Rattle.facets.proofs.judge_totals.Reads as judge-totals-reads
-use Rattle.frames.proofs.take_place.Reads as take-place-reads
-use Rattle.words.proofs.get_u16.Reads as get-u16-reads
 
--- src/lib.rt:239:31
 sub-get-u16 : tie.Need-sub-get-u16
 sub-get-u16 c = search needs
 
--- src/lib.rt:239:31
 part-get-u16-start : tie.Need-part-get-u16-start
 part-get-u16-start c = search needs
 
--- src/lib.rt:239:31
 part-get-u16-end : tie.Need-part-get-u16-end
 part-get-u16-end c = search needs
 
--- src/lib.rt:239:58
 sub-get-u16-2 : tie.Need-sub-get-u16-2
 sub-get-u16-2 c = search needs
 
--- src/lib.rt:239:52
 mul-get-u16 : tie.Need-mul-get-u16
 mul-get-u16 c = let s = c .before .before .before in let ok = s .pre .1 in let h = ok .deep in let r = frame-room (s .pre .0) (s .args .a) (s .args .ws .now) (s .args .s .depth) (s .args .s .depth - 1) (ok .stands) (s .args .s .depth - 1) (omega arith) in let l = frames-length (s .pre .0) (s .args .a) (s .args .ws .now) (s .args .s .depth) (s .args .s .depth - 1) (ok .stands) in let f = ok .stands .inputs .fits in omega arith
 
--- src/lib.rt:239:52
 add-get-u16 : tie.Need-add-get-u16
 add-get-u16 c = let s = c .before .before .before in let ok = s .pre .1 in let h = ok .deep in let r = frame-room (s .pre .0) (s .args .a) (s .args .ws .now) (s .args .s .depth) (s .args .s .depth - 1) (ok .stands) (s .args .s .depth - 1) (omega arith) in let l = frames-length (s .pre .0) (s .args .a) (s .args .ws .now) (s .args .s .depth) (s .args .s .depth - 1) (ok .stands) in let f = ok .stands .inputs .fits in omega arith
 
--- src/lib.rt:239:16
 get-u16-requires : tie.Need-get-u16-requires
 get-u16-requires c κs = let s = c .before .before .before in let ok = s .pre .1 in let h = ok .deep in let r = frame-room (s .pre .0) (s .args .a) (s .args .ws .now) (s .args .s .depth) (s .args .s .depth - 1) (ok .stands) (s .args .s .depth - 1) (omega arith) in let l = frames-length (s .pre .0) (s .args .a) (s .args .ws .now) (s .args .s .depth) (s .args .s .depth - 1) (ok .stands) in let f = ok .stands .inputs .fits in omega arith
 
--- src/lib.rt:239:16
 cast-kind : tie.Need-cast-kind
 cast-kind c = search needs
 
--- src/lib.rt:240:36
 sub-candidate : tie.Need-sub-candidate
 sub-candidate c = search needs
 
--- src/lib.rt:240:9
 candidate-requires : tie.Need-candidate-requires
 unfolding kindAt
 candidate-requires c κs = let s = c .before .before .before .before .before in let ok = s .pre .1 in let p = framesPart (s .args .a) (s .args .ws .now) in
     let k : c .before .get-u16 .result ≡ kindAt p (s .args .s .depth - 1) = c .before .get-u16 .ensures in
     (s .pre .0, ok .stands .inputs, rw k (kind-inside (s .pre .0) (s .args .a) (s .args .ws .now) (s .args .s .depth) (s .args .place) _ ok refl), rw k (place-inside (s .pre .0) (s .args .a) (s .args .ws .now) (s .args .s .depth) (s .args .place) _ ok refl))
 
--- src/lib.rt:241:16
 sub-take-place : tie.Need-sub-take-place
 sub-take-place c = search needs
 
--- src/lib.rt:241:16
 part-take-place-start : tie.Need-part-take-place-start
 part-take-place-start c = search needs
 
--- src/lib.rt:241:16
 part-take-place-end : tie.Need-part-take-place-end
 part-take-place-end c = search needs
 
--- src/lib.rt:241:41
 sub-take-place-2 : tie.Need-sub-take-place-2
 sub-take-place-2 c = search needs
 
--- src/lib.rt:241:53
 sub-take-place-3 : tie.Need-sub-take-place-3
 sub-take-place-3 c = search needs
 
--- src/lib.rt:241:52
 cast-take-place : tie.Need-cast-take-place
 cast-take-place c = let s = c .before .before .before .before .before .before .before in let q = place-small (s .pre .0) (s .args .a) (s .args .ws .now) (s .args .s .depth) (s .args .place) _ (s .pre .1) refl in omega arith
 
--- src/lib.rt:241:72
 cast-take-place-2 : tie.Need-cast-take-place-2
 unfolding kindAt
 cast-take-place-2 c = let s = c .before .before .before .before .before .before .before in let ok = s .pre .1 in let p = framesPart (s .args .a) (s .args .ws .now) in
@@ -91,11 +68,9 @@ cast-take-place-2 c = let s = c .before .before .before .before .before .before 
     let x : c .before .candidate .result ≡ getD (numbers (s .pre .0) (kindAt p (s .args .s .depth - 1))) (s .args .place - 1) 0 = rw k at (c .before .candidate .ensures (s .pre .0) (ok .stands .inputs)) in
     let n = number-small (s .pre .0) (s .args .a) (s .args .ws .now) (s .args .s .depth) (s .args .place) (c .before .candidate .result) ok x in omega arith
 
--- src/lib.rt:241:5
 take-place-requires : tie.Need-take-place-requires
 take-place-requires c κs = let s = c .before .before .before .before .before .before .before in room (s .pre .0) (s .args .a) (s .args .ws .now) (s .args .s .depth) (s .args .place) _ (s .pre .1) refl
 
--- src/lib.rt:242:5
 join-requires : tie.Need-join-requires
 unfolding kindAt
 join-requires c κs = let s = c .before .before .before .before .before .before .before .before .before .before .before in let ok = s .pre .1 in let p = framesPart (s .args .a) (s .args .ws .now) in
@@ -108,31 +83,24 @@ join-requires c κs = let s = c .before .before .before .before .before .before 
       placed-light (s .pre .0) (s .args .a) (s .args .ws .now) (s .args .s .depth) (s .args .place) (c .before .before .before .before .before .candidate .result) ok x,
     )
 
--- src/lib.rt:243:26
 sub-judge-totals : tie.Need-sub-judge-totals
 sub-judge-totals c = search needs
 
--- src/lib.rt:243:26
 part-judge-totals-start : tie.Need-part-judge-totals-start
 part-judge-totals-start c = search needs
 
--- src/lib.rt:243:26
 part-judge-totals-end : tie.Need-part-judge-totals-end
 part-judge-totals-end c = search needs
 
--- src/lib.rt:243:9
 judge-totals-requires : tie.Need-judge-totals-requires
 judge-totals-requires c κs = search needs
 
--- src/lib.rt:247:15
 sub-t27 : tie.Need-sub-t27
 sub-t27 c = search needs
 
--- src/lib.rt:230:1
 same-length : tie.Need-same-length
 same-length c = search needs
 
--- src/lib.rt:230:1
 returns : tie.Need-returns
 unfolding kindAt
 returns c = (

@@ -1,3 +1,4 @@
+-- `frames::withdraw` meets its contract. The facet that leaves is the last one taken. Assumes nothing.
 use native.Mathlib.Omega.{arith}
 use mathlib.Core.Path.{_≡_}
 use Prim.Native.Nat.{suc, _-_}
@@ -8,44 +9,31 @@ use Rattle.frames.specs.Steps.{frame-room, frames-length, withdrawn}
 use borrow.Author.Needs.{needs}
 use Rattle.frames.proofs.withdraw.Statement.{statement}
 use Rattle.frames.proofs.withdraw.Tie as tie
-use Rattle.frames.proofs.withdraw.Reads as reads
-use Rattle.frames.proofs.withdraw.Lts as lts
-use Rattle.facets.proofs.leave.Reads as leave-reads
-use Rattle.words.proofs.get_u16.Reads as get-u16-reads
 
--- src/lib.rt:258:28
 sub-get-u16 : tie.Need-sub-get-u16
 sub-get-u16 c = search needs
 
--- src/lib.rt:258:28
 part-get-u16-start : tie.Need-part-get-u16-start
 part-get-u16-start c = search needs
 
--- src/lib.rt:258:28
 part-get-u16-end : tie.Need-part-get-u16-end
 part-get-u16-end c = search needs
 
--- src/lib.rt:258:55
 sub-get-u16-2 : tie.Need-sub-get-u16-2
 sub-get-u16-2 c = search needs
 
--- src/lib.rt:258:49
 mul-get-u16 : tie.Need-mul-get-u16
 mul-get-u16 c = let s = c .before .before .before in let r = frame-room (s .pre .0) (s .args .a) (s .args .ws .now) (s .args .depth) (s .args .depth) (s .pre .1) (s .args .depth - 1) (omega arith) in let l = frames-length (s .pre .0) (s .args .a) (s .args .ws .now) (s .args .depth) (s .args .depth) (s .pre .1) in let f = s .pre .1 .inputs .fits in omega arith
 
--- src/lib.rt:258:49
 add-get-u16 : tie.Need-add-get-u16
 add-get-u16 c = let s = c .before .before .before in let r = frame-room (s .pre .0) (s .args .a) (s .args .ws .now) (s .args .depth) (s .args .depth) (s .pre .1) (s .args .depth - 1) (omega arith) in let l = frames-length (s .pre .0) (s .args .a) (s .args .ws .now) (s .args .depth) (s .args .depth) (s .pre .1) in let f = s .pre .1 .inputs .fits in omega arith
 
--- src/lib.rt:258:13
 get-u16-requires : tie.Need-get-u16-requires
 get-u16-requires c κs = let s = c .before .before .before in let r = frame-room (s .pre .0) (s .args .a) (s .args .ws .now) (s .args .depth) (s .args .depth) (s .pre .1) (s .args .depth - 1) (omega arith) in let l = frames-length (s .pre .0) (s .args .a) (s .args .ws .now) (s .args .depth) (s .args .depth) (s .pre .1) in let f = s .pre .1 .inputs .fits in omega arith
 
--- src/lib.rt:258:13
 cast-x : tie.Need-cast-x
 cast-x c = search needs
 
--- src/lib.rt:259:5
 leave-requires : tie.Need-leave-requires
 unfolding takenAt
 leave-requires c κs = let s = c .before .before .before .before .before in let st = s .pre .1 in let p = framesPart (s .args .a) (s .args .ws .now) in
@@ -53,11 +41,9 @@ leave-requires c κs = let s = c .before .before .before .before .before in let 
     let z : suc (s .args .depth - 1) ≡ s .args .depth = omega arith in
     (s .pre .0, st .inputs, rw x (st .frames .taken (s .args .depth - 1) (omega arith)), λ ridge r. rw x (last-counted (s .pre .0) (s .args .a) (s .args .ws .now) (s .args .depth) (s .args .depth - 1) (rw z st) ridge r))
 
--- src/lib.rt:252:1
 same-length : tie.Need-same-length
 same-length c = search needs
 
--- src/lib.rt:252:1
 returns : tie.Need-returns
 unfolding takenAt
 returns c = λ t st. let s = c .before .before .before .before .before .before .before .before in

@@ -1,3 +1,4 @@
+-- `search::back` meets its contract. The frame goes, and where a facet led to it that facet leaves. Assumes nothing.
 use native.Mathlib.Omega.{arith}
 use mathlib.Core.Path.{_≡_, refl}
 use Prim.Native.Nat.{_-_}
@@ -5,27 +6,19 @@ use Rattle.search.specs.Turns.{stands-drop}
 use borrow.Author.Needs.{needs}
 use Rattle.search.proofs.back.Statement.{statement}
 use Rattle.search.proofs.back.Tie as tie
-use Rattle.search.proofs.back.Reads as reads
-use Rattle.search.proofs.back.Lts as lts
-use Rattle.frames.proofs.withdraw.Reads as withdraw-reads
 
--- src/lib.rt:396:17
 sub-depth : tie.Need-sub-depth
 sub-depth c = search needs
 
--- src/lib.rt:400:9
 withdraw-requires : tie.Need-withdraw-requires
 withdraw-requires c κs = let s = c .before .before .before .before in (s .pre .0, stands-drop (s .pre .0) (s .args .a) (s .args .ws .now) (s .args .s .depth) (s .pre .1) (s .pre .2), c .before .if1 .taken)
 
--- src/lib.rt:392:1
 same-length : tie.Need-same-length
 same-length c = search needs
 
--- src/lib.rt:392:1
 returns : tie.Need-returns
 returns c = let s = c .before .before .before .before .before .before .before in (refl, refl, λ t st. c .before .before .withdraw .ensures t (stands-drop t (s .args .a) (s .args .ws .now) (s .args .s .depth) st (s .pre .2)))
 
--- src/lib.rt:392:1
 returns-2 : tie.Need-returns-2
 returns-2 c = let s = c .before .before .before in (
   refl,

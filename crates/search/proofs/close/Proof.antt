@@ -1,3 +1,4 @@
+-- `search::close` meets its contract. A closed list is past the bound, or is emitted and reaches the limit, or is emitted and entered. Assumes nothing.
 use native.Mathlib.Omega.{arith}
 use mathlib.Core.Path.{_≡_, sym, _∙_}
 use Prim.Native.Nat.{_+_, _-_, _<_}
@@ -16,59 +17,41 @@ use Rattle.search.specs.Turns.{Followed, judged-light, follow-full, foll
 use borrow.Author.Needs.{needs}
 use Rattle.search.proofs.close.Statement.{statement}
 use Rattle.search.proofs.close.Tie as tie
-use Rattle.search.proofs.close.Reads as reads
-use Rattle.search.proofs.close.Lts as lts
-use Rattle.pool.proofs.lists.Reads as lists-reads
-use Rattle.frames.proofs.emit.Reads as emit-reads
-use Rattle.frames.proofs.enter.Reads as enter-reads
-use Rattle.search.proofs.reached.Reads as reached-reads
 
--- src/lib.rt:359:31
 sub-lists : tie.Need-sub-lists
 sub-lists c = search needs
 
--- src/lib.rt:359:31
 part-lists-start : tie.Need-part-lists-start
 part-lists-start c = search needs
 
--- src/lib.rt:359:31
 part-lists-end : tie.Need-part-lists-end
 part-lists-end c = search needs
 
--- src/lib.rt:359:9
 lists-requires : tie.Need-lists-requires
 lists-requires c κs = search needs
 
--- src/lib.rt:360:17
 cast-if1 : tie.Need-cast-if1
 cast-if1 c = search needs
 
--- src/lib.rt:361:9
 same-length : tie.Need-same-length
 same-length c = search needs
 
--- src/lib.rt:361:9
 returns : tie.Need-returns
 unfolding Followed
 returns c = λ t j. let s = c .before .before .before .before .before in let e = c .before .lists .ensures in follow-full t (s .args .a) (s .args .limit) (s .args .ws .now) (s .args .depth) j (rw e at (c .if1 .taken))
 
--- src/lib.rt:363:5
 emit-requires : tie.Need-emit-requires
 emit-requires c κs = let s = c .before .before .before .before .before .before in let j = s .pre .1 in let e = c .before .before .lists .ensures in (s .pre .0, j .stands, j .emitted, rw e at (c .before .if1 .left))
 
--- src/lib.rt:364:23
 add-reached : tie.Need-add-reached
 add-reached c = search needs
 
--- src/lib.rt:364:8
 reached-requires : tie.Need-reached-requires
 reached-requires c κs = search needs
 
--- src/lib.rt:365:9
 same-length-2 : tie.Need-same-length-2
 same-length-2 c = search needs
 
--- src/lib.rt:365:9
 returns-2 : tie.Need-returns-2
 unfolding Followed
 returns-2 c = λ t j. let s = c .before .before .before .before .before .before .before .before .before .before .before in let e = c .before .before .before .before .before .before .before .lists .ensures in
@@ -77,21 +60,17 @@ returns-2 c = λ t j. let s = c .before .before .before .before .before .before 
     rw (c .before .before .before .before .emit .ensures)
     (follow-stop t (s .args .a) (s .args .limit) (s .args .ws .now) (s .args .depth) j h _ (emit-stands t (s .args .a) (s .args .ws .now) (s .args .depth) (j .stands) (j .emitted) h) (emit-frames t (s .args .a) (s .args .ws .now) (s .args .depth) (j .stands) (j .emitted) h) (emit-lists t (s .args .a) (s .args .ws .now) (s .args .depth) (j .stands) (j .emitted) h) (emit-tables t (s .args .a) (s .args .ws .now) (s .args .depth) (j .stands) (j .emitted) h) (emit-emitted t (s .args .a) (s .args .ws .now) (s .args .depth) (j .stands) (j .emitted) h) r)
 
--- src/lib.rt:367:5
 enter-requires : tie.Need-enter-requires
 enter-requires c κs = let s = c .before .before .before .before .before .before .before .before .before .before .before .before in let j = s .pre .1 in let e = c .before .before .before .before .before .before .before .before .lists .ensures in
     let h : count (listsPart (s .args .a) (s .args .ws .now)) < s .args .a .bound = rw e at (c .before .before .before .before .before .before .before .if1 .left) in
     rw (c .before .before .before .before .before .emit .ensures) (s .pre .0, emit-stands (s .pre .0) (s .args .a) (s .args .ws .now) (s .args .depth) (j .stands) (j .emitted) h, j .deep, omega arith)
 
--- src/lib.rt:368:14
 add-t10 : tie.Need-add-t10
 add-t10 c = let s = c .before .before .before .before .before .before .before .before .before .before .before .before .before .before .before in let j = s .pre .1 in let n = path-short (s .pre .0) (s .args .a) (s .args .ws .now) (j .stands .inputs) (framesPart (s .args .a) (s .args .ws .now)) (s .args .depth) (s .args .depth) (j .stands .frames) in let f = j .stands .inputs .fits in omega arith
 
--- src/lib.rt:352:1
 same-length-3 : tie.Need-same-length-3
 same-length-3 c = search needs
 
--- src/lib.rt:352:1
 -- a closed list is not over
 within : Within closed
 unfolding Within

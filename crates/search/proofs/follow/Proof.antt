@@ -1,3 +1,4 @@
+-- `search::follow` meets its contract. By the cases of the verdict. Assumes nothing.
 use native.Mathlib.Omega.{arith}
 use mathlib.Core.Path.{refl}
 use Prim.Native.Nat.{_-_}
@@ -9,75 +10,55 @@ use Rattle.search.specs.Turns.{Judged, Followed, judged-light, judged-in
 use borrow.Author.Needs.{needs}
 use Rattle.search.proofs.follow.Statement.{statement}
 use Rattle.search.proofs.follow.Tie as tie
-use Rattle.search.proofs.follow.Reads as reads
-use Rattle.search.proofs.follow.Lts as lts
-use Rattle.search.proofs.close.Reads as close-reads
-use Rattle.frames.proofs.enter.Reads as enter-reads
-use Rattle.frames.proofs.withdraw.Reads as withdraw-reads
 
--- src/lib.rt:380:22
 enum-told : tie.Need-enum-told
 enum-told c = search needs
 
--- src/lib.rt:380:13
 withdraw-requires : tie.Need-withdraw-requires
 withdraw-requires c κs = search needs
 
--- src/lib.rt:383:23
 enum-known-v : tie.Need-enum-known-v
 enum-known-v c = search needs
 
--- src/lib.rt:384:33
 cast-enter : tie.Need-cast-enter
 cast-enter c = search needs
 
--- src/lib.rt:384:33
 add-enter : tie.Need-add-enter
 add-enter c = search needs
 
--- src/lib.rt:384:13
 enter-requires : tie.Need-enter-requires
 unfolding verdict
 enter-requires c κs = let s = c .before .before .before .before .before in let j : Judged (s .pre .0) (s .args .a) (s .args .ws .now) (s .args .s .depth) (openAt (c .before .before .v .given .0 .0)) = rw (c .before .before .v .given .1) at (s .pre .1) in
     let r = judged-inside (s .pre .0) (s .args .a) (s .args .ws .now) (s .args .s .depth) (openAt (c .before .before .v .given .0 .0)) j (c .before .before .v .given .0 .0) refl in (s .pre .0, j .stands, j .deep, omega arith)
 
--- src/lib.rt:385:22
 add-t15 : tie.Need-add-t15
 add-t15 c = let s = c .before .before .before .before .before .before .before .before in let j = s .pre .1 in let n = path-short (s .pre .0) (s .args .a) (s .args .ws .now) (j .stands .inputs) (framesPart (s .args .a) (s .args .ws .now)) (s .args .s .depth) (s .args .s .depth) (j .stands .frames) in let f = j .stands .inputs .fits in omega arith
 
--- src/lib.rt:387:34
 enum-told-2 : tie.Need-enum-told-2
 enum-told-2 c = search needs
 
--- src/lib.rt:387:28
 close-requires : tie.Need-close-requires
 unfolding verdict
 close-requires c κs = let s = c .before .before .before .before in (s .pre .0, rw (c .before .enum-told2 .given .1) at (s .pre .1))
 
--- src/lib.rt:372:1
 same-length : tie.Need-same-length
 same-length c = search needs
 
--- src/lib.rt:372:1
 returns : tie.Need-returns
 unfolding Followed verdict
 returns c = λ t j. let s = c .before .before .before .before .before .before .before in follow-over t (s .args .a) (s .args .limit) (s .args .ws .now) (c .before .before .withdraw .last .0) (s .args .s .depth) (rw (c .before .before .before .before .enum-told .given .1) at j) (c .before .before .withdraw .ensures t (j .stands))
 
--- src/lib.rt:372:1
 same-length-2 : tie.Need-same-length-2
 same-length-2 c = search needs
 
--- src/lib.rt:372:1
 returns-2 : tie.Need-returns-2
 unfolding Followed verdict Within
 returns-2 c = λ t j. let s = c .before .before .before .before .before .before .before .before in let k : Judged t (s .args .a) (s .args .ws .now) (s .args .s .depth) (openAt (c .before .before .before .before .before .v .given .0 .0)) = rw (c .before .before .before .before .before .v .given .1) at j in
     follow-open t (s .args .a) (s .args .limit) (s .args .ws .now) (c .before .before .enter .last .0) (s .args .s .depth) (c .before .before .before .before .before .v .given .0 .0) k (c .before .before .enter .ensures t (k .stands) (judged-light t (s .args .a) (s .args .ws .now) (s .args .s .depth) (openAt (c .before .before .before .before .before .v .given .0 .0)) k tt))
 
--- src/lib.rt:372:1
 same-length-3 : tie.Need-same-length-3
 same-length-3 c = search needs
 
--- src/lib.rt:372:1
 returns-3 : tie.Need-returns-3
 unfolding verdict
 returns-3 c = λ t j. c .before .before .close .ensures t (rw (c .before .before .before .before .enum-told2 .given .1) at j)

@@ -1,26 +1,21 @@
+-- `search::reached` meets its contract. By the cases of the limit. Assumes nothing.
 use mathlib.Core.Path.{refl}
 use Rattle.definitions.specs.Search.{limitReached}
 use Rattle.search.specs.Outcomes.{limitOf}
 use borrow.Author.Needs.{needs}
 use Rattle.search.proofs.reached.Statement.{statement}
 use Rattle.search.proofs.reached.Tie as tie
-use Rattle.search.proofs.reached.Reads as reads
-use Rattle.search.proofs.reached.Lts as lts
 
--- src/lib.rt:337:26
 enum-told : tie.Need-enum-told
 enum-told c = search needs
 
--- src/lib.rt:338:24
 enum-known-limit : tie.Need-enum-known-limit
 enum-known-limit c = search needs
 
--- src/lib.rt:333:1
 returns : tie.Need-returns
 unfolding limitOf limitReached
 returns c = rw (c .enum-told .given .1) refl
 
--- src/lib.rt:333:1
 returns-2 : tie.Need-returns-2
 unfolding limitOf limitReached
 returns-2 c = rw (c .before .limit .given .1) refl

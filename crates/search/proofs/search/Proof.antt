@@ -1,3 +1,4 @@
+-- `search::search` meets its contract. The loop's invariant: what the definition makes of the frames, the emitted lists and the budget that is left is what it makes of the table, for every table that the workspace holds. The measure falls with the budget or with the depth. Assumes nothing.
 use borrow.Author.Needs.{needs}
 use native.Mathlib.Omega.{arith}
 use mathlib.Core.Path.{_≡_, refl, sym, ap, _∙_}
@@ -11,15 +12,6 @@ use Rattle.frames.specs.Steps.{next-holds}
 use Rattle.search.specs.Turns.{Turn, Followed, Goes, Stops, Fills, turn-start, turn-depth, turn-back, turn-ready, turn-spent, turn-judged, turn-on, turn-stopped, turn-full, turn-end, budget-falls, inputs-before}
 use Rattle.search.proofs.search.Statement.{statement}
 use Rattle.search.proofs.search.Tie as tie
-use Rattle.search.proofs.search.Reads as reads
-use Rattle.search.proofs.search.Lts as lts
-use Rattle.search.proofs.at_depth.Reads as at-depth-reads
-use Rattle.search.proofs.back.Reads as back-reads
-use Rattle.search.proofs.follow.Reads as follow-reads
-use Rattle.search.proofs.found.Reads as found-reads
-use Rattle.frames.proofs.next.Reads as next-reads
-use Rattle.frames.proofs.start.Reads as start-reads
-use Rattle.frames.proofs.visit.Reads as visit-reads
 
 abbrev Inv-loop : tie.InvT-loop
 Inv-loop ws₀ a limit budget s₀ ws s = (length ws ≡ length ws₀) × (take (a .frames) ws ≡ take (a .frames) ws₀) × ((t : Table) → Inputs t a ws₀ → Turn t a limit budget ws (s .depth) (s .left))
@@ -27,11 +19,9 @@ Inv-loop ws₀ a limit budget s₀ ws s = (length ws ≡ length ws₀) × (take 
 abbrev μ-loop : tie.MeasureT-loop
 μ-loop ws₀ a limit budget s₀ ws s = s .left * (a .orbits + 2) + s .depth
 
--- src/lib.rt:439:5
 start-requires : tie.Need-start-requires Inv-loop μ-loop
 start-requires c κs = search needs
 
--- src/lib.rt:445:5
 loop-holds : tie.Need-loop-holds Inv-loop μ-loop
 loop-holds c = let s = c .before .before .before .before .before in let go = c .before .before .start .ensures (s .pre .0) (s .pre .1) in (
   refl,
@@ -40,19 +30,15 @@ loop-holds c = let s = c .before .before .before .before .before in let go = c .
       (c .before .before .start .ensures t (inputs-before t (s .args .a) (s .args .ws .now) (c .before .before .start .last .0) (s .pre .1 .fits) (go .tables) h)),
 )
 
--- src/lib.rt:447:13
 next-requires : tie.Need-next-requires Inv-loop μ-loop
 next-requires c κs = let s = c .before .before .before .before .before .before .before .before .before in let l = c .before .before .before .loop in let go = c .before .before .before .before .before .before .start .ensures (s .pre .0) (s .pre .1) in let turn = l .inv .2 (s .pre .0) (go .stands .inputs) in (s .pre .0, turn .stands, c .before .if1 .taken)
 
--- src/lib.rt:449:13
 back-requires : tie.Need-back-requires Inv-loop μ-loop
 back-requires c κs = let s = c .before .before .before .before .before .before .before .before .before .before .before .before in let l = c .before .before .before .before .before .before .loop in let go = c .before .before .before .before .before .before .before .before .before .start .ensures (s .pre .0) (s .pre .1) in let turn = l .inv .2 (s .pre .0) (go .stands .inputs) in (s .pre .0, turn .stands, c .before .before .before .before .if1 .taken)
 
--- src/lib.rt:445:5
 loop-less : tie.Need-loop-less Inv-loop μ-loop
 loop-less c = let s = c .before .before .before .before .before .before .before .before .before .before .before .before .before .before .before in let l = c .before .before .before .before .before .before .before .before .before .loop in let go = c .before .before .before .before .before .before .before .before .before .before .before .before .start .ensures (s .pre .0) (s .pre .1) in let turn = l .inv .2 (s .pre .0) (go .stands .inputs) in let r = c .before .before .back .ensures in let m = ap (λ (n : ℕ). n * (s .args .a .orbits + 2)) (r .1) in omega (arith, r .0, c .before .before .before .before .before .before .before .if1 .taken)
 
--- src/lib.rt:445:5
 loop-again : tie.Need-loop-again Inv-loop μ-loop
 loop-again c = let s = c .before .before .before .before .before .before .before .before .before .before .before .before .before .before .before in let l = c .before .before .before .before .before .before .before .before .before .loop in let go = c .before .before .before .before .before .before .before .before .before .before .before .before .start .ensures (s .pre .0) (s .pre .1) in let turn = l .inv .2 (s .pre .0) (go .stands .inputs) in (
   c .before .before .back .kept .0 ∙ l .inv .0,
@@ -61,11 +47,9 @@ loop-again c = let s = c .before .before .before .before .before .before .before
       rw (c .before .before .back .ensures .0, c .before .before .back .ensures .1) (turn-back t (s .args .a) (s .args .limit) (s .args .budget) (l .ws) (l .s .depth) (l .s .left) u (c .before .before .before .before .before .before .before .if1 .taken) (c .before .before .back .last .0) (rw (c .before .before .before .before .if2 .taken) at n) (c .before .before .back .ensures .2 t (u .stands))),
 )
 
--- src/lib.rt:452:17
 same-length : tie.Need-same-length Inv-loop μ-loop
 same-length c = let l = c .before .before .before .before .before .before .before .loop in l .inv .0 ∙ c .before .before .before .before .before .before .before .before .before .before .start .kept .0
 
--- src/lib.rt:452:17
 returns : tie.Need-returns Inv-loop μ-loop
 unfolding outcome counted
 returns c = let s = c .before .before .before .before .before .before .before .before .before .before .before .before .before in let l = c .before .before .before .before .before .before .before .loop in let go = c .before .before .before .before .before .before .before .before .before .before .start .ensures (s .pre .0) (s .pre .1) in let turn = l .inv .2 (s .pre .0) (go .stands .inputs) in (
@@ -74,11 +58,9 @@ returns c = let s = c .before .before .before .before .before .before .before .b
   ((λ t. tt), l .inv .1 ∙ go .tables),
 )
 
--- src/lib.rt:454:13
 visit-requires : tie.Need-visit-requires Inv-loop μ-loop
 visit-requires c κs = let s = c .before .before .before .before .before .before .before .before .before .before .before .before .before .before in let l = c .before .before .before .before .before .before .before .before .loop in let go = c .before .before .before .before .before .before .before .before .before .before .before .start .ensures (s .pre .0) (s .pre .1) in let turn = l .inv .2 (s .pre .0) (go .stands .inputs) in let n = next-holds (s .pre .0) (s .args .a) (l .ws) (l .s .depth) (c .before .before .before .before .next .result) (turn .stands) (c .before .before .before .before .before .before .if1 .taken) (c .before .before .before .before .next .ensures (s .pre .0) (turn .stands)) in (s .pre .0, turn-ready (s .pre .0) (s .args .a) (s .args .limit) (s .args .budget) (l .ws) (l .s .depth) (l .s .left) turn (c .before .before .before .before .before .before .if1 .taken) (c .before .before .before .before .next .result) n (omega (arith, c .before .before .before .if2 .left)), omega (arith, c .before .if3 .left))
 
--- src/lib.rt:455:17
 follow-requires : tie.Need-follow-requires Inv-loop μ-loop
 follow-requires c κs = let s = c .before .before .before .before .before .before .before .before .before .before .before .before .before .before .before .before .before .before in let l = c .before .before .before .before .before .before .before .before .before .before .before .before .loop in let go = c .before .before .before .before .before .before .before .before .before .before .before .before .before .before .before .start .ensures (s .pre .0) (s .pre .1) in let turn = l .inv .2 (s .pre .0) (go .stands .inputs) in let n = next-holds (s .pre .0) (s .args .a) (l .ws) (l .s .depth) (c .before .before .before .before .before .before .before .before .next .result) (turn .stands) (c .before .before .before .before .before .before .before .before .before .before .if1 .taken) (c .before .before .before .before .before .before .before .before .next .ensures (s .pre .0) (turn .stands)) in
     let z : 0 < c .before .before .before .before .before .before .before .before .next .result = omega (arith, c .before .before .before .before .before .before .before .if2 .left) in
@@ -88,15 +70,12 @@ follow-requires c κs = let s = c .before .before .before .before .before .befor
     let j = turn-judged (s .pre .0) (s .args .a) (s .args .limit) (s .args .budget) (l .ws) (l .s .depth) (l .s .left) turn d (c .before .before .before .before .before .before .before .before .next .result) n z (c .before .before .before .visit .last .0) (c .before .before .before .visit .result .verdict) w p in
     (s .pre .0, rw (c .before .before .before .visit .ensures .0) j)
 
--- src/lib.rt:457:26
 enum-known-step : tie.Need-enum-known-step Inv-loop μ-loop
 enum-known-step c = search needs
 
--- src/lib.rt:458:21
 at-depth-requires : tie.Need-at-depth-requires Inv-loop μ-loop
 at-depth-requires c κs = search needs
 
--- src/lib.rt:445:5
 loop-less-2 : tie.Need-loop-less-2 Inv-loop μ-loop
 unfolding Followed
 loop-less-2 c = let s = c .before .before .before .before .before .before .before .before .before .before .before .before .before .before .before .before .before .before .before .before .before .before .before .before .before in let l = c .before .before .before .before .before .before .before .before .before .before .before .before .before .before .before .before .before .before .before .loop in let go = c .before .before .before .before .before .before .before .before .before .before .before .before .before .before .before .before .before .before .before .before .before .before .start .ensures (s .pre .0) (s .pre .1) in let turn = l .inv .2 (s .pre .0) (go .stands .inputs) in let n = next-holds (s .pre .0) (s .args .a) (l .ws) (l .s .depth) (c .before .before .before .before .before .before .before .before .before .before .before .before .before .before .before .next .result) (turn .stands) (c .before .before .before .before .before .before .before .before .before .before .before .before .before .before .before .before .before .if1 .taken) (c .before .before .before .before .before .before .before .before .before .before .before .before .before .before .before .next .ensures (s .pre .0) (turn .stands)) in
@@ -109,7 +88,6 @@ loop-less-2 c = let s = c .before .before .before .before .before .before .befor
     let k = turn-depth (s .pre .0) (s .args .a) (s .args .limit) (s .args .budget) (c .before .before .before .before .before .before .follow .last .0) (c .before .before .step .given .0 .0) (l .s .left - 1) (turn-on (s .pre .0) (s .args .a) (s .args .limit) (s .args .budget) (l .ws) (l .s .depth) (l .s .left) turn d (c .before .before .before .before .before .before .before .before .before .before .before .before .before .before .before .next .result) n z (c .before .before .before .before .before .before .before .before .before .before .visit .last .0) (c .before .before .before .before .before .before .before .before .before .before .visit .result .verdict) w p (c .before .before .before .before .before .before .follow .last .0) (c .before .before .step .given .0 .0) q) in
     rw (c .at-depth .ensures .0, c .at-depth .ensures .1, c .before .before .before .before .before .before .before .before .before .before .visit .ensures .1) (budget-falls (l .s .left) (s .args .a .orbits + 2) (c .before .before .step .given .0 .0) (l .s .depth) p k)
 
--- src/lib.rt:445:5
 loop-again-2 : tie.Need-loop-again-2 Inv-loop μ-loop
 unfolding Followed
 loop-again-2 c = let s = c .before .before .before .before .before .before .before .before .before .before .before .before .before .before .before .before .before .before .before .before .before .before .before .before .before in let l = c .before .before .before .before .before .before .before .before .before .before .before .before .before .before .before .before .before .before .before .loop in let go = c .before .before .before .before .before .before .before .before .before .before .before .before .before .before .before .before .before .before .before .before .before .before .start .ensures (s .pre .0) (s .pre .1) in let turn = l .inv .2 (s .pre .0) (go .stands .inputs) in let n = next-holds (s .pre .0) (s .args .a) (l .ws) (l .s .depth) (c .before .before .before .before .before .before .before .before .before .before .before .before .before .before .before .next .result) (turn .stands) (c .before .before .before .before .before .before .before .before .before .before .before .before .before .before .before .before .before .if1 .taken) (c .before .before .before .before .before .before .before .before .before .before .before .before .before .before .before .next .ensures (s .pre .0) (turn .stands)) in
@@ -131,11 +109,9 @@ loop-again-2 c = let s = c .before .before .before .before .before .before .befo
           rw (c .at-depth .ensures .0, c .at-depth .ensures .1, c .before .before .before .before .before .before .before .before .before .before .visit .ensures .1) (turn-on t (s .args .a) (s .args .limit) (s .args .budget) (l .ws) (l .s .depth) (l .s .left) turn d (c .before .before .before .before .before .before .before .before .before .before .before .before .before .before .before .next .result) n z (c .before .before .before .before .before .before .before .before .before .before .visit .last .0) (c .before .before .before .before .before .before .before .before .before .before .visit .result .verdict) w p (c .before .before .before .before .before .before .follow .last .0) (c .before .before .step .given .0 .0) q),
     )
 
--- src/lib.rt:461:34
 enum-told : tie.Need-enum-told Inv-loop μ-loop
 enum-told c = search needs
 
--- src/lib.rt:461:21
 found-requires : tie.Need-found-requires Inv-loop μ-loop
 unfolding Followed
 found-requires c κs = let s = c .before .before .before .before .before .before .before .before .before .before .before .before .before .before .before .before .before .before .before .before .before .before .before .before in let l = c .before .before .before .before .before .before .before .before .before .before .before .before .before .before .before .before .before .before .loop in let go = c .before .before .before .before .before .before .before .before .before .before .before .before .before .before .before .before .before .before .before .before .before .start .ensures (s .pre .0) (s .pre .1) in let turn = l .inv .2 (s .pre .0) (go .stands .inputs) in let n = next-holds (s .pre .0) (s .args .a) (l .ws) (l .s .depth) (c .before .before .before .before .before .before .before .before .before .before .before .before .before .before .next .result) (turn .stands) (c .before .before .before .before .before .before .before .before .before .before .before .before .before .before .before .before .if1 .taken) (c .before .before .before .before .before .before .before .before .before .before .before .before .before .before .next .ensures (s .pre .0) (turn .stands)) in
@@ -146,11 +122,9 @@ found-requires c κs = let s = c .before .before .before .before .before .before
     let j = turn-judged (s .pre .0) (s .args .a) (s .args .limit) (s .args .budget) (l .ws) (l .s .depth) (l .s .left) turn d (c .before .before .before .before .before .before .before .before .before .before .before .before .before .before .next .result) n z (c .before .before .before .before .before .before .before .before .before .visit .last .0) (c .before .before .before .before .before .before .before .before .before .visit .result .verdict) w p in let g = c .before .before .before .before .before .follow .ensures (s .pre .0) (rw (c .before .before .before .before .before .before .before .before .before .visit .ensures .0) j) in
     let q : Stops (s .pre .0) (s .args .a) (s .args .limit) (c .before .before .before .before .before .before .before .before .before .visit .last .0) (c .before .before .before .before .before .follow .last .0) (l .s .depth) = rw (c .before .enum-told .given .1, c .before .before .before .before .before .before .before .before .before .visit .ensures .0) at g in q .inputs .fits
 
--- src/lib.rt:461:21
 same-length-2 : tie.Need-same-length-2 Inv-loop μ-loop
 same-length-2 c = let l = c .before .before .before .before .before .before .before .before .before .before .before .before .before .before .before .before .before .before .before .loop in c .before .before .before .before .before .before .follow .kept .0 ∙ (c .before .before .before .before .before .before .before .before .before .before .visit .kept .0 ∙ (l .inv .0 ∙ c .before .before .before .before .before .before .before .before .before .before .before .before .before .before .before .before .before .before .before .before .before .before .start .kept .0))
 
--- src/lib.rt:461:21
 returns-2 : tie.Need-returns-2 Inv-loop μ-loop
 unfolding Followed outcome counted
 returns-2 c = let s = c .before .before .before .before .before .before .before .before .before .before .before .before .before .before .before .before .before .before .before .before .before .before .before .before .before in let l = c .before .before .before .before .before .before .before .before .before .before .before .before .before .before .before .before .before .before .before .loop in let go = c .before .before .before .before .before .before .before .before .before .before .before .before .before .before .before .before .before .before .before .before .before .before .start .ensures (s .pre .0) (s .pre .1) in let turn = l .inv .2 (s .pre .0) (go .stands .inputs) in let n = next-holds (s .pre .0) (s .args .a) (l .ws) (l .s .depth) (c .before .before .before .before .before .before .before .before .before .before .before .before .before .before .before .next .result) (turn .stands) (c .before .before .before .before .before .before .before .before .before .before .before .before .before .before .before .before .before .if1 .taken) (c .before .before .before .before .before .before .before .before .before .before .before .before .before .before .before .next .ensures (s .pre .0) (turn .stands)) in
@@ -171,15 +145,12 @@ returns-2 c = let s = c .before .before .before .before .before .before .before 
       ((λ t. rw (c .found .ensures) (record { many = sym (emitted-count t (s .args .a) (listsPart (s .args .a) (c .before .before .before .before .before .before .follow .last .0))); emitted = q .emitted })), q .tables ∙ (w .tables ∙ (l .inv .1 ∙ go .tables))),
     )
 
--- src/lib.rt:464:21
 enum-told-2 : tie.Need-enum-told-2 Inv-loop μ-loop
 enum-told-2 c = search needs
 
--- src/lib.rt:464:21
 same-length-3 : tie.Need-same-length-3 Inv-loop μ-loop
 same-length-3 c = let l = c .before .before .before .before .before .before .before .before .before .before .before .before .before .before .before .before .before .loop in c .before .before .before .before .follow .kept .0 ∙ (c .before .before .before .before .before .before .before .before .visit .kept .0 ∙ (l .inv .0 ∙ c .before .before .before .before .before .before .before .before .before .before .before .before .before .before .before .before .before .before .before .before .start .kept .0))
 
--- src/lib.rt:464:21
 returns-3 : tie.Need-returns-3 Inv-loop μ-loop
 unfolding Followed outcome counted
 returns-3 c = let s = c .before .before .before .before .before .before .before .before .before .before .before .before .before .before .before .before .before .before .before .before .before .before .before in let l = c .before .before .before .before .before .before .before .before .before .before .before .before .before .before .before .before .before .loop in let go = c .before .before .before .before .before .before .before .before .before .before .before .before .before .before .before .before .before .before .before .before .start .ensures (s .pre .0) (s .pre .1) in let turn = l .inv .2 (s .pre .0) (go .stands .inputs) in let n = next-holds (s .pre .0) (s .args .a) (l .ws) (l .s .depth) (c .before .before .before .before .before .before .before .before .before .before .before .before .before .next .result) (turn .stands) (c .before .before .before .before .before .before .before .before .before .before .before .before .before .before .before .if1 .taken) (c .before .before .before .before .before .before .before .before .before .before .before .before .before .next .ensures (s .pre .0) (turn .stands)) in
@@ -200,15 +171,12 @@ returns-3 c = let s = c .before .before .before .before .before .before .before 
       ((λ t. tt), q .tables ∙ (w .tables ∙ (l .inv .1 ∙ go .tables))),
     )
 
--- src/lib.rt:469:5
 found-requires-2 : tie.Need-found-requires-2 Inv-loop μ-loop
 found-requires-2 c κs = let s = c .before .before .before .before .before .before .before .before .before in let l = c .before .before .before .loop in let go = c .before .before .before .before .before .before .start .ensures (s .pre .0) (s .pre .1) in let turn = l .inv .2 (s .pre .0) (go .stands .inputs) in turn .stands .inputs .fits
 
--- src/lib.rt:433:1
 same-length-4 : tie.Need-same-length-4 Inv-loop μ-loop
 same-length-4 c = let l = c .before .before .before .before .loop in l .inv .0 ∙ c .before .before .before .before .before .before .before .start .kept .0
 
--- src/lib.rt:433:1
 returns-4 : tie.Need-returns-4 Inv-loop μ-loop
 unfolding outcome counted
 returns-4 c = let s = c .before .before .before .before .before .before .before .before .before .before in let l = c .before .before .before .before .loop in let go = c .before .before .before .before .before .before .before .start .ensures (s .pre .0) (s .pre .1) in let turn = l .inv .2 (s .pre .0) (go .stands .inputs) in (
