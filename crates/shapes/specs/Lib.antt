@@ -27,3 +27,4 @@ pub mod Example
 pub mod SortedEntries
 pub mod KeyMarks
 pub mod AllPairs
+pub mod Kept
