@@ -1,0 +1,3 @@
+-- What a call keeps and leaves in the workspace.
+pub mod Keeps
+pub mod Leaves
