@@ -1,0 +1,2 @@
+-- How a call comes to its answer, step by step.
+pub mod Steps
