@@ -73,7 +73,7 @@ module _ (rules : Rules) (plane : Subspace) (points : List Vec) (rows : List Row
       let own = innerAt (p .inner) (f .0) in
       let e = edgeOf (own .orbit) in
       let at : atOrbit possibleFacets (p .inner) (f .0) ≡ edgeFigure e ∷ [] =
-      at-orbit possibleFacets (p .inner) (f .0) (r .0) ∙ one-edge rules plane points rows a c own (inner-at-member (p .inner) (f .0) (r .0)) in
+      at-orbit possibleFacets (p .inner) (f .0) (r .0) ∙ one-edge rules plane points rows p (c .prepared) own (inner-at-member (p .inner) (f .0) (r .0)) in
       let figure : getD (atOrbit possibleFacets (p .inner) (f .0)) (f .1) [] ≡ edgeFigure e = ap (λ (fs : List Figure). getD fs (f .1) []) at ∙ ap (λ (n : ℕ). getD (edgeFigure e ∷ []) n []) (r .1) in
       ap (λ (g : Figure). map (λ (row : Row). moveSorted (image row) g) (p .rows)) figure
       ∙ map-same (λ (row : Row). moveSorted (image row) (edgeFigure e)) (λ (row : Row). edgeFigure (pairImage e row)) (p .rows) (λ row k. edge-moved (image row) e)

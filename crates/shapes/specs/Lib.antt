@@ -28,3 +28,4 @@ pub mod SortedEntries
 pub mod KeyMarks
 pub mod AllPairs
 pub mod Kept
+pub mod KeptTable

@@ -20,7 +20,7 @@ use Rattle.definitions.specs.Faceting.{Prepared, possibleFacets, splitIn, atOrb
 use Rattle.laws.specs.Lists.{Mem, member-at, map-at, flatMap-same}
 use Rattle.laws.specs.Places.{map-same, flat-singles}
 use Rattle.laws.specs.Segments.{le-or-lt}
-use Rattle.shapes.specs.Answered.{answers-equal, facetNumber, AnsweredCall}
+use Rattle.shapes.specs.Answered.{answers-equal, facetNumber, Preparation, AnsweredCall}
 use Rattle.shapes.specs.Emitted.{found-facet, found-few, entry-of-list, entries-number}
 use Rattle.shapes.specs.Edges.{edgeFigure}
 
@@ -107,34 +107,36 @@ split-alone p none-in l h =
 unfoldable pub edgeOf : Orbit → Pair
 edgeOf o = (getD (o .vertices) 0 0, getD (o .vertices) 1 0)
 
-module _ (rules : Rules) (plane : Subspace) (points : List Vec) (rows : List Row) (a : Answer) (c : AnsweredCall 0 rules plane points rows a) where
-  abbrev p : Prepared
-  p = c .before
-
+-- what a call of rank 3 has before its search
+module _ (rules : Rules) (plane : Subspace) (points : List Vec) (rows : List Row) (before : Prepared) (made : Preparation 0 rules (faceting 0 rules) plane points rows before) where
   -- every inner call is one of rank 2
-  pub inner-rank-two : (i : Inner) → Mem i (p .inner) → (budget : ℕ) × RankTwo budget (i .answer)
+  pub inner-rank-two : (i : Inner) → Mem i (before .inner) → (budget : ℕ) × RankTwo budget (i .answer)
   inner-rank-two i m =
-      let given = c .prepared .inner .each i m in
+      let given = made .inner .each i m in
       (given .budget, rank-two rules _ _ _ (given .budget) (i .answer) (given .is))
 
-  inner-alone : (i : Inner) → Mem i (p .inner) → i .answer .compounds ≡ []
+  pub inner-alone : (i : Inner) → Mem i (before .inner) → i .answer .compounds ≡ []
   inner-alone i m = inner-rank-two i m .1 .compounds
 
   -- each orbit has one possible facet
-  pub one-facet : (i : Inner) → Mem i (p .inner) → facetNumber i ≡ 1
+  pub one-facet : (i : Inner) → Mem i (before .inner) → facetNumber i ≡ 1
   one-facet i m = ap length (inner-rank-two i m .1 .entries)
 
   -- and that is the edge between its set's first two vertices
-  pub one-edge : (i : Inner) → Mem i (p .inner) → possibleFacets i ≡ edgeFigure (edgeOf (i .orbit)) ∷ []
+  pub one-edge : (i : Inner) → Mem i (before .inner) → possibleFacets i ≡ edgeFigure (edgeOf (i .orbit)) ∷ []
   unfolding possibleFacets edgeOf edgeFigure moveEnds dyad
   one-edge i m = ap (map (λ (e : Entry). moveEnds (λ (v : ℕ). getD (i .orbit .vertices) v 0) (e .figure))) (inner-rank-two i m .1 .entries)
+
+module _ (rules : Rules) (plane : Subspace) (points : List Vec) (rows : List Row) (a : Answer) (c : AnsweredCall 0 rules plane points rows a) where
+  abbrev p : Prepared
+  p = c .before
 
   -- the possible facets of an answer of rank 3: one edge to an orbit
   pub possible-edges : a .possible ≡ map (λ (o : Orbit). edgeFigure (edgeOf o) ∷ []) (map (λ (i : Inner). i .orbit) (p .inner))
   unfolding finish
   possible-edges =
       ap (λ (x : Answer). x .possible) (c .is)
-      ∙ map-same possibleFacets (λ (i : Inner). edgeFigure (edgeOf (i .orbit)) ∷ []) (p .inner) one-edge
+      ∙ map-same possibleFacets (λ (i : Inner). edgeFigure (edgeOf (i .orbit)) ∷ []) (p .inner) (one-edge rules plane points rows p (c .prepared))
       ∙ sym (map-map (λ (o : Orbit). edgeFigure (edgeOf o) ∷ []) (λ (i : Inner). i .orbit) (p .inner))
 
   -- a facet of a list found is (a, 0)
@@ -142,12 +144,12 @@ module _ (rules : Rules) (plane : Subspace) (points : List Vec) (rows : List Row
   found-first l m f i =
       let r = facet-orbit (p .inner) f (found-facet rules p (c .found) (c .is-found) l m f i) in
       let k = r .1 in
-      let e = one-facet (innerAt (p .inner) (f .0)) (inner-at-member (p .inner) (f .0) (r .0)) in
+      let e = one-facet rules plane points rows p (c .prepared) (innerAt (p .inner) (f .0)) (inner-at-member (p .inner) (f .0) (r .0)) in
       (r .0, omega arith)
 
   -- a list found is its own split list
   pub found-unsplit : (l : List Facet) → Mem l (c .found .lists) → split p l ≡ l
-  found-unsplit l m = split-alone p inner-alone l (λ f i. found-first l m f i .0)
+  found-unsplit l m = split-alone p (inner-alone rules plane points rows p (c .prepared)) l (λ f i. found-first l m f i .0)
 
   -- an entry's list is a list found
   pub entry-list : (e : Entry) → Mem e (a .entries) → (l : List Facet) × Mem l (c .found .lists) × (e ≡ entryOf p l) × (e .list ≡ l)

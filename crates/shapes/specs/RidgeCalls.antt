@@ -1,23 +1,29 @@
--- The ridges of calls of rank 3 and 4: vertices at rank 3, edges at rank 4, so that the table such a call searches is the one numbered by vertices or by pairs of ends. Leans on Ridges.
+-- The ridges of calls of rank 3 and 4: vertices at rank 3, edges at rank 4, so that the table such a call searches is the one numbered by vertices or by pairs of ends (at rank 3
+-- a vertex twice). From what the call has before its search. Leans on Ridges.
 use mathlib.Core.Path.{_≡_, sym, ap, _∙_}
 use mathlib.Core.List.{List, [], _∷_, map, map-map}
 use Prim.Native.Nat.{ℕ, compare, _/_}
-use lib.ListN.{length, getD, length-replicate}
+use lib.ListN.{length, length-replicate}
 use Rattle.definitions.specs.Lists.{Pair, comparePair, countFrom}
 use Rattle.definitions.specs.Vectors.{Vec}
 use Rattle.definitions.specs.Subspace.{Subspace}
 use Rattle.definitions.specs.Orbits.{Row, Orbit}
 use Rattle.definitions.specs.Figures.{Figure, rankOf}
-use Rattle.definitions.specs.Recursion.{Rules, Entry, Answer, Inner, vertexRidge, rowsWithin, shareOf, facetShares}
+use Rattle.definitions.specs.Recursion.{Rules, Entry, Inner, vertexRidge, rowsWithin, shareOf, facetShares}
 use Rattle.definitions.specs.Search.{Share}
-use Rattle.definitions.specs.Faceting.{tableFor}
+use Rattle.definitions.specs.Faceting.{Prepared, tableFor, faceting}
 use Rattle.laws.specs.Lists.{Mem}
-use Rattle.shapes.specs.Answered.{AnsweredCall, answered-call}
+use Rattle.shapes.specs.Answered.{Preparation, answered-call}
 use Rattle.shapes.specs.Edges.{edgeFigure}
 use Rattle.shapes.specs.LowRanks.{inner-rank-two, edgeOf, possible-edges}
 use Rattle.shapes.specs.Calls.{innerPoints}
 use Rattle.shapes.specs.Polygons.{edgeVia}
-use Rattle.shapes.specs.Ridges.{vertices-keyed, edges-keyed, keyTable, table-by-keys}
+use Rattle.shapes.specs.Kept.{endsOf}
+use Rattle.shapes.specs.Ridges.{keyTable, tables-carried, table-by-keys, vertices-keyed, edges-keyed, twice, vertices-twice}
+
+-- the ridges of an orbit's inner answer as pairs of ends, in the set's positions
+unfoldable pub endKeys : Inner → List (List Pair)
+endKeys i = map (map endsOf) (i .answer .possible)
 
 -- ---- rank 3
 
@@ -25,27 +31,40 @@ use Rattle.shapes.specs.Ridges.{vertices-keyed, edges-keyed, keyTable, t
 unfoldable pub vertexKeys : Inner → List (List ℕ)
 vertexKeys i = map (λ (v : ℕ). v ∷ []) (countFrom 0 (length (i .answer .counts)))
 
-module _ (rules : Rules) (plane : Subspace) (points : List Vec) (rows : List Row) (a : Answer) (c : AnsweredCall 0 rules plane points rows a) where
-  pub vertex-ridges : (i : Inner) → Mem i (c .before .inner) → i .answer .possible ≡ map (map vertexRidge) (vertexKeys i)
+module _ (rules : Rules) (plane : Subspace) (points : List Vec) (rows : List Row) (p : Prepared) (made : Preparation 0 rules (faceting 0 rules) plane points rows p) where
+  pub vertex-ridges : (i : Inner) → Mem i (p .inner) → i .answer .possible ≡ map (map vertexRidge) (vertexKeys i)
   unfolding vertexKeys
   vertex-ridges i m =
-      let r = inner-rank-two rules plane points rows a c i m .1 in
+      let r = inner-rank-two rules plane points rows p made i m .1 in
       let n : length (i .answer .counts) ≡ r .ends = ap length (r .counts) ∙ length-replicate (r .ends) (2 / r .ends) in
       r .possible
       ∙ sym (map-map (map vertexRidge) (λ (v : ℕ). v ∷ []) (countFrom 0 (r .ends)))
       ∙ ap (λ (k : ℕ). map (map vertexRidge) (map (λ (v : ℕ). v ∷ []) (countFrom 0 k))) (sym n)
 
   -- the table of a call of rank 3, its ridges numbered by vertices
-  pub rank-three-table : tableFor (c .before) ≡ keyTable compare (λ to v. to v) vertexRidge vertices-keyed (c .before .rows) vertexKeys (c .before .inner)
+  pub rank-three-table : tableFor p ≡ keyTable compare (λ to v. to v) (p .rows) vertexKeys (p .inner)
   unfolding tableFor
-  rank-three-table = table-by-keys compare (λ to v. to v) vertexRidge vertices-keyed (c .before .rows) vertexKeys (c .before .inner) vertex-ridges
+  rank-three-table = table-by-keys compare (λ to v. to v) vertexRidge vertices-keyed (p .rows) vertexKeys (p .inner) vertex-ridges
+
+  -- a vertex is a pair of equal ends
+  pub vertices-as-ends : (i : Inner) → Mem i (p .inner) → endKeys i ≡ map (map twice) (vertexKeys i)
+  unfolding endKeys vertexKeys endsOf rankOf vertexRidge twice
+  vertices-as-ends i m =
+      let ends = countFrom 0 (length (i .answer .counts)) in
+      ap (map (map endsOf)) (vertex-ridges i m ∙ map-map (map vertexRidge) (λ (v : ℕ). v ∷ []) ends)
+      ∙ map-map (map endsOf) (λ (v : ℕ). vertexRidge v ∷ []) ends
+      ∙ sym (map-map (map twice) (λ (v : ℕ). v ∷ []) ends)
+
+  -- numbered by pairs of ends
+  pub rank-three-ends : tableFor p ≡ keyTable comparePair edgeVia (p .rows) endKeys (p .inner)
+  rank-three-ends = rank-three-table ∙ sym (tables-carried compare (λ to v. to v) comparePair edgeVia twice vertices-twice (p .rows) vertexKeys endKeys (p .inner) vertices-as-ends)
 
   -- the shares of an orbit's one facet: those of its ridge rows, one place each
-  pub rank-three-shares : (ridgeCounts : List ℕ) (numbers : List (List ℕ)) (i : Inner) → Mem i (c .before .inner)
+  pub rank-three-shares : (ridgeCounts : List ℕ) (numbers : List (List ℕ)) (i : Inner) → Mem i (p .inner)
       → facetShares ridgeCounts i numbers ≡ map (λ (v : ℕ). shareOf ridgeCounts i numbers (v, 0)) (countFrom 0 (length (i .answer .counts))) ∷ []
   unfolding facetShares
   rank-three-shares ridgeCounts numbers i m =
-      let r = inner-rank-two rules plane points rows a c i m .1 in
+      let r = inner-rank-two rules plane points rows p made i m .1 in
       let n : length (i .answer .counts) ≡ r .ends = ap length (r .counts) ∙ length-replicate (r .ends) (2 / r .ends) in
       let shares : List Pair → List Share = map (shareOf ridgeCounts i numbers) in
       ap (map (λ (e : Entry). shares (e .list))) (r .entries)
@@ -54,28 +73,20 @@ module _ (rules : Rules) (plane : Subspace) (points : List Vec) (rows : List Row
 
 -- ---- rank 4
 
--- the ends of an edge, read off its figure
-unfoldable pub ridgeEnds : Figure → Pair
-ridgeEnds f = (getD (getD (rankOf 2 f) 0 []) 0 0, getD (getD (rankOf 2 f) 0 []) 1 0)
-
--- the ridges of an orbit's inner answer as pairs of ends, in the set's positions
-unfoldable pub edgeKeys : Inner → List (List Pair)
-edgeKeys i = map (map ridgeEnds) (i .answer .possible)
-
-module _ (rules : Rules) (plane : Subspace) (points : List Vec) (rows : List Row) (a : Answer) (c : AnsweredCall 1 rules plane points rows a) where
-  pub edge-ridges : (i : Inner) → Mem i (c .before .inner) → i .answer .possible ≡ map (map edgeFigure) (edgeKeys i)
-  unfolding edgeKeys ridgeEnds rankOf edgeFigure
+module _ (rules : Rules) (plane : Subspace) (points : List Vec) (rows : List Row) (p : Prepared) (made : Preparation 1 rules (faceting 1 rules) plane points rows p) where
+  pub edge-ridges : (i : Inner) → Mem i (p .inner) → i .answer .possible ≡ map (map edgeFigure) (endKeys i)
+  unfolding endKeys endsOf rankOf edgeFigure
   edge-ridges i m =
-      let inner = c .prepared .inner .each i m in
+      let inner = made .inner .each i m in
       let its = answered-call 0 rules _ (innerPoints plane points i) (rowsWithin (i .orbit .vertices) rows) (inner .budget) (i .answer) (inner .is) in
       let orbits = map (λ (j : Inner). j .orbit) (its .before .inner) in
       let e : i .answer .possible ≡ map (λ (o : Orbit). edgeFigure (edgeOf o) ∷ []) orbits = possible-edges rules _ (innerPoints plane points i) (rowsWithin (i .orbit .vertices) rows) (i .answer) its in
       e
       ∙ sym (map-map (map edgeFigure) (λ (o : Orbit). edgeOf o ∷ []) orbits)
-      ∙ ap (map (map edgeFigure)) (sym (map-map (map ridgeEnds) (λ (o : Orbit). edgeFigure (edgeOf o) ∷ []) orbits))
-      ∙ ap (λ (fs : List (List Figure)). map (map edgeFigure) (map (map ridgeEnds) fs)) (sym e)
+      ∙ ap (map (map edgeFigure)) (sym (map-map (map endsOf) (λ (o : Orbit). edgeFigure (edgeOf o) ∷ []) orbits))
+      ∙ ap (λ (fs : List (List Figure)). map (map edgeFigure) (map (map endsOf) fs)) (sym e)
 
   -- the table of a call of rank 4, its ridges numbered by pairs of ends
-  pub rank-four-table : tableFor (c .before) ≡ keyTable comparePair edgeVia edgeFigure edges-keyed (c .before .rows) edgeKeys (c .before .inner)
+  pub rank-four-table : tableFor p ≡ keyTable comparePair edgeVia (p .rows) endKeys (p .inner)
   unfolding tableFor
-  rank-four-table = table-by-keys comparePair edgeVia edgeFigure edges-keyed (c .before .rows) edgeKeys (c .before .inner) edge-ridges
+  rank-four-table = table-by-keys comparePair edgeVia edgeFigure edges-keyed (p .rows) endKeys (p .inner) edge-ridges
