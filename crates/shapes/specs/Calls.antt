@@ -213,39 +213,41 @@ finish-shaped p found sets shaped rows-good = record {
       possible-shaped (p .points) (p .more) (p .inner) sets shaped (r .0) (r .1) f (subst (λ (l : List Figure). Mem f l) (r .2) k);
 }
 
-module _ (more : ℕ) (rules : Rules) (plane : Subspace) (points : List Vec) (rows : List Row) (a : Answer) (given : Given points rows) (c : AnsweredCall more rules plane points rows a) where
-  abbrev before : Prepared
-  before = c .before
+-- what holds of the answers of one rank less
+abbrev Below : ℕ → Rules → Type 0
+Below more rules = (plane : Subspace) (points : List Vec) (rows : List Row) (budget : ℕ) (b : Answer) → Given points rows → faceting more rules plane points rows budget ≡ answered b
+    → ShapedAnswer (length points) more b
 
+-- what a call has before its search
+module _ (more : ℕ) (rules : Rules) (plane : Subspace) (points : List Vec) (rows : List Row) (p : Prepared) (given : Given points rows) (made : Preparation more rules (faceting more rules) plane points rows p) where
   abbrev call : Call
   call = faceting more rules
 
-  -- an answered call's sets and rows
-  pub call-set : (i : Inner) → Mem i (before .inner) → VertexSet (before .points) (i .orbit .vertices)
-  call-set i m = subst (λ (n : ℕ). VertexSet n (i .orbit .vertices)) (sym (c .prepared .points-are)) (inner-set more rules call plane points rows before (c .prepared) i m)
+  -- its sets and rows
+  pub call-set : (i : Inner) → Mem i (p .inner) → VertexSet (p .points) (i .orbit .vertices)
+  call-set i m = subst (λ (n : ℕ). VertexSet n (i .orbit .vertices)) (sym (made .points-are)) (inner-set more rules call plane points rows p made i m)
 
-  pub call-row : (row : Row) → Mem row (before .rows) → Permutes (before .points) row
-  call-row row m = subst (λ (n : ℕ). Permutes n row) (sym (c .prepared .points-are)) (given .rows-good .permute row (subst (λ (l : List Row). Mem row l) (c .prepared .rows-are) m))
+  pub call-row : (row : Row) → Mem row (p .rows) → Permutes (p .points) row
+  call-row row m = subst (λ (n : ℕ). Permutes n row) (sym (made .points-are)) (given .rows-good .permute row (subst (λ (l : List Row). Mem row l) (made .rows-are) m))
 
-  -- what holds of the answers of one rank less
-  abbrev Below : Type 0
-  Below = (plane : Subspace) (points : List Vec) (rows : List Row) (budget : ℕ) (b : Answer) → Given points rows → faceting more rules plane points rows budget ≡ answered b
-      → ShapedAnswer (length points) more b
-
-  call-shaped : Below → (i : Inner) → Mem i (before .inner) → ShapedAnswer (length (i .orbit .vertices)) (before .more) (i .answer)
+  call-shaped : Below more rules → (i : Inner) → Mem i (p .inner) → ShapedAnswer (length (i .orbit .vertices)) (p .more) (i .answer)
   call-shaped ih i m =
-      let inner = c .prepared .inner .each i m in
+      let inner = made .inner .each i m in
       let its = innerPoints plane points i in
-      let r = ih _ its (rowsWithin (i .orbit .vertices) rows) (inner .budget) (i .answer) (inner-given more rules call plane points rows before (c .prepared) (given .rows-good) i m) (inner .is) in
-      subst (λ (n : ℕ). ShapedAnswer n (before .more) (i .answer)) (inner-size more rules call plane points rows before (c .prepared) i)
-      (subst (λ (k : ℕ). ShapedAnswer (length its) k (i .answer)) (sym (c .prepared .more-is)) r)
+      let r = ih _ its (rowsWithin (i .orbit .vertices) rows) (inner .budget) (i .answer) (inner-given more rules call plane points rows p made (given .rows-good) i m) (inner .is) in
+      subst (λ (n : ℕ). ShapedAnswer n (p .more) (i .answer)) (inner-size more rules call plane points rows p made i)
+      (subst (λ (k : ℕ). ShapedAnswer (length its) k (i .answer)) (sym (made .more-is)) r)
 
-  step : Below → ShapedAnswer (length points) (suc more) a
-  step ih =
-      let whole : ShapedAnswer (before .points) (suc (before .more)) (finish before (c .found)) = finish-shaped before (c .found) call-set (call-shaped ih) call-row in
-      let at-points = subst (λ (n : ℕ). ShapedAnswer n (suc (before .more)) (finish before (c .found))) (c .prepared .points-are) whole in
-      let at-rank = subst (λ (k : ℕ). ShapedAnswer (length points) (suc k) (finish before (c .found))) (c .prepared .more-is) at-points in
-      subst (ShapedAnswer (length points) (suc more)) (sym (c .is)) at-rank
+step : (more : ℕ) (rules : Rules) (plane : Subspace) (points : List Vec) (rows : List Row) (a : Answer) → Given points rows → AnsweredCall more rules plane points rows a → Below more rules
+    → ShapedAnswer (length points) (suc more) a
+step more rules plane points rows a given c ih =
+    let p = c .before in
+    let made = c .prepared in
+    let whole : ShapedAnswer (p .points) (suc (p .more)) (finish p (c .found)) =
+    finish-shaped p (c .found) (call-set more rules plane points rows p given made) (call-shaped more rules plane points rows p given made ih) (call-row more rules plane points rows p given made) in
+    let at-points = subst (λ (n : ℕ). ShapedAnswer n (suc (p .more)) (finish p (c .found))) (made .points-are) whole in
+    let at-rank = subst (λ (k : ℕ). ShapedAnswer (length points) (suc k) (finish p (c .found))) (made .more-is) at-points in
+    subst (ShapedAnswer (length points) (suc more)) (sym (c .is)) at-rank
 
 pub shaped-answer : (more : ℕ) (rules : Rules) (plane : Subspace) (points : List Vec) (rows : List Row) (budget : ℕ) (a : Answer) → Given points rows
     → faceting more rules plane points rows budget ≡ answered a → ShapedAnswer (length points) more a
@@ -254,22 +256,21 @@ shaped-answer (suc more) rules plane points rows budget a given e = step more ru
 
 -- ---- the set of an entry's facets decides its figure
 
-module _ (more : ℕ) (rules : Rules) (plane : Subspace) (points : List Vec) (rows : List Row) (a : Answer) (given : Given points rows) (c : AnsweredCall more rules plane points rows a) where
+module _ (more : ℕ) (rules : Rules) (plane : Subspace) (points : List Vec) (rows : List Row) (p : Prepared) (given : Given points rows) (made : Preparation more rules (faceting more rules) plane points rows p) where
   -- the figures of an inner answer
-  pub inner-shaped : (i : Inner) → Mem i (c .before .inner) → ShapedAnswer (length (i .orbit .vertices)) (c .before .more) (i .answer)
-  inner-shaped = call-shaped more rules plane points rows a given c (shaped-answer more rules)
+  pub inner-shaped : (i : Inner) → Mem i (p .inner) → ShapedAnswer (length (i .orbit .vertices)) (p .more) (i .answer)
+  inner-shaped = call-shaped more rules plane points rows p given made (shaped-answer more rules)
 
   -- all row images of any facets stand over the call's points
-  pub call-stacked : (list : List Facet) → Stacked (c .before .points) (flatMap (facetImages (c .before)) list)
+  pub call-stacked : (list : List Facet) → Stacked (p .points) (flatMap (facetImages p) list)
   call-stacked =
-      images-stacked (c .before) (call-set more rules plane points rows a given c) inner-shaped
-      (call-row more rules plane points rows a given c)
+      images-stacked p (call-set more rules plane points rows p given made) inner-shaped
+      (call-row more rules plane points rows p given made)
 
   -- two lists whose split lists have the same facets, in whatever order and however often, have the same figure
-  pub figure-decided : (k l : List Facet) → SameItems (split (c .before) k) (split (c .before) l) → entryOf (c .before) k .figure ≡ entryOf (c .before) l .figure
+  pub figure-decided : (k l : List Facet) → SameItems (split p k) (split p l) → entryOf p k .figure ≡ entryOf p l .figure
   unfolding entryOf
   figure-decided k l same =
-      let p = c .before in
       figure-same (p .points) (p .more) (flatMap (facetImages p) (split p k)) (flatMap (facetImages p) (split p l))
       (call-stacked (split p k))
       (same-flatMap (facetImages p) (split p k) (split p l) same)

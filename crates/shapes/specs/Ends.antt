@@ -130,4 +130,4 @@ ends-answer (suc more) rules plane points rows budget a given q e m =
     ends-answer more rules _ (innerPoints plane points i) (rowsWithin (i .orbit .vertices) rows) (its .budget) (i .answer)
     (inner-given more rules (faceting more rules) plane points rows p (c .prepared) (given .rows-good) i k) (its .is) in
     subst (λ (x : Entry). TwoEnds (x .figure)) (sym (r .2))
-    (two-ends-figure (p .points) (p .more) (flatMap (facetImages p) list) (call-stacked more rules plane points rows a given c list) (facet-ends p inner list))
+    (two-ends-figure (p .points) (p .more) (flatMap (facetImages p) list) (call-stacked more rules plane points rows p given (c .prepared) list) (facet-ends p inner list))

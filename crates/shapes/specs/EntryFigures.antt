@@ -10,14 +10,15 @@ use Rattle.definitions.specs.Vectors.{Vec}
 use Rattle.definitions.specs.Subspace.{Subspace}
 use Rattle.definitions.specs.Orbits.{Row, image, pairImage}
 use Rattle.definitions.specs.Figures.{Figure, rankOf, moveEnds, figureOf}
-use Rattle.definitions.specs.Search.{Facet}
+use Rattle.definitions.specs.Outcome.{answered}
+use Rattle.definitions.specs.Search.{Facet, Found}
 use Rattle.definitions.specs.Recursion.{Rules, Entry, Answer, Inner, moveSorted, rowsWithin}
-use Rattle.definitions.specs.Faceting.{Prepared, possibleFacets, atOrbit, split, facetImages, entryOf, faceting}
+use Rattle.definitions.specs.Faceting.{Prepared, possibleFacets, atOrbit, split, facetImages, entryOf, searchFrom, faceting}
 use Rattle.laws.specs.Lists.{Mem, of-map, of-flatMap, member-at, flatMap-same}
 use Rattle.laws.specs.Orders.{nats, pairs, compare-lt}
 use Rattle.laws.specs.Ascending.{in-order-ascends, of-in-order}
 use Rattle.laws.specs.Places.{ascending-at, map-same, map-self, map-flatMap, flatMap-map}
-use Rattle.shapes.specs.Answered.{facetNumber, AnsweredCall, answered-call}
+use Rattle.shapes.specs.Answered.{facetNumber, Preparation, AnsweredCall, answered-call}
 use Rattle.shapes.specs.Emitted.{found-facet}
 use Rattle.shapes.specs.Edges.{edgeFigure, edge-moved}
 use Rattle.shapes.specs.LowRanks.{innerAt, inner-at-member, at-orbit, facet-orbit, edgeOf, one-edge, found-first, found-unsplit, entry-list}
@@ -29,24 +30,22 @@ use Rattle.shapes.specs.SplitCalls.{InCall, SplitAnswer, split-answer, s
 
 -- ---- what every call from rank 3 has
 
-module _ (more : ℕ) (rules : Rules) (plane : Subspace) (points : List Vec) (rows : List Row) (a : Answer) (given : Given points rows) (c : AnsweredCall more rules plane points rows a) where
-  abbrev before : Prepared
-  before = c .before
-
-  call-split : (i : Inner) → Mem i (before .inner) → SplitAnswer (i .answer)
-  call-split i m = let inner = c .prepared .inner .each i m in split-answer more rules _ _ _ (inner .budget) (i .answer) (inner .is)
+module _ (more : ℕ) (rules : Rules) (plane : Subspace) (points : List Vec) (rows : List Row) (before : Prepared) (given : Given points rows)
+    (made : Preparation more rules (faceting more rules) plane points rows before) where
+  pub call-split : (i : Inner) → Mem i (before .inner) → SplitAnswer (i .answer)
+  call-split i m = let inner = made .inner .each i m in split-answer more rules _ _ _ (inner .budget) (i .answer) (inner .is)
 
   -- the split list of a list found has facets of the call alone
-  pub found-split-in-call : (l : List Facet) → Mem l (c .found .lists) → (f : Facet) → Mem f (split before l) → InCall before f
-  found-split-in-call l m = split-in-call before call-split l (found-facet rules before (c .found) (c .is-found) l m)
+  pub found-split-in-call : (found : Found) → searchFrom rules before ≡ answered found → (l : List Facet) → Mem l (found .lists) → (f : Facet) → Mem f (split before l) → InCall before f
+  found-split-in-call found is-found l m = split-in-call before call-split l (found-facet rules before found is-found l m)
 
   -- the edge between the first two vertices of a set
   pub edge-proper : (i : Inner) → Mem i (before .inner) → Proper (before .points) (edgeOf (i .orbit))
   unfolding edgeOf
   edge-proper i m =
       let vertices = i .orbit .vertices in
-      let k = inner-enough more rules (faceting more rules) plane points rows before (c .prepared) i m in
-      let s = call-set more rules plane points rows a given c i m in
+      let k = inner-enough more rules (faceting more rules) plane points rows before made i m in
+      let s = call-set more rules plane points rows before given made i m in
       record {
         rises = compare-lt (getD vertices 0 0) (getD vertices 1 0) (ascending-at _ nats 0 vertices (s .ascends) 0 1 (omega arith) (omega arith));
         below = s .below (getD vertices 1 0) (member-at vertices 1 0 (omega arith));
@@ -87,8 +86,8 @@ module _ (rules : Rules) (plane : Subspace) (points : List Vec) (rows : List Row
       let q = of-map (pairImage (edgeOf (own .orbit))) e (p .rows) (r .2) in
       let inside = inner-at-member (p .inner) (r .0 .0) (found-first rules plane points rows a c l m (r .0) (r .1) .0) in
       subst (Proper (p .points)) (sym (q .2))
-      (via-proper (p .points) (p .points) (image (q .0)) (row-into (p .points) (q .0) (call-row 0 rules plane points rows a given c (q .0) (q .1))) (edgeOf (own .orbit))
-      (edge-proper 0 rules plane points rows a given c own inside))
+      (via-proper (p .points) (p .points) (image (q .0)) (row-into (p .points) (q .0) (call-row 0 rules plane points rows p given (c .prepared) (q .0) (q .1))) (edgeOf (own .orbit))
+      (edge-proper 0 rules plane points rows p given (c .prepared) own inside))
 
   -- the figure of a list found: its edges are all row images of its facets' edges
   pub rank-three-figure : (l : List Facet) → Mem l (c .found .lists) → entryOf p l .figure ≡ polygon (p .points) (edgesOfList p l)
@@ -142,18 +141,15 @@ pub facets-many : (i : Inner) → length (possibleFacets i) ≡ facetNumber i
 unfolding possibleFacets
 facets-many i = length-map (i .answer .entries) (λ (x : Entry). moveEnds (λ (v : ℕ). getD (i .orbit .vertices) v 0) (x .figure))
 
-module _ (rules : Rules) (plane : Subspace) (points : List Vec) (rows : List Row) (a : Answer) (given : Given points rows) (c : AnsweredCall 1 rules plane points rows a) where
-  abbrev q : Prepared
-  q = c .before
-
+module _ (rules : Rules) (plane : Subspace) (points : List Vec) (rows : List Row) (q : Prepared) (given : Given points rows) (made : Preparation 1 rules (faceting 1 rules) plane points rows q) where
   inner-polygon : (i : Inner) → Mem i (q .inner) → (e : Entry) → Mem e (i .answer .entries) → (edges : List Pair) × (e .figure ≡ polygon (length (i .orbit .vertices)) edges) × EdgeSet (length (i .orbit .vertices)) edges
   inner-polygon i m e k =
       let call = faceting 1 rules in
-      let inner = c .prepared .inner .each i m in
+      let inner = made .inner .each i m in
       let its = innerPoints plane points i in
       let within = rowsWithin (i .orbit .vertices) rows in
-      let size = inner-size 1 rules call plane points rows q (c .prepared) i in
-      let r = entry-polygon rules _ its within (i .answer) (inner-given 1 rules call plane points rows q (c .prepared) (given .rows-good) i m)
+      let size = inner-size 1 rules call plane points rows q made i in
+      let r = entry-polygon rules _ its within (i .answer) (inner-given 1 rules call plane points rows q made (given .rows-good) i m)
       (answered-call 0 rules _ its within (inner .budget) (i .answer) (inner .is)) e k in
       (r .0, r .1 ∙ ap (λ (n : ℕ). polygon n (r .0)) size, subst (λ (n : ℕ). EdgeSet n (r .0)) size (r .2))
 
@@ -168,7 +164,7 @@ module _ (rules : Rules) (plane : Subspace) (points : List Vec) (rows : List Row
         length vertices,
         map (endsVia to) (e .0),
         r .2 ∙ ap (moveEnds to) (e .1) ∙ polygon-raised to (length vertices) (e .0),
-        raised-edges (length vertices) (q .points) to (set-rising (q .points) vertices (call-set 1 rules plane points rows a given c i m)) (e .0) (e .2),
+        raised-edges (length vertices) (q .points) to (set-rising (q .points) vertices (call-set 1 rules plane points rows q given made i m)) (e .0) (e .2),
       )
 
   facet-polygon : (f : Facet) → InCall q f → IsPolygon (q .points) (facetFigure q f)
@@ -210,7 +206,7 @@ module _ (rules : Rules) (plane : Subspace) (points : List Vec) (rows : List Row
       let size : k ≡ r .0 = ap (λ (g : Figure). length (rankOf 1 g)) (r .2) ∙ polygon-points (r .0) (r .1) in
       let one : (row : Row) → Mem row (q .rows) → moveSorted (image row) figure ≡ polygonOf (k, image-of row) = λ row m.
       ap (moveSorted (image row)) (r .2)
-      ∙ polygon-moved (q .points) (q .points) (image row) (row-into (q .points) row (call-row 1 rules plane points rows a given c row m)) (r .0) (r .1) (r .3)
+      ∙ polygon-moved (q .points) (q .points) (image row) (row-into (q .points) row (call-row 1 rules plane points rows q given made row m)) (r .0) (r .1) (r .3)
       ∙ ap (λ (n : ℕ). polygon n (edgesInOrder (map (edgeVia (image row)) (r .1)))) (sym size)
       ∙ ap (λ (l : List Pair). polygon k (edgesInOrder (map (edgeVia (image row)) l))) (sym same) in
       map-same (λ (row : Row). moveSorted (image row) figure) (λ (row : Row). polygonOf (k, image-of row)) (q .rows) one
@@ -228,18 +224,18 @@ module _ (rules : Rules) (plane : Subspace) (points : List Vec) (rows : List Row
       let s = of-map (λ (l : List Pair). (k, l)) x (polygonImages q f) m in
       let t = of-map (λ (row : Row). edgesInOrder (map (λ (e : Pair). pairImage e row) edges)) (s .0) (q .rows) (s .1) in
       subst (EdgeSet (q .points)) (sym (ap (λ (y : Sized). y .1) (s .2) ∙ t .2))
-      (moved-edges (q .points) (q .points) (image (t .0)) (row-into (q .points) (t .0) (call-row 1 rules plane points rows a given c (t .0) (t .1))) edges good)
+      (moved-edges (q .points) (q .points) (image (t .0)) (row-into (q .points) (t .0) (call-row 1 rules plane points rows q given made (t .0) (t .1))) edges good)
 
   unsized : (f : Facet) → map (λ (x : Sized). x .1) (sizedImages f) ≡ polygonImages q f
   unfolding sizedImages
   unsized f = map-map (λ (x : Sized). x .1) (λ (l : List Pair). (length (rankOf 1 (facetFigure q f)), l)) (polygonImages q f) ∙ map-self (λ (l : List Pair). l) (polygonImages q f) (λ l i. refl)
 
   -- the figure of a list found: its edges are all row images of its split facets' edges, its polygons all row images of their edge sets, in order
-  pub rank-four-figure : (l : List Facet) → Mem l (c .found .lists) → entryOf q l .figure ≡ polyhedron (q .points) (edgesInOrder (flatMap (λ (s : List Pair). s) (polygonsOfList q l))) (polygonsInOrder (polygonsOfList q l))
+  pub rank-four-figure : (found : Found) → searchFrom rules q ≡ answered found → (l : List Facet) → Mem l (found .lists) → entryOf q l .figure ≡ polyhedron (q .points) (edgesInOrder (flatMap (λ (s : List Pair). s) (polygonsOfList q l))) (polygonsInOrder (polygonsOfList q l))
   unfolding entryOf polygonsOfList
-  rank-four-figure l m =
+  rank-four-figure found is-found l m =
       let parts = split q l in
-      let inside = found-split-in-call 1 rules plane points rows a given c l m in
+      let inside = found-split-in-call 1 rules plane points rows q given made found is-found l m in
       let xs = flatMap sizedImages parts in
       let images : flatMap (facetImages q) parts ≡ map polygonOf xs =
       flatMap-same (facetImages q) (λ (f : Facet). map polygonOf (sizedImages f)) parts (λ f i. facet-images-polygons f (inside f i)) ∙ sym (map-flatMap polygonOf sizedImages parts) in
@@ -248,6 +244,6 @@ module _ (rules : Rules) (plane : Subspace) (points : List Vec) (rows : List Row
       let all : flatMap (λ (x : Sized). x .1) xs ≡ flatMap (λ (s : List Pair). s) (flatMap (polygonImages q) parts) =
       sym (flatMap-map (λ (s : List Pair). s) (λ (x : Sized). x .1) xs) ∙ ap (flatMap (λ (s : List Pair). s)) sets in
       ap (λ (fs : List Figure). figureOf (q .more) (q .points) fs) images
-      ∙ ap (λ (more : ℕ). figureOf more (q .points) (map polygonOf xs)) (c .prepared .more-is)
+      ∙ ap (λ (more : ℕ). figureOf more (q .points) (map polygonOf xs)) (made .more-is)
       ∙ figure-of-polygons (q .points) xs (λ x i. let r = of-flatMap sizedImages x parts i in sized-edges (r .0) (inside (r .0) (r .1)) x (r .2))
       ∙ (λ t. polyhedron (q .points) (edgesInOrder (all t)) (polygonsInOrder (sets t)))

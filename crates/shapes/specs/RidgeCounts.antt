@@ -14,12 +14,13 @@ use Rattle.definitions.specs.Vectors.{Vec}
 use Rattle.definitions.specs.Subspace.{Subspace}
 use Rattle.definitions.specs.Orbits.{Row, image}
 use Rattle.definitions.specs.Figures.{Figure, Elements, compareFigures, moveEnds, sortStrong}
-use Rattle.definitions.specs.Recursion.{Rules, Answer, Inner, Held, RidgeOrbits, noRidges, heldBy, moveSorted, openRidgeOrbit, numberOrOpen, numberRidge, numberRidges}
+use Rattle.definitions.specs.Recursion.{Rules, Inner, Held, RidgeOrbits, noRidges, heldBy, moveSorted, openRidgeOrbit, numberOrOpen, numberRidge, numberRidges}
+use Rattle.definitions.specs.Faceting.{Prepared, faceting}
 use Rattle.laws.specs.Lists.{Mem, here, there, in-append, in-map, of-map, count-at}
 use Rattle.laws.specs.Ascending.{equal-tested, in-fresh}
 use Rattle.laws.specs.Places.{map-self}
 use Rattle.laws.specs.Ranges.{fresh-few}
-use Rattle.shapes.specs.Answered.{AnsweredCall}
+use Rattle.shapes.specs.Answered.{Preparation}
 use Rattle.shapes.specs.Edges.{figures}
 use Rattle.shapes.specs.Compounds.{some-equal, none-is-not-some}
 use Rattle.shapes.specs.Shape.{Tower, Shaped, sort-same}
@@ -196,18 +197,18 @@ module _ (n : ℕ) (rows : List Row) (identity : Mem (countFrom 0 n) rows) where
       (λ k m l w a x j y z. below-wider k m y w (a x j y z)) orbit-steps noRidges inner (record { numbered = λ h m. elim m [ ]; counted = λ c m. elim m [ ] }) stay in
       record { numbers = ends .2; counts = ends .0 .counted }
 
--- the ridges of an answered call
-pub call-ridges : (more : ℕ) (rules : Rules) (plane : Subspace) (points : List Vec) (rows : List Row) (a : Answer) → Given points rows → (c : AnsweredCall more rules plane points rows a)
-    → RidgesCounted (c .before .rows) (c .before .inner)
-call-ridges more rules plane points rows a given c =
-    let p = c .before in
+-- the ridges of a call, from what it has before its search
+pub call-ridges : (more : ℕ) (rules : Rules) (plane : Subspace) (points : List Vec) (rows : List Row) (p : Prepared) → Given points rows
+    → Preparation more rules (faceting more rules) plane points rows p → RidgesCounted (p .rows) (p .inner)
+call-ridges more rules plane points rows p given made =
     let n = p .points in
     let identity : Mem (countFrom 0 n) (p .rows) =
-    subst (λ (l : List Row). Mem (countFrom 0 n) l) (sym (c .prepared .rows-are))
-    (subst (λ (k : ℕ). Mem (countFrom 0 k) rows) (sym (c .prepared .points-are)) (subst (λ (l : List Row). Mem (countFrom 0 (length points)) l) (sym (given .rows-good .identity)) (here refl))) in
+    subst (λ (l : List Row). Mem (countFrom 0 n) l) (sym (made .rows-are))
+    (subst (λ (k : ℕ). Mem (countFrom 0 k) rows) (sym (made .points-are)) (subst (λ (l : List Row). Mem (countFrom 0 (length points)) l) (sym (given .rows-good .identity)) (here refl))) in
     ridges-counted n (p .rows) identity (p .inner) (λ i m fs k f j.
     let vertices = i .orbit .vertices in
     let to : ℕ → ℕ = λ v. getD vertices v 0 in
     let rank = facetRank (p .more) in
-    let s = inner-shaped more rules plane points rows a given c i m .possible fs k f j in
-    identity-moves n rank (moveSorted to f) (moved-shaped (length vertices) n rank to (raised-into (length vertices) n to (set-rising n vertices (call-set more rules plane points rows a given c i m))) f s))
+    let s = inner-shaped more rules plane points rows p given made i m .possible fs k f j in
+    identity-moves n rank (moveSorted to f)
+    (moved-shaped (length vertices) n rank to (raised-into (length vertices) n to (set-rising n vertices (call-set more rules plane points rows p given made i m))) f s))
