@@ -29,3 +29,4 @@ pub mod KeyMarks
 pub mod AllPairs
 pub mod Kept
 pub mod KeptTable
+pub mod FewOrbits
