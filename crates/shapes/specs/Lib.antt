@@ -30,3 +30,5 @@ pub mod AllPairs
 pub mod Kept
 pub mod KeptTable
 pub mod FewOrbits
+pub mod KeptSizes
+pub mod KeptRidges

@@ -1,0 +1,162 @@
+-- The ridge orbits that a call of rank 3 or 4 numbers: each number is one of a ridge orbit, each count is from 1 to the number of rows, and there are no more ridge orbits than keys. From what
+-- the call has before its search alone. Leans on KeptSizes, KeyMarks and RidgeCounts.
+use mathlib.Core.Path.{_≡_, refl, sym, ap, _∙_, subst}
+use mathlib.Core.Logic.{_⊎_, inl, inr}
+use mathlib.Core.Option.{Option, some, none}
+use mathlib.Core.List.{List, [], _∷_, _++_, map, List·Memᴰ, map-map, map-append}
+use Prim.Native.Nat.{ℕ, zero, suc, _+_, _*_, _≤_, _<_, min, max, compare, Ordering}
+use native.Mathlib.Omega.{arith}
+use lib.ListN.{length, getD, length-map, length-append}
+use Rattle.definitions.specs.Lists.{Pair, comparePair, countFrom, fresh, mapWith}
+use Rattle.definitions.specs.Vectors.{Vec}
+use Rattle.definitions.specs.Subspace.{Subspace}
+use Rattle.definitions.specs.Orbits.{Row, image}
+use Rattle.definitions.specs.Figures.{compareFigures}
+use Rattle.definitions.specs.Recursion.{Rules, Inner, RidgeOrbits, noRidges, moveSorted, numberRidges}
+use Rattle.definitions.specs.Faceting.{Prepared, faceting}
+use Rattle.laws.specs.Lists.{Mem, here, there, in-append, in-map, of-map, in-count, of-count, count-at, count-length}
+use Rattle.laws.specs.Orders.{Linear, pairs}
+use Rattle.laws.specs.Ascending.{Distinct, of-fresh, in-fresh}
+use Rattle.laws.specs.Places.{map-self}
+use Rattle.laws.specs.Ranges.{Permutes, distinct-within}
+use Rattle.shapes.specs.Answered.{Preparation}
+use Rattle.shapes.specs.Sets.{Rows, row-into}
+use Rattle.shapes.specs.Calls.{Given}
+use Rattle.shapes.specs.AllPairs.{allPairs, in-all-pairs, of-all-pairs, all-pairs-ascend}
+use Rattle.shapes.specs.Polygons.{edgeVia, via-proper}
+use Rattle.shapes.specs.Sizes.{edges-few, Counted}
+use Rattle.shapes.specs.FewOrbits.{pairs-few}
+use Rattle.shapes.specs.Ridges.{KnownKeys, noKeys, keyHeldBy, openKeyOrbit, numberOrOpenKey, numberKeys, twice, vertices-twice}
+use Rattle.shapes.specs.RidgeCalls.{endKeys}
+use Rattle.shapes.specs.RidgeCounts.{RidgesCounted, call-ridges}
+use Rattle.shapes.specs.KeyMarks.{held-marked, held-once}
+use Rattle.shapes.specs.Kept.{Kept, keptOf, numberEnds, numbersKept}
+use Rattle.shapes.specs.KeptTable.{OneRidge, kept-numbers, inner-one-ridge}
+use Rattle.shapes.specs.KeptSizes.{ridgeKeys, keys-below, KeptSized, kept-sized}
+
+-- ---- a state that stays good
+
+module _ {A B S : Type 0} (f : S → A → B × S) (Good : S → Type 0) (Fits : A → Type 0) (one : (s : S) (x : A) → Good s → Fits x → Good (f s x .1)) where
+  map-with-good : (s : S) (l : List A) → Good s → ((x : A) → Mem x l → Fits x) → Good (mapWith f s l .1)
+  unfolding mapWith
+  map-with-good s [] good fits = good
+  map-with-good s (x ∷ l) good fits = map-with-good (f s x .1) l (one s x good (fits x (here refl))) (λ y m. fits y (there m))
+
+-- ---- no more ridge orbits than keys
+
+module _ {K : Type 0} (c : K → K → Ordering) (order : Linear c) (send : (ℕ → ℕ) → K → K) (rows : List Row) (all : List K) where
+  abbrev keysIn : KnownKeys K → List K
+  keysIn known = map (λ (h : K × ℕ). h .0) (known .held)
+
+  -- no key is held twice, only such keys are, and each ridge orbit holds one at least
+  pub record KeysGood (known : KnownKeys K) : Type 0 where
+    pub once : Distinct (keysIn known)
+    pub inside : (x : K) → Mem x (keysIn known) → Mem x all
+    pub many : length (known .counts) ≤ length (known .held)
+
+  pub keys-few : (known : KnownKeys K) → KeysGood known → length (known .counts) ≤ length all
+  keys-few known good =
+      let a = good .many in
+      let b = length-map (known .held) (λ (h : K × ℕ). h .0) in
+      let d = distinct-within (keysIn known) all (good .once) (good .inside) in
+      omega arith
+
+  no-keys-good : KeysGood (noKeys K)
+  unfolding noKeys
+  no-keys-good = record { once = tt; inside = λ x m. elim m [ ]; many = omega arith }
+
+  -- rows send such keys to such keys, and one of them leaves each as it is
+  module _ (closed : (row : Row) → Mem row rows → (k : K) → Mem k all → Mem (send (image row) k) all) (identity : Row) (is-row : Mem identity rows)
+      (stays : (k : K) → Mem k all → send (image identity) k ≡ k) where
+    open-good : (known : KnownKeys K) (k : K) → KeysGood known → Mem k all → keyHeldBy c send k (known .held) ≡ none → KeysGood (openKeyOrbit c send rows known k)
+    unfolding openKeyOrbit
+    open-good known k good is-key new =
+        let seen = keysIn known in
+        let images = map (λ (row : Row). send (image row) k) rows in
+        let joining = fresh c seen images in
+        let number = length (known .counts) in
+        let hold : K → K × ℕ = λ x. (x, number) in
+        let front : map (λ (h : K × ℕ). h .0) (map hold joining) ≡ joining = map-map (λ (h : K × ℕ). h .0) hold joining ∙ map-self (λ (x : K). x) joining (λ x m. refl) in
+        let whole : map (λ (h : K × ℕ). h .0) (map hold joining ++ known .held) ≡ joining ++ seen =
+        map-append (λ (h : K × ℕ). h .0) (map hold joining) (known .held) ∙ ap (λ (l : List K). l ++ seen) front in
+        let own : Mem k images = subst (λ (x : K). Mem x images) (stays k is-key) (in-map (λ (row : Row). send (image row) k) identity rows is-row) in
+        let joins : Mem k joining = in-fresh c order seen images k own (held-marked c order send k (known .held) new) in
+        let one = some-of joining k joins in
+        let a = length-append (map hold joining) (known .held) in
+        let b = length-map joining hold in
+        let d = length-append (known .counts) (length joining ∷ []) in
+        let e = good .many in
+        record {
+          once = held-once c order send rows known k (good .once);
+          inside = λ x m. either x joining (λ y j. image-inside y (of-map (λ (row : Row). send (image row) k) y rows (of-fresh c order seen images y j .0))) (in-append x joining seen (subst (λ (l : List K). Mem x l) whole m));
+          many = omega arith;
+        }
+      where
+        some-of : (l : List K) (x : K) → Mem x l → 1 ≤ length l
+        some-of [] x m = elim m [ ]
+        some-of (y ∷ l) x m = omega arith
+
+        image-inside : (y : K) → (row : Row) × Mem row rows × (y ≡ send (image row) k) → Mem y all
+        image-inside y r = subst (λ (x : K). Mem x all) (sym (r .2)) (closed (r .0) (r .1) k is-key)
+
+        either : (x : K) (joining : List K) → ((y : K) → Mem y joining → Mem y all) → Mem x joining ⊎ Mem x (keysIn known) → Mem x all
+        either x joining h (inl m) = h x m
+        either x joining h (inr m) = good .inside x m
+
+    pub number-good : (known : KnownKeys K) (k : K) → KeysGood known → Mem k all → KeysGood (numberOrOpenKey c send rows known k (keyHeldBy c send k (known .held)) .1)
+    unfolding numberOrOpenKey
+    number-good known k good is-key = go (keyHeldBy c send k (known .held)) refl
+      where
+        go : (o : Option ℕ) → keyHeldBy c send k (known .held) ≡ o → KeysGood (numberOrOpenKey c send rows known k o .1)
+        go (some number) e = good
+        go none e = open-good known k good is-key e
+
+-- ---- the keys of a call
+
+keys-closed : (more n : ℕ) (row : Row) → Permutes n row → (e : Pair) → Mem e (ridgeKeys more n) → Mem (edgeVia (image row) e) (ridgeKeys more n)
+unfolding ridgeKeys
+keys-closed zero n row p e m =
+    let r = of-map twice e (countFrom 0 n) m in
+    let k = of-count 0 n (r .0) (r .1) .1 in
+    let v = image row (r .0) in
+    let below : v < n = row-into n row p .below (r .0) (omega arith) in
+    subst (λ (x : Pair). Mem x (map twice (countFrom 0 n))) (sym (ap (edgeVia (image row)) (r .2) ∙ vertices-twice .moved (image row) (r .0)))
+    (in-map twice v (countFrom 0 n) (in-count 0 n v (omega arith) (omega arith)))
+keys-closed (suc more) n row p e m = in-all-pairs n (edgeVia (image row) e) (via-proper n n (image row) (row-into n row p) e (of-all-pairs n e m))
+
+keys-stay : (more n : ℕ) (e : Pair) → Mem e (ridgeKeys more n) → edgeVia (image (countFrom 0 n)) e ≡ e
+unfolding edgeVia image
+keys-stay more n e m =
+    let r = keys-below more n e m in
+    let a = r .0 in
+    let b = r .1 in
+    let first = count-at 0 n (e .0) 0 (omega arith) in
+    let second = count-at 0 n (e .1) 0 (omega arith) in
+    let low : min (getD (countFrom 0 n) (e .0) 0) (getD (countFrom 0 n) (e .1) 0) ≡ e .0 = omega arith in
+    let high : max (getD (countFrom 0 n) (e .0) 0) (getD (countFrom 0 n) (e .1) 0) ≡ e .1 = omega arith in
+    λ t. (low t, high t)
+
+-- n at rank 3, n (n − 1) / 2 at rank 4
+pub keys-vertices : (n : ℕ) → length (ridgeKeys 0 n) ≡ n
+unfolding ridgeKeys
+keys-vertices n = length-map (countFrom 0 n) twice ∙ count-length 0 n
+
+pub keys-pairs : (more n : ℕ) → 2 * length (ridgeKeys (suc more) n) + n ≤ n * n
+unfolding ridgeKeys
+keys-pairs more n = edges-few n (allPairs n) (record { ascends = all-pairs-ascend n; proper = of-all-pairs n })
+
+-- rows that are permutations, the identity first, number such keys into no more ridge orbits than there are keys
+pub ridges-few : (more n : ℕ) (rows : List Row) (kept : List Kept) → Rows n rows → ((k : Kept) → Mem k kept → (e : Pair) → Mem e (k .ends) → Mem e (ridgeKeys more n))
+    → length (numbersKept rows kept .1 .counts) ≤ length (ridgeKeys more n)
+unfolding numbersKept numberEnds
+ridges-few more n rows kept good keys =
+    let all = ridgeKeys more n in
+    let Good = KeysGood comparePair pairs edgeVia rows all in
+    let identity = countFrom 0 n in
+    let is-row : Mem identity rows = subst (λ (l : List Row). Mem identity l) (sym (good .identity)) (here refl) in
+    let one = number-good comparePair pairs edgeVia rows all (λ row m e k. keys-closed more n row (good .permute row m) e k) identity is-row (keys-stay more n) in
+    keys-few comparePair pairs edgeVia rows all (numbersKept rows kept .1)
+    (map-with-good (mapWith (numberEnds rows)) Good (λ (ends : List Pair). (e : Pair) → Mem e ends → Mem e all)
+    (λ s ends h k. map-with-good (numberEnds rows) Good (λ (e : Pair). Mem e all) (λ t e g m. one t e g m) s ends h k) (noKeys Pair) (map (λ (k : Kept). k .ends) kept)
+    (no-keys-good comparePair pairs edgeVia rows all)
+    (λ ends m e j. let r = of-map (λ (k : Kept). k .ends) ends kept m in keys (r .0) (r .1) e (subst (λ (l : List Pair). Mem e l) (r .2) j)))
