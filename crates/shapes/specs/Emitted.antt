@@ -26,7 +26,7 @@ use Rattle.shapes.specs.Answered.{facetNumber, search-few}
 
 -- ---- the table's facets are the call's
 
-map-with-length : {A B S : Type 0} (f : S → A → B × S) (s : S) (l : List A) → length (mapWith f s l .0) ≡ length l
+pub map-with-length : {A B S : Type 0} (f : S → A → B × S) (s : S) (l : List A) → length (mapWith f s l .0) ≡ length l
 unfolding mapWith
 map-with-length f s [] = refl
 map-with-length f s (x ∷ l) = ap suc (map-with-length f (f s x .1) l)

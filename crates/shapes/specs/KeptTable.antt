@@ -19,8 +19,8 @@ use Rattle.shapes.specs.Answered.{Preparation, answered-call}
 use Rattle.shapes.specs.Edges.{edgeFigure}
 use Rattle.shapes.specs.LowRanks.{RankTwo, rank-two, edgeOf, possible-edges, entry-places}
 use Rattle.shapes.specs.Polygons.{edgeVia}
-use Rattle.shapes.specs.Ridges.{KnownKeys, noKeys, numberKey, numberKeys, keyTable, map-with-items}
-use Rattle.shapes.specs.RidgeCalls.{endKeys, rank-three-ends, rank-four-table}
+use Rattle.shapes.specs.Ridges.{KnownKeys, noKeys, numberKey, numberKeys, keyNumbers, ridgeNumbers, numbersTable, table-of-numbers, map-with-items}
+use Rattle.shapes.specs.RidgeCalls.{endKeys, ridge-ends}
 use Rattle.shapes.specs.Kept.{Kept, endsOf, keptOf, numberEnds, numbersKept, keptShare, keptShares, keptTable}
 
 -- ---- one ridge to an inner orbit
@@ -72,7 +72,8 @@ module _ {A A′ B B′ S : Type 0} (f : S → A → B × S) (g : S → A′ →
       ap (λ (r : B × S). (r .0 ∷ mapWith f (r .1) l .0, mapWith f (r .1) l .1)) (one s x (here refl))
       ∙ ap (λ (r : List B × S). (result (g s (item x) .0) ∷ r .0, r .1)) (map-with-results (g s (item x) .1) l (λ t y m. one t y (there m)))
 
-abbrev alone : ℕ → List ℕ
+-- a ridge orbit's number, where one ridge has it
+abbrev pub alone : ℕ → List ℕ
 alone number = number ∷ []
 
 -- the ends of an inner orbit's one ridge, in this call's vertices
@@ -89,14 +90,15 @@ orbit-numbers rows known i h =
     ∙ map-with-results (λ s (fs : List Figure). mapWith number s (map endsOf fs)) (numberEnds rows) (firstEnds i) alone known (i .answer .possible)
     (λ s fs m. ap (λ (l : List Figure). mapWith number s (map endsOf l)) (h .single fs m))
 
-pub kept-numbers : (rows : List Row) (inner : List Inner) → ((i : Inner) → Mem i inner → OneRidge (i .answer))
-    → numberKeys comparePair edgeVia rows endKeys (noKeys Pair) inner ≡ (map (map alone) (numbersKept rows (map keptOf inner) .0), numbersKept rows (map keptOf inner) .1)
-unfolding numberKeys numbersKept
+kept-numbers : (rows : List Row) (inner : List Inner) → ((i : Inner) → Mem i inner → OneRidge (i .answer))
+    → keyNumbers comparePair edgeVia rows endKeys inner ≡ (map (map alone) (numbersKept rows (map keptOf inner) .0), numbersKept rows (map keptOf inner) .1 .counts)
+unfolding keyNumbers numberKeys numbersKept
 kept-numbers rows inner h =
-    let ends : List (List Pair) → List (List (List ℕ)) × KnownKeys Pair = λ l. let r = mapWith (mapWith (numberEnds rows)) (noKeys Pair) l in (map (map alone) (r .0), r .1) in
-    map-with-results (λ known (i : Inner). mapWith (mapWith (numberKey comparePair edgeVia rows (i .orbit .vertices))) known (endKeys i)) (mapWith (numberEnds rows)) (λ (i : Inner). keptOf i .ends) (map alone)
-    (noKeys Pair) inner (λ s i m. orbit-numbers rows s i (h i m))
-    ∙ ap ends (sym (map-map (λ (k : Kept). k .ends) keptOf inner))
+    let shown : List (List ℕ) × KnownKeys Pair → List (List (List ℕ)) × List ℕ = λ r. (map (map alone) (r .0), r .1 .counts) in
+    ap (λ (r : List (List (List ℕ)) × KnownKeys Pair). (r .0, r .1 .counts))
+    (map-with-results (λ known (i : Inner). mapWith (mapWith (numberKey comparePair edgeVia rows (i .orbit .vertices))) known (endKeys i)) (mapWith (numberEnds rows)) (λ (i : Inner). keptOf i .ends) (map alone)
+    (noKeys Pair) inner (λ s i m. orbit-numbers rows s i (h i m)))
+    ∙ ap (λ (l : List (List Pair)). shown (mapWith (mapWith (numberEnds rows)) (noKeys Pair) l)) (sym (map-map (λ (k : Kept). k .ends) keptOf inner))
 
 -- ---- shares
 
@@ -132,12 +134,12 @@ zip-same f g h k (x ∷ xs) (y ∷ ys) same = let first = same x (here refl) y i
 
 -- ---- the table
 
-pub key-table-kept : (rows : List Row) (inner : List Inner) → ((i : Inner) → Mem i inner → OneRidge (i .answer)) → keyTable comparePair edgeVia rows endKeys inner ≡ keptTable rows (map keptOf inner)
-unfolding keyTable keptTable
-key-table-kept rows inner h =
+table-kept : (rows : List Row) (inner : List Inner) → ((i : Inner) → Mem i inner → OneRidge (i .answer)) → numbersTable inner (keyNumbers comparePair edgeVia rows endKeys inner) ≡ keptTable rows (map keptOf inner)
+unfolding numbersTable keptTable
+table-kept rows inner h =
     let numbered = numbersKept rows (map keptOf inner) in
     let ridgeCounts = numbered .1 .counts in
-    ap {B = Table} (λ (n : List (List (List ℕ)) × KnownKeys Pair). record { shares = zipWith (facetShares (n .1 .counts)) inner (n .0); ridges = length (n .1 .counts) }) (kept-numbers rows inner h)
+    ap (numbersTable inner) (kept-numbers rows inner h)
     ∙ ap {B = Table} (λ (s : List (List (List Share))). record { shares = s; ridges = length ridgeCounts })
     (zip-same (facetShares ridgeCounts) (keptShares ridgeCounts) keptOf (map alone) inner (numbered .0) (λ i m numbers. shares-kept ridgeCounts i numbers (h i m)))
 
@@ -145,11 +147,15 @@ module _ (more : ℕ) (rules : Rules) (plane : Subspace) (points : List Vec) (ro
   pub inner-one-ridge : (i : Inner) → Mem i (p .inner) → OneRidge (i .answer)
   inner-one-ridge i m = let inner = made .inner .each i m in one-ridge more rules _ _ _ (inner .budget) (i .answer) few (inner .is)
 
+  -- the numbers of a call's ridges, and the ridge orbits' counts, from what it keeps
+  pub kept-ridges : ridgeNumbers (p .rows) (p .inner) ≡ (map (map alone) (numbersKept (p .rows) (map keptOf (p .inner)) .0), numbersKept (p .rows) (map keptOf (p .inner)) .1 .counts)
+  kept-ridges = ridge-ends more rules plane points rows p few made ∙ kept-numbers (p .rows) (p .inner) inner-one-ridge
+
   -- the table of a call of rank 3 or 4, from what it keeps
   pub kept-table : tableFor p ≡ keptTable rows (map keptOf (p .inner))
-  kept-table = ends-table more few made ∙ key-table-kept (p .rows) (p .inner) inner-one-ridge ∙ ap (λ (l : List Row). keptTable l (map keptOf (p .inner))) (made .rows-are)
-    where
-      ends-table : (more : ℕ) → more ≤ 1 → Preparation more rules (faceting more rules) plane points rows p → tableFor p ≡ keyTable comparePair edgeVia (p .rows) endKeys (p .inner)
-      ends-table zero few made = rank-three-ends rules plane points rows p made
-      ends-table (suc zero) few made = rank-four-table rules plane points rows p made
-      ends-table (suc (suc more)) few made = absurd (omega arith)
+  unfolding tableFor
+  kept-table =
+      table-of-numbers (p .rows) (p .inner)
+      ∙ ap (numbersTable (p .inner)) (ridge-ends more rules plane points rows p few made)
+      ∙ table-kept (p .rows) (p .inner) inner-one-ridge
+      ∙ ap (λ (l : List Row). keptTable l (map keptOf (p .inner))) (made .rows-are)

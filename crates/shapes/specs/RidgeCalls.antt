@@ -1,8 +1,8 @@
--- The ridges of calls of rank 3 and 4: vertices at rank 3, edges at rank 4, so that the table such a call searches is the one numbered by vertices or by pairs of ends (at rank 3
--- a vertex twice). From what the call has before its search. Leans on Ridges.
+-- The ridges of calls of rank 3 and 4: vertices at rank 3, edges at rank 4, so that such a call numbers its ridges by vertices or by pairs of ends (at rank 3 a vertex twice). From what the call has before its search. Leans on Ridges.
 use mathlib.Core.Path.{_≡_, sym, ap, _∙_}
 use mathlib.Core.List.{List, [], _∷_, map, map-map}
-use Prim.Native.Nat.{ℕ, compare, _/_}
+use Prim.Native.Nat.{ℕ, zero, suc, compare, _/_, _≤_}
+use native.Mathlib.Omega.{arith}
 use lib.ListN.{length, length-replicate}
 use Rattle.definitions.specs.Lists.{Pair, comparePair, countFrom}
 use Rattle.definitions.specs.Vectors.{Vec}
@@ -11,7 +11,7 @@ use Rattle.definitions.specs.Orbits.{Row, Orbit}
 use Rattle.definitions.specs.Figures.{Figure, rankOf}
 use Rattle.definitions.specs.Recursion.{Rules, Entry, Inner, vertexRidge, rowsWithin, shareOf, facetShares}
 use Rattle.definitions.specs.Search.{Share}
-use Rattle.definitions.specs.Faceting.{Prepared, tableFor, faceting}
+use Rattle.definitions.specs.Faceting.{Prepared, faceting}
 use Rattle.laws.specs.Lists.{Mem}
 use Rattle.shapes.specs.Answered.{Preparation, answered-call}
 use Rattle.shapes.specs.Edges.{edgeFigure}
@@ -19,7 +19,7 @@ use Rattle.shapes.specs.LowRanks.{inner-rank-two, edgeOf, possible-edges
 use Rattle.shapes.specs.Calls.{innerPoints}
 use Rattle.shapes.specs.Polygons.{edgeVia}
 use Rattle.shapes.specs.Kept.{endsOf}
-use Rattle.shapes.specs.Ridges.{keyTable, tables-carried, table-by-keys, vertices-keyed, edges-keyed, twice, vertices-twice}
+use Rattle.shapes.specs.Ridges.{keyNumbers, ridgeNumbers, numbers-carried, numbers-by-keys, vertices-keyed, edges-keyed, twice, vertices-twice}
 
 -- the ridges of an orbit's inner answer as pairs of ends, in the set's positions
 unfoldable pub endKeys : Inner → List (List Pair)
@@ -41,10 +41,9 @@ module _ (rules : Rules) (plane : Subspace) (points : List Vec) (rows : List Row
       ∙ sym (map-map (map vertexRidge) (λ (v : ℕ). v ∷ []) (countFrom 0 (r .ends)))
       ∙ ap (λ (k : ℕ). map (map vertexRidge) (map (λ (v : ℕ). v ∷ []) (countFrom 0 k))) (sym n)
 
-  -- the table of a call of rank 3, its ridges numbered by vertices
-  pub rank-three-table : tableFor p ≡ keyTable compare (λ to v. to v) (p .rows) vertexKeys (p .inner)
-  unfolding tableFor
-  rank-three-table = table-by-keys compare (λ to v. to v) vertexRidge vertices-keyed (p .rows) vertexKeys (p .inner) vertex-ridges
+  -- the ridges of a call of rank 3, numbered by vertices
+  pub rank-three-vertices : ridgeNumbers (p .rows) (p .inner) ≡ keyNumbers compare (λ to v. to v) (p .rows) vertexKeys (p .inner)
+  rank-three-vertices = numbers-by-keys compare (λ to v. to v) vertexRidge vertices-keyed (p .rows) vertexKeys (p .inner) vertex-ridges
 
   -- a vertex is a pair of equal ends
   pub vertices-as-ends : (i : Inner) → Mem i (p .inner) → endKeys i ≡ map (map twice) (vertexKeys i)
@@ -56,8 +55,8 @@ module _ (rules : Rules) (plane : Subspace) (points : List Vec) (rows : List Row
       ∙ sym (map-map (map twice) (λ (v : ℕ). v ∷ []) ends)
 
   -- numbered by pairs of ends
-  pub rank-three-ends : tableFor p ≡ keyTable comparePair edgeVia (p .rows) endKeys (p .inner)
-  rank-three-ends = rank-three-table ∙ sym (tables-carried compare (λ to v. to v) comparePair edgeVia twice vertices-twice (p .rows) vertexKeys endKeys (p .inner) vertices-as-ends)
+  pub rank-three-ends : ridgeNumbers (p .rows) (p .inner) ≡ keyNumbers comparePair edgeVia (p .rows) endKeys (p .inner)
+  rank-three-ends = rank-three-vertices ∙ sym (numbers-carried compare (λ to v. to v) comparePair edgeVia twice vertices-twice (p .rows) vertexKeys endKeys (p .inner) vertices-as-ends)
 
   -- the shares of an orbit's one facet: those of its ridge rows, one place each
   pub rank-three-shares : (ridgeCounts : List ℕ) (numbers : List (List ℕ)) (i : Inner) → Mem i (p .inner)
@@ -86,7 +85,14 @@ module _ (rules : Rules) (plane : Subspace) (points : List Vec) (rows : List Row
       ∙ ap (map (map edgeFigure)) (sym (map-map (map endsOf) (λ (o : Orbit). edgeFigure (edgeOf o) ∷ []) orbits))
       ∙ ap (λ (fs : List (List Figure)). map (map edgeFigure) (map (map endsOf) fs)) (sym e)
 
-  -- the table of a call of rank 4, its ridges numbered by pairs of ends
-  pub rank-four-table : tableFor p ≡ keyTable comparePair edgeVia (p .rows) endKeys (p .inner)
-  unfolding tableFor
-  rank-four-table = table-by-keys comparePair edgeVia edgeFigure edges-keyed (p .rows) endKeys (p .inner) edge-ridges
+  -- the ridges of a call of rank 4, numbered by pairs of ends
+  pub rank-four-ends : ridgeNumbers (p .rows) (p .inner) ≡ keyNumbers comparePair edgeVia (p .rows) endKeys (p .inner)
+  rank-four-ends = numbers-by-keys comparePair edgeVia edgeFigure edges-keyed (p .rows) endKeys (p .inner) edge-ridges
+
+-- ---- both
+
+pub ridge-ends : (more : ℕ) (rules : Rules) (plane : Subspace) (points : List Vec) (rows : List Row) (p : Prepared) → more ≤ 1 → Preparation more rules (faceting more rules) plane points rows p
+    → ridgeNumbers (p .rows) (p .inner) ≡ keyNumbers comparePair edgeVia (p .rows) endKeys (p .inner)
+ridge-ends zero rules plane points rows p few made = rank-three-ends rules plane points rows p made
+ridge-ends (suc zero) rules plane points rows p few made = rank-four-ends rules plane points rows p made
+ridge-ends (suc (suc more)) rules plane points rows p few made = absurd (omega arith)

@@ -1,5 +1,5 @@
 -- Ridge orbits numbered by keys instead of figures: at rank 3 a ridge is a vertex, at rank 4 a pair of ends. Numbering by keys is carried by every map of keys that keeps them apart and goes
--- along with moving: the numbers, the counts and the table that a call searches stay the same. Figures are keys too, so it is the same for figures that are written from keys. Over any rows.
+-- along with moving: the numbers and the counts, and so the table that a call searches, stay the same. Figures are keys too, so it is the same for figures that are written from keys. Over any rows.
 -- Leans on Edges and LowRanks.
 use mathlib.Core.Path.{_≡_, refl, sym, ap, _∙_}
 use mathlib.Core.Bool.{Bool, cond}
@@ -54,12 +54,20 @@ module _ {K : Type 0} (c : K → K → Ordering) (send : (ℕ → ℕ) → K →
   unfoldable pub numberKeys : List Row → (Inner → List (List K)) → KnownKeys K → List Inner → List (List (List ℕ)) × KnownKeys K
   numberKeys rows keys = mapWith (λ known (i : Inner). mapWith (mapWith (numberKey rows (i .orbit .vertices))) known (keys i))
 
-  -- the table that a call searches, from keys
-  unfoldable pub keyTable : List Row → (Inner → List (List K)) → List Inner → Table
-  keyTable rows keys inner =
-      let numbered = numberKeys rows keys (noKeys K) inner in
-      let ridgeCounts = numbered .1 .counts in
-      record { shares = zipWith (facetShares ridgeCounts) inner (numbered .0); ridges = length ridgeCounts }
+  -- the numbers of a call's ridges, and the ridge orbits' counts
+  unfoldable pub keyNumbers : List Row → (Inner → List (List K)) → List Inner → List (List (List ℕ)) × List ℕ
+  keyNumbers rows keys inner = let numbered = numberKeys rows keys (noKeys K) inner in (numbered .0, numbered .1 .counts)
+
+unfoldable pub ridgeNumbers : List Row → List Inner → List (List (List ℕ)) × List ℕ
+ridgeNumbers rows inner = let numbered = numberRidges rows noRidges inner in (numbered .0, numbered .1 .counts)
+
+-- the table that a call searches is made of them
+unfoldable pub numbersTable : List Inner → List (List (List ℕ)) × List ℕ → Table
+numbersTable inner numbered = record { shares = zipWith (facetShares (numbered .1)) inner (numbered .0); ridges = length (numbered .1) }
+
+pub table-of-numbers : (rows : List Row) (inner : List Inner) → tableOf rows inner ≡ numbersTable inner (ridgeNumbers rows inner)
+unfolding tableOf numbersTable ridgeNumbers
+table-of-numbers rows inner = refl
 
 -- ---- a state that stands for another
 
@@ -169,11 +177,10 @@ module _ {K L : Type 0} (c : K → K → Ordering) (send : (ℕ → ℕ) → K �
   unfolding numberKeys noKeys carryKnown
   keys-carried rows keys written inner h = all-keys c send (numberKey d move rows) carryKnown write rows (key-carried rows) keys written inner h (noKeys K)
 
-  pub tables-carried : (rows : List Row) (keys : Inner → List (List K)) (written : Inner → List (List L)) (inner : List Inner) → ((i : Inner) → Mem i inner → written i ≡ map (map write) (keys i))
-      → keyTable d move rows written inner ≡ keyTable c send rows keys inner
-  unfolding keyTable carryKnown
-  tables-carried rows keys written inner h =
-      ap (λ (n : List (List (List ℕ)) × KnownKeys L). record { shares = zipWith (facetShares (n .1 .counts)) inner (n .0); ridges = length (n .1 .counts) }) (keys-carried rows keys written inner h)
+  pub numbers-carried : (rows : List Row) (keys : Inner → List (List K)) (written : Inner → List (List L)) (inner : List Inner) → ((i : Inner) → Mem i inner → written i ≡ map (map write) (keys i))
+      → keyNumbers d move rows written inner ≡ keyNumbers c send rows keys inner
+  unfolding keyNumbers carryKnown
+  numbers-carried rows keys written inner h = ap (λ (n : List (List (List ℕ)) × KnownKeys L). (n .0, n .1 .counts)) (keys-carried rows keys written inner h)
 
 -- ---- figures are keys
 
@@ -234,16 +241,10 @@ module _ {K : Type 0} (c : K → K → Ordering) (send : (ℕ → ℕ) → K →
   unfolding numberRidges noRidges noKeys ridgesOf heldRidges carryKnown
   ridges-by-keys rows keys inner h = all-keys c send (numberRidge rows) ridgesOf write rows (ridge-by-key rows) keys (λ (i : Inner). i .answer .possible) inner h (noKeys K)
 
-  pub ridge-counts-by-keys : (rows : List Row) (keys : Inner → List (List K)) (inner : List Inner) → ((i : Inner) → Mem i inner → i .answer .possible ≡ map (map write) (keys i))
-      → numberRidges rows noRidges inner .1 .counts ≡ numberKeys c send rows keys (noKeys K) inner .1 .counts
-  unfolding ridgesOf heldRidges carryKnown
-  ridge-counts-by-keys rows keys inner h = ap (λ (n : List (List (List ℕ)) × RidgeOrbits). n .1 .counts) (ridges-by-keys rows keys inner h)
-
-  pub table-by-keys : (rows : List Row) (keys : Inner → List (List K)) (inner : List Inner) → ((i : Inner) → Mem i inner → i .answer .possible ≡ map (map write) (keys i))
-      → tableOf rows inner ≡ keyTable c send rows keys inner
-  unfolding tableOf keyTable ridgesOf heldRidges carryKnown
-  table-by-keys rows keys inner h =
-      ap (λ (n : List (List (List ℕ)) × RidgeOrbits). record { shares = zipWith (facetShares (n .1 .counts)) inner (n .0); ridges = length (n .1 .counts) }) (ridges-by-keys rows keys inner h)
+  pub numbers-by-keys : (rows : List Row) (keys : Inner → List (List K)) (inner : List Inner) → ((i : Inner) → Mem i inner → i .answer .possible ≡ map (map write) (keys i))
+      → ridgeNumbers rows inner ≡ keyNumbers c send rows keys inner
+  unfolding ridgeNumbers keyNumbers ridgesOf heldRidges carryKnown
+  numbers-by-keys rows keys inner h = ap (λ (n : List (List (List ℕ)) × RidgeOrbits). (n .0, n .1 .counts)) (ridges-by-keys rows keys inner h)
 
 -- ---- vertices and edges
 
