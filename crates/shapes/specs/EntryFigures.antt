@@ -153,15 +153,14 @@ module _ (rules : Rules) (plane : Subspace) (points : List Vec) (rows : List Row
       (answered-call 0 rules _ its within (inner .budget) (i .answer) (inner .is)) e k in
       (r .0, r .1 ∙ ap (λ (n : ℕ). polygon n (r .0)) size, subst (λ (n : ℕ). EdgeSet n (r .0)) size (r .2))
 
-  -- every possible facet is a polygon in this call's vertices
-  pub possible-polygon : (i : Inner) → Mem i (q .inner) → (f : Figure) → Mem f (possibleFacets i) → IsPolygon (q .points) f
+  -- every possible facet is a polygon in this call's vertices, over as many points as its set has
+  pub possible-polygon : (i : Inner) → Mem i (q .inner) → (f : Figure) → Mem f (possibleFacets i) → (edges : List Pair) × (f ≡ polygon (length (i .orbit .vertices)) edges) × EdgeSet (q .points) edges
   unfolding possibleFacets
   possible-polygon i m f k =
       let vertices = i .orbit .vertices in
       let to : ℕ → ℕ = λ v. getD vertices v 0 in
       let r = of-map (λ (e : Entry). moveEnds to (e .figure)) f (i .answer .entries) k in
       let e = inner-polygon i m (r .0) (r .1) in (
-        length vertices,
         map (endsVia to) (e .0),
         r .2 ∙ ap (moveEnds to) (e .1) ∙ polygon-raised to (length vertices) (e .0),
         raised-edges (length vertices) (q .points) to (set-rising (q .points) vertices (call-set 1 rules plane points rows q given made i m)) (e .0) (e .2),
@@ -175,8 +174,9 @@ module _ (rules : Rules) (plane : Subspace) (points : List Vec) (rows : List Row
       let e = at-orbit possibleFacets (q .inner) (f .0) (r .0) in
       let m = inner-at-member (q .inner) (f .0) (r .0) in
       let many : length (possibleFacets own) ≡ facetNumber own = facets-many own in
-      possible-polygon own m (facetFigure q f)
-      (subst (λ (fs : List Figure). Mem (getD fs (f .1) []) (possibleFacets own)) (sym e) (member-at (possibleFacets own) (f .1) [] (let k = r .1 in omega arith)))
+      let is-facet = subst (λ (fs : List Figure). Mem (getD fs (f .1) []) (possibleFacets own)) (sym e) (member-at (possibleFacets own) (f .1) [] (let k = r .1 in omega arith)) in
+      let g = possible-polygon own m (facetFigure q f) is-facet in
+      (length (own .orbit .vertices), g .0, g .1, g .2)
 
   -- a facet's edges are its inner entry's, at this call's vertices
   pub facet-edges : (i : Inner) → Mem i (q .inner) → (e : Entry) → Mem e (i .answer .entries)

@@ -4,7 +4,7 @@ use mathlib.Core.Path.{_≡_, refl, sym, ap, _∙_, subst}
 use mathlib.Core.Logic.{_⊎_, inl, inr}
 use mathlib.Core.Option.{Option, some, none}
 use mathlib.Core.List.{List, [], _∷_, _++_, map, flatMap, zipWith, List·Memᴰ, map-map, map-append}
-use Prim.Native.Nat.{ℕ, zero, suc, _+_, _*_, _≤_, _<_, min, max, compare, Ordering}
+use Prim.Native.Nat.{ℕ, zero, suc, _+_, _*_, _≤_, _<_, min, max, Ordering}
 use native.Mathlib.Omega.{arith}
 use lib.ListN.{length, getD, drop, length-map, length-append}
 use Rattle.definitions.specs.Lists.{Pair, comparePair, countFrom, fresh, mapAt, mapWith}
@@ -28,7 +28,7 @@ use Rattle.shapes.specs.Polygons.{edgeVia, via-proper}
 use Rattle.shapes.specs.Sizes.{edges-few, Counted}
 use Rattle.shapes.specs.FewOrbits.{pairs-few}
 use Rattle.shapes.specs.Ridges.{KnownKeys, noKeys, keyHeldBy, openKeyOrbit, numberOrOpenKey, ridgeNumbers, twice, vertices-twice}
-use Rattle.shapes.specs.RidgeCounts.{RidgesCounted, call-ridges}
+use Rattle.shapes.specs.RidgeCounts.{call-ridges}
 use Rattle.shapes.specs.KeyMarks.{held-marked, held-once}
 use Rattle.shapes.specs.Kept.{Kept, keptOf, numberEnds, numbersKept, keptShare, keptShares, keptTable}
 use Rattle.shapes.specs.KeptTable.{alone, kept-ridges}

@@ -7,23 +7,22 @@ use mathlib.Core.List.{List, [], _∷_, map, List·Memᴰ, map-map}
 use Prim.Native.Nat.{ℕ, zero, suc, _+_, _*_, _/_, _≤_, _<_, compare}
 use native.Mathlib.Omega.{arith}
 use lib.Dec.{T, eqb, eqb→eq}
-use lib.ListN.{length, getD, replicate, length-map, length-replicate}
+use lib.ListN.{length, getD, length-map, length-replicate}
 use Rattle.definitions.specs.Lists.{Pair, anyOf, keep, countFrom}
 use Rattle.definitions.specs.Outcome.{answered}
 use Rattle.definitions.specs.Vectors.{Vec}
 use Rattle.definitions.specs.Subspace.{Subspace, flatten}
 use Rattle.definitions.specs.Orbits.{Row, Orbit, image, hyperplaneOrbits}
 use Rattle.definitions.specs.Figures.{Figure, Compound, rankOf, dyad}
-use Rattle.definitions.specs.Search.{Facet}
 use Rattle.definitions.specs.Recursion.{Rules, Entry, Answer, Inner, vertexRidge, swappedEnds, separateEnds, edgeCall, keepsSet, rowWithin, rowsWithin}
 use Rattle.definitions.specs.Faceting.{Prepared, possibleFacets, finish, faceting}
 use Rattle.laws.specs.Bools.{true→holds}
-use Rattle.laws.specs.Lists.{Mem, here, in-map, of-map, in-count, of-count, count-at, count-length, member-at, any-witness}
+use Rattle.laws.specs.Lists.{Mem, in-map, of-map, in-count, of-count, count-at, count-length, member-at, any-witness}
 use Rattle.laws.specs.Orders.{nats}
 use Rattle.laws.specs.Ascending.{ascends-distinct}
 use Rattle.laws.specs.Places.{map-self}
 use Rattle.laws.specs.Ranges.{distinct-below}
-use Rattle.shapes.specs.Answered.{facetNumber, facetSum, answers-equal, Preparation, AnsweredCall, answered-call}
+use Rattle.shapes.specs.Answered.{facetSum, answers-equal, Preparation, AnsweredCall, answered-call}
 use Rattle.shapes.specs.Edges.{edgeFigure}
 use Rattle.shapes.specs.LowRanks.{RankTwo, rank-two, edgeOf, inner-rank-two, one-edge, possible-edges, entry-list, entry-places}
 use Rattle.shapes.specs.Move.{raised-into}
@@ -32,7 +31,7 @@ use Rattle.shapes.specs.Calls.{Given, innerPoints, inner-set, inner-size
 use Rattle.shapes.specs.EdgeSets.{Proper, EdgeSet}
 use Rattle.shapes.specs.AllPairs.{allPairs, in-all-pairs, of-all-pairs}
 use Rattle.shapes.specs.Polygons.{edgeVia, via-proper, edgePairs, polygon-edges}
-use Rattle.shapes.specs.SplitCalls.{listsOf, SplitAnswer}
+use Rattle.shapes.specs.SplitCalls.{listsOf}
 use Rattle.shapes.specs.Sizes.{found-length, Counted, orbit-counted}
 use Rattle.shapes.specs.FewOrbits.{keep-few, orbits-few, pairs-few}
 use Rattle.shapes.specs.EntryFigures.{facets-many, call-split, edge-proper, possible-polygon}
@@ -231,8 +230,8 @@ within-few vertices rows =
     let k = keep-few (keepsSet vertices) rows in
     omega arith
 
--- the edges of rank 3
-edge-alone : (e : Pair) → edgePairs (edgeFigure e) ≡ e ∷ []
+-- an edge's figure has it alone
+pub edge-alone : (e : Pair) → edgePairs (edgeFigure e) ≡ e ∷ []
 unfolding edgePairs rankOf edgeFigure
 edge-alone e = refl
 
@@ -338,7 +337,7 @@ module _ (more : ℕ) (rules : Rules) (plane : Subspace) (points : List Vec) (ro
           only f (List·Memᴰ.List·Memᴰ·tail z) = elim z [ ]
       at-rank (suc zero) few made f k =
           let q = possible-polygon rules plane points rows p given made i m f k in
-          subst (EdgeSet (p .points)) (sym (ap edgePairs (q .2) ∙ polygon-edges (q .0) (q .1))) (q .3)
+          subst (EdgeSet (p .points)) (sym (ap edgePairs (q .1) ∙ polygon-edges (length (i .orbit .vertices)) (q .0))) (q .2)
       at-rank (suc (suc more)) few made f k = absurd (omega arith)
 
   inner-kept-sized : (i : Inner) → Mem i (p .inner) → KeptSized more n rows (keptOf i)

@@ -11,7 +11,7 @@ use Rattle.definitions.specs.Subspace.{Subspace}
 use Rattle.definitions.specs.Orbits.{Row, Orbit}
 use Rattle.definitions.specs.Figures.{Figure, dyad}
 use Rattle.definitions.specs.Search.{Share, Table}
-use Rattle.definitions.specs.Recursion.{Rules, Entry, Answer, Inner, vertexRidge, rowsWithin, shareOf, facetShares}
+use Rattle.definitions.specs.Recursion.{Rules, Entry, Answer, Inner, vertexRidge, shareOf, facetShares}
 use Rattle.definitions.specs.Faceting.{Prepared, tableFor, faceting}
 use Rattle.laws.specs.Lists.{Mem, here, there, of-map}
 use Rattle.laws.specs.Places.{map-same}

@@ -32,3 +32,4 @@ pub mod KeptTable
 pub mod FewOrbits
 pub mod KeptSizes
 pub mod KeptRidges
+pub mod KeptAnswer

@@ -108,22 +108,22 @@ unfoldable pub edgeOf : Orbit → Pair
 edgeOf o = (getD (o .vertices) 0 0, getD (o .vertices) 1 0)
 
 -- what a call of rank 3 has before its search
-module _ (rules : Rules) (plane : Subspace) (points : List Vec) (rows : List Row) (before : Prepared) (made : Preparation 0 rules (faceting 0 rules) plane points rows before) where
+module _ (rules : Rules) (plane : Subspace) (points : List Vec) (rows : List Row) (p : Prepared) (made : Preparation 0 rules (faceting 0 rules) plane points rows p) where
   -- every inner call is one of rank 2
-  pub inner-rank-two : (i : Inner) → Mem i (before .inner) → (budget : ℕ) × RankTwo budget (i .answer)
+  pub inner-rank-two : (i : Inner) → Mem i (p .inner) → (budget : ℕ) × RankTwo budget (i .answer)
   inner-rank-two i m =
       let given = made .inner .each i m in
       (given .budget, rank-two rules _ _ _ (given .budget) (i .answer) (given .is))
 
-  pub inner-alone : (i : Inner) → Mem i (before .inner) → i .answer .compounds ≡ []
+  pub inner-alone : (i : Inner) → Mem i (p .inner) → i .answer .compounds ≡ []
   inner-alone i m = inner-rank-two i m .1 .compounds
 
   -- each orbit has one possible facet
-  pub one-facet : (i : Inner) → Mem i (before .inner) → facetNumber i ≡ 1
+  pub one-facet : (i : Inner) → Mem i (p .inner) → facetNumber i ≡ 1
   one-facet i m = ap length (inner-rank-two i m .1 .entries)
 
   -- and that is the edge between its set's first two vertices
-  pub one-edge : (i : Inner) → Mem i (before .inner) → possibleFacets i ≡ edgeFigure (edgeOf (i .orbit)) ∷ []
+  pub one-edge : (i : Inner) → Mem i (p .inner) → possibleFacets i ≡ edgeFigure (edgeOf (i .orbit)) ∷ []
   unfolding possibleFacets edgeOf edgeFigure moveEnds dyad
   one-edge i m = ap (map (λ (e : Entry). moveEnds (λ (v : ℕ). getD (i .orbit .vertices) v 0) (e .figure))) (inner-rank-two i m .1 .entries)
 
