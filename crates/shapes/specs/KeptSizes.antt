@@ -19,7 +19,8 @@ use Rattle.definitions.specs.Faceting.{Prepared, possibleFacets, finish, faceti
 use Rattle.laws.specs.Bools.{true→holds}
 use Rattle.laws.specs.Lists.{Mem, in-map, of-map, in-count, of-count, count-at, count-length, member-at, any-witness}
 use Rattle.laws.specs.Orders.{nats}
-use Rattle.laws.specs.Ascending.{ascends-distinct}
+use Rattle.laws.specs.Pairs.{pairs-map}
+use Rattle.laws.specs.Ascending.{Differ, Distinct, ascends-distinct}
 use Rattle.laws.specs.Places.{map-self}
 use Rattle.laws.specs.Ranges.{distinct-below}
 use Rattle.shapes.specs.Answered.{facetSum, answers-equal, Preparation, AnsweredCall, answered-call}
@@ -32,11 +33,12 @@ use Rattle.shapes.specs.EdgeSets.{Proper, EdgeSet}
 use Rattle.shapes.specs.AllPairs.{allPairs, in-all-pairs, of-all-pairs}
 use Rattle.shapes.specs.Polygons.{edgeVia, via-proper, edgePairs, polygon-edges}
 use Rattle.shapes.specs.SplitCalls.{listsOf}
-use Rattle.shapes.specs.Sizes.{found-length, Counted, orbit-counted}
+use Rattle.shapes.specs.Sizes.{edges-few, found-length, Counted, orbit-counted}
 use Rattle.shapes.specs.FewOrbits.{keep-few, orbits-few, pairs-few}
 use Rattle.shapes.specs.EntryFigures.{facets-many, call-split, edge-proper, possible-polygon}
 use Rattle.shapes.specs.Ridges.{twice, vertices-twice}
 use Rattle.shapes.specs.Kept.{Kept, endsOf, keptOf}
+use Rattle.shapes.specs.KeptTable.{inner-one-ridge}
 
 -- ---- orbits
 
@@ -211,8 +213,11 @@ pub record KeptSized (more n : ℕ) (rows : List Row) (k : Kept) : Type 0 where
   pub inner-counted : (c : ℕ) → Mem c (k .counts) → Counted rows c
   pub places-below : (l : List ℕ) → Mem l (k .places) → (a : ℕ) → Mem a l → a < length (k .ends)
   pub places-few : (l : List ℕ) → Mem l (k .places) → length l ≤ length (k .ends)
+  pub places-some : (l : List ℕ) → Mem l (k .places) → 0 < length l
+  pub places-distinct : (l : List ℕ) → Mem l (k .places) → Distinct l
   pub edges-many : length (k .edges) ≡ length (k .places)
   pub edges-set : (l : List Pair) → Mem l (k .edges) → EdgeSet n l
+  pub few-edges : n ≤ 20 → (l : List Pair) → Mem l (k .edges) → length l ≤ 190
   pub compounds-below : (c : Compound) → Mem c (k .compounds) → (c .whole < length (k .places)) × (c .first < c .second) × (c .second < length (k .places))
 
 -- at rank 3: one facet with one edge, a place for each of its one or two inner orbits, and no compounds
@@ -345,6 +350,7 @@ module _ (more : ℕ) (rules : Rules) (plane : Subspace) (points : List Vec) (ro
   inner-kept-sized i m =
       let set = inner-set more rules (faceting more rules) plane points rows p made i m in
       let sized = inner-sized i m in
+      let splits = call-split more rules plane points rows p given made i m in
       let size = inner-size more rules (faceting more rules) plane points rows p made i in
       let inner = made .inner .each i m in
       let fewer = vertices-few i m in
@@ -376,10 +382,22 @@ module _ (more : ℕ) (rules : Rules) (plane : Subspace) (points : List Vec) (ro
             let s = ap length (r .2) ∙ length-map (r .0 .list) (λ (place : Pair). place .0) in
             let b = sized .few (r .0) (r .1) in
             omega arith;
+        places-some = λ l j.
+            let r = of-map (λ (e : Entry). map (λ (place : Pair). place .0) (e .list)) l (i .answer .entries) j in
+            let s = ap length (r .2) ∙ length-map (r .0 .list) (λ (place : Pair). place .0) in
+            let b = splits .some-items (r .0 .list) (in-map (λ (e : Entry). e .list) (r .0) (i .answer .entries) (r .1)) in
+            omega arith;
+        places-distinct = λ l j.
+            let r = of-map (λ (e : Entry). map (λ (place : Pair). place .0) (e .list)) l (i .answer .entries) j in
+            let first = inner-one-ridge more rules plane points rows p few made i m .first (r .0) (r .1) in
+            subst Distinct (sym (r .2))
+            (pairs-map Differ Differ (λ (place : Pair). place .0) (r .0 .list) (λ x u y v d e. d (λ t. (e t, (first x u ∙ sym (first y v)) t)))
+            (splits .distinct (r .0 .list) (in-map (λ (e : Entry). e .list) (r .0) (i .answer .entries) (r .1))));
         edges-many = length-map (possibleFacets i) edgePairs ∙ facets-many i ∙ sym entries-many;
         edges-set = edges-of i m;
+        few-edges = λ small l j. pairs-few n (length l) small (edges-few n l (edges-of i m l j));
         compounds-below = λ c j.
-            let r = call-split more rules plane points rows p given made i m .compounds c j in
+            let r = splits .compounds c j in
             let a = r .whole-below in
             let b = r .second-below in
             (omega arith, r .behind, omega arith);
