@@ -1,24 +1,25 @@
 -- What a facet's codes change in the totals, and what the workspace holds when a facet joined the list or left it. Leans on Layout and Numbers.
 use mathlib.Core.Path.{_≡_, refl, sym, ap, _∙_}
 use mathlib.Core.Logic.{inl, inr}
-use mathlib.Core.Bool.{Bool, true, false, cond}
+use mathlib.Core.Bool.{Bool, true, false, cond, _||_, or-true, or-false, or-assoc}
 use mathlib.Core.List.{List, [], _∷_, _++_}
 use Prim.Native.Nat.{ℕ, zero, suc, _+_, _-_, _*_, _/_, _%_, _≤_, _<_}
 use native.Mathlib.Omega.{arith}
 use native.Mathlib.Numerals.{add-one}
-use lib.Dec.{eqb, eqb→eq, eqb-refl}
+use lib.Dec.{ltb, ltb→lt, nltb→le, eqb, eqb→eq, eqb-refl}
 use lib.ListN.{length, getD, set, take, drop, length-set}
 use lib.Seq.{getD-set-same, getD-set-other, take-suc, take-length, length-take-le, take-all, getD-take, getD-drop, drop-drop, take-take}
 use borrow.Rule.Slice.PartMut.{set-mid-at, put-same}
+use Rattle.definitions.specs.Lists.{anyOf}
 use Rattle.definitions.specs.Job.{numberAt}
 use Rattle.definitions.specs.Search.{Table}
-use Rattle.laws.specs.Bools.{true→holds, holds→true, apart}
+use Rattle.laws.specs.Bools.{true→holds, holds→true, false→fails, apart}
 use Rattle.laws.specs.Segments.{part, placed, part-length, placed-length, part-placed, take-placed, drop-placed, part-placed-off, part-take}
 use Rattle.words.specs.Words.{numberAt-take}
 use Rattle.pool.specs.Pool.{used, lengthAt, placeAt, list-length, list-item, item-inside}
 use Rattle.facets.specs.declared.Areas.{Areas}
 use Rattle.facets.specs.Sums.{amount, amount-small}
-use Rattle.facets.specs.Layout.{Inputs, Fits, facetOf, amountIn, codes, touchedPart, totalsPart, usedPart, framesPart, listsPart, changed, withTotals, withUse}
+use Rattle.facets.specs.Layout.{Inputs, Fits, facetOf, amountIn, codes, touchedPart, totalsPart, usedPart, framesPart, listsPart, changed, lifted, withTotals, withUse}
 
 -- ---- the totals changed
 
@@ -88,6 +89,43 @@ amount-next cs i h =
     let f : part-of r (getD cs i 0) ≡ getD cs i 0 % 4 = rw (holds→true (eqb r r) (eqb-refl r)) refl in
     let g = amount-first r cs (suc i) in
     omega arith
+
+-- ---- a total lifted above 2
+
+-- one code more
+lifted-last : (ts cs : List ℕ) (c : ℕ) → lifted ts (cs ++ (c ∷ [])) ≡ lifted ts cs || ltb 2 (getD (changed _+_ ts cs) (c / 4) 0 + c % 4)
+unfolding lifted changed
+lifted-last ts [] c = or-false (ltb 2 (getD ts (c / 4) 0 + c % 4))
+lifted-last ts (d ∷ cs) c =
+    let n = getD ts (d / 4) 0 + d % 4 in
+    let new = set ts (d / 4) n in
+    ap (λ (b : Bool). ltb 2 n || b) (lifted-last new cs c) ∙ sym (or-assoc (ltb 2 n) (lifted new cs) (ltb 2 (getD (changed _+_ new cs) (c / 4) 0 + c % 4)))
+
+-- one total becomes larger
+over-set : (ts : List ℕ) (i v : ℕ) → i < length ts → getD ts i 0 ≤ v → anyOf (ltb 2) (set ts i v) ≡ anyOf (ltb 2) ts || ltb 2 v
+unfolding anyOf
+over-set [] i v h k = absurd (omega arith)
+over-set (x ∷ ts) zero v h k = go (ltb 2 x) refl (ltb 2 v) refl
+  where
+    go : (b : Bool) → ltb 2 x ≡ b → (c : Bool) → ltb 2 v ≡ c → c || anyOf (ltb 2) ts ≡ b || anyOf (ltb 2) ts || c
+    go true p true q = refl
+    go true p false q = absurd (let l = ltb→lt 2 x (true→holds p) in let m = nltb→le 2 v (false→fails q) in omega arith)
+    go false p true q = sym (or-true (anyOf (ltb 2) ts))
+    go false p false q = sym (or-false (anyOf (ltb 2) ts))
+over-set (x ∷ ts) (suc i) v h k =
+    ap (λ (b : Bool). ltb 2 x || b) (over-set ts i v (omega arith) k) ∙ sym (or-assoc (ltb 2 x) (anyOf (ltb 2) ts) (ltb 2 v))
+
+-- a total above 2 was there before, or was lifted
+pub over-after : (ts cs : List ℕ) → Inside (length ts) cs → anyOf (ltb 2) (changed _+_ ts cs) ≡ anyOf (ltb 2) ts || lifted ts cs
+unfolding lifted changed
+over-after ts [] h = sym (or-false (anyOf (ltb 2) ts))
+over-after ts (c ∷ cs) h =
+    let n = getD ts (c / 4) 0 + c % 4 in
+    let new = set ts (c / 4) n in
+    let l = length-set ts (c / 4) n in
+    over-after new cs (λ i k. let q = h (suc i) (omega arith) in omega arith)
+    ∙ (ap (λ (b : Bool). b || lifted new cs) (over-set ts (c / 4) n (h 0 (omega arith)) (omega arith))
+    ∙ or-assoc (anyOf (ltb 2) ts) (ltb 2 n) (lifted new cs))
 
 -- ---- parts of the workspace
 
@@ -217,6 +255,16 @@ module _ (t : Table) (by : ℕ → ℕ → ℕ) (a : Areas) (s : List ℕ) (h : 
   pub code-end : length list ≤ i → ws ≡ withTotals by a s x
   unfolding withTotals afterCodes
   code-end l = e ∙ ap (λ (cs : List ℕ). placed (a .totals) (a .used - a .totals) s (changed by (totalsPart a s) cs)) (take-all i list l)
+
+-- whether the codes read lift a total
+pub lifted-next : (t : Table) (a : Areas) (s : List ℕ) (h : Inputs t a s) (x : ℕ) (k : x < a .facets) (ws : List ℕ) (i : ℕ) (e : ws ≡ afterCodes _+_ a s x i)
+    (b : Bool) (c : ℕ) → i < length (codes a (touchedPart a s) x) → c ≡ getD (codes a (touchedPart a s) x) i 0 → b ≡ lifted (totalsPart a s) (take i (codes a (touchedPart a s) x))
+    → b || ltb 2 (getD ws (a .totals + c / 4) 0 + c % 4) ≡ lifted (totalsPart a s) (take (i + 1) (codes a (touchedPart a s) x))
+lifted-next t a s h x k ws i e b c l q r =
+    let ts = totalsPart a s in
+    let cs = codes a (touchedPart a s) x in
+    rw (r, code-total t _+_ a s h x k ws i e c l q, q)
+    (sym (lifted-last ts (take i cs) (getD cs i 0)) ∙ (ap (lifted ts) (sym (take-suc cs i 0 l)) ∙ ap (λ (j : ℕ). lifted ts (take j cs)) (sym (add-one i))))
 
 -- the first codes lie inside, too
 first-inside : (n : ℕ) (cs : List ℕ) (i : ℕ) → i < length cs → Inside n cs → Inside n (take i cs)

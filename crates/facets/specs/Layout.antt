@@ -1,12 +1,12 @@
 -- The workspace of a search: what its areas hold. The tables come first (each facet's orbit; what it adds, as one list for each facet; the facets with shares of 1, as one list for
 -- each ridge orbit), then the frames, the totals, the orbits in use, and the emitted lists. Facets are counted from 0 in the order of `allFacets`. Leans on Frames, Sums, Words and Pool.
 use mathlib.Core.Path.{_≡_, sym, ap, _∙_}
-use mathlib.Core.Bool.{Bool, true, false, cond}
+use mathlib.Core.Bool.{Bool, true, false, cond, _||_}
 use mathlib.Core.List.{List, [], _∷_, map, flatMap}
 use mathlib.Core.Option.{Option, some, none}
 use Prim.Native.Nat.{ℕ, zero, suc, _+_, _-_, _*_, _/_, _%_, _≤_, _<_}
 use native.Mathlib.Omega.{arith}
-use lib.Dec.{eqb}
+use lib.Dec.{ltb, eqb}
 use lib.ListN.{length, getD, set, take, replicate}
 use Rattle.definitions.specs.Lists.{countFrom}
 use Rattle.definitions.specs.Job.{numberAt}
@@ -145,6 +145,11 @@ Uses a list us = (orbit : ℕ) → orbit < a .orbits → getD us orbit 0 ≡ fla
 unfoldable pub changed : (ℕ → ℕ → ℕ) → List ℕ → List ℕ → List ℕ
 changed by ts [] = ts
 changed by ts (c ∷ cs) = changed by (set ts (c / 4) (by (getD ts (c / 4) 0) (c % 4))) cs
+
+-- whether a total is above 2 when a code's amount was added to it
+unfoldable pub lifted : List ℕ → List ℕ → Bool
+lifted ts [] = false
+lifted ts (c ∷ cs) = ltb 2 (getD ts (c / 4) 0 + c % 4) || lifted (set ts (c / 4) (getD ts (c / 4) 0 + c % 4)) cs
 
 unfoldable pub withTotals : (ℕ → ℕ → ℕ) → Areas → List ℕ → ℕ → List ℕ
 withTotals by a s x = placed (a .totals) (a .used - a .totals) s (changed by (totalsPart a s) (codes a (touchedPart a s) x))

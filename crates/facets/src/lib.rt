@@ -4,8 +4,10 @@ ghost use mathlib.Core.Path.{_≡_};
 ghost use mathlib.Core.List.{List};
 ghost use Prim.Native.Nat.{ℕ, _+_, _*_, _-_, _≤_, _<_};
 ghost use lib.ListN.{length, getD};
+ghost use lib.Dec.{ltb};
+ghost use Rattle.definitions.specs.Lists.{anyOf};
 ghost use Rattle.definitions.specs.Search.{Table, Facet, judge};
-ghost use Rattle.facets.specs.Layout.{Inputs, Uses, verdict, numbers, ridgeOf, usedPart, totalsPart, touchedPart, codes, amountIn, withFacet, withoutFacet};
+ghost use Rattle.facets.specs.Layout.{Inputs, Uses, verdict, numbers, ridgeOf, usedPart, totalsPart, touchedPart, codes, amountIn, lifted, withFacet, withoutFacet};
 ghost use Rattle.facets.specs.Frames.{candidates as candidatesOf, lowOf};
 ghost use Rattle.facets.specs.Latest.{lastFree};
 
@@ -31,24 +33,23 @@ pub struct Areas {
     pub end: usize,
 }
 
-// The verdict from the totals: over if one is above 2, else open at the lowest total of 1, else closed.
-pub fn judge_totals(totals: &[u8]) -> Verdict
-    requires { ⌜ length (now totals) < 65536 ⌝ }
+// The verdict from the totals and from whether one is above 2: then over, else open at the lowest total of 1, else closed. The scan ends at that total.
+pub fn judge_totals(totals: &[u8], over: bool) -> Verdict
+    requires { ⌜ (length (now totals) < 65536) × (over ≡ anyOf (ltb 2) (now totals)) ⌝ }
     ensures { λ r. ⌜ verdict r ≡ judge (now (totals .entry)) ⌝ }
 {
-    let mut v = Verdict::Closed;
-    let mut i = totals.len();
-    while 0 < i {
-        i -= 1;
-        let x = totals[i];
-        if 2 < x {
-            return Verdict::Over;
-        }
-        if x == 1 {
-            v = Verdict::Open(i as u16);
-        }
+    if over {
+        return Verdict::Over;
     }
-    v
+    let n = totals.len();
+    let mut i = 0;
+    while i < n {
+        if totals[i] == 1 {
+            return Verdict::Open(i as u16);
+        }
+        i += 1;
+    }
+    Verdict::Closed
 }
 
 // How many candidates there are: all facets, or the shares of 1 in a ridge orbit.
@@ -122,26 +123,31 @@ pub fn latest(ws: &[u8], a: Areas, kind: usize, low: usize, place: usize) -> usi
     i
 }
 
-// A facet joins the list: what it adds is counted, and its orbit is in use.
-pub fn join(ws: &mut [u8], a: Areas, x: usize)
+// A facet joins the list: what it adds is counted, and its orbit is in use. Says whether it lifts a total above 2.
+pub fn join(ws: &mut [u8], a: Areas, x: usize) -> bool
     requires { ⌜ ((t : Table) × Inputs t a (now ws) × (x < a .facets) × ((ridge : ℕ) → ridge < a .ridges → getD (totalsPart a (now ws)) ridge 0 ≤ 252)) ⌝ }
-    ensures { λ _. ⌜ now (ws .exit) ≡ withFacet a (now (ws .entry)) x ⌝ }
+    ensures counts { λ _. ⌜ now (ws .exit) ≡ withFacet a (now (ws .entry)) x ⌝ }
+    ensures lifts { λ r. ⌜ r ≡ lifted (totalsPart a (now (ws .entry))) (codes a (touchedPart a (now (ws .entry))) x) ⌝ }
 {
     let facets = a.facets;
     let touched = a.touched;
     let ones = a.ones;
     let totals = a.totals;
     let n = pool::list_length(&ws[touched..ones], x) as usize;
+    let mut over = false;
     let mut i = 0;
     while i < n {
         let code = pool::item_u16(&ws[touched..ones], facets, x, i) as usize;
         let at = totals + code / 4;
-        ws[at] = ws[at] + (code % 4) as u8;
+        let sum = ws[at] + (code % 4) as u8;
+        ws[at] = sum;
+        over = over | (2 < sum);
         i += 1;
     }
     let used = a.used;
     let orbit = words::get_u16(ws, 2 * x) as usize;
     ws[used + orbit] = 1;
+    over
 }
 
 // A facet leaves the list.

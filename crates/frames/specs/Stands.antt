@@ -2,7 +2,7 @@
 -- Leans on Layout, Change and Latest.
 use mathlib.Core.Path.{_≡_, refl, sym, ap, _∙_}
 use mathlib.Core.Logic.{_⊎_, ⊎-elim}
-use mathlib.Core.Bool.{Bool, true, false, not, _||_}
+use mathlib.Core.Bool.{Bool, true, false, not, _||_, or-true, or-false, or-assoc}
 use mathlib.Core.List.{List, [], _∷_, _++_}
 use Prim.Native.Nat.{ℕ, suc, _+_, _-_, _/_, _≤_, _<_}
 use native.Mathlib.Omega.{arith}
@@ -32,28 +32,12 @@ list-last t p k = map-last (facetOf t) (path p k) (takenAt p k)
 
 any-last : {A : Type 0} (q : A → Bool) (l : List A) (x : A) → anyOf q (l ++ (x ∷ [])) ≡ anyOf q l || q x
 unfolding anyOf
-any-last q [] x = go (q x)
-  where
-    go : (b : Bool) → b || false ≡ b
-    go true = refl
-    go false = refl
-any-last q (y ∷ l) x = go (q y) (any-last q l x)
-  where
-    go : (b : Bool) → anyOf q (l ++ (x ∷ [])) ≡ anyOf q l || q x → b || anyOf q (l ++ (x ∷ [])) ≡ (b || anyOf q l) || q x
-    go true e = refl
-    go false e = e
+any-last q [] x = or-false (q x)
+any-last q (y ∷ l) x = ap (λ (b : Bool). q y || b) (any-last q l x) ∙ sym (or-assoc (q y) (anyOf q l) (q x))
 
 uses-last : (orbit : ℕ) (l : List Facet) (f : Facet) → usesOrbit orbit (l ++ (f ∷ [])) ≡ usesOrbit orbit l || eqb orbit (f .0)
 unfolding usesOrbit
 uses-last orbit l f = any-last (λ (g : Facet). eqb orbit (g .0)) l f
-
-or-true : (b : Bool) → b || true ≡ true
-or-true true = refl
-or-true false = refl
-
-or-false : (b : Bool) → b || false ≡ b
-or-false true = refl
-or-false false = refl
 
 -- the orbit of the last facet is in use, and of another orbit the last facet says nothing
 own-use : (l : List Facet) (f : Facet) → flag (usesOrbit (f .0) (l ++ (f ∷ []))) ≡ 1
@@ -83,7 +67,7 @@ uses-leave a l f us n h free u orbit k = go (eqb orbit (f .0)) refl
 -- ---- a facet joins
 
 module _ (t : Table) (a : Areas) (s : List ℕ) (d m : ℕ) where
-  last-inside : (x : ℕ) → Inputs t a s → x < a .facets → (i : ℕ) → i < length (codes a (touchedPart a s) x) → getD (codes a (touchedPart a s) x) i 0 / 4 < length (totalsPart a s)
+  pub last-inside : (x : ℕ) → Inputs t a s → x < a .facets → (i : ℕ) → i < length (codes a (touchedPart a s) x) → getD (codes a (touchedPart a s) x) i 0 / 4 < length (totalsPart a s)
   last-inside x h k i l =
       let w = h .holds .within x k i l in
       let f = h .fits in

@@ -1,7 +1,7 @@
 -- The steps of the search on the workspace: the next candidate, a list examined, the last facet withdrawn, a list entered. Leans on Stands and Places.
 use mathlib.Core.Path.{_≡_, refl, sym, ap, _∙_}
 use mathlib.Core.Logic.{_⊎_, inl, inr, ⊎-elim}
-use mathlib.Core.Bool.{Bool, true, false, cond, not}
+use mathlib.Core.Bool.{Bool, true, false, cond, not, _||_}
 use mathlib.Core.List.{List, [], _∷_, _++_}
 use mathlib.Core.Option.{Option, none}
 use Prim.Native.Nat.{ℕ, zero, suc, _+_, _-_, _*_, _≤_, _<_}
@@ -9,7 +9,7 @@ use native.Mathlib.Omega.{arith}
 use native.Mathlib.Numerals.{add-one}
 use lib.Dec.{T, ltb, ltb→lt, lt→ltb, nltb→le}
 use lib.ListN.{length, getD, take}
-use Rattle.definitions.specs.Lists.{keep, countFrom}
+use Rattle.definitions.specs.Lists.{anyOf, keep, countFrom}
 use Rattle.definitions.specs.Search as def
 use Rattle.definitions.specs.Search.{Table, Facet, usesOrbit, judge, totals}
 use Rattle.laws.specs.Bools.{true→holds, holds→true, false→fails}
@@ -20,12 +20,13 @@ use Rattle.facets.specs.declared.Areas.{Areas}
 use Rattle.facets.specs.declared.Verdict.{Verdict}
 use Rattle.facets.specs.Frames.{Frame, candidates, unused, waiting, markOf, child, moved, entered, lowOf}
 use Rattle.facets.specs.Sums.{sumAt}
-use Rattle.facets.specs.Layout.{verdict, Inputs, Fits, holds-kept, facetOf, numbers, ridgeOf, totalsPart, usedPart, framesPart, listsPart, withFacet, withoutFacet}
+use Rattle.facets.specs.Layout.{verdict, Inputs, Fits, holds-kept, facetOf, numbers, ridgeOf, codes, touchedPart, totalsPart, usedPart, framesPart, listsPart, lifted, withFacet, withoutFacet}
 use Rattle.frames.specs.Paths.{path, listTo, frameAt, framesTo, placeAt, lowAt, markAt, kindAt, takenAt, markAfter, itemAt, withPlace, withFrame, Path, Stands}
 use Rattle.facets.specs.Numbers.{numbers-length, numbers-small, candidate-at, numbers-few}
 use Rattle.facets.specs.Latest.{Latest, latest-none, latest-found, latest-is, lastFree, not-below, facet-small}
-use Rattle.facets.specs.Change.{change-frames, change-tables, change-lists}
-use Rattle.frames.specs.Stands.{list-last, stands-join, stands-leave}
+use Rattle.facets.specs.Judged.{none-over}
+use Rattle.facets.specs.Change.{over-after, change-frames, change-tables, change-totals, change-lists}
+use Rattle.frames.specs.Stands.{list-last, last-inside, stands-join, stands-leave}
 use Rattle.frames.specs.Places.{Below, same-kind, same-places, same-taken, same-list, place-length, place-below, place-is, place-taken, place-kind, place-mark, place-frames, frame-length, frame-below, frame-place, frame-kind, frame-frames}
 
 -- ---- how deep a path can be: its orbits differ
@@ -293,8 +294,8 @@ module _ (t : Table) (a : Areas) (s : List ℕ) (d place x : ℕ) (ok : Ready t 
         uses = rw (frames-are, put-used a s q f long, same-list p q k below t k (omega arith)) (st .uses);
       }
 
-  -- the totals are small enough to add to
-  pub placed-light : (ridge : ℕ) → ridge < a .ridges → getD (totalsPart a s1) ridge 0 ≤ 252
+  -- the list before is not over
+  pub placed-light : (ridge : ℕ) → ridge < a .ridges → getD (totalsPart a s1) ridge 0 ≤ 2
   placed-light ridge r =
       let st = stands-placed in
       let w = st .totals ridge r in
@@ -308,6 +309,19 @@ module _ (t : Table) (a : Areas) (s : List ℕ) (d place x : ℕ) (ok : Ready t 
   same-frames-2 : framesPart a s2 ≡ q
   unfolding withFacet
   same-frames-2 = change-frames _+_ a s1 (stands-placed .inputs .fits) x 1 taken-small ∙ frames-are
+
+  -- so a total above 2 is one that the facet lifted
+  pub over-lifted : lifted (totalsPart a s1) (codes a (touchedPart a s1) x) ≡ anyOf (ltb 2) (totalsPart a s2)
+  unfolding withFacet
+  over-lifted =
+      let st = stands-placed in
+      let f = st .inputs .fits in
+      let l = part-length (a .totals) (a .used - a .totals) s1 (omega arith) in
+      let ts = totalsPart a s1 in
+      let cs = codes a (touchedPart a s1) x in
+      ap (λ (b : Bool). b || lifted ts cs) (sym (none-over ts (λ ridge r. placed-light ridge (omega arith))))
+      ∙ (sym (over-after ts cs (last-inside t a s1 d k x (st .inputs) taken-small))
+      ∙ ap (anyOf (ltb 2)) (sym (change-totals _+_ a s1 f x 1 taken-small)))
 
   pub visited : (v : Verdict) → verdict v ≡ judge (totalsPart a s2) → Visited t a s s2 d place v
   unfolding withFacet child itemAt markAfter

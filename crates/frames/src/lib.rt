@@ -76,8 +76,8 @@ pub fn visit(ws: &mut [u8], a: Areas, s: State, place: usize) -> State
         (place - 1) as u32,
         x as u16,
     );
-    facets::join(ws, a, x);
-    let v = facets::judge_totals(&ws[totals..used]);
+    let over = facets::join(ws, a, x);
+    let v = facets::judge_totals(&ws[totals..used], over);
     State {
         verdict: v,
         depth: depth,

@@ -1,22 +1,23 @@
--- `facets::join` meets its contract. The loop's invariant: the workspace is the one at the start with the totals of the first i codes added. The measure is what is left of the codes. Assumes nothing.
+-- `facets::join` meets its contract. The loop's invariant: the workspace is the one at the start with the totals of the first i codes added, and it is known whether one of them lifted a total above 2. The measure is what is left of the codes. Assumes nothing.
 use borrow.Author.Needs.{needs}
 use native.Mathlib.Omega.{arith}
 use mathlib.Core.Path.{_≡_, refl, ap, _∙_}
 use Prim.Native.Nat.{_+_, _-_, _*_, _/_, _≤_}
-use lib.ListN.{set, length-set}
+use lib.ListN.{set, take, length-set}
+use lib.Seq.{take-all}
 use Rattle.definitions.specs.Job.{numberAt}
-use Rattle.facets.specs.Layout.{facetOf, withTotals, withFacet}
+use Rattle.facets.specs.Layout.{facetOf, codes, touchedPart, totalsPart, lifted, withTotals, withFacet}
 use Rattle.facets.specs.Latest.{facet-small}
 use Rattle.facets.specs.Numbers.{orbit-is}
-use Rattle.facets.specs.Change.{afterCodes, codes-none, touched-room, touched-length, code-length, code-place, code-is, code-next, code-total, code-end, add-fits, here-is, change-use}
+use Rattle.facets.specs.Change.{afterCodes, codes-none, touched-room, touched-length, code-length, code-place, code-is, code-next, code-total, code-end, lifted-next, add-fits, here-is, change-use}
 use Rattle.facets.proofs.join.Statement.{statement}
 use Rattle.facets.proofs.join.Tie as tie
 
 abbrev Inv-loop : tie.InvT-loop
-Inv-loop ws₀ a x facets touched ones totals n i₀ ws i = (i ≤ n) × (ws ≡ afterCodes _+_ a ws₀ x i)
+Inv-loop ws₀ a x facets touched ones totals n over₀ i₀ ws over i = (i ≤ n) × (ws ≡ afterCodes _+_ a ws₀ x i) × (over ≡ lifted (totalsPart a ws₀) (take i (codes a (touchedPart a ws₀) x)))
 
 abbrev μ-loop : tie.MeasureT-loop
-μ-loop ws₀ a x facets touched ones totals n i₀ ws i = n - i
+μ-loop ws₀ a x facets touched ones totals n over₀ i₀ ws over i = n - i
 
 sub-list-length : tie.Need-sub-list-length Inv-loop μ-loop
 sub-list-length c = search needs
@@ -34,7 +35,8 @@ cast-n : tie.Need-cast-n Inv-loop μ-loop
 cast-n c = search needs
 
 loop-holds : tie.Need-loop-holds Inv-loop μ-loop
-loop-holds c = let s = c .before .before .before .before in (omega arith, codes-none _+_ (s .args .a) (s .args .ws .now) (s .pre .1 .fits) (s .args .x))
+unfolding lifted
+loop-holds c = let s = c .before .before .before .before in (omega arith, codes-none _+_ (s .args .a) (s .args .ws .now) (s .pre .1 .fits) (s .args .x), refl)
 
 sub-item-u16 : tie.Need-sub-item-u16 Inv-loop μ-loop
 sub-item-u16 c = search needs
@@ -55,15 +57,15 @@ add-at : tie.Need-add-at Inv-loop μ-loop
 add-at c = let s = c .before .before .before .before .before .before .before .before .before in let l = c .before .before .before .before .loop in let n = touched-length (s .pre .0) (s .args .a) (s .args .ws .now) (s .pre .1) (s .args .x) (s .pre .2) in let m = c .before .before .before .before .before .list-length .ensures in let q = code-length (s .pre .0) _+_ (s .args .a) (s .args .ws .now) (s .pre .1) (s .args .x) (s .pre .2) (l .ws) (l .i) (l .inv .1) in let f = s .pre .1 .fits in
     let w = code-is (s .pre .0) _+_ (s .args .a) (s .args .ws .now) (s .pre .1) (s .args .x) (s .pre .2) (l .ws) (l .i) (l .inv .1) (omega arith) in let e = c .item-u16 .ensures ∙ w in let z = s .pre .1 .holds .within (s .args .x) (s .pre .2) (l .i) (omega arith) in omega arith
 
-slice-read-ws : tie.Need-slice-read-ws Inv-loop μ-loop
-slice-read-ws c = let s = c .before .before .before .before .before .before .before .before .before .before in let l = c .before .before .before .before .before .loop in let n = touched-length (s .pre .0) (s .args .a) (s .args .ws .now) (s .pre .1) (s .args .x) (s .pre .2) in let m = c .before .before .before .before .before .before .list-length .ensures in let q = code-length (s .pre .0) _+_ (s .args .a) (s .args .ws .now) (s .pre .1) (s .args .x) (s .pre .2) (l .ws) (l .i) (l .inv .1) in let f = s .pre .1 .fits in
+slice-read-sum : tie.Need-slice-read-sum Inv-loop μ-loop
+slice-read-sum c = let s = c .before .before .before .before .before .before .before .before .before .before in let l = c .before .before .before .before .before .loop in let n = touched-length (s .pre .0) (s .args .a) (s .args .ws .now) (s .pre .1) (s .args .x) (s .pre .2) in let m = c .before .before .before .before .before .before .list-length .ensures in let q = code-length (s .pre .0) _+_ (s .args .a) (s .args .ws .now) (s .pre .1) (s .args .x) (s .pre .2) (l .ws) (l .i) (l .inv .1) in let f = s .pre .1 .fits in
     let w = code-is (s .pre .0) _+_ (s .args .a) (s .args .ws .now) (s .pre .1) (s .args .x) (s .pre .2) (l .ws) (l .i) (l .inv .1) (omega arith) in let e = c .before .item-u16 .ensures ∙ w in let z = s .pre .1 .holds .within (s .args .x) (s .pre .2) (l .i) (omega arith) in omega arith
 
-cast-ws : tie.Need-cast-ws Inv-loop μ-loop
-cast-ws c = search needs
+cast-sum : tie.Need-cast-sum Inv-loop μ-loop
+cast-sum c = search needs
 
-add-ws : tie.Need-add-ws Inv-loop μ-loop
-add-ws c = let s = c .before .before .before .before .before .before .before .before .before .before in let l = c .before .before .before .before .before .loop in let n = touched-length (s .pre .0) (s .args .a) (s .args .ws .now) (s .pre .1) (s .args .x) (s .pre .2) in let m = c .before .before .before .before .before .before .list-length .ensures in let q = code-length (s .pre .0) _+_ (s .args .a) (s .args .ws .now) (s .pre .1) (s .args .x) (s .pre .2) (l .ws) (l .i) (l .inv .1) in let f = s .pre .1 .fits in
+add-sum : tie.Need-add-sum Inv-loop μ-loop
+add-sum c = let s = c .before .before .before .before .before .before .before .before .before .before in let l = c .before .before .before .before .before .loop in let n = touched-length (s .pre .0) (s .args .a) (s .args .ws .now) (s .pre .1) (s .args .x) (s .pre .2) in let m = c .before .before .before .before .before .before .list-length .ensures in let q = code-length (s .pre .0) _+_ (s .args .a) (s .args .ws .now) (s .pre .1) (s .args .x) (s .pre .2) (l .ws) (l .i) (l .inv .1) in let f = s .pre .1 .fits in
     let w = code-is (s .pre .0) _+_ (s .args .a) (s .args .ws .now) (s .pre .1) (s .args .x) (s .pre .2) (l .ws) (l .i) (l .inv .1) (omega arith) in let e = c .before .item-u16 .ensures ∙ w in let z = s .pre .1 .holds .within (s .args .x) (s .pre .2) (l .i) (omega arith) in let g = code-total (s .pre .0) _+_ (s .args .a) (s .args .ws .now) (s .pre .1) (s .args .x) (s .pre .2) (l .ws) (l .i) (l .inv .1) (c .before .item-u16 .result) (omega arith) e in let y = add-fits (s .pre .0) (s .args .a) (s .args .ws .now) (s .pre .1) (s .args .x) (s .pre .2) (l .i) (omega arith) (s .pre .3 _ z) in rw (g, e) (omega arith)
 
 slice-write-ws : tie.Need-slice-write-ws Inv-loop μ-loop
@@ -78,7 +80,7 @@ loop-less c = search needs
 
 loop-again : tie.Need-loop-again Inv-loop μ-loop
 loop-again c = let s = c .before .before .before .before .before .before .before .before .before .before in let l = c .before .before .before .before .before .loop in let n = touched-length (s .pre .0) (s .args .a) (s .args .ws .now) (s .pre .1) (s .args .x) (s .pre .2) in let m = c .before .before .before .before .before .before .list-length .ensures in let q = code-length (s .pre .0) _+_ (s .args .a) (s .args .ws .now) (s .pre .1) (s .args .x) (s .pre .2) (l .ws) (l .i) (l .inv .1) in let f = s .pre .1 .fits in
-    let w = code-is (s .pre .0) _+_ (s .args .a) (s .args .ws .now) (s .pre .1) (s .args .x) (s .pre .2) (l .ws) (l .i) (l .inv .1) (omega arith) in let e = c .before .item-u16 .ensures ∙ w in let z = s .pre .1 .holds .within (s .args .x) (s .pre .2) (l .i) (omega arith) in (omega arith, code-next (s .pre .0) _+_ (s .args .a) (s .args .ws .now) (s .pre .1) (s .args .x) (s .pre .2) (l .ws) (l .i) (l .inv .1) (c .before .item-u16 .result) _ (omega arith) e refl)
+    let w = code-is (s .pre .0) _+_ (s .args .a) (s .args .ws .now) (s .pre .1) (s .args .x) (s .pre .2) (l .ws) (l .i) (l .inv .1) (omega arith) in let e = c .before .item-u16 .ensures ∙ w in let z = s .pre .1 .holds .within (s .args .x) (s .pre .2) (l .i) (omega arith) in (omega arith, code-next (s .pre .0) _+_ (s .args .a) (s .args .ws .now) (s .pre .1) (s .args .x) (s .pre .2) (l .ws) (l .i) (l .inv .1) (c .before .item-u16 .result) _ (omega arith) e refl, lifted-next (s .pre .0) (s .args .a) (s .args .ws .now) (s .pre .1) (s .args .x) (s .pre .2) (l .ws) (l .i) (l .inv .1) (l .over) (c .before .item-u16 .result) (omega arith) e (l .inv .2))
 
 mul-get-u16 : tie.Need-mul-get-u16 Inv-loop μ-loop
 mul-get-u16 c = let s = c .before .before .before .before .before .before .before in let l = c .before .before .loop in let n = touched-length (s .pre .0) (s .args .a) (s .args .ws .now) (s .pre .1) (s .args .x) (s .pre .2) in let m = c .before .before .before .list-length .ensures in let q = code-length (s .pre .0) _+_ (s .args .a) (s .args .ws .now) (s .pre .1) (s .args .x) (s .pre .2) (l .ws) (l .i) (l .inv .1) in let f = s .pre .1 .fits in omega arith
@@ -89,8 +91,8 @@ get-u16-requires c κs = let s = c .before .before .before .before .before .befo
 cast-orbit : tie.Need-cast-orbit Inv-loop μ-loop
 cast-orbit c = search needs
 
-add-ws-2 : tie.Need-add-ws-2 Inv-loop μ-loop
-add-ws-2 c = let s = c .before .before .before .before .before .before .before .before in let l = c .before .before .before .loop in let n = touched-length (s .pre .0) (s .args .a) (s .args .ws .now) (s .pre .1) (s .args .x) (s .pre .2) in let m = c .before .before .before .before .list-length .ensures in let q = code-length (s .pre .0) _+_ (s .args .a) (s .args .ws .now) (s .pre .1) (s .args .x) (s .pre .2) (l .ws) (l .i) (l .inv .1) in let f = s .pre .1 .fits in
+add-ws : tie.Need-add-ws Inv-loop μ-loop
+add-ws c = let s = c .before .before .before .before .before .before .before .before in let l = c .before .before .before .loop in let n = touched-length (s .pre .0) (s .args .a) (s .args .ws .now) (s .pre .1) (s .args .x) (s .pre .2) in let m = c .before .before .before .before .list-length .ensures in let q = code-length (s .pre .0) _+_ (s .args .a) (s .args .ws .now) (s .pre .1) (s .args .x) (s .pre .2) (l .ws) (l .i) (l .inv .1) in let f = s .pre .1 .fits in
     let w = code-end (s .pre .0) _+_ (s .args .a) (s .args .ws .now) (s .pre .1) (s .args .x) (s .pre .2) (l .ws) (l .i) (l .inv .1) (omega arith) in
     let o : c .get-u16 .result ≡ numberAt (withTotals _+_ (s .args .a) (s .args .ws .now) (s .args .x)) (2 * s .args .x) 2 = c .get-u16 .ensures ∙ ap (λ r. numberAt r (2 * s .args .x) 2) w in
     let b : c .get-u16 .result ≡ facetOf (s .pre .0) (s .args .x) .0 = o ∙ (here-is _+_ (s .args .a) (s .args .ws .now) (s .pre .1 .fits) (s .args .x) 1 (s .pre .2) ∙ orbit-is (s .pre .0) (s .args .a) (s .args .ws .now) (s .pre .1) (s .args .x) (s .pre .2)) in
@@ -112,8 +114,10 @@ returns c = let s = c .before .before .before .before .before .before .before .b
     let w = code-end (s .pre .0) _+_ (s .args .a) (s .args .ws .now) (s .pre .1) (s .args .x) (s .pre .2) (l .ws) (l .i) (l .inv .1) (omega arith) in
     let o : c .get-u16 .result ≡ numberAt (withTotals _+_ (s .args .a) (s .args .ws .now) (s .args .x)) (2 * s .args .x) 2 = c .get-u16 .ensures ∙ ap (λ r. numberAt r (2 * s .args .x) 2) w in
     let b : c .get-u16 .result ≡ facetOf (s .pre .0) (s .args .x) .0 = o ∙ (here-is _+_ (s .args .a) (s .args .ws .now) (s .pre .1 .fits) (s .args .x) 1 (s .pre .2) ∙ orbit-is (s .pre .0) (s .args .a) (s .args .ws .now) (s .pre .1) (s .args .x) (s .pre .2)) in
-    let z = facet-small (s .pre .0) (s .args .a) (s .args .ws .now) (s .args .x) (s .pre .1) (s .pre .2) in
-    ap (λ r. set r (s .args .a .used + c .get-u16 .result) 1) w ∙ change-use _+_ (s .args .a) (s .args .ws .now) (s .pre .1 .fits) (s .args .x) 1 (s .pre .2) (c .get-u16 .result) o (omega arith)
+    let z = facet-small (s .pre .0) (s .args .a) (s .args .ws .now) (s .args .x) (s .pre .1) (s .pre .2) in (
+      ap (λ r. set r (s .args .a .used + c .get-u16 .result) 1) w ∙ change-use _+_ (s .args .a) (s .args .ws .now) (s .pre .1 .fits) (s .args .x) 1 (s .pre .2) (c .get-u16 .result) o (omega arith),
+      l .inv .2 ∙ ap (lifted (totalsPart (s .args .a) (s .args .ws .now))) (take-all (l .i) (codes (s .args .a) (touchedPart (s .args .a) (s .args .ws .now)) (s .args .x)) (omega arith)),
+    )
 
 pub join-spec : {M : Type 1} → statement M
 join-spec =
@@ -133,9 +137,9 @@ join-spec =
     item-u16-requires
     cast-code
     add-at
-    slice-read-ws
-    cast-ws
-    add-ws
+    slice-read-sum
+    cast-sum
+    add-sum
     slice-write-ws
     add-i
     loop-less
@@ -143,7 +147,7 @@ join-spec =
     mul-get-u16
     get-u16-requires
     cast-orbit
-    add-ws-2
+    add-ws
     slice-write-ws-2
     same-length
     returns)

@@ -1,11 +1,11 @@
 -- `frames::visit` meets its contract. The place and the facet are written, the facet joins, and the totals are judged: `visited` says what that makes of the workspace. Assumes nothing.
 use native.Mathlib.Omega.{arith}
-use mathlib.Core.Path.{_≡_, refl}
+use mathlib.Core.Path.{_≡_, refl, _∙_}
 use Prim.Native.Nat.{_-_}
 use lib.ListN.{getD}
 use Rattle.facets.specs.Layout.{framesPart, numbers}
 use Rattle.frames.specs.Paths.{kindAt}
-use Rattle.frames.specs.Steps.{frame-room, frames-length, place-inside, kind-inside, place-small, number-small, taken-small, stands-placed, placed-light, visited, room}
+use Rattle.frames.specs.Steps.{frame-room, frames-length, place-inside, kind-inside, place-small, number-small, taken-small, stands-placed, placed-light, over-lifted, visited, room}
 use borrow.Author.Needs.{needs}
 use Rattle.frames.proofs.visit.Statement.{statement}
 use Rattle.frames.proofs.visit.Tie as tie
@@ -80,7 +80,7 @@ join-requires c κs = let s = c .before .before .before .before .before .before 
       s .pre .0,
       stands-placed (s .pre .0) (s .args .a) (s .args .ws .now) (s .args .s .depth) (s .args .place) (c .before .before .before .before .before .candidate .result) ok x .inputs,
       taken-small (s .pre .0) (s .args .a) (s .args .ws .now) (s .args .s .depth) (s .args .place) (c .before .before .before .before .before .candidate .result) ok x,
-      placed-light (s .pre .0) (s .args .a) (s .args .ws .now) (s .args .s .depth) (s .args .place) (c .before .before .before .before .before .candidate .result) ok x,
+      λ ridge r. let l = placed-light (s .pre .0) (s .args .a) (s .args .ws .now) (s .args .s .depth) (s .args .place) (c .before .before .before .before .before .candidate .result) ok x ridge r in omega arith,
     )
 
 sub-judge-totals : tie.Need-sub-judge-totals
@@ -93,10 +93,17 @@ part-judge-totals-end : tie.Need-part-judge-totals-end
 part-judge-totals-end c = search needs
 
 judge-totals-requires : tie.Need-judge-totals-requires
-judge-totals-requires c κs = search needs
+unfolding kindAt
+judge-totals-requires c κs = let s = c .before .before .before .before .before .before .before .before .before .before .before .before .before .before .before .before in let ok = s .pre .1 in let p = framesPart (s .args .a) (s .args .ws .now) in
+    let k : c .before .before .before .before .before .before .before .before .before .before .before .before .get-u16 .result ≡ kindAt p (s .args .s .depth - 1) = c .before .before .before .before .before .before .before .before .before .before .before .before .get-u16 .ensures in
+    let x : c .before .before .before .before .before .before .before .before .before .before .candidate .result ≡ getD (numbers (s .pre .0) (kindAt p (s .args .s .depth - 1))) (s .args .place - 1) 0 = rw k at (c .before .before .before .before .before .before .before .before .before .before .candidate .ensures (s .pre .0) (ok .stands .inputs)) in
+    let e = c .before .before .before .before .join .ensures .1 in (
+      search needs,
+      rw (c .before .before .before .before .join .ensures .0, c .before .before .before .before .before .before .before .before .take-place .ensures) (rw (c .before .before .before .before .before .before .before .before .take-place .ensures) at e ∙ over-lifted (s .pre .0) (s .args .a) (s .args .ws .now) (s .args .s .depth) (s .args .place) (c .before .before .before .before .before .before .before .before .before .before .candidate .result) ok x),
+    )
 
-sub-t27 : tie.Need-sub-t27
-sub-t27 c = search needs
+sub-t28 : tie.Need-sub-t28
+sub-t28 c = search needs
 
 same-length : tie.Need-same-length
 same-length c = search needs
@@ -110,8 +117,8 @@ returns c = (
       let k : c .before .before .before .before .before .before .before .before .before .before .before .before .before .get-u16 .result ≡ kindAt p (s .args .s .depth - 1) = c .before .before .before .before .before .before .before .before .before .before .before .before .before .get-u16 .ensures in
       let x : c .before .before .before .before .before .before .before .before .before .before .before .candidate .result ≡ getD (numbers t (kindAt p (s .args .s .depth - 1))) (s .args .place - 1) 0 = rw k at (c .before .before .before .before .before .before .before .before .before .before .before .candidate .ensures t (ok .stands .inputs)) in
       let e = c .judge-totals .ensures in
-      rw (c .before .before .before .before .before .join .ensures, c .before .before .before .before .before .before .before .before .before .take-place .ensures)
-      (visited t (s .args .a) (s .args .ws .now) (s .args .s .depth) (s .args .place) (c .before .before .before .before .before .before .before .before .before .before .before .candidate .result) ok x (c .judge-totals .result) (rw (c .before .before .before .before .before .join .ensures, c .before .before .before .before .before .before .before .before .before .take-place .ensures) at e)),
+      rw (c .before .before .before .before .before .join .ensures .0, c .before .before .before .before .before .before .before .before .before .take-place .ensures)
+      (visited t (s .args .a) (s .args .ws .now) (s .args .s .depth) (s .args .place) (c .before .before .before .before .before .before .before .before .before .before .before .candidate .result) ok x (c .judge-totals .result) (rw (c .before .before .before .before .before .join .ensures .0, c .before .before .before .before .before .before .before .before .before .take-place .ensures) at e)),
 )
 
 pub visit-spec : {M : Type 1} → statement M
@@ -141,6 +148,6 @@ visit-spec =
     part-judge-totals-start
     part-judge-totals-end
     judge-totals-requires
-    sub-t27
+    sub-t28
     same-length
     returns)
