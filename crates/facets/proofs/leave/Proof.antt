@@ -104,7 +104,7 @@ slice-write-ws-2 c = let s = c .before .before .before .before .before .before .
     let z = facet-small (s .pre .0) (s .args .a) (s .args .ws .now) (s .args .x) (s .pre .1) (s .pre .2) in omega arith
 
 same-length : tie.Need-same-length Inv-loop μ-loop
-same-length c = let s = c .before .before .before .before .before .before .before .before in let l = c .before .before .before .loop in let n = touched-length (s .pre .0) (s .args .a) (s .args .ws .now) (s .pre .1) (s .args .x) (s .pre .2) in let m = c .before .before .before .before .list-length .ensures in let q = code-length (s .pre .0) _-_ (s .args .a) (s .args .ws .now) (s .pre .1) (s .args .x) (s .pre .2) (l .ws) (l .i) (l .inv .1) in let f = s .pre .1 .fits in length-set (l .ws) (s .args .a .used + c .get-u16 .result) _ ∙ q
+same-length c = let s = c .before .before .before .before .before .before .before .before in let l = c .before .before .before .loop in let n = touched-length (s .pre .0) (s .args .a) (s .args .ws .now) (s .pre .1) (s .args .x) (s .pre .2) in let m = c .before .before .before .before .list-length .ensures in let q = code-length (s .pre .0) _-_ (s .args .a) (s .args .ws .now) (s .pre .1) (s .args .x) (s .pre .2) (l .ws) (l .i) (l .inv .1) in let f = s .pre .1 .fits in length-set (l .ws) _ _ ∙ q
 
 returns : tie.Need-returns Inv-loop μ-loop
 unfolding withoutFacet

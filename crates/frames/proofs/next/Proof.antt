@@ -80,7 +80,7 @@ returns c = λ t st. let s = c .before .before .before .before .before .before .
     let q : c .before .before .before .before .before .before .get-u32 .result ≡ placeAt p (s .args .depth - 1) = c .before .before .before .before .before .before .get-u32 .ensures in
     let w : c .before .before .before .before .get-u322 .result ≡ lowAt p (s .args .depth - 1) = c .before .before .before .before .get-u322 .ensures in
     let m = c .before .latest .ensures t (listTo t p (s .args .depth - 1)) (st .inputs) (st .uses) in
-    next-none t (frameAt t p (s .args .depth - 1)) (c .before .latest .result) (rw (k, q, w) at m) (rw w at (c .if1 .taken))
+    next-none t (frameAt t p (s .args .depth - 1)) (c .before .latest .result) (rw (k, q, w) at m) (omega arith)
 
 returns-2 : tie.Need-returns-2
 unfolding kindAt placeAt lowAt frameAt
@@ -89,7 +89,7 @@ returns-2 c = λ t st. let s = c .before .before .before .before .before .before
     let q : c .before .before .before .before .before .before .get-u32 .result ≡ placeAt p (s .args .depth - 1) = c .before .before .before .before .before .before .get-u32 .ensures in
     let w : c .before .before .before .before .get-u322 .result ≡ lowAt p (s .args .depth - 1) = c .before .before .before .before .get-u322 .ensures in
     let m = c .before .latest .ensures t (listTo t p (s .args .depth - 1)) (st .inputs) (st .uses) in
-    next-found t (frameAt t p (s .args .depth - 1)) (c .before .latest .result) (rw (k, q, w) at m) (rw w at (c .if1 .left))
+    next-found t (frameAt t p (s .args .depth - 1)) (c .before .latest .result) (rw (k, q, w) at m) (omega arith)
 
 pub next-spec : {M : Type 1} → statement M
 next-spec =

@@ -38,10 +38,10 @@ same-length c = search needs
 
 returns : tie.Need-returns
 unfolding Followed
-returns c = λ t j. let s = c .before .before .before .before .before in let e = c .before .lists .ensures in follow-full t (s .args .a) (s .args .limit) (s .args .ws .now) (s .args .depth) j (rw e at (c .if1 .taken))
+returns c = λ t j. let s = c .before .before .before .before .before in let e = c .before .lists .ensures in follow-full t (s .args .a) (s .args .limit) (s .args .ws .now) (s .args .depth) j (omega arith)
 
 emit-requires : tie.Need-emit-requires
-emit-requires c κs = let s = c .before .before .before .before .before .before in let j = s .pre .1 in let e = c .before .before .lists .ensures in (s .pre .0, j .stands, j .emitted, rw e at (c .before .if1 .left))
+emit-requires c κs = let s = c .before .before .before .before .before .before in let j = s .pre .1 in let e = c .before .before .lists .ensures in (s .pre .0, j .stands, j .emitted, omega arith)
 
 add-reached : tie.Need-add-reached
 add-reached c = search needs
