@@ -8,7 +8,7 @@ use native.Mathlib.Omega.{arith}
 use native.Mathlib.Numerals.{add-one}
 use lib.Dec.{ltb, ltb→lt, nltb→le, eqb, eqb→eq, eqb-refl}
 use lib.ListN.{length, getD, set, take, drop, length-set}
-use lib.Seq.{getD-set-same, getD-set-other, take-suc, take-length, length-take-le, take-all, getD-take, getD-drop, drop-drop, take-take}
+use lib.Seq.{getD-set-same, getD-set-other, take-suc, length-take-le, take-all, getD-take, getD-drop, drop-drop, take-take}
 use borrow.Rule.Slice.PartMut.{set-mid-at, put-same}
 use Rattle.definitions.specs.Lists.{anyOf}
 use Rattle.definitions.specs.Job.{numberAt}
@@ -18,7 +18,7 @@ use Rattle.laws.specs.Segments.{part, placed, part-length, placed-length, part-
 use Rattle.words.specs.Words.{numberAt-take}
 use Rattle.pool.specs.Pool.{used, lengthAt, placeAt, list-length, list-item, item-inside}
 use Rattle.facets.specs.declared.Areas.{Areas}
-use Rattle.facets.specs.Sums.{amount, amount-small}
+use Rattle.facets.specs.Sums.{amount-small}
 use Rattle.facets.specs.Layout.{Inputs, Fits, facetOf, amountIn, codes, touchedPart, totalsPart, usedPart, framesPart, listsPart, changed, lifted, withTotals, withUse}
 
 -- ---- the totals changed
@@ -185,17 +185,9 @@ module _ (by : ℕ → ℕ → ℕ) (a : Areas) (s : List ℕ) (f : Fits a (leng
   unfolding changed afterCodes
   codes-none = sym (put-same (a .totals) (a .used - a .totals) s)
 
-  pub codes-all : afterCodes by a s x (length cs) ≡ withTotals by a s x
-  unfolding withTotals afterCodes
-  codes-all = rw (take-length cs) refl
-
   pub codes-length : (i : ℕ) → length (afterCodes by a s x i) ≡ length s
   unfolding afterCodes
   codes-length i = placed-length (a .totals) (a .used - a .totals) s (changed by (totalsPart a s) (take i cs)) (omega arith) (new-length i)
-
-  pub codes-tables : (i : ℕ) → take (a .totals) (afterCodes by a s x i) ≡ take (a .totals) s
-  unfolding afterCodes
-  codes-tables i = take-placed (a .totals) (a .used - a .totals) s (changed by (totalsPart a s) (take i cs)) (a .totals) (omega arith) (omega arith)
 
   pub codes-touched : (i : ℕ) → touchedPart a (afterCodes by a s x i) ≡ touchedPart a s
   unfolding afterCodes

@@ -1,5 +1,5 @@
 -- The workspace of a search: what its areas hold. The tables come first (each facet's orbit; what it adds, as one list for each facet; the facets with shares of 1, as one list for
--- each ridge orbit), then the frames, the totals, the orbits in use, and the emitted lists. Facets are counted from 0 in the order of `allFacets`. Leans on Frames, Sums, Words and Pool.
+-- each ridge orbit), then the frames, the totals, the orbits in use, and the emitted lists. Facets are counted from 0 in the order of `allFacets`. Leans on Sums, Words and Pool.
 use mathlib.Core.Path.{_≡_, sym, ap, _∙_}
 use mathlib.Core.Bool.{Bool, true, false, cond, _||_}
 use mathlib.Core.List.{List, [], _∷_, map, flatMap}
@@ -16,7 +16,6 @@ use Rattle.definitions.specs.Search.{Table, Facet, allFacets, onesAt, usesOrbit
 use Rattle.laws.specs.Segments.{part, placed, part-take}
 use Rattle.words.specs.Words.{words, words-take}
 use Rattle.pool.specs.Pool.{Sound, count, used, closed}
-use Rattle.facets.specs.Frames.{candidates}
 use Rattle.facets.specs.Sums.{amount, sumAt}
 use Rattle.facets.specs.declared.Areas.{Areas}
 use Rattle.facets.specs.declared.Verdict.{Verdict}

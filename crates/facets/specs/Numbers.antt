@@ -9,7 +9,7 @@ use Rattle.definitions.specs.Lists.{countFrom}
 use Rattle.definitions.specs.Job.{numberAt}
 use Rattle.definitions.specs.Search.{Table, Facet, allFacets, onesAt}
 use Rattle.laws.specs.Lists.{Mem, map-at, count-at, count-length, member-at, of-count, of-flatMap, in-replicate}
-use Rattle.words.specs.Words.{words, getD-words}
+use Rattle.words.specs.Words.{getD-words}
 use Rattle.pool.specs.Pool.{count, closed, lengthAt, placeAt, closed-length, list-length, list-item, item-inside}
 use Rattle.facets.specs.declared.Areas.{Areas}
 use Rattle.facets.specs.Frames.{candidates}

@@ -9,7 +9,7 @@ use native.Mathlib.Omega.{arith}
 use lib.Dec.{ltb, eqb, lt→ltb, eqb→eq}
 use lib.ListN.{length, getD, length-map}
 use Rattle.definitions.specs.Lists.{anyOf, placeOf, countFrom}
-use Rattle.definitions.specs.Search.{Table, Facet, over, adds, total, totals, judge}
+use Rattle.definitions.specs.Search.{Table, Facet, adds, total, totals, judge}
 use Rattle.laws.specs.Bools.{holds→true, true→holds}
 use Rattle.laws.specs.Lists.{map-at, count-at, count-length}
 

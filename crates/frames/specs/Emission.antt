@@ -78,9 +78,6 @@ module _ (a : Areas) (s q : List ℕ) (f : Fits a (length s)) (l : length q ≡ 
   pub lists-length : length after ≡ length s
   lists-length = placed-length (a .lists) (a .end - a .lists) s q (omega arith) l
 
-  pub lists-front : take (a .lists) after ≡ take (a .lists) s
-  lists-front = take-placed (a .lists) (a .end - a .lists) s q (a .lists) (omega arith) (omega arith)
-
   pub lists-tables : take (a .frames) after ≡ take (a .frames) s
   lists-tables = take-placed (a .lists) (a .end - a .lists) s q (a .frames) (omega arith) (omega arith)
 
@@ -252,9 +249,6 @@ module _ (t : Table) (a : Areas) (s : List ℕ) (d : ℕ) (st : Stands t a s d d
   pub emit-tables : take (a .frames) then ≡ take (a .frames) s
   emit-tables = lists-tables a s new (st .inputs .fits) new-long
 
-  pub emit-totals : totalsPart a then ≡ totalsPart a s
-  emit-totals = lists-totals a s new (st .inputs .fits) new-long
-
   pub emit-frames : framesPart a then ≡ p
   emit-frames = lists-frames a s new (st .inputs .fits) new-long
 
@@ -323,9 +317,6 @@ module _ (t : Table) (a : Areas) (s r1 r2 r3 r4 : List ℕ) (h : Inputs t a s) w
 
   abbrev s4 : List ℕ
   s4 = placed (a .frames) (a .totals - a .frames) s3 r4
-
-  abbrev fits-now : Fits a (length s)
-  fits-now = h .fits
 
   module _ (e1 : r1 ≡ replicate (length (totalsPart a s)) 0) (e2 : r2 ≡ replicate (length (usedPart a s1)) 0) (e3 : r3 ≡ emptied (listsPart a s2)) (e4 : r4 ≡ withFrame (framesPart a s3) 0 (a .facets) 0 0 0) where
     long-1 : length r1 ≡ a .used - a .totals

@@ -21,12 +21,12 @@ use Rattle.facets.specs.declared.Verdict.{Verdict}
 use Rattle.facets.specs.Frames.{Frame, candidates, unused, waiting, markOf, child, moved, entered, lowOf}
 use Rattle.facets.specs.Sums.{sumAt}
 use Rattle.facets.specs.Layout.{verdict, Inputs, Fits, holds-kept, facetOf, numbers, ridgeOf, codes, touchedPart, totalsPart, usedPart, framesPart, listsPart, lifted, withFacet, withoutFacet}
-use Rattle.frames.specs.Paths.{path, listTo, frameAt, framesTo, placeAt, lowAt, markAt, kindAt, takenAt, markAfter, itemAt, withPlace, withFrame, Path, Stands}
+use Rattle.frames.specs.Paths.{listTo, frameAt, framesTo, placeAt, lowAt, markAt, kindAt, takenAt, markAfter, itemAt, withPlace, withFrame, Path, Stands}
 use Rattle.facets.specs.Numbers.{numbers-length, numbers-small, candidate-at, numbers-few}
 use Rattle.facets.specs.Latest.{Latest, latest-none, latest-found, latest-is, lastFree, not-below, facet-small}
 use Rattle.facets.specs.Judged.{none-over}
 use Rattle.facets.specs.Change.{over-after, change-frames, change-tables, change-totals, change-lists}
-use Rattle.frames.specs.Stands.{list-last, last-inside, stands-join, stands-leave}
+use Rattle.frames.specs.Stands.{list-last, last-inside, totals-light, stands-join, stands-leave}
 use Rattle.frames.specs.Places.{Below, same-kind, same-places, same-taken, same-list, place-length, place-below, place-is, place-taken, place-kind, place-mark, place-frames, frame-length, frame-below, frame-place, frame-kind, frame-frames}
 
 -- ---- how deep a path can be: its orbits differ
@@ -296,12 +296,7 @@ module _ (t : Table) (a : Areas) (s : List ℕ) (d place x : ℕ) (ok : Ready t 
 
   -- the list before is not over
   pub placed-light : (ridge : ℕ) → ridge < a .ridges → getD (totalsPart a s1) ridge 0 ≤ 2
-  placed-light ridge r =
-      let st = stands-placed in
-      let w = st .totals ridge r in
-      let e = again in
-      let l = st .frames .light k (omega arith) ridge r in
-      omega arith
+  placed-light = totals-light t a s1 d k stands-placed (let e = again in omega arith)
 
   abbrev s2 : List ℕ
   s2 = withFacet a s1 x

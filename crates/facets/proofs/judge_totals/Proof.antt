@@ -1,6 +1,6 @@
 -- `facets::judge_totals` meets its contract. The loop's invariant: no total before the place is 1. The measure is what is left to read. Assumes nothing.
 use borrow.Author.Needs.{needs}
-use mathlib.Core.Path.{_≡_, sym, _∙_}
+use mathlib.Core.Path.{sym, _∙_}
 use native.Mathlib.Omega.{arith}
 use Prim.Native.Nat.{_-_, _≤_}
 use Rattle.facets.specs.Layout.{verdict}

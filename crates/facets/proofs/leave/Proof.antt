@@ -2,7 +2,7 @@
 use borrow.Author.Needs.{needs}
 use native.Mathlib.Omega.{arith}
 use mathlib.Core.Path.{_≡_, refl, ap, _∙_}
-use Prim.Native.Nat.{_+_, _-_, _*_, _/_, _≤_}
+use Prim.Native.Nat.{_+_, _-_, _*_, _≤_}
 use lib.ListN.{set, length-set}
 use Rattle.definitions.specs.Job.{numberAt}
 use Rattle.facets.specs.Layout.{facetOf, withTotals, withoutFacet}
