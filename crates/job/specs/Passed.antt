@@ -1,26 +1,22 @@
 -- What a caller learns from the answer of the check: the definition's outcome where the job is refused, and where it passes that all tests are passed, that the fields can be loaded,
--- and that loaded rows send vertices to vertices. Leans on Refusal.
-use mathlib.Core.Path.{_≡_, refl, _∙_, subst}
+-- and that every row is a permutation. Leans on Refusal.
+use mathlib.Core.Path.{_≡_, refl, _∙_}
 use mathlib.Core.Bool.{Bool, true, false, cond, _&&_}
 use mathlib.Core.List.{List, [], _∷_}
 use mathlib.Core.Option.{Option, some, none}
-use Prim.Native.Nat.{ℕ, zero, suc, _+_, _-_, _*_, _≤_, _<_}
+use Prim.Native.Nat.{ℕ, zero, suc, _-_}
 use native.Mathlib.Omega.{arith}
 use lib.Dec.{T, leb, eqb, leb→le, eqb→eq}
-use lib.ListN.{length, getD, take, drop, length-drop}
-use lib.Seq.{length-take-le, getD-take, getD-drop}
+use lib.ListN.{length, take}
 use Rattle.definitions.specs.Lists.{allOf}
-use Rattle.definitions.specs.Orbits.{Row}
 use Rattle.definitions.specs.Outcome.{refused, andThen}
 use Rattle.definitions.specs.Recursion.{Bounds, Answer}
 use Rattle.definitions.specs.Job.{Bytes, readJob, between, sameNats, isPermutation, Test, tests, callOf, fitting, answerBytes, outcomeWithin}
 use Rattle.laws.specs.Bools.{first, second}
-use Rattle.laws.specs.Lists.{Mem, here, there, all-of, member-at}
-use Rattle.laws.specs.Parts.{length-rows}
-use Rattle.laws.specs.Tests.{permutes-once}
+use Rattle.laws.specs.Lists.{Mem, here, there, all-of}
 use Rattle.load.specs.declared.Fields.{Fields}
 use Rattle.load.specs.Places.{headerOf, Exact, size-is}
-use Rattle.load.specs.Meaning.{fieldsOf, rowsIn, row-at}
+use Rattle.load.specs.Meaning.{fieldsOf}
 use Rattle.job.specs.declared.Checked.the-variants.{Refused, Passed}
 use Rattle.job.specs.Refusal.{firstRefused, pass-all-refused, pass-all-passed, checkedAs, checkedOf}
 
@@ -105,18 +101,3 @@ module _ (bytes : Bytes) (workspace : ℕ) (passed : firstRefused (tests bytes w
   pub passed-rows : T (allOf (isPermutation (readJob bytes .n)) (readJob bytes .rows))
   unfolding tests
   passed-rows = test-passed _ (there (there (there (there (there (there (there (there (there (there (here refl)))))))))))
-
-  -- and so rows that were loaded to a region send vertices to vertices
-  pub images-below : (region : Bytes) (count n : ℕ) → n ≡ readJob bytes .n → n ≤ 32 → 32 * count ≤ length region → rowsIn region count n ≡ readJob bytes .rows
-      → (i v : ℕ) → i < count → v < n → getD region (32 * i + v) 0 < n
-  unfolding rowsIn
-  images-below region count n same wide fits held i v below small =
-      let row = take n (drop (32 * i) region) in
-      let long : length row ≡ n = length-take-le n (drop (32 * i) region) (rw length-drop (omega arith)) in
-      let many : length (rowsIn region count n) ≡ count = length-rows 32 n count region in
-      let good : T (allOf (isPermutation n) (rowsIn region count n)) = rw (held, same) passed-rows in
-      let among : Mem row (rowsIn region count n) = subst (λ (r : Row). Mem r (rowsIn region count n)) (row-at region count n i below) (member-at (rowsIn region count n) i [] (omega arith)) in
-      let once = permutes-once n row (all-of (isPermutation n) (rowsIn region count n) good row among) in
-      let there-is : getD row v 0 ≡ getD region (32 * i + v) 0 = getD-take n (drop (32 * i) region) v 0 small ∙ getD-drop (32 * i) region v 0 in
-      let h = once .below (getD row v 0) (member-at row v 0 (omega arith)) in
-      subst (λ (z : ℕ). z < n) there-is h

@@ -100,12 +100,6 @@ fn floats_good(job: &[u8], fields: Fields) -> bool
 
 // ---- rows
 
-fn wide(x: u8) -> usize
-    ensures { λ r. ⌜ r ≡ x ⌝ }
-{
-    x as usize
-}
-
 // Whether each of the n bytes from a place on is its own number.
 fn is_identity(job: &[u8], at: usize, n: usize) -> bool
     requires { ⌜ at + n ≤ length (now job) ⌝ }
@@ -113,7 +107,7 @@ fn is_identity(job: &[u8], at: usize, n: usize) -> bool
 {
     let mut i = 0;
     while i < n {
-        if wide(job[at + i]) != i {
+        if words::wide(job[at + i]) != i {
             return false;
         }
         i += 1;
@@ -129,7 +123,7 @@ fn is_permutation(job: &[u8], at: usize, n: usize) -> bool
     let mut marks = [false; 20];
     let mut i = 0;
     while i < n {
-        let v = wide(job[at + i]);
+        let v = words::wide(job[at + i]);
         if n <= v {
             return false;
         }

@@ -19,7 +19,8 @@ use Rattle.load.specs.declared.EntryLimit.{EntryLimit}
 use Rattle.load.specs.declared.EntryLimit.the-variants.{Unlimited, Number as AtMost}
 use Rattle.load.specs.Places.{headerOf, placesOf, Counted, Exact}
 use Rattle.load.specs.declared.Fields.{Fields}
-use Rattle.load.specs.Meaning.{limitOf, entryLimitOf, fieldsOf, rowsAt, rowsIn, Loadable}
+use Rattle.openers.specs.Rows.{rowsIn}
+use Rattle.load.specs.Meaning.{limitOf, entryLimitOf, fieldsOf, rowsAt, Loadable}
 use Rattle.definitions.specs.Lists.{countFrom}
 use Rattle.definitions.specs.Vectors.{Vec}
 use Rattle.definitions.specs.Subspace.{Subspace}
@@ -193,8 +194,8 @@ pub copy-fits : (region bytes : Bytes) (from n i count : ℕ) → n ≤ 32 → f
 copy-fits region bytes from n i count h k below fits = let e = lent-length bytes from n k in omega arith
 
 pub row-copied : (region bytes : Bytes) (at n i : ℕ) (after : Bytes) → n ≤ 32 → 32 * i + 32 ≤ length region → at + n * i + n ≤ length bytes
-    → after ≡ paste region (32 * i) (lent bytes (at + n * i) n) (length (lent bytes (at + n * i) n)) → rowsIn region i n ≡ rowsAt bytes at n i
-    → (length after ≡ length region) × (rowsIn after (i + 1) n ≡ rowsAt bytes at n (i + 1))
+    → after ≡ paste region (32 * i) (lent bytes (at + n * i) n) (length (lent bytes (at + n * i) n)) → rowsIn n i region ≡ rowsAt bytes at n i
+    → (length after ≡ length region) × (rowsIn n (i + 1) after ≡ rowsAt bytes at n (i + 1))
 unfolding rowsIn
 row-copied region bytes at n i after h fits k e held =
     let from = at + n * i in

@@ -4,12 +4,11 @@ use mathlib.Core.List.{List, [], map}
 use mathlib.Core.Option.{Option, some, none}
 use Prim.Native.Nat.{ℕ, _+_, _-_, _*_, _≤_, _<_}
 use native.Mathlib.Omega.{arith}
-use lib.ListN.{length, getD, take, drop}
+use lib.ListN.{length, take, drop}
 use lib.Ieee.{Float}
 use Rattle.definitions.specs.Lists.{countFrom}
 use Rattle.definitions.specs.Orbits.{Row}
 use Rattle.definitions.specs.Job.{Bytes, Job, readJob, floatsAt, vectorsAt}
-use Rattle.laws.specs.Parts.{rows, getD-rows}
 use Rattle.space.specs.declared.Limit.{Limit}
 use Rattle.space.specs.declared.Limit.the-variants.{Absent, Length}
 use Rattle.space.specs.Meaning.{lengthOf}
@@ -71,15 +70,6 @@ fieldsOf bytes =
 -- so many rows of n bytes, one behind the other from a place on, as a job holds them
 unfoldable pub rowsAt : Bytes → ℕ → ℕ → ℕ → List Row
 rowsAt bytes at n count = map (λ (i : ℕ). take n (drop (at + n * i) bytes)) (countFrom 0 count)
-
--- rows of n bytes that lie 32 bytes apart: row i's image of v is the byte at 32 · i + v
-unfoldable pub rowsIn : Bytes → ℕ → ℕ → List Row
-rowsIn bytes count n = rows 32 n count bytes
-
--- row i, of so many, is the n bytes at 32 · i
-pub row-at : (bytes : Bytes) (count n i : ℕ) → i < count → getD (rowsIn bytes count n) i [] ≡ take n (drop (32 * i) bytes)
-unfolding rowsIn
-row-at bytes count n i below = getD-rows 32 n count bytes i below
 
 -- ---- what fields say of a job of its exact length
 

@@ -12,7 +12,8 @@ ghost use Rattle.definitions.specs.Job.{flagSet, present, numberAt, floatAt, fl
 ghost use Rattle.vectors.specs.Meaning.{vectorOf};
 ghost use Rattle.space.specs.Meaning.{HoldsSubspace, HoldsPoints};
 ghost use Rattle.load.specs.Places.{headerOf, placesOf, Counted, Exact};
-ghost use Rattle.load.specs.Meaning.{limitOf, entryLimitOf, fieldsOf, rowsIn};
+ghost use Rattle.openers.specs.Rows.{rowsIn};
+ghost use Rattle.load.specs.Meaning.{limitOf, entryLimitOf, fieldsOf};
 
 // ---- the header
 
@@ -25,22 +26,16 @@ pub struct Header {
     pub flags: usize,
 }
 
-fn wide(x: u8) -> usize
-    ensures { λ r. ⌜ r ≡ x ⌝ }
-{
-    x as usize
-}
-
 pub fn header_of(job: &[u8]) -> Header
     requires { ⌜ 11 ≤ length (now job) ⌝ }
     ensures { λ r. ⌜ r ≡ headerOf (now (job .entry)) ⌝ }
 {
     Header {
-        rank: wide(job[5]),
-        d: wide(job[6]),
-        n: wide(job[7]),
+        rank: words::wide(job[5]),
+        d: words::wide(job[6]),
+        n: words::wide(job[7]),
         count: words::get_u16(job, 8) as usize,
-        flags: wide(job[10]),
+        flags: words::wide(job[10]),
     }
 }
 
@@ -227,7 +222,7 @@ pub fn points_of(job: &[u8], fields: Fields) -> Points
 // Each row to a place of its own, 32 bytes apart, so that a row's number times a constant finds it.
 pub fn load_rows(job: &[u8], fields: Fields, region: &mut [u8])
     requires { ⌜ Exact (now job) × (fields ≡ fieldsOf (now job)) × (32 * fields .count ≤ length (now region)) ⌝ }
-    ensures { λ _. ⌜ (rowsIn (now (region .exit)) (fields .count) (fields .n) ≡ readJob (now (job .entry)) .rows) × (length (now (region .exit)) ≡ length (now (region .entry))) ⌝ }
+    ensures { λ _. ⌜ (rowsIn (fields .n) (fields .count) (now (region .exit)) ≡ readJob (now (job .entry)) .rows) × (length (now (region .exit)) ≡ length (now (region .entry))) ⌝ }
 {
     let n = fields.n;
     let count = fields.count;

@@ -15,18 +15,12 @@ ghost use Rattle.openers.specs.Meaning.{verticesIn, HoldsVertices, verte
 
 // ---- rows
 
-fn wide(x: u8) -> usize
-    ensures { λ r. ⌜ r ≡ x ⌝ }
-{
-    x as usize
-}
-
 // Row i's image of v.
 pub fn image(rows: &[u8], i: usize, v: usize) -> usize
     requires { ⌜ 32 * i + v < length (now rows) ⌝ }
     ensures { λ r. ⌜ r ≡ getD (now (rows .entry)) (32 * i + v) 0 ⌝ }
 {
-    wide(rows[32 * i + v])
+    words::wide(rows[32 * i + v])
 }
 
 // ---- vertices

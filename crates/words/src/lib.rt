@@ -15,6 +15,13 @@ pub const FULL: usize = 18446744073709551615;
 
 // ---- numbers
 
+// A byte as a count or an index.
+pub fn wide(x: u8) -> usize
+    ensures { λ r. ⌜ r ≡ x ⌝ }
+{
+    x as usize
+}
+
 pub fn get_u16(s: &[u8], at: usize) -> u16
     requires { ⌜ at + 2 ≤ length (now s) ⌝ }
     ensures { λ r. ⌜ r ≡ numberAt (now (s .entry)) at 2 ⌝ }

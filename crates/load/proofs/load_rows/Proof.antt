@@ -7,13 +7,14 @@ use lib.ListN.{length}
 use Rattle.definitions.specs.Lists.{countFrom}
 use Rattle.laws.specs.Parts.{rows}
 use Rattle.laws.specs.Tests.{next-fits}
-use Rattle.load.specs.Meaning.{rowsIn, rowsAt, loadable}
+use Rattle.openers.specs.Rows.{rowsIn}
+use Rattle.load.specs.Meaning.{rowsAt, loadable}
 use Rattle.load.proofs.Laws.{copy-fits, row-copied}
 use Rattle.load.proofs.load_rows.Statement.{statement}
 use Rattle.load.proofs.load_rows.Tie as tie
 
 abbrev Inv-loop : tie.InvT-loop
-Inv-loop job region₀ n count at i₀ region i = (i ≤ count) × (length region ≡ length region₀) × (rowsIn region i n ≡ rowsAt job at n i)
+Inv-loop job region₀ n count at i₀ region i = (i ≤ count) × (length region ≡ length region₀) × (rowsIn n i region ≡ rowsAt job at n i)
 
 abbrev μ-loop : tie.MeasureT-loop
 μ-loop job region₀ n count at i₀ region i = count - i
@@ -60,7 +61,7 @@ copy-requires c κs =
     let k = loadable _ _ (c .before .before .before .before .before .before .pre .0) (c .before .before .before .before .before .before .pre .1) in
     let m = next-fits (c .before .before .before .before .before .before .args .fields .n) (c .before .before .before .loop .i) (c .before .before .before .before .before .before .args .fields .count) (omega arith) in
     let f = c .before .before .before .before .before .before .args .fields in
-    copy-fits (c .before .before .before .loop .region) (c .before .before .before .before .before .before .args .job .now) (f .rows + f .n * c .before .before .before .loop .i) (f .n) (c .before .before .before .loop .i) (f .count) (omega arith) (omega arith) (omega arith) (omega arith)
+    copy-fits (c .before .before .before .loop .region) (c .before .before .before .before .before .before .args .job .now) _ (f .n) (c .before .before .before .loop .i) (f .count) (omega arith) (omega arith) (omega arith) (omega arith)
 
 add-i : tie.Need-add-i Inv-loop μ-loop
 add-i c = search needs
