@@ -56,7 +56,7 @@ impl Vertices {
 
 // The images of v are marked.
 fn mark_images(rows: &[u8], m: usize, v: usize, marks: &mut [bool; 20])
-    requires { ⌜ (32 * m ≤ length (now rows)) × (v < 32) × ImagesBelow 20 v m (now rows) ⌝ }
+    requires { ⌜ (32 * m ≤ length (now rows)) × (v < 20) × ImagesBelow 20 v m (now rows) ⌝ }
     ensures { λ _. ⌜ now (marks .exit) ≡ marked (now (marks .entry)) (vertexImages (rowsIn 32 m (now (rows .entry))) v) ⌝ }
 {
     let mut i = 0;

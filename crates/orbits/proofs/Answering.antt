@@ -1,5 +1,6 @@
 -- The answer of the whole, from the walk along all pairs. Leans on Answers.
 use mathlib.Core.Path.{_≡_, refl, sym, ap, subst, _∙_}
+use mathlib.Core.Bool.{Bool}
 use mathlib.Core.List.{List, []}
 use Prim.Native.Nat.{ℕ}
 use lib.ListN.{length}
@@ -10,12 +11,13 @@ use Rattle.definitions.specs.Orbits.{Row, Limits, pairOpeners, pairsFrom, verte
 use Rattle.laws.specs.Lists.{Mem}
 use Rattle.words.specs.Words.{words}
 use Rattle.sorted.specs.Ascending.{Ascending, ascending-nil}
-use Rattle.openers.specs.Rows.{rowsIn}
+use Rattle.openers.specs.Rows.{rowsIn, RowsFit}
 use Rattle.openers.specs.Meaning.{breaks}
+use Rattle.stabilizers.specs.Permutations.{Permutations, rows-fit}
 use Rattle.orbits.specs.Hyperplanes.{Permutes}
 use Rattle.orbits.specs.Workspace.{seenIn}
 use Rattle.orbits.specs.Walks.{going, Walked}
-use Rattle.orbits.specs.Answers.{answerIn, orbitsOrRefusal, pairTuples, all-found, too-many}
+use Rattle.orbits.specs.Answers.{answerIn, orbitsOrRefusal, PairsRise, pairTuples, openers-rise, all-found, too-many}
 use Rattle.orbits.specs.declared.Progress.{Progress}
 use Rattle.orbits.specs.declared.Verdict.the-variants.{Going, Refused}
 use Rattle.orbits.specs.declared.Answer.the-variants.{Orbits, Refused as RefusedAnswer}
@@ -25,7 +27,14 @@ pub none-ascend : (ws : List ℕ) → Ascending (seenIn 0 ws)
 unfolding seenIn words
 none-ascend ws = ascending-nil
 
--- the openers of n vertices, where n is said in two ways
+-- ---- n is said in two ways
+
+pub rows-fit-as : {n k m : ℕ} {s : List ℕ} → Permutations n m s → n ≡ k → RowsFit k m s
+rows-fit-as {n} {k} {m} {s} fits e = subst (λ (j : ℕ). RowsFit j m s) e (rows-fit fits)
+
+pub openers-rise-as : (skip : Pair → Bool) (rows : List Row) (k n : ℕ) (openers : List ℕ) (ps : List Pair) → ps ≡ pairOpeners skip rows [] (pairsFrom k openers) → k ≡ n → PairsRise n ps
+openers-rise-as skip rows k n openers ps h e = subst (λ (j : ℕ). PairsRise j ps) e (subst (PairsRise k) (sym h) (openers-rise skip rows k openers))
+
 pub openers-same : (tolerance : Float) (limits : Limits) (points : List Vec) (m : ℕ) (s : List ℕ) (ps : List Pair) (n k : ℕ) → n ≡ k
     → ps ≡ pairOpeners (breaks tolerance limits points) (rowsIn n m s) [] (pairsFrom n (vertexOpeners (rowsIn n m s) [] (countFrom 0 n)))
     → ps ≡ pairOpeners (breaks tolerance limits points) (rowsIn k m s) [] (pairsFrom k (vertexOpeners (rowsIn k m s) [] (countFrom 0 k)))

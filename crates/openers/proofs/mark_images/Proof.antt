@@ -36,7 +36,7 @@ loop-again : tie.Need-loop-again Inv-loop μ-loop
 loop-again c = let l = c .before .before .loop in let s = c .before .before .before .before in (
   omega arith,
   length-set (l .marks) _ _ ∙ l .inv .1,
-  rw (l .inv .2, c .image .ensures) (sym (marked-more _ _ _)) ∙ ap (marked (s .args .marks .now)) (sym (images-more (l .i) (s .args .v) (s .args .rows .now) (s .pre .1))),
+  rw (l .inv .2, c .image .ensures) (sym (marked-more _ _ _)) ∙ ap (marked (s .args .marks .now)) (sym (images-more (l .i) (s .args .v) (s .args .rows .now) (omega (arith, s .pre .1)))),
 )
 
 returns : tie.Need-returns Inv-loop μ-loop

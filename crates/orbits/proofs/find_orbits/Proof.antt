@@ -5,26 +5,23 @@ use native.Mathlib.Omega.{arith}
 use borrow.Author.Needs.{needs}
 use Rattle.space.specs.Meaning.{pointsOf, limitsOf}
 use Rattle.space.specs.Counts.{points-length}
-use Rattle.openers.specs.Rows.{rowsIn, RowsFit}
-use Rattle.openers.specs.Meaning.{breaks, pairsIn}
-use Rattle.orbits.specs.Answers.{PairsRise, openers-rise, rows-permute}
-use Rattle.stabilizers.specs.Permutations.{rows-fit}
-use Rattle.orbits.proofs.Answering.{none-ascend, openers-same, answers}
+use Rattle.openers.specs.Rows.{rowsIn}
+use Rattle.openers.specs.Meaning.{pairsIn}
+use Rattle.orbits.specs.Answers.{rows-permute}
+use Rattle.orbits.proofs.Answering.{none-ascend, rows-fit-as, openers-rise-as, openers-same, answers}
 use Rattle.orbits.proofs.find_orbits.Statement.{statement}
 use Rattle.orbits.proofs.find_orbits.Tie as tie
 
 pair-openers-requires : tie.Need-pair-openers-requires
-pair-openers-requires c κs = let s = c .before .before in let a = s .args in
-    (s .pre .0 .points-fit, subst (λ (k : ℕ). RowsFit k (a .m) (a .rows .now)) (sym (s .pre .0 .same-n)) (rows-fit (s .pre .0 .permute)))
+pair-openers-requires c κs = let s = c .before .before in (search needs, rows-fit-as (s .pre .0 .permute) (omega (arith, s .pre .0 .same-n)))
 
 walk-pairs-requires : tie.Need-walk-pairs-requires
-walk-pairs-requires c κs = let s = c .before .before .before .before in let a = s .args in let o = c .before .pair-openers in
-    let e = openers-same (a .tolerance) (limitsOf (a .min) (a .max)) (pointsOf (a .points)) (a .m) (a .rows .now) (pairsIn (o .result)) (a .points .n) (a .flat .n) (s .pre .0 .same-n) (o .ensures .means) in (
-      s .pre .0,
-      subst (PairsRise (a .flat .n)) (sym e) (openers-rise (breaks (a .tolerance) (limitsOf (a .min) (a .max)) (pointsOf (a .points))) (rowsIn (a .flat .n) (a .m) (a .rows .now)) (a .flat .n) _),
-      o .ensures .fits .fits,
-      record { long = s .pre .2; bound-fits = s .pre .1; count-fits = omega arith; known-fits = omega arith; ascends = none-ascend (a .ws .now) },
-    )
+walk-pairs-requires c κs = let s = c .before .before .before .before in let o = c .before .pair-openers in (
+  s .pre .0,
+  openers-rise-as _ _ _ _ _ _ (o .ensures .means) (omega (arith, s .pre .0 .same-n)),
+  o .ensures .fits .fits,
+  record { long = s .pre .2; bound-fits = s .pre .1; count-fits = omega arith; known-fits = omega arith; ascends = none-ascend (s .args .ws .now) },
+)
 
 enum-told : tie.Need-enum-told
 enum-told c = search needs
