@@ -100,6 +100,13 @@ const FACETING_PATCHES: &[Patch] = &[
             let mut stabilizer",
         times: 1,
     },
+    // The rows of an orbit's inner call.
+    Patch {
+        find: "let (possible_facets_row, ",
+        put: "watch::calls_inner(rank, &new_stabilizer);
+            let (possible_facets_row, ",
+        times: 1,
+    },
     // Refusal 15, as the facets of an orbit are stored.
     Patch {
         find: "possible_facets.push(",

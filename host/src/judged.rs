@@ -24,12 +24,21 @@ impl Default for Bounds {
     }
 }
 
-/// A hyperplane orbit of a call of that rank: its first set, and how many it has.
+/// A hyperplane orbit of a call of that rank: its first set, how many it has, and
+/// what comes of it if its turn comes.
 #[derive(Clone, Debug, PartialEq)]
 pub struct Orbit {
     pub rank: usize,
     pub vertices: Vec<usize>,
     pub count: usize,
+    pub inner: Option<Inner>,
+}
+
+/// The rows of an orbit's inner call, or that its refit is refused.
+#[derive(Clone, Debug, PartialEq)]
+pub enum Inner {
+    Refused,
+    Rows(Vec<Vec<usize>>),
 }
 
 /// What was met on the way, over all calls of a run.

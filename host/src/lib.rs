@@ -11,6 +11,7 @@ pub mod held;
 pub mod hex;
 pub mod job;
 pub mod judged;
+pub mod listing;
 pub mod oracle;
 #[cfg(has_miratope)]
 pub mod original;

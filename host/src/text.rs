@@ -4,6 +4,7 @@
 use crate::expression::evaluate;
 use crate::hex;
 use crate::job::{self, Job};
+use crate::listing::framed;
 use crate::quote::quoted;
 use crate::rows;
 
@@ -27,6 +28,8 @@ keyword that takes several vectors or rows hold one each.
   dimension D     needed only where there is no point
   version V       (default: 1)
   bytes HEX ..    the job's bytes themselves; with this keyword none of the others
+  job NAME        begins a job; a text that begins with it holds several and gives a
+                  file of jobs, each behind its length, a u16
 
 A length or coordinate is a decimal or an expression of + - * / ( ) and sqrt(..),
 such as (1+sqrt(5))/2, or 0x and the 16 hex digits of a float's bits. A job may
@@ -37,16 +40,42 @@ cannot be written as job bytes is an error.
 /// The largest number of rows that job bytes can say.
 const MOST_ROWS: usize = u16::MAX as usize;
 
-/// The job bytes of a text, or the line and the reason why there are none.
+/// A line's number, and what is left of it without comment and blanks.
+type Line<'a> = (usize, &'a str);
+
+/// The job bytes of a text, or those of all its jobs, each behind its length; or
+/// the line and the reason why there are none.
 pub fn encode(text: &str) -> Result<Vec<u8>, String> {
+    let lines: Vec<Line> = (1..)
+        .zip(text.lines().map(content))
+        .filter(|(_, line)| !line.is_empty())
+        .collect();
+    if !lines.first().is_some_and(begins_job) {
+        return encode_job(&lines);
+    }
+    let mut bytes = Vec::new();
+    for lines in lines.chunk_by(|_, next| !begins_job(next)) {
+        let (number, name) = lines[0];
+        let job = encode_job(&lines[1..]).and_then(|job| framed(&job));
+        bytes.extend(job.map_err(|reason| format!("line {number}, {name}: {reason}"))?);
+    }
+    Ok(bytes)
+}
+
+fn content(line: &str) -> &str {
+    line.split('#').next().unwrap_or("").trim()
+}
+
+fn begins_job((_, line): &Line) -> bool {
+    line.split_whitespace().next() == Some("job")
+}
+
+fn encode_job(lines: &[Line]) -> Result<Vec<u8>, String> {
     let mut draft = Draft::default();
     let mut section = Section::None;
-    for (index, line) in text.lines().enumerate() {
-        let line = line.split('#').next().unwrap_or("").trim();
-        if !line.is_empty() {
-            let read = draft.line(line, index + 1, &mut section);
-            read.map_err(|reason| format!("line {}: {reason}", index + 1))?;
-        }
+    for &(number, line) in lines {
+        let read = draft.line(line, number, &mut section);
+        read.map_err(|reason| format!("line {number}: {reason}"))?;
     }
     draft.bytes()
 }
@@ -132,6 +161,7 @@ impl Draft {
             "rank" => self.rank = Some(whole(values)?),
             "dimension" => self.dimension = Some(whole(values)?),
             "version" => self.version = Some(whole(values)?),
+            "job" => return Err("a text of several jobs begins with 'job'".into()),
             _ => return Err(format!("{} is not a keyword", quoted(word))),
         }
         Ok(())

@@ -254,7 +254,18 @@ fn orbits_are_printed_with_their_first_sets() {
     folder.write("square.txt", SQUARE);
     folder.succeeds("encode square.txt -o square");
     let lines = folder.succeeds("orbits square");
-    assert!(lines.starts_with("6 orbits\n1: 0 1\n1: 0 2\n"), "{lines}");
+    assert!(
+        lines.starts_with("job 0: 6 orbits\n1: 0 1\n1: 0 2\n"),
+        "{lines}"
+    );
+    assert!(lines.ends_with("inner 5: 0 1\n"), "{lines}");
     folder.write("short", [1, 2, 3]);
-    assert_eq!(folder.succeeds("orbits short"), "refused 1\n");
+    assert_eq!(folder.succeeds("orbits short"), "job 0: refused 1\n");
+    folder.write(
+        "jobs.txt",
+        format!("job a\n{SQUARE}\njob b\nbytes 010203\n"),
+    );
+    folder.succeeds("encode jobs.txt -o jobs");
+    let both = folder.succeeds("orbits --jobs jobs");
+    assert_eq!(both, lines + "job 1: refused 1\n");
 }

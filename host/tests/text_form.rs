@@ -100,6 +100,14 @@ const ERRORS: &[(&str, &str)] = &[
         "line 3: the point has 3 coordinates instead of 2",
     ),
     ("points\n0 0\n\npints", "line 4: 'pints' is not a keyword"),
+    (
+        "points\n0 0\njob b",
+        "line 3: a text of several jobs begins with 'job'",
+    ),
+    (
+        "job a\npoints\n0 0\njob b\npints",
+        "line 4, job b: line 5: 'pints' is not a keyword",
+    ),
     ("# nothing\n1 2", "line 2: '1 2' belongs to no keyword"),
     ("rank 3\nrank 3", "line 2: 'rank' was given before"),
     (

@@ -1,7 +1,7 @@
 //! Commands on one job or one answer: answer, orbits, show, encode, decode.
 
 use facetings_host::answer::Answer;
-use facetings_host::judged::{Orbit, Stop};
+use facetings_host::listing;
 use facetings_host::oracle::fill;
 use facetings_host::refusal::Refusal;
 use facetings_host::show::show;
@@ -33,16 +33,20 @@ with its number on standard error, and the exit status is 1.
 pub const ORBITS: Command = Command {
     name: "orbits",
     about: "Prints the orbits that the Rust finds for jobs.",
-    usage: "JOB..",
+    usage: "JOB.. [--jobs FILE]",
     details: || {
         "\
-For each job a line with the number of hyperplane orbits of its outermost call,
-then a line for each orbit: its count, a colon, and the vertices of its first set.
-A job that refusals 1 to 13 stop is told by its refusal number instead.
+For each job a line with its number and the number of hyperplane orbits of its
+outermost call; then a line for each orbit: its count, a colon, and the vertices of
+its first set; then, orbit by orbit, the rows of the inner call, or 14, which ends
+the list. A job that refusals 1 to 13 stop is told by its refusal number instead.
+The program orbit_list prints the same of a file of jobs.
+
+  --jobs FILE     a file of jobs, each behind its length (see encode --help)
 "
         .into()
     },
-    options: &[],
+    options: &["--jobs"],
     run: orbits,
 };
 
@@ -107,27 +111,14 @@ fn answer(arguments: Arguments) -> Result<(), Failure> {
 
 fn orbits(arguments: Arguments) -> Result<(), Failure> {
     let oracle = open_original()?;
-    for file in arguments.all() {
-        let judged = oracle.judge(&read_file(file)?, 4_194_304);
-        let early = match &judged.result {
-            Err(Stop::Refused(refusal)) if refusal.number() <= 13 => Some(refusal.number()),
-            _ => None,
-        };
-        match early {
-            Some(number) => print(&format!("refused {number}\n"))?,
-            None => print(&orbit_lines(&judged.events.orbits))?,
-        }
+    let files: Vec<Vec<u8>> = arguments.all().map(read_file).collect::<Result<_, _>>()?;
+    let stream = arguments.text("--jobs").map(read_file).transpose()?;
+    let framed = listing::jobs(stream.as_deref().unwrap_or_default())?;
+    let jobs = files.iter().map(Vec::as_slice).chain(framed);
+    for (number, job) in jobs.enumerate() {
+        print(&listing::lines(number, &oracle.judge(job, 4_194_304))?)?;
     }
     Ok(())
-}
-
-fn orbit_lines(orbits: &[Orbit]) -> String {
-    let line = |orbit: &Orbit| {
-        let vertices: String = orbit.vertices.iter().map(|v| format!(" {v}")).collect();
-        format!("{}:{vertices}\n", orbit.count)
-    };
-    let lines: String = orbits.iter().map(line).collect();
-    format!("{} orbits\n{lines}", orbits.len())
 }
 
 fn show_answer(arguments: Arguments) -> Result<(), Failure> {

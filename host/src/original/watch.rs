@@ -5,7 +5,7 @@
 use std::cell::RefCell;
 use std::panic::{catch_unwind, resume_unwind, AssertUnwindSafe};
 
-use crate::judged::{Bounds, Events, Orbit, Stop};
+use crate::judged::{Bounds, Events, Inner, Orbit, Stop};
 use crate::refusal::Refusal;
 
 struct Watch {
@@ -93,6 +93,7 @@ pub(super) fn found_orbit(rank: usize, vertices: &[usize], count: usize) {
                 rank,
                 vertices,
                 count,
+                inner: None,
             });
         }
         Ok(())
@@ -104,8 +105,27 @@ pub(super) fn refitted(rank: usize, vectors: usize) {
     look(|w| {
         w.events.short_refit |= vectors + 2 < rank;
         w.events.long_refit |= vectors + 2 > rank;
+        if vectors + 2 != rank {
+            keep_inner(&mut w.events.orbits, rank, Inner::Refused);
+        }
         refuse_if(vectors + 2 != rank, Refusal::Refit)
     })
+}
+
+/// An orbit's inner call is about to be made with these rows.
+pub(super) fn calls_inner(rank: usize, rows: &[Vec<usize>]) {
+    look(|w| {
+        keep_inner(&mut w.events.orbits, rank, Inner::Rows(rows.to_vec()));
+        Ok(())
+    })
+}
+
+/// Orbits have their turn in order; those of the outermost call are kept.
+fn keep_inner(orbits: &mut [Orbit], rank: usize, inner: Inner) {
+    let due = |orbit: &&mut Orbit| orbit.rank == rank && orbit.inner.is_none();
+    if let Some(orbit) = orbits.iter_mut().find(due) {
+        orbit.inner = Some(inner);
+    }
 }
 
 /// An orbit's facets join those of the call.
