@@ -43,14 +43,14 @@ one-few v x = vertices-few v 1 x
 -- ---- a row
 
 module _ (s : List ℕ) (i set : ℕ) where
-  pub put-odd : (v x at : ℕ) (out : List ℕ) → x % 2 ≡ 1
-      → (at + 1 ≡ at + length (verticesFrom v 1 x)) × (sets out at (length (verticesOf (getD s (32 * i + v) 0) set) ∷ []) ≡ sets out at (places s i set (verticesFrom v 1 x)))
+  pub put-odd : (v x from at : ℕ) (out : List ℕ) → x % 2 ≡ 1
+      → (from + 1 ≡ from + length (verticesFrom v 1 x)) × (sets out at (length (verticesOf (getD s (32 * i + v) 0) set) ∷ []) ≡ sets out at (places s i set (verticesFrom v 1 x)))
   unfolding verticesFrom places
-  put-odd v x at out e = rw (vertices-odd v 0 x e) (refl, refl)
+  put-odd v x from at out e = rw (vertices-odd v 0 x e) (refl, refl)
 
-  pub put-even : (v x at : ℕ) (out : List ℕ) → (x % 2 ≡ 1 → ⊥) → (at ≡ at + length (verticesFrom v 1 x)) × (out ≡ sets out at (places s i set (verticesFrom v 1 x)))
+  pub put-even : (v x from at : ℕ) (out : List ℕ) → (x % 2 ≡ 1 → ⊥) → (from ≡ from + length (verticesFrom v 1 x)) × (out ≡ sets out at (places s i set (verticesFrom v 1 x)))
   unfolding verticesFrom places
-  put-even v x at out e = rw (vertices-even v 0 x e) (omega arith, refl)
+  put-even v x from at out e = rw (vertices-even v 0 x e) (omega arith, refl)
 
   module _ (n : ℕ) where
     abbrev pub placesFrom : ℕ → ℕ → List ℕ

@@ -4,6 +4,7 @@ use openers::image;
 use sets::set_image;
 ghost use mathlib.Core.Path.{_≡_};
 ghost use mathlib.Core.Bool.{cond};
+ghost use mathlib.Core.List.{_∷_, []};
 ghost use Prim.Native.Nat.{ℕ, _+_, _*_, _^_, _≤_, _<_};
 ghost use lib.ListN.{length, getD};
 ghost use lib.Seq.{sets};
@@ -37,7 +38,15 @@ fn place_in(set: u32, u: usize) -> usize
     below
 }
 
-// The place of v's image, if `rest` begins with a bit that is set; returns where the next one goes.
+// In the row that is written from `start` on, place `from` goes to place `to`.
+fn send(out: &mut [u8], start: usize, from: usize, to: usize)
+    requires { ⌜ (start + 32 ≤ length (now out)) × (from < 32) × (to < 32) ⌝ }
+    ensures { λ _. ⌜ now (out .exit) ≡ sets (now (out .entry)) (start + from) (to ∷ []) ⌝ }
+{
+    out[start + from] = to as u8;
+}
+
+// If `rest` begins with a bit that is set, v stands at place `from` and goes to its image's place; returns the next vertex's place.
 fn put_place(
     rows: &[u8],
     i: usize,
@@ -45,30 +54,30 @@ fn put_place(
     rest: u32,
     set: u32,
     out: &mut [u8],
-    at: usize,
+    start: usize,
+    from: usize,
 ) -> usize
-    requires { ⌜ (32 * i + v < length (now rows)) × (getD (now rows) (32 * i + v) 0 < 20) × (at < length (now out)) ⌝ }
-    ensures next { λ r. ⌜ r ≡ at + length (verticesFrom v 1 rest) ⌝ }
-    ensures row { λ _. ⌜ now (out .exit) ≡ sets (now (out .entry)) at (places (now (rows .entry)) i set (verticesFrom v 1 rest)) ⌝ }
+    requires { ⌜ (32 * i + v < length (now rows)) × (getD (now rows) (32 * i + v) 0 < 20) × (start + 32 ≤ length (now out)) × (from < 32) ⌝ }
+    ensures next { λ r. ⌜ r ≡ from + length (verticesFrom v 1 rest) ⌝ }
+    ensures row { λ _. ⌜ now (out .exit) ≡ sets (now (out .entry)) (start + from) (places (now (rows .entry)) i set (verticesFrom v 1 rest)) ⌝ }
 {
     if rest % 2 == 1 {
-        let place = place_in(set, image(rows, i, v));
-        out[at] = place as u8;
-        return at + 1;
+        send(out, start, from, place_in(set, image(rows, i, v)));
+        return from + 1;
     }
-    at
+    from
 }
 
-// The places of the images of a set's vertices under row i, written from a place on.
-fn write_row(rows: &[u8], i: usize, n: usize, set: u32, out: &mut [u8], at: usize)
-    requires { ⌜ Permutation n i (now rows) × (at + n ≤ length (now out)) ⌝ }
-    ensures { λ _. ⌜ now (out .exit) ≡ sets (now (out .entry)) at (places (now (rows .entry)) i set (verticesOf n set)) ⌝ }
+// The places of the images of a set's vertices under row i, written from `start` on.
+fn write_row(rows: &[u8], i: usize, n: usize, set: u32, out: &mut [u8], start: usize)
+    requires { ⌜ Permutation n i (now rows) × (start + 32 ≤ length (now out)) ⌝ }
+    ensures { λ _. ⌜ now (out .exit) ≡ sets (now (out .entry)) start (places (now (rows .entry)) i set (verticesOf n set)) ⌝ }
 {
-    let mut next = at;
+    let mut next = 0;
     let mut rest = set;
     let mut v = 0;
     while v < n {
-        next = put_place(rows, i, v, rest, set, out, next);
+        next = put_place(rows, i, v, rest, set, out, start, next);
         rest = rest / 2;
         v += 1;
     }

@@ -1,4 +1,5 @@
 -- `put_place` meets its contract.
+use Prim.Native.Nat.{_+_}
 use native.Mathlib.Omega.{arith}
 use borrow.Author.Needs.{needs}
 use Rattle.stabilizers.proofs.Laws.{put-odd, put-even, place-small}
@@ -11,12 +12,9 @@ image-requires c κs = search needs
 place-in-requires : tie.Need-place-in-requires
 place-in-requires c κs = search needs
 
-cast-out : tie.Need-cast-out
-cast-out c = let s = c .before .before .before .before .before in
-    record { fits = omega (arith, c .place-in .ensures, place-small (c .before .image .result) (s .args .set), c .before .image .ensures, s .pre .1) }
-
-slice-write-out : tie.Need-slice-write-out
-slice-write-out c = search needs
+send-requires : tie.Need-send-requires
+send-requires c κs = let s = c .before .before .before .before .before .before in
+    (omega (arith, s .pre .2), omega (arith, s .pre .3), omega (arith, c .place-in .ensures, place-small (c .before .image .result) (s .args .set), c .before .image .ensures, s .pre .1))
 
 add-result : tie.Need-add-result
 add-result c = search needs
@@ -25,11 +23,12 @@ same-length : tie.Need-same-length
 same-length c = search needs
 
 returns : tie.Need-returns
-returns c = let s = c .before .before .before .before .before in
-    rw (c .place-in .ensures, c .before .image .ensures) (put-odd (s .args .rows .now) (s .args .i) (s .args .set) (s .args .v) (s .args .rest) (s .args .at) (s .args .out .now) (c .before .before .if1 .taken))
+returns c = let s = c .before .before .before .before .before .before .before .before .before in
+    rw (c .before .before .send .ensures, c .before .before .before .place-in .ensures, c .before .before .before .before .image .ensures) (put-odd (s .args .rows .now) (s .args .i) (s .args .set) (s .args .v) (s .args .rest) (s .args .from) (s .args .start + s .args .from) (s .args .out .now) (c .before .before .before .before .before .before .if1 .taken))
 
 returns-2 : tie.Need-returns-2
-returns-2 c = let s = c .before .before .before in put-even (s .args .rows .now) (s .args .i) (s .args .set) (s .args .v) (s .args .rest) (s .args .at) (s .args .out .now) (c .if1 .left)
+returns-2 c = let s = c .before .before .before in
+    put-even (s .args .rows .now) (s .args .i) (s .args .set) (s .args .v) (s .args .rest) (s .args .from) (s .args .start + s .args .from) (s .args .out .now) (c .if1 .left)
 
 pub put-place-spec : {M : Type 1} → statement M
 put-place-spec =
@@ -37,8 +36,7 @@ put-place-spec =
     (tie.spec
     image-requires
     place-in-requires
-    cast-out
-    slice-write-out
+    send-requires
     add-result
     same-length
     returns
