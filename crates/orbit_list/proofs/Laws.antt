@@ -44,8 +44,8 @@ shifted n h =
 pub divisor : (n : ℕ) → n ≤ 20 → 0 < (1 * 2 ^ n) % 4294967296
 divisor n h = rw (shifted n h) (pow-pos n)
 
-pub rest-small : (x n : ℕ) → n ≤ 20 → x % ((1 * 2 ^ n) % 4294967296) < 2 ^ n
-rest-small x n h = rw (shifted n h) (mod-lt x (pow-pos n))
+pub rest-small : (x y n : ℕ) → n ≤ 20 → x ≡ y → (x % ((1 * 2 ^ n) % 4294967296) ≡ y % 2 ^ n) × (x % ((1 * 2 ^ n) % 4294967296) < 2 ^ n)
+rest-small x y n h e = rw (shifted n h) (ap (λ (k : ℕ). k % 2 ^ n) e, mod-lt x (pow-pos n))
 
 -- ---- a job that passes
 

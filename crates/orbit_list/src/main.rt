@@ -7,8 +7,9 @@ use orbits::Answer;
 use sets::Fit;
 use space::Points;
 ghost use mathlib.Core.Path.{_≡_};
-ghost use Prim.Native.Nat.{_+_, _*_, _^_, _≤_, _<_};
+ghost use Prim.Native.Nat.{_+_, _*_, _%_, _^_, _≤_, _<_};
 ghost use lib.ListN.{length};
+ghost use Rattle.definitions.specs.Job.{numberAt};
 ghost use Rattle.job.specs.Refusal.{checkedOf};
 ghost use Rattle.job.specs.declared.Checked.the-variants.{Passed};
 ghost use Rattle.space.specs.Meaning.{PointsFit};
@@ -69,7 +70,7 @@ fn put_rows(rows: &[u8], count: usize, size: usize)
 // An orbit's first set as it is stored. Its vertices are its bits below n: the orbits promise no more of its number, so what lies above is cut off.
 fn set_at(ws: &[u8], k: usize, n: usize) -> u32
     requires { ⌜ (8 * k + 4 ≤ length (now ws)) × (n ≤ 20) ⌝ }
-    ensures { λ r. ⌜ r < 2 ^ n ⌝ }
+    ensures { λ r. ⌜ (r ≡ numberAt (now (ws .entry)) (8 * k) 4 % 2 ^ n) × (r < 2 ^ n) ⌝ }
 {
     let one: u32 = 1;
     words::get_u32(ws, 8 * k) % (one << n)

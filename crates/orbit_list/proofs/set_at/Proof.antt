@@ -20,7 +20,7 @@ rem-result : tie.Need-rem-result
 rem-result c = divisor (c .before .before .args .n) (c .before .before .pre .1)
 
 returns : tie.Need-returns
-returns c = rest-small (c .get-u32 .result) (c .before .before .args .n) (c .before .before .pre .1)
+returns c = rest-small (c .get-u32 .result) _ (c .before .before .args .n) (c .before .before .pre .1) (c .get-u32 .ensures)
 
 pub set-at-spec : {M : Type 1} → statement M
 set-at-spec =
