@@ -1,0 +1,2 @@
+-- The entries of a call: its split lists, in order and labelled.
+pub mod Listed

@@ -1,0 +1,173 @@
+-- Lists put in order and labelled: an area that begins with a pool has the numbers of its lists in order behind the pool, and 2,048 bytes further on their labels. In a workspace whose
+-- front keeps what a call has of its inner calls, such an area is what the call leaves. Leans on the shelf, and on areas, their order and labels.
+use mathlib.Core.Path.{_≡_, refl, sym, ap, _∙_, subst}
+use mathlib.Core.List.{List}
+use Prim.Native.Nat.{ℕ, _+_, _*_, _≤_}
+use native.Mathlib.Omega.{arith}
+use lib.ListN.{length, take, drop, length-drop}
+use lib.Seq.{sets, length-sets, take-take}
+use Rattle.definitions.specs.Lists.{compareNats, sortBy}
+use Rattle.definitions.specs.Orbits.{Row}
+use Rattle.laws.specs.Lists.{Mem}
+use Rattle.laws.specs.Sorting.{of-sorted}
+use Rattle.laws.specs.Segments.{part, take-sets-le}
+use Rattle.pool.specs.Pool.{count, closed, closed-length, Sound}
+use Rattle.compounds.specs.Areas.{Holds, listsIn, lists-length, lists-kept, holds-kept}
+use Rattle.compounds.specs.Numbers.{AllBelow, Ascending, labelsOf}
+use Rattle.compounds.specs.Labels.{labelBytes, labelsIn, labels-read}
+use Rattle.compounds.specs.Sorted.{ordered, ordered-length, ordered-holds, ordered-ascends, sorted-lists}
+use Rattle.shapes.specs.Kept.{Kept}
+use Rattle.shelf.specs.declared.Shelf.{Shelf}
+use Rattle.shelf.specs.declared.Level.{Level}
+use Rattle.shelf.specs.Keeps.{Keeps}
+use Rattle.shelf.specs.Front.{keeps-front}
+use Rattle.shelf.specs.Leaves.{Leaves, listsLeft}
+
+-- ---- an area of its own
+
+-- how many lists the pool in front has
+abbrev pub many : ℕ → List ℕ → ℕ
+many bytes s = count (take bytes s)
+
+-- the numbers of its lists, in the order of the lists
+unfoldable pub inOrder : ℕ → List ℕ → List ℕ
+inOrder bytes s = ordered 1024 bytes s 0 (many bytes s)
+
+-- the labels of the lists in that order, and the area with them
+unfoldable pub labelRun : ℕ → List ℕ → List ℕ
+labelRun bytes s = labelBytes (labelsOf (listsIn 1024 bytes (many bytes s) (inOrder bytes s)))
+
+unfoldable pub labelled : ℕ → List ℕ → List ℕ
+labelled bytes s = sets (inOrder bytes s) (bytes + 2048) (labelRun bytes s)
+
+-- what is asked of the area
+pub record Pool (bytes : ℕ) (s : List ℕ) : Type 0 where
+  pub sound : Sound 2 1024 (take bytes s)
+  pub room : bytes + 2048 + 4 * many bytes s ≤ length s
+
+module _ (bytes : ℕ) (s : List ℕ) (p : Pool bytes s) where
+  pub few : many bytes s ≤ 1024
+  few = p .sound .few
+
+  abbrev n : ℕ
+  n = many bytes s
+
+  pub order-room : bytes + 2 * n ≤ length s
+  order-room = let f = few in omega (arith, p .room)
+
+  pub order-length : length (inOrder bytes s) ≡ length s
+  unfolding inOrder
+  order-length = let f = few in ordered-length 1024 bytes s 0 n (p .sound) (omega arith) (omega arith) order-room
+
+  pub order-holds : Holds 1024 bytes n (inOrder bytes s)
+  unfolding inOrder
+  order-holds = let f = few in ordered-holds 1024 bytes s 0 n (p .sound) (omega arith) (omega arith) order-room
+
+  pub order-ascends : Ascending (listsIn 1024 bytes n (inOrder bytes s))
+  unfolding inOrder
+  order-ascends = let f = few in ordered-ascends 1024 bytes s 0 n (p .sound) (omega arith) (omega arith) order-room
+
+  order-lists : listsIn 1024 bytes n (inOrder bytes s) ≡ sortBy compareNats (closed 2 1024 (take bytes s))
+  unfolding inOrder
+  order-lists = let f = few in sorted-lists 1024 bytes s (p .sound) (omega arith) order-room
+
+  pub labelled-length : length (labelled bytes s) ≡ length s
+  unfolding labelled
+  labelled-length = length-sets (inOrder bytes s) (bytes + 2048) (labelRun bytes s) ∙ order-length
+
+  same-front : take (bytes + 2 * n) (labelled bytes s) ≡ take (bytes + 2 * n) (inOrder bytes s)
+  unfolding labelled
+  same-front = let f = few in take-sets-le (labelRun bytes s) (inOrder bytes s) (bytes + 2 * n) (bytes + 2048) (omega arith)
+
+  pub labelled-holds : Holds 1024 bytes n (labelled bytes s)
+  labelled-holds = holds-kept 1024 bytes n (inOrder bytes s) (labelled bytes s) same-front (labelled-length ∙ sym order-length) order-holds
+
+  pub labelled-lists : listsIn 1024 bytes n (labelled bytes s) ≡ sortBy compareNats (closed 2 1024 (take bytes s))
+  labelled-lists = lists-kept 1024 bytes n (inOrder bytes s) (labelled bytes s) same-front (labelled-length ∙ sym order-length) ∙ order-lists
+
+  pub labelled-labels : labelsIn (bytes + 2048) n (labelled bytes s) ≡ labelsOf (sortBy compareNats (closed 2 1024 (take bytes s)))
+  unfolding labelled labelRun
+  labelled-labels =
+      let f = few in
+      let ls = listsIn 1024 bytes n (inOrder bytes s) in
+      let m : length ls ≡ n = lists-length 1024 bytes n (inOrder bytes s) in
+      let l = order-length in
+      ap (λ (k : ℕ). labelsIn (bytes + 2048) k (sets (inOrder bytes s) (bytes + 2048) (labelBytes (labelsOf ls)))) (sym m)
+      ∙ (labels-read (inOrder bytes s) (bytes + 2048) ls (omega (arith, p .room)) (omega arith)
+      ∙ ap labelsOf order-lists)
+
+  -- what `label_irc` is asked behind `sort_lists`, and what it leaves
+  pub label-asked : (t : List ℕ) (lists : ℕ) → t ≡ inOrder bytes s → lists ≡ n
+      → Holds 1024 bytes lists t × Ascending (listsIn 1024 bytes lists t) × (lists ≤ 65536) × (bytes + 2 * lists ≤ bytes + 2048) × (bytes + 2048 + 4 * lists ≤ length t)
+  label-asked t lists e q =
+      let f = few in
+      let l = order-length in
+      rw (e, q) (order-holds, order-ascends, omega arith, omega arith, omega (arith, p .room))
+
+  pub label-left : (t u : List ℕ) (lists : ℕ) → t ≡ inOrder bytes s → lists ≡ n → u ≡ sets t (bytes + 2048) (labelBytes (labelsOf (listsIn 1024 bytes lists t))) → u ≡ labelled bytes s
+  unfolding labelled labelRun
+  label-left t u lists e q r = rw (e, q) at r
+
+-- ---- a level
+
+-- what is asked of a workspace with a pool of numbered facets somewhere behind the shelf
+pub record Ready (shelf : Shelf) (at bytes : ℕ) (s : List ℕ) : Type 0 where
+  pub behind : shelf .owners + 2048 ≤ at
+  pub sound : Sound 2 1024 (part at bytes s)
+  pub room : at + (bytes + 2048 + 4 * count (part at bytes s)) ≤ length s
+  pub numbers : AllBelow (shelf .facets) (closed 2 1024 (part at bytes s))
+
+-- The level stands at a place, with a pool of so many bytes, and its entries are these lists, in order and labelled. What lies before the byte `from` is as it was, so that a shelf before it
+-- is part of what the call leaves.
+pub record Listed (shelf : Shelf) (from at bytes : ℕ) (lists : List (List ℕ)) (s : List ℕ) (level : Level) (t : List ℕ) : Type 0 where
+  pub shelf-is : level .shelf ≡ shelf
+  pub at-is : level .lists ≡ at
+  pub bytes-are : level .bytes ≡ bytes
+  pub many-are : level .count ≡ length lists
+  pub lists-are : listsLeft level t ≡ sortBy compareNats lists
+  pub labels-are : labelsIn (level .bytes + 2048) (level .count) (drop (level .lists) t) ≡ labelsOf (sortBy compareNats lists)
+  pub front : take from t ≡ take from s
+  pub long : length t ≡ length s
+  pub leaves : (more n : ℕ) (rows : List Row) (kept : List Kept) → Keeps n shelf kept s → Leaves more n rows kept level t
+
+module _ (shelf : Shelf) (at bytes : ℕ) (s : List ℕ) (r : Ready shelf at bytes s) where
+  -- its area, alone
+  pub ready-pool : Pool bytes (drop at s)
+  ready-pool = record { sound = r .sound; room = let d = length-drop at s in omega (arith, r .room) }
+
+  abbrev level : Level
+  level = record { shelf = shelf; lists = at; bytes = bytes; count = count (part at bytes s) }
+
+  abbrev lists : List (List ℕ)
+  lists = closed 2 1024 (part at bytes s)
+
+  module _ (t : List ℕ) (front : take at t ≡ take at s) (long : length t ≡ length s) (is : drop at t ≡ labelled bytes (drop at s)) where
+    left-lists : listsLeft level t ≡ sortBy compareNats lists
+    left-lists = ap (listsIn 1024 bytes (count (part at bytes s))) is ∙ labelled-lists bytes (drop at s) ready-pool
+
+    left-numbers : AllBelow (shelf .facets) (listsLeft level t)
+    left-numbers l m = r .numbers l (of-sorted compareNats l lists (subst (Mem l) left-lists m))
+
+    shelf-front : take (shelf .owners + 2048) t ≡ take (shelf .owners + 2048) s
+    shelf-front =
+        sym (take-take (shelf .owners + 2048) at t (r .behind)) ∙ (ap (take (shelf .owners + 2048)) front ∙ take-take (shelf .owners + 2048) at s (r .behind))
+
+    pub listed : Listed shelf at at bytes lists s level t
+    listed = record {
+      shelf-is = refl;
+      at-is = refl;
+      bytes-are = refl;
+      many-are = sym (closed-length 2 1024 (part at bytes s));
+      lists-are = left-lists;
+      labels-are = ap (labelsIn (bytes + 2048) (count (part at bytes s))) is ∙ labelled-labels bytes (drop at s) ready-pool;
+      front = front;
+      long = long;
+      leaves = λ more n rows kept k. record {
+        keeps = keeps-front n shelf kept s t shelf-front long k;
+        behind = r .behind;
+        area = rw is (labelled-holds bytes (drop at s) ready-pool);
+        fewEntries = r .sound .few;
+        room = omega (arith, r .room);
+        numbers = left-numbers;
+      };
+    }
