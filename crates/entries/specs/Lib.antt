@@ -1,2 +1,3 @@
 -- The entries of a call: its split lists, in order and labelled.
 pub mod Listed
+pub mod Split

@@ -1,9 +1,13 @@
 // From the lists that a call's search emitted to the entries that the call leaves: split, in order, labelled. The lists are pools of numbered facets behind the shelf.
 ghost use mathlib.Core.Path.{_≡_};
+ghost use Prim.Native.Nat.{_+_};
+ghost use mathlib.Core.List.{map};
 ghost use Rattle.laws.specs.Segments.{part};
 ghost use Rattle.pool.specs.Pool.{closed};
 ghost use Rattle.entries.specs.Listed.{many, labelled, Pool, Ready, Listed};
+ghost use Rattle.entries.specs.Split.{splitOn, Splits};
 use compounds::Area;
+use compounds::Layout;
 use shelf::Level;
 use shelf::Shelf;
 
@@ -37,4 +41,27 @@ pub fn sort_entries(ws: &mut [u8], shelf: Shelf, at: usize, bytes: usize) -> Lev
         bytes: bytes,
         count: count,
     }
+}
+
+// ---- splitting
+
+// The entries of a call whose facets may be compound: the emitted lists' pool is moved to the byte behind the shelf, the lists are split into a pool behind it, and these are put in order and
+// labelled. The table of components is the shelf's own, so the part that splitting works in begins there.
+pub fn split_entries(ws: &mut [u8], shelf: Shelf, from: usize, bytes: usize) -> Level
+    requires { ⌜ Splits shelf from bytes (now ws) ⌝ }
+    ensures { λ r. ⌜ Listed shelf (shelf .owners + 2048) (shelf .owners + 2048 + bytes) 2101260 (map (splitOn shelf (now (ws .entry))) (closed 2 1024 (part from bytes (now (ws .entry))))) (now (ws .entry)) r (now (ws .exit)) ⌝ }
+{
+    let labels = shelf.labels;
+    let at = shelf.owners + 2048;
+    let to = at + bytes;
+    let layout = Layout {
+        facets: shelf.facets,
+        from: at - labels,
+        to: at - labels + bytes,
+        most: 1024,
+        steps: 380,
+    };
+    words::copy_within(ws, from, at, bytes);
+    compounds::split_lists(&mut ws[labels..to + 2101260], layout);
+    sort_entries(ws, shelf, to, 2101260)
 }
