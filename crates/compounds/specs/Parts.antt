@@ -58,21 +58,25 @@ abbrev pub within : (ℕ → Pair) → Option Pair → Option Pair
 within to none = none
 within to (some p) = some (to (p .0) .1, to (p .1) .1)
 
--- `to` names the facet of each number. Of every number of the orbit the table says what the orbit's compounds say, and components stay in the orbit.
-pub record Matches (to : ℕ → Pair) (table : List (Option Pair)) (orbit : ℕ) (compounds : List Compound) : Type 0 where
-  pub same : (a : ℕ) → to a .0 ≡ orbit → componentsOf compounds (to a .1) ≡ within to (getD table a none)
-  pub stays : (a : ℕ) → to a .0 ≡ orbit → (p : Pair) → getD table a none ≡ some p → (to (p .0) .0 ≡ orbit) × (to (p .1) .0 ≡ orbit)
+-- a number that names a facet of the orbit: `to` names the facet of each number below the bound
+abbrev pub Of : (ℕ → Pair) → ℕ → ℕ → ℕ → Type 0
+Of to bound orbit a = (a < bound) × (to a .0 ≡ orbit)
 
-module _ (to : ℕ → Pair) (table : List (Option Pair)) (orbit : ℕ) (compounds : List Compound) (m : Matches to table orbit compounds) where
+-- Of every number of the orbit the table says what the orbit's compounds say, and components stay in the orbit.
+pub record Matches (to : ℕ → Pair) (bound : ℕ) (table : List (Option Pair)) (orbit : ℕ) (compounds : List Compound) : Type 0 where
+  pub same : (a : ℕ) → Of to bound orbit a → componentsOf compounds (to a .1) ≡ within to (getD table a none)
+  pub stays : (a : ℕ) → Of to bound orbit a → (p : Pair) → getD table a none ≡ some p → Of to bound orbit (p .0) × Of to bound orbit (p .1)
+
+module _ (to : ℕ → Pair) (bound : ℕ) (table : List (Option Pair)) (orbit : ℕ) (compounds : List Compound) (m : Matches to bound table orbit compounds) where
   abbrev All : List ℕ → Type 0
-  All q = (a : ℕ) → Mem a q → to a .0 ≡ orbit
+  All q = (a : ℕ) → Mem a q → Of to bound orbit a
 
   abbrev number : ℕ → ℕ
   number a = to a .1
 
-  two-more : (q : List ℕ) (b c : ℕ) → All q → to b .0 ≡ orbit → to c .0 ≡ orbit → All (q ++ (b ∷ c ∷ []))
-  two-more [] b c f g h a (List·Memᴰ.List·Memᴰ·head e) = ap (λ (x : ℕ). to x .0) e ∙ g
-  two-more [] b c f g h a (List·Memᴰ.List·Memᴰ·tail (List·Memᴰ.List·Memᴰ·head e)) = ap (λ (x : ℕ). to x .0) e ∙ h
+  two-more : (q : List ℕ) (b c : ℕ) → All q → Of to bound orbit b → Of to bound orbit c → All (q ++ (b ∷ c ∷ []))
+  two-more [] b c f g h a (List·Memᴰ.List·Memᴰ·head e) = subst (Of to bound orbit) (sym e) g
+  two-more [] b c f g h a (List·Memᴰ.List·Memᴰ·tail (List·Memᴰ.List·Memᴰ·head e)) = subst (Of to bound orbit) (sym e) h
   two-more (x ∷ q) b c f g h a (List·Memᴰ.List·Memᴰ·head e) = f a (here e)
   two-more (x ∷ q) b c f g h a (List·Memᴰ.List·Memᴰ·tail i) = two-more q b c (λ y j. f y (there j)) g h a i
 
@@ -81,9 +85,9 @@ module _ (to : ℕ → Pair) (table : List (Option Pair)) (orbit : ℕ) (compoun
 
   each : (q : List ℕ) → All q → map to q ≡ map (λ (part : ℕ). (orbit, part)) (map number q)
   each [] f = refl
-  each (a ∷ q) f = rw (named a (f a (here refl)), each q (λ b i. f b (there i))) refl
+  each (a ∷ q) f = rw (named a (f a (here refl) .1), each q (λ b i. f b (there i))) refl
 
-  queue-numbered : (steps : ℕ) (q : List ℕ) → All q → map to (splitNats steps table q) ≡ map (λ (part : ℕ). (orbit, part)) (splitQueue steps compounds (map number q))
+  pub queue-numbered : (steps : ℕ) (q : List ℕ) → All q → map to (splitNats steps table q) ≡ map (λ (part : ℕ). (orbit, part)) (splitQueue steps compounds (map number q))
   unfolding splitNats splitQueue
   queue-numbered zero q f = each q f
   queue-numbered (suc steps) [] f = refl
@@ -101,22 +105,22 @@ module _ (to : ℕ → Pair) (table : List (Option Pair)) (orbit : ℕ) (compoun
           → ((r : List ℕ) → All r → map to (splitNats steps table r) ≡ map (λ (part : ℕ). (orbit, part)) (splitQueue steps compounds (map number r)))
           → map to (elim o [ none ↦ a ∷ splitNats steps table q | some parts ↦ splitNats steps table (q ++ (parts .0 ∷ parts .1 ∷ [])) ])
           ≡ map (λ (part : ℕ). (orbit, part)) (step (within to o))
-      go none e ih rec = rw (named a (f a (here refl)), ih) refl
+      go none e ih rec = rw (named a (f a (here refl) .1), ih) refl
       go (some p) e ih rec =
           let s = m .stays a (f a (here refl)) p e in
           rec (q ++ (p .0 ∷ p .1 ∷ [])) (two-more q (p .0) (p .1) (λ b i. f b (there i)) (s .0) (s .1))
           ∙ ap (λ (r : List ℕ). map (λ (part : ℕ). (orbit, part)) (splitQueue steps compounds r)) (map-append number q (p .0 ∷ p .1 ∷ []))
 
   -- The parts of one facet, whose own list has so many items: the definition's, if its steps end the splitting and the code has no fewer.
-  pub parts-numbered : (steps items a : ℕ) → to a .0 ≡ orbit → T (endsIn (2 * items) compounds (to a .1 ∷ [])) → 2 * items ≤ steps
+  pub parts-numbered : (steps items a : ℕ) → Of to bound orbit a → T (endsIn (2 * items) compounds (to a .1 ∷ [])) → 2 * items ≤ steps
       → map to (splitNats steps table (a ∷ [])) ≡ map (λ (part : ℕ). (orbit, part)) (partsOf compounds items (to a .1))
   unfolding partsOf
   parts-numbered steps items a e t h =
       queue-numbered steps (a ∷ []) (λ b i. only b i)
       ∙ ap (map (λ (part : ℕ). (orbit, part))) (more-steps (2 * items) steps compounds (to a .1 ∷ []) t h)
     where
-      only : (b : ℕ) → Mem b (a ∷ []) → to b .0 ≡ orbit
-      only b (List·Memᴰ.List·Memᴰ·head q) = ap (λ (x : ℕ). to x .0) q ∙ e
+      only : (b : ℕ) → Mem b (a ∷ []) → Of to bound orbit b
+      only b (List·Memᴰ.List·Memᴰ·head q) = subst (Of to bound orbit) (sym q) e
 
 -- ---- a call's lists
 
@@ -143,14 +147,15 @@ at-orbit says [] later i = refl
 at-orbit says (j ∷ before) later i = at-orbit says before later i
 
 -- one facet of a call: its orbit's inner call has its compounds and its list
-pub facet-numbered : (p : Prepared) (before later : List Inner) (i : Inner) → p .inner ≡ before ++ (i ∷ later) → (to : ℕ → Pair) (table : List (Option Pair))
-    → Matches to table (length before) (i .answer .compounds) → (steps a : ℕ) → to a .0 ≡ length before
+pub facet-numbered : (p : Prepared) (before later : List Inner) (i : Inner) → p .inner ≡ before ++ (i ∷ later) → (to : ℕ → Pair) (bound : ℕ) (table : List (Option Pair))
+    → Matches to bound table (length before) (i .answer .compounds) → (steps a : ℕ) → Of to bound (length before) a
     → T (endsIn (2 * length (getD (map (λ (e : Entry). e .list) (i .answer .entries)) (to a .1) [])) (i .answer .compounds) (to a .1 ∷ []))
     → 2 * length (getD (map (λ (e : Entry). e .list) (i .answer .entries)) (to a .1) []) ≤ steps
     → map to (splitNats steps table (a ∷ [])) ≡ atOrbit (λ (j : Inner). splitIn j (to a)) (p .inner) (to a .0)
 unfolding splitIn
-facet-numbered p before later i q to table m steps a e t h =
-    parts-numbered to table (length before) (i .answer .compounds) m steps (length (getD (map (λ (e : Entry). e .list) (i .answer .entries)) (to a .1) [])) a e t h
+facet-numbered p before later i q to bound table m steps a f t h =
+    let e = f .1 in
+    parts-numbered to bound table (length before) (i .answer .compounds) m steps (length (getD (map (λ (e : Entry). e .list) (i .answer .entries)) (to a .1) [])) a f t h
     ∙ (ap (λ (o : ℕ). map (λ (part : ℕ). (o, part)) (partsOf (i .answer .compounds) (length (getD (map (λ (e : Entry). e .list) (i .answer .entries)) (to a .1) [])) (to a .1))) (sym e)
     ∙ (sym (at-orbit (λ (j : Inner). splitIn j (to a)) before later i)
     ∙ (ap (λ (r : List Inner). atOrbit (λ (j : Inner). splitIn j (to a)) r (length before)) (sym q) ∙ ap (atOrbit (λ (j : Inner). splitIn j (to a)) (p .inner)) (sym e))))
