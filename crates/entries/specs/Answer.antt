@@ -3,31 +3,27 @@
 use mathlib.Core.Path.{_≡_, refl, sym, ap, _∙_, subst}
 use mathlib.Core.List.{List, [], map, flatMap, map-map}
 use mathlib.Core.Option.{Option}
-use Prim.Native.Nat.{ℕ, _≤_, _<_}
+use Prim.Native.Nat.{ℕ, _≤_}
 use native.Mathlib.Omega.{arith}
-use lib.ListN.{length, getD}
+use lib.ListN.{length}
 use Rattle.definitions.specs.Lists.{Pair, compareNats, sortBy}
 use Rattle.definitions.specs.Orbits.{Row}
 use Rattle.definitions.specs.Figures.{labelIrc}
-use Rattle.definitions.specs.Search.{Facet, Table, Found, allFacets}
+use Rattle.definitions.specs.Search.{Facet, Found}
 use Rattle.definitions.specs.Recursion.{Entry}
 use Rattle.definitions.specs.Faceting.{compareEntries}
-use Rattle.laws.specs.Lists.{Mem, at-member}
+use Rattle.laws.specs.Lists.{Mem}
 use Rattle.laws.specs.Pairs.{Pairs}
 use Rattle.laws.specs.Sorting.{byKey, sort-map, of-sorted}
 use Rattle.laws.specs.Merging.{sort-same}
 use Rattle.laws.specs.Places.{map-same, map-self}
 use Rattle.completeness.specs.Taken.{OtherOrbit}
-use Rattle.pool.specs.Pool.{closed}
-use Rattle.facets.specs.declared.Areas.{Areas}
-use Rattle.facets.specs.Layout.{facetOf}
-use Rattle.frames.specs.Paths.{emittedIn, Emitted}
 use Rattle.compounds.specs.Numbers.{AllBelow, compare-numbered, labels-numbered, labelsOf, compoundsFrom}
 use Rattle.compounds.specs.Splitting.{splitList}
 use Rattle.shapes.specs.Kept.{Kept, keptParts, keptFigure, keptPossible, keptEntry, keptAnswer}
 use Rattle.shelf.specs.declared.Shelf.{Shelf}
 use Rattle.shelf.specs.declared.Level.{Level}
-use Rattle.shelf.specs.Keeps.{Keeps, facetsOf, labelsFrom}
+use Rattle.shelf.specs.Keeps.{Keeps, labelsFrom}
 use Rattle.shelf.specs.Leaves.{facetAt, entryLeft, answerLeft, listsLeft}
 use Rattle.entries.specs.Listed.{Listed}
 use Rattle.entries.specs.Split.{componentsIn, splitOn}
@@ -132,17 +128,3 @@ module _ (n : ℕ) (shelf : Shelf) (kept : List Kept) (s : List ℕ) (keeps : Ke
         left-answer more n rows kept (splitList 380 (labelsFrom 0 kept)) emitted (λ l m. list-parts kept each l (all-below l m))
         (parts-below kept each emitted all-below) found is shelf from at bytes s t level
         (subst (λ (ls : List (List ℕ)). Listed shelf from at bytes ls s level t) lists-are l)
-
--- ---- what the search leaves
-
--- a table's facets are those of what was kept: then the search's lists are the numbered lists' facets, and their numbers are the call's
-pub emitted-numbers : (t : Table) (kept : List Kept) (a : Areas) (l : List ℕ) → allFacets t ≡ facetsOf kept → emittedIn t a l ≡ map (map (facetAt kept)) (closed 2 (a .bound) l)
-unfolding emittedIn facetOf facetAt
-emitted-numbers t kept a l e = ap (λ (fs : List Facet). map (map (λ (x : ℕ). getD fs x (0, 0))) (closed 2 (a .bound) l)) e
-
-pub emitted-below : (a : Areas) (l : List ℕ) → Emitted a l → AllBelow (a .facets) (closed 2 (a .bound) l)
-emitted-below a l e m i x j =
-    let p = at-member m (closed 2 (a .bound) l) [] i in
-    let q = at-member x m 0 j in
-    let b = e .numbered (p .0) (q .0) (p .1) (subst (λ (r : List ℕ). q .0 < length r) (sym (p .2)) (q .1)) in
-    subst (λ (y : ℕ). y < a .facets) (ap (λ (r : List ℕ). getD r (q .0) 0) (p .2) ∙ q .2) b

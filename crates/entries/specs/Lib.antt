@@ -4,3 +4,4 @@ pub mod Split
 pub mod Facets
 pub mod Parts
 pub mod Answer
+pub mod Emitted
