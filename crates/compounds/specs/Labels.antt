@@ -14,7 +14,7 @@ use Rattle.definitions.specs.Lists.{Pair, compareNats}
 use Rattle.laws.specs.Lists.{Mem, here, there, of-map}
 use Rattle.words.specs.Words.{bytesOf, words}
 use Rattle.compounds.specs.Numbers.{walkNats, insideNats, seekNats, with, labelNats, labelsOf}
-use Rattle.compounds.specs.Runs.{run, words-sets}
+use Rattle.words.specs.Runs.{run, words-sets}
 
 -- whether the walk of b through a passes over or leaves just these items
 unfoldable pub leaves : List ℕ → List ℕ → List ℕ → Bool

@@ -1,7 +1,6 @@
 -- Splitting, the order of entries and `label_irc` on numbered facets.
 pub mod Numbers
 pub mod Areas
-pub mod Runs
 pub mod Labels
 pub mod Sorted
 pub mod Splitting

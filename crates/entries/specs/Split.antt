@@ -11,8 +11,8 @@ use Rattle.definitions.specs.Lists.{Pair, compareNats, sortBy}
 use Rattle.laws.specs.Lists.{Mem, here, there}
 use Rattle.laws.specs.Places.{flatMap-map}
 use Rattle.laws.specs.Segments.{part, placed, part-take, part-part, part-length, part-placed, take-placed, placed-length}
-use Rattle.words.specs.Words.{words, words-take, put-length}
-use Rattle.pool.specs.Pool.{count, base, closed, emptied, Sound, closed-length, emptied-sound, emptied-closed, emptied-opened, emptied-used}
+use Rattle.words.specs.Words.{words, words-take}
+use Rattle.pool.specs.Pool.{count, base, closed, emptied, Sound, closed-length, emptied-sound, emptied-closed, emptied-opened, emptied-used, emptied-length}
 use Rattle.compounds.specs.declared.Layout.{Layout}
 use Rattle.compounds.specs.Labels.{labelOf, labelsIn}
 use Rattle.compounds.specs.Numbers.{AllBelow, labelsOf}
@@ -66,10 +66,6 @@ module _ (d : List ℕ) (at : ℕ) (s : List ℕ) (n : ℕ) (h : at ≤ length d
       sym (part-take (at + n) (paste d at s n) at n (omega arith))
       ∙ (ap (part at n) (take-paste d at s n h k)
       ∙ (ap (take n) (drop-at (take at d) (take n s) at (length-take-le at d h)) ∙ take-take n n s (omega arith)))
-
-emptied-length : (s : List ℕ) → length (emptied s) ≡ length s
-unfolding emptied
-emptied-length s = simp put-length
 
 -- ---- the steps
 

@@ -168,6 +168,10 @@ module _ (w most : ℕ) (s : List ℕ) (ok : Sound w most s) (k : ℕ) (h : k < 
 
 -- ---- an empty region
 
+pub emptied-length : (s : List ℕ) → length (emptied s) ≡ length s
+unfolding emptied
+emptied-length s = simp put-length
+
 module _ (w most : ℕ) (s : List ℕ) (fits : base most ≤ length s) where
   empty-count : count (emptied s) ≡ 0
   unfolding count emptied
@@ -189,15 +193,11 @@ module _ (w most : ℕ) (s : List ℕ) (fits : base most ≤ length s) where
       let m = put-length 4 (put 4 s 0 0) 4 0 in
       numberAt-put 4 (put 4 (put 4 s 0 0) 4 0) 8 0 (omega arith) (omega arith)
 
-  empty-length : length (emptied s) ≡ length s
-  unfolding emptied
-  empty-length = simp put-length
-
   pub emptied-sound : Sound w most (emptied s)
   emptied-sound = record {
     few = omega (arith, empty-count);
     small = omega (arith, emptied-used);
-    fits = rw (emptied-used, mul-zero, empty-length) (omega arith);
+    fits = rw (emptied-used, mul-zero, emptied-length) (omega arith);
     below = λ k h. let z : k ≡ 0 = omega (arith, empty-count) in rw z (omega (arith, empty-start));
     ascend = λ k h. absurd (omega (arith, empty-count));
   }
