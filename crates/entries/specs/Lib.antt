@@ -5,3 +5,4 @@ pub mod Facets
 pub mod Parts
 pub mod Answer
 pub mod Emitted
+pub mod Calls

@@ -4,7 +4,7 @@ use mathlib.Core.Path.{_≡_, refl, sym, ap, _∙_, subst}
 use mathlib.Core.Logic.{_⊎_, inl, inr}
 use mathlib.Core.List.{List, [], _∷_, map, flatMap, List·Memᴰ}
 use mathlib.Core.Option.{Option, some, none}
-use Prim.Native.Nat.{ℕ, zero, suc, _+_, _≤_, _<_}
+use Prim.Native.Nat.{ℕ, _+_, _≤_, _<_}
 use native.Mathlib.Omega.{arith}
 use lib.ListN.{length, getD, length-map, List·getD-eq-default}
 use Rattle.definitions.specs.Lists.{Pair}
@@ -22,6 +22,7 @@ use Rattle.compounds.specs.Numbers.{Below, AllBelow}
 use Rattle.compounds.specs.Splitting.{splitNats, splitList}
 use Rattle.compounds.specs.Parts.{Of, Matches, within, queue-numbered, lists-numbered, splitNats-below}
 use Rattle.shapes.specs.Compounds.{Composed, components-of, some-equal, none-is-not-some}
+use Rattle.shapes.specs.LowRanks.{nothing-to-split}
 use Rattle.shapes.specs.Splitting.{parts-stable, parts-distinct}
 use Rattle.shapes.specs.SplitCalls.{SplitAnswer, listsOf}
 use Rattle.shapes.specs.Kept.{Kept, keptOf, keptAt, keptParts}
@@ -261,15 +262,9 @@ module _ (kept : List Kept) (plain : (k : Kept) → Mem k kept → k .compounds 
       go (inl h) = let m = length-map kept (λ (k : Kept). k .compounds) in List·getD-eq-default (map (λ (k : Kept). k .compounds) kept) [] (omega arith)
       go (inr h) = map-at (λ (k : Kept). k .compounds) kept orbit [] noOrbit h ∙ plain (keptIn kept orbit) (member-at kept orbit noOrbit h)
 
-  whole-facet : (steps a : ℕ) → splitQueue steps [] (a ∷ []) ≡ a ∷ []
-  unfolding splitQueue componentsOf
-  whole-facet zero a = refl
-  whole-facet (suc zero) a = refl
-  whole-facet (suc (suc steps)) a = refl
-
   one-part : (f : Facet) → keptParts kept f ≡ f ∷ []
   unfolding keptParts partsOf
-  one-part f = rw (no-compounds (f .0), whole-facet) refl
+  one-part f = rw (no-compounds (f .0), nothing-to-split) refl
 
   pub list-whole : (l : List Facet) → flatMap (keptParts kept) l ≡ l
   list-whole l = flatMap-same (keptParts kept) (λ (f : Facet). f ∷ []) l (λ f m. one-part f) ∙ flat-singles l

@@ -45,7 +45,7 @@ pub record Splits (shelf : Shelf) (from bytes : ℕ) (s : List ℕ) : Type 0 whe
 -- ---- lists and parts
 
 -- lists of at most so many items, joined
-joined-few : {A : Type 0} (f : A → List ℕ) (most : ℕ) (l : List A) → ((x : A) → Mem x l → length (f x) ≤ most) → length (flatMap f l) ≤ most * length l
+pub joined-few : {A B : Type 0} (f : A → List B) (most : ℕ) (l : List A) → ((x : A) → Mem x l → length (f x) ≤ most) → length (flatMap f l) ≤ most * length l
 unfolding flatMap
 joined-few f most [] h = omega arith
 joined-few f most (x ∷ l) h =
