@@ -1,5 +1,4 @@
 -- What the proofs of this crate cite.
-mod Comparing
 mod Walking
 mod Labelling
 mod Ordering

@@ -7,3 +7,4 @@ pub mod Splitting
 pub mod Parts
 pub mod Entries
 pub mod Examples
+pub mod Comparing

@@ -128,7 +128,7 @@ impl Pairs {
 }
 
 // The code of the pair of a and b, smaller first.
-fn code(a: usize, b: usize) -> usize
+pub fn code(a: usize, b: usize) -> usize
     requires { ⌜ (a < 20) × (b < 20) ⌝ }
     ensures { λ r. ⌜ r ≡ 20 * min a b + max a b ⌝ }
 {

@@ -1,0 +1,2 @@
+-- Laws of the turns of this crate's loops.
+pub mod Moving

@@ -1,0 +1,3 @@
+-- Images of edge sets, and their order.
+pub mod Images
+pub mod Merging
