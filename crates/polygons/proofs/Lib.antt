@@ -1,2 +1,5 @@
 -- Laws of the turns of this crate's loops.
-pub mod Moving
+mod Moving
+mod Reading
+mod Merges
+mod Sorts

@@ -1,3 +1,4 @@
 -- Images of edge sets, and their order.
 pub mod Images
 pub mod Merging
+pub mod Runs
