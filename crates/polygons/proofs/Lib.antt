@@ -3,3 +3,6 @@ mod Moving
 mod Reading
 mod Merges
 mod Sorts
+mod Fills
+mod Marks
+mod Whole

@@ -2,3 +2,4 @@
 pub mod Images
 pub mod Merging
 pub mod Runs
+pub mod Orders
