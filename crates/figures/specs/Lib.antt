@@ -8,3 +8,7 @@ pub mod Elements
 pub mod Numbering
 pub mod Tables
 pub mod Ranks
+pub mod Flat
+pub mod Standing
+pub mod Strong
+pub mod Summaries
