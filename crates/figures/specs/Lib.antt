@@ -1,4 +1,4 @@
--- Figures on flat numbers: parts of a slice, pools that take lists, figures as lists of a pool.
+-- Figures on flat numbers.
 pub mod Spans
 pub mod Ways
 pub mod Renumbering
@@ -12,3 +12,4 @@ pub mod Flat
 pub mod Standing
 pub mod Strong
 pub mod Summaries
+pub mod Examples

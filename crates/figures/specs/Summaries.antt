@@ -1,13 +1,13 @@
 -- The summary of a figure, read off the list of its ranks' lengths. Leans on Flat. Assumes nothing.
-use mathlib.Core.Path.{_≡_, refl, sym, ap, _∙_}
+use mathlib.Core.Path.{_≡_, refl, ap, _∙_}
 use mathlib.Core.List.{List, [], _∷_, map}
-use Prim.Native.Nat.{ℕ, zero, suc, _+_, _-_, _≤_, _<_}
+use Prim.Native.Nat.{ℕ, zero, suc, _-_, _<_}
 use native.Mathlib.Omega.{arith}
 use lib.ListN.{length, getD, length-map}
 use Rattle.definitions.specs.Figures.{Figure, rankOf}
 use Rattle.definitions.specs.Recursion.{Entry}
 use Rattle.definitions.specs.Job.{summaryWords}
-use Rattle.pool.specs.Pool.{count, closed, Sound, closed-length}
+use Rattle.pool.specs.Pool.{count, closed, closed-length}
 use Rattle.compounds.specs.Areas.{listAt}
 use Rattle.figures.specs.Flat.{figureIn, figureLists}
 
