@@ -1,7 +1,6 @@
 -- Small cases, evaluated: figures as lists and back, `element_sort_strong`, an image under a row, a summary. Leans on the definitions and Flat.
 use mathlib.Core.Path.{_≡_, refl}
-use mathlib.Core.List.{List, [], _∷_}
-use Prim.Native.Nat.{ℕ}
+use mathlib.Core.List.{[], _∷_}
 use Rattle.definitions.specs.Figures.{Elements, Figure, sortStrong}
 use Rattle.definitions.specs.Orbits.{image}
 use Rattle.definitions.specs.Recursion.{moveSorted}
