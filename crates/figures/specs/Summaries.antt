@@ -1,9 +1,9 @@
 -- The summary of a figure, read off the list of its ranks' lengths. Leans on Flat. Assumes nothing.
 use mathlib.Core.Path.{_≡_, refl, ap, _∙_}
 use mathlib.Core.List.{List, [], _∷_, map}
-use Prim.Native.Nat.{ℕ, zero, suc, _-_, _<_}
+use Prim.Native.Nat.{ℕ, _-_, _<_}
 use native.Mathlib.Omega.{arith}
-use lib.ListN.{length, getD, length-map}
+use lib.ListN.{length, getD, length-map, List·getD-map}
 use Rattle.definitions.specs.Figures.{Figure, rankOf}
 use Rattle.definitions.specs.Recursion.{Entry}
 use Rattle.definitions.specs.Job.{summaryWords}
@@ -18,12 +18,6 @@ summaryOf f = summaryWords (record { list = []; figure = f })
 pub summary-entry : (e : Entry) → summaryWords e ≡ summaryOf (e .figure)
 unfolding summaryOf summaryWords
 summary-entry e = refl
-
-length-at : (f : Figure) (r : ℕ) → getD (map length f) r 0 ≡ length (getD f r [])
-length-at [] zero = refl
-length-at [] (suc r) = refl
-length-at (es ∷ f) zero = refl
-length-at (es ∷ f) (suc r) = length-at f r
 
 module _ (most : ℕ) (s : List ℕ) (form : closed 2 most s ≡ figureLists (figureIn (closed 2 most s))) where
   abbrev f : Figure
@@ -42,5 +36,5 @@ module _ (most : ℕ) (s : List ℕ) (form : closed 2 most s ≡ figureLists (fi
   unfolding summaryOf summaryWords rankOf
   summary-is points edges facets last p e q l =
       let m : last ≡ length f - 2 = l ∙ ap (λ (k : ℕ). k - 2) (ap length lengths ∙ length-map f length) in
-      let at : (r : ℕ) → getD (listAt most s 0) r 0 ≡ length (getD f r []) = λ r. ap (λ (ns : List ℕ). getD ns r 0) lengths ∙ length-at f r in
+      let at : (r : ℕ) → getD (listAt most s 0) r 0 ≡ length (getD f r []) = λ r. ap (λ (ns : List ℕ). getD ns r 0) lengths ∙ List·getD-map length f r [] in
       rw (p ∙ at 1, e ∙ at 2, q ∙ (at last ∙ ap (λ (r : ℕ). length (getD f r [])) m)) refl
