@@ -136,7 +136,7 @@ pub fn code(a: usize, b: usize) -> usize
 }
 
 // The images of the pair (v, w), smaller first, are marked.
-fn mark_pair_images(rows: &[u8], m: usize, v: usize, w: usize, marks: &mut [bool; 400])
+pub fn mark_pair_images(rows: &[u8], m: usize, v: usize, w: usize, marks: &mut [bool; 400])
     requires { ⌜ (32 * m ≤ length (now rows)) × (v < 32) × (w < 32) × ImagesBelow 20 v m (now rows) × ImagesBelow 20 w m (now rows) ⌝ }
     ensures { λ _. ⌜ now (marks .exit) ≡ marked (now (marks .entry)) (pairCodes (rowsIn 32 m (now (rows .entry))) (v, w)) ⌝ }
 {
