@@ -7,3 +7,7 @@ pub mod Vertices
 pub mod Rooms
 pub mod Short
 pub mod Edges
+pub mod Marked
+pub mod Polygons
+pub mod Labels
+pub mod Reading

@@ -5,8 +5,9 @@ use mathlib.Core.List.{List, [], _∷_, _++_, flatMap, append-nil}
 use Prim.Native.Nat.{ℕ, _+_, _*_, _-_, _^_, _≤_, _<_}
 use native.Mathlib.Nat.{mul-le-mul-left}
 use native.Mathlib.Omega.{arith}
-use lib.ListN.{length, take, drop, length-append}
-use lib.Seq.{drop-drop, take-take}
+use lib.ListN.{length, getD, take, drop, length-append, length-drop}
+use lib.Seq.{drop-drop, take-take, take-all, length-take-le}
+use Rattle.laws.specs.Parts.{take-more}
 use Rattle.laws.specs.Lists.{flatMap-append}
 use Rattle.laws.specs.Segments.{part, placed, part-take, part-length, part-placed, placed-length, take-placed, drop-placed}
 use Rattle.words.specs.Words.{put, put-length, take-put, drop-put}
@@ -187,3 +188,21 @@ room-beside {w} {most} {a} {n} {s} {items} r q o = record {
   fits = r .fits;
   small = r .small;
 }
+
+-- ---- a list that is pushed item by item
+
+module _ {w most a n : ℕ} {s t : List ℕ} {items : ℕ} (room : Room w most a n s items) (list : List ℕ) (i : ℕ) (g : Growing w most a n s t (take i list)) where
+  module _ (h : i < length list) (few : length list ≤ items) where
+    pub taking-room : (base most + w * (used (part a n t) + 1) ≤ length (part a n t)) × (used (part a n t) + 1 < 4294967296)
+    taking-room = growing-room room g (omega (arith, length-take-le i list (omega arith)))
+
+    pub taking-push : (v : ℕ) (p : List ℕ) → v ≡ getD list i 0 → v < 256 ^ w → p ≡ pushed w most (part a n t) v → Growing w most a n s (placed a n t p) (take (i + 1) list)
+    taking-push v p e small q =
+        rw (take-more list i 0 h, ← e) (growing-push room g (omega (arith, length-take-le i list (omega arith))) v p small q)
+
+  pub taking-end : length list ≤ i → (p : List ℕ) → p ≡ ended (part a n t) → Stored w most a n s (placed a n t p) list
+  taking-end h p q = rw (take-all i list h) at (growing-end room g p q)
+
+-- what lies behind the area, lent to the end
+pub behind-lent : {w most a n : ℕ} {s t l : List ℕ} → Growing w most a n s t l → (at : ℕ) → a + n ≤ at → take (length t - at) (drop at t) ≡ drop at s
+behind-lent {w} {most} {a} {n} {s} {t} g at h = let l = length-drop at t in take-all (length t - at) (drop at t) (omega arith) ∙ beside-drop (g .beside) at h

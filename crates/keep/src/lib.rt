@@ -1,26 +1,38 @@
 // What a call stores of an inner call's answer on its shelf: the orbit's ridges, and for each possible facet its places, its edges, its components and its orbit.
 // A call of rank 3 stores an edge (`keep_edge`). Each function says what the shelf keeps then, as `keptOf` has it. Leans on the shelf and on pools.
+use compounds::Area;
 use openers::Vertices;
+use shelf::Level;
 use shelf::Shelf;
 ghost use mathlib.Core.Path.{_≡_};
 ghost use mathlib.Core.Bool.{cond};
-ghost use mathlib.Core.List.{List, _∷_, [], _++_};
-ghost use Prim.Native.Nat.{ℕ, _+_, _*_, _-_, _≤_, _<_};
-ghost use lib.ListN.{length, getD, take};
+ghost use mathlib.Core.List.{List, _∷_, [], _++_, map};
+ghost use Prim.Native.Nat.{ℕ, _+_, _*_, _-_, _/_, _%_, _≤_, _<_};
+ghost use lib.ListN.{length, getD, take, drop};
+ghost use mathlib.Core.Bool.{true, false};
 ghost use Rattle.definitions.specs.Job.{numberAt};
 ghost use Rattle.definitions.specs.Recursion.{Inner};
 ghost use Rattle.laws.specs.Sets.{verticesFrom, verticesOf};
 ghost use Rattle.words.specs.Words.{put};
-ghost use Rattle.openers.specs.Meaning.{verticesIn, HoldsVertices};
+ghost use Rattle.definitions.specs.Orbits.{pairImage};
+ghost use Rattle.openers.specs.Rows.{rowsIn};
+ghost use Rattle.openers.specs.Marks.{marked};
+ghost use Rattle.openers.specs.Meaning.{verticesIn, HoldsVertices, codeOf};
+ghost use Rattle.compounds.specs.Areas.{Holds};
 ghost use Rattle.orbits.specs.Numbers.{orbitOf};
 ghost use Rattle.shapes.specs.Kept.{Kept, keptOf};
-ghost use Rattle.shelf.specs.Keeps.{Keeps, Ridges, Fits};
+ghost use Rattle.shelf.specs.Keeps.{Keeps, Ridges, Fits, Lists, edgesPart, raised};
+ghost use Rattle.shelf.specs.Leaves.{listsLeft};
 ghost use Rattle.keep.specs.Storing.{Room, Stored};
 ghost use Rattle.keep.specs.Stocked.{Within};
 ghost use Rattle.keep.specs.Adding.{withFacets, orbitAt};
 ghost use Rattle.keep.specs.Rooms.{RoomFor};
 ghost use Rattle.keep.specs.Short.{oneOrTwo};
 ghost use Rattle.keep.specs.Edges.{edgeAnswer, EndsStored};
+ghost use Rattle.keep.specs.Marked.{codesMarked};
+ghost use Rattle.keep.specs.Polygons.{edgeAt, imagesOf, EdgesLeft};
+ghost use Rattle.keep.specs.Reading.{movedCode, ridgesMoved};
+ghost use Rattle.compounds.specs.Labels.{labelOf};
 
 // ---- a shelf with nothing on it
 
@@ -175,4 +187,137 @@ pub fn keep_edge(ws: &mut [u8], shelf: Shelf, n: usize, swapped: bool) -> Shelf
     store_u16(ws, edges, labels, (20 * v + w) as u16, 0, false);
     store_facet(ws, shelf, shelf.facets, 0, i as u16);
     one_more(shelf, 1)
+}
+
+// ---- what an inner call of rank 3 has left
+
+// How many facets entry k has.
+fn facets_of(s: &[u8], level: Level, k: usize) -> usize
+    requires { ⌜ (level .lists ≤ length (now s)) × Holds 1024 (level .bytes) (level .count) (drop (level .lists) (now s)) × (k < level .count) ⌝ }
+    ensures { λ r. ⌜ r ≡ length (getD (listsLeft level (now (s .entry))) k []) ⌝ }
+{
+    let lists = level.lists;
+    let area = Area {
+        most: 1024,
+        bytes: level.bytes,
+        count: level.count,
+    };
+    compounds::length_at(&s[lists..], area, k)
+}
+
+// Facet i of entry k.
+fn facet_at(s: &[u8], level: Level, k: usize, i: usize) -> u16
+    requires { ⌜ (level .lists ≤ length (now s)) × Holds 1024 (level .bytes) (level .count) (drop (level .lists) (now s)) × (k < level .count) × (i < length (getD (listsLeft level (now s)) k [])) ⌝ }
+    ensures { λ r. ⌜ r ≡ getD (getD (listsLeft level (now (s .entry))) k []) i 0 ⌝ }
+{
+    let lists = level.lists;
+    let area = Area {
+        most: 1024,
+        bytes: level.bytes,
+        count: level.count,
+    };
+    compounds::item_at(&s[lists..], area, k, i)
+}
+
+// The first edge of facet x, as its code.
+fn edge_at(s: &[u8], shelf: Shelf, x: usize) -> usize
+    requires { ⌜ Fits shelf (length (now s)) × ((lists : List (List ℕ)) × Lists 2 1024 (edgesPart shelf (now s)) lists × (x < length lists) × (0 < length (getD lists x []))) ⌝ }
+    ensures { λ r. ⌜ ((lists : List (List ℕ)) → Lists 2 1024 (edgesPart shelf (now (s .entry))) lists → x < length lists → 0 < length (getD lists x []) → r ≡ getD (getD lists x []) 0 0) ⌝ }
+{
+    let from = shelf.edges;
+    let to = shelf.labels;
+    pool::item_u16(&s[from..to], 1024, x, 0) as usize
+}
+
+// ---- a facet's edges
+
+// The images of facet x's edge are marked.
+fn mark_facet(s: &[u8], level: Level, x: usize, rows: &[u8], m: usize, marks: &mut [bool; 400])
+    requires { ⌜ ((n : ℕ) × (inner : List Kept) × EdgesLeft n m inner level (now rows) (now s) × (x < length inner)) ⌝ }
+    ensures { λ _. ⌜ ((n : ℕ) (inner : List Kept) → EdgesLeft n m inner level (now (rows .entry)) (now (s .entry)) → x < length inner → now (marks .exit) ≡ marked (now (marks .entry)) (map codeOf (map (pairImage (edgeAt inner x)) (rowsIn n m (now (rows .entry)))))) ⌝ }
+{
+    let code = edge_at(s, level.shelf, x);
+    openers::mark_pair_images(rows, m, code / 20, code % 20, marks);
+}
+
+// The images of the edges of entry k's facets are marked.
+fn mark_entry(s: &[u8], level: Level, k: usize, rows: &[u8], m: usize, marks: &mut [bool; 400])
+    requires { ⌜ ((n : ℕ) × (inner : List Kept) × EdgesLeft n m inner level (now rows) (now s) × (k < level .count)) ⌝ }
+    ensures { λ _. ⌜ ((n : ℕ) (inner : List Kept) → EdgesLeft n m inner level (now (rows .entry)) (now (s .entry)) → now (marks .exit) ≡ marked (now (marks .entry)) (map codeOf (imagesOf (rowsIn n m (now (rows .entry))) inner (getD (listsLeft level (now (s .entry))) k [])))) ⌝ }
+{
+    let items = facets_of(s, level, k);
+    let mut i = 0;
+    while i < items {
+        let x = facet_at(s, level, k, i) as usize;
+        mark_facet(s, level, x, rows, m, marks);
+        i += 1;
+    }
+}
+
+// The code of a pair of positions, moved to the vertices at them.
+fn moved(code: usize, vertices: Vertices) -> usize
+    requires { ⌜ (code < 400) × (getD (vertices .at) (code / 20) 0 < 20) × (getD (vertices .at) (code % 20) 0 < 20) ⌝ }
+    ensures { λ r. ⌜ (r ≡ movedCode (vertices .at) code) × (r < 400) ⌝ }
+{
+    20 * vertices.at[code / 20] + vertices.at[code % 20]
+}
+
+// The marked edges, ascending, moved to the vertices, are one list more.
+fn store_edges(ws: &mut [u8], from: usize, to: usize, marks: &[bool; 400], vertices: Vertices)
+    requires { ⌜ (from ≤ to) × Room 2 1024 from (to - from) (now ws) (length (codesMarked (now marks))) × ((c : ℕ) → c < 400 → getD (now marks) c false ≡ true → (getD (vertices .at) (c / 20) 0 < 20) × (getD (vertices .at) (c % 20) 0 < 20)) ⌝ }
+    ensures { λ _. ⌜ Stored 2 1024 from (to - from) (now (ws .entry)) (now (ws .exit)) (map (movedCode (vertices .at)) (codesMarked (now (marks .entry)))) ⌝ }
+{
+    let mut c = 0;
+    while c < 400 {
+        if marks[c] {
+            let code = moved(c, vertices) as u16;
+            pool::push_u16(&mut ws[from..to], 1024, code);
+        }
+        c += 1;
+    }
+    pool::end_list(&mut ws[from..to]);
+}
+
+// ---- a facet's places and label, and the ridges
+
+// The facets of entry k of the inner call, which begins at a place behind the pool, are one list more.
+fn store_places(ws: &mut [u8], at: usize, level: Level, k: usize, from: usize, to: usize)
+    requires { ⌜ (from ≤ to) × (to ≤ at) × (at + level .lists ≤ length (now ws)) × Holds 1024 (level .bytes) (level .count) (drop (level .lists) (drop at (now ws))) × (k < level .count) × Room 2 1024 from (to - from) (now ws) (length (getD (listsLeft level (drop at (now ws))) k [])) ⌝ }
+    ensures { λ _. ⌜ Stored 2 1024 from (to - from) (now (ws .entry)) (now (ws .exit)) (getD (listsLeft level (drop at (now (ws .entry)))) k []) ⌝ }
+{
+    let items = facets_of(&ws[at..], level, k);
+    let mut i = 0;
+    while i < items {
+        let x = facet_at(&ws[at..], level, k, i);
+        pool::push_u16(&mut ws[from..to], 1024, x);
+        i += 1;
+    }
+    pool::end_list(&mut ws[from..to]);
+}
+
+// Each inner orbit's edge, moved to the vertices, with its count: the orbit's ridges.
+fn store_ridges(ws: &mut [u8], at: usize, level: Level, from: usize, to: usize, vertices: Vertices)
+    requires { ⌜ (from ≤ to) × (to ≤ at) × (at ≤ length (now ws)) × ((n : ℕ) × (m : ℕ) × (rows : List ℕ) × (inner : List Kept) × EdgesLeft n m inner level rows (drop at (now ws)) × Room 4 256 from (to - from) (now ws) (length inner) × ((p : ℕ) → p < n → getD (vertices .at) p 0 < 20)) ⌝ }
+    ensures { λ _. ⌜ ((n m : ℕ) (rows : List ℕ) (inner : List Kept) → EdgesLeft n m inner level rows (drop at (now (ws .entry))) → Stored 4 256 from (to - from) (now (ws .entry)) (now (ws .exit)) (ridgesMoved (vertices .at) inner)) ⌝ }
+{
+    let orbits = level.shelf.orbits;
+    let mut a = 0;
+    while a < orbits {
+        let code = moved(edge_at(&ws[at..], level.shelf, a), vertices) as u32;
+        let count = words::get_u32(&ws[at..], 8 * a + 4);
+        pool::push_u32(&mut ws[from..to], 256, code + 65536 * count);
+        a += 1;
+    }
+    pool::end_list(&mut ws[from..to]);
+}
+
+// A facet's label, its components raised by the number of facets kept before.
+fn raise(label: u32, first: usize) -> u32
+    requires { ⌜ (first ≤ 1024) × (65536 ≤ label → (label / 65536 < 1024) × (label % 65536 < 1024)) ⌝ }
+    ensures { λ r. ⌜ labelOf r ≡ raised first (labelOf label) ⌝ }
+{
+    if label < 65536 {
+        return 0;
+    }
+    label + 65537 * first as u32
 }
