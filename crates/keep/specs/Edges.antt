@@ -24,7 +24,7 @@ use Rattle.shelf.specs.declared.Shelf.{Shelf}
 use Rattle.shelf.specs.Keeps.{Keeps, Ridges, Fits, Lists, joined, facetsIn, facetsOf, placesOf, edgesOf, raised, ridgeCode, ridgeCodes, labelsFrom, ownersOf, edgesPart, ridgesPart, placesPart}
 use Rattle.keep.specs.Short.{oneOrTwo}
 use Rattle.keep.specs.Storing.{Room, Stored}
-use Rattle.keep.specs.Stocked.{Stocked, Within, within-both, edges-within, ridges-within, places-within, stocked-edges, stocked-ridges, stocked-places, stocked-facet, facet-within}
+use Rattle.keep.specs.Stocked.{Stocked, Within, within-both, edges-within, ridges-within, places-within, stocked-edges, stocked-ridges, stocked-places, stocked-facet, put-within}
 use Rattle.keep.specs.Adding.{StockedWith, stocked-with, withFacets, orbitAt, labelsOf, labels-length, owners-length, stocked-more, kept-more}
 use Rattle.keep.specs.Rooms.{RoomFor, room-edges, room-ridges, room-places, places-number, edges-number, codes-items}
 
@@ -135,8 +135,8 @@ module _ (shelf : Shelf) (swapped : Bool) (v w : ℕ) (s t u : List ℕ) (one : 
     pub edge-within : Within shelf s (last (shelf .orbits))
     edge-within =
         let f : Fits shelf (length t) = rw (one .within .long) (keeps .fits) in
-        within-both shelf (within-both shelf (one .within) (edges-within f two))
-        (facet-within edge-listed (shelf .facets) 0 (shelf .orbits) labels-there owners-there (omega arith) (omega arith) (omega arith))
+        let now : Fits shelf (length u) = rw (two .beside .long) f in
+        within-both shelf (within-both shelf (one .within) (edges-within f two)) (put-within shelf u (shelf .facets) 0 (shelf .orbits) now (omega arith))
 
     -- one edge more is kept
     pub edge-more : (left : ℕ) (i : Inner) → v ≡ getD (verticesOf n (numberAt s (8 * shelf .orbits) 4)) 0 0 → w ≡ getD (verticesOf n (numberAt s (8 * shelf .orbits) 4)) 1 0

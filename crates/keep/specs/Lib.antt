@@ -11,3 +11,5 @@ pub mod Marked
 pub mod Polygons
 pub mod Labels
 pub mod Reading
+pub mod Facets
+pub mod Whole

@@ -83,7 +83,7 @@ keep-append p (x ∷ l) m = ap (λ (r : List ℕ). cond (p x) (x ∷ r) r) (keep
     go true = refl
     go false = refl
 
-count-append : (a m n : ℕ) → countFrom a (m + n) ≡ countFrom a m ++ countFrom (a + m) n
+pub count-append : (a m n : ℕ) → countFrom a (m + n) ≡ countFrom a m ++ countFrom (a + m) n
 unfolding countFrom
 count-append a zero n =
     let e : 0 + n ≡ n = omega arith in

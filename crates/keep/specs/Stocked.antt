@@ -126,10 +126,11 @@ module _ {shelf : Shelf} {edges : List (List ℕ)} {labels : List (Option Pair)}
       places-are = rw (off (shelf .places) (shelf .end - shelf .places) (inr (omega (arith, f .ridgeRoom)))) (k .places-are);
     }
 
-    pub facet-within : Within shelf s both
-    facet-within =
-        let one : Within shelf s lab = beside-wider (beside-put 4 s (shelf .labels + 4 * x) label) (omega (arith, f .edgeRoom)) (omega (arith, f .edgeRoom, f .labelRoom, f .ownerRoom, f .ridgeRoom, f .placeRoom)) in
-        beside-both one (beside-put 2 lab (shelf .owners + 2 * x) owner) (omega (arith, f .edgeRoom, f .labelRoom)) (omega (arith, f .edgeRoom, f .labelRoom, f .ownerRoom, f .ridgeRoom, f .placeRoom))
+-- a label and an owner stay on the shelf
+pub put-within : (shelf : Shelf) (s : List ℕ) (x label owner : ℕ) → Fits shelf (length s) → x < 1024 → Within shelf s (put 2 (put 4 s (shelf .labels + 4 * x) label) (shelf .owners + 2 * x) owner)
+put-within shelf s x label owner f h =
+    let one : Within shelf s (put 4 s (shelf .labels + 4 * x) label) = beside-wider (beside-put 4 s (shelf .labels + 4 * x) label) (omega (arith, f .edgeRoom)) (omega (arith, f .edgeRoom, f .labelRoom, f .ownerRoom, f .ridgeRoom, f .placeRoom)) in
+    beside-both one (beside-put 2 (put 4 s (shelf .labels + 4 * x) label) (shelf .owners + 2 * x) owner) (omega (arith, f .edgeRoom, f .labelRoom)) (omega (arith, f .edgeRoom, f .labelRoom, f .ownerRoom, f .ridgeRoom, f .placeRoom))
 
 -- what is stored in a pool stays on the shelf
 module _ {shelf : Shelf} {s t l : List ℕ} (f : Fits shelf (length s)) where
@@ -144,3 +145,7 @@ module _ {shelf : Shelf} {s t l : List ℕ} (f : Fits shelf (length s)) where
 
 pub within-both : (shelf : Shelf) {s t u : List ℕ} → Within shelf s t → Within shelf t u → Within shelf s u
 within-both shelf p q = beside-both p q (omega arith) (omega arith)
+
+-- the areas lie where they lay
+pub fits-after : {shelf : Shelf} {a n : ℕ} {s t : List ℕ} → Fits shelf (length s) → Beside a n s t → Fits shelf (length t)
+fits-after f q = rw (q .long) f

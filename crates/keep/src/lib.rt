@@ -21,17 +21,22 @@ ghost use Rattle.openers.specs.Meaning.{verticesIn, HoldsVertices, codeOf};
 ghost use Rattle.compounds.specs.Areas.{Holds};
 ghost use Rattle.orbits.specs.Numbers.{orbitOf};
 ghost use Rattle.shapes.specs.Kept.{Kept, keptOf};
-ghost use Rattle.shelf.specs.Keeps.{Keeps, Ridges, Fits, Lists, edgesPart, raised};
-ghost use Rattle.shelf.specs.Leaves.{listsLeft};
+ghost use Rattle.shelf.specs.Keeps.{Keeps, Ridges, Fits, Lists, edgesPart, raised, joined};
+ghost use Rattle.shelf.specs.Leaves.{listsLeft, answerLeft};
 ghost use Rattle.keep.specs.Storing.{Room, Stored};
-ghost use Rattle.keep.specs.Stocked.{Within};
+ghost use Rattle.keep.specs.Stocked.{Stocked, Within};
 ghost use Rattle.keep.specs.Adding.{withFacets, orbitAt};
 ghost use Rattle.keep.specs.Rooms.{RoomFor};
 ghost use Rattle.keep.specs.Short.{oneOrTwo};
 ghost use Rattle.keep.specs.Edges.{edgeAnswer, EndsStored};
 ghost use Rattle.keep.specs.Marked.{codesMarked};
-ghost use Rattle.keep.specs.Polygons.{edgeAt, imagesOf, EdgesLeft};
-ghost use Rattle.keep.specs.Reading.{movedCode, ridgesMoved};
+ghost use Rattle.keep.specs.Polygons.{edgeAt, imagesOf, entryEdges, EdgesLeft};
+ghost use Rattle.keep.specs.Reading.{movedCode, ridgesMoved, marksOf};
+ghost use Rattle.keep.specs.Facets.{Source, FacetStored, FacetsStored, FacetsRoom, entryAt, labelsLeft, codesOf, allCodes, allLabels, allLists};
+ghost use Rattle.keep.specs.Whole.{nextVertices, vertexIn};
+ghost use mathlib.Core.Option.{none};
+ghost use Rattle.definitions.specs.Lists.{Pair};
+ghost use Rattle.pool.specs.Pool.{base};
 ghost use Rattle.compounds.specs.Labels.{labelOf};
 
 // ---- a shelf with nothing on it
@@ -320,4 +325,74 @@ fn raise(label: u32, first: usize) -> u32
         return 0;
     }
     label + 65537 * first as u32
+}
+
+// ---- a polygon
+
+// Entry k of the inner call is one facet more: its edges, its places, its label and its orbit.
+fn keep_facet(
+    ws: &mut [u8],
+    shelf: Shelf,
+    at: usize,
+    level: Level,
+    k: usize,
+    rows: &[u8],
+    m: usize,
+    vertices: Vertices,
+)
+    requires { ⌜ Fits shelf (length (now ws)) × (shelf .end ≤ at) × (shelf .orbits < 256) × (shelf .facets + level .count ≤ 1024) × (k < level .count) × ((n : ℕ) × (inner : List Kept) × Source n m inner level (now rows) at (vertices .at) (now ws) × Room 2 1024 (shelf .edges) (shelf .labels - shelf .edges) (now ws) (length (codesOf n m (now rows) inner (vertices .at) (entryAt level at (now ws) k))) × Room 2 1024 (shelf .places) (shelf .end - shelf .places) (now ws) (length (entryAt level at (now ws) k))) ⌝ }
+    ensures { λ _. ⌜ ((n : ℕ) (inner : List Kept) → Source n m inner level (now (rows .entry)) at (vertices .at) (now (ws .entry)) → FacetStored shelf k (codesOf n m (now (rows .entry)) inner (vertices .at) (entryAt level at (now (ws .entry)) k)) (raised (shelf .facets) (getD (labelsLeft level at (now (ws .entry))) k none)) (entryAt level at (now (ws .entry)) k) (now (ws .entry)) (now (ws .exit))) ⌝ }
+{
+    let edges = shelf.edges;
+    let labels = shelf.labels;
+    let mut marks = [false; 400];
+    mark_entry(&ws[at..], level, k, rows, m, &mut marks);
+    store_edges(ws, edges, labels, &marks, vertices);
+    store_places(ws, at, level, k, shelf.places, shelf.end);
+    let place = level.lists + (level.bytes + 2048 + 4 * k);
+    let label = raise(words::get_u32(&ws[at..], place), shelf.facets);
+    store_facet(ws, shelf, shelf.facets + k, label, shelf.orbits as u16);
+}
+
+// Every entry of the inner call is a facet.
+fn keep_facets(
+    ws: &mut [u8],
+    shelf: Shelf,
+    at: usize,
+    level: Level,
+    rows: &[u8],
+    m: usize,
+    vertices: Vertices,
+)
+    requires { ⌜ (shelf .end ≤ at) × (shelf .orbits < 256) × (shelf .facets + level .count ≤ 1024) × ((n : ℕ) × (inner : List Kept) × Source n m inner level (now rows) at (vertices .at) (now ws) × FacetsRoom shelf n m inner level (now rows) at (vertices .at) (now ws)) ⌝ }
+    ensures { λ _. ⌜ ((n : ℕ) (inner : List Kept) → Source n m inner level (now (rows .entry)) at (vertices .at) (now (ws .entry)) → FacetsStored shelf (level .count) (allCodes shelf n m inner level (now (rows .entry)) at (vertices .at) (now (ws .entry))) (allLabels shelf n m inner level (now (rows .entry)) at (vertices .at) (now (ws .entry))) (allLists shelf n m inner level (now (rows .entry)) at (vertices .at) (now (ws .entry))) (now (ws .entry)) (now (ws .exit))) ⌝ }
+{
+    let count = level.count;
+    let mut k = 0;
+    while k < count {
+        keep_facet(ws, shelf, at, level, k, rows, m, vertices);
+        k += 1;
+    }
+}
+
+// The facets of the next orbit of a call of rank 4: the entries of its inner call of rank 3, which has left its answer from a place behind the shelf on. Its rows are `rows`.
+pub fn keep_polygons(
+    ws: &mut [u8],
+    shelf: Shelf,
+    n: usize,
+    at: usize,
+    level: Level,
+    rows: &[u8],
+    m: usize,
+) -> Shelf
+    requires { ⌜ (n ≤ 20) × (shelf .end ≤ at) × (at ≤ length (now ws)) × ((kept : List Kept) × (inner : List Kept) × Keeps n shelf kept (now ws) × Ridges shelf kept (now ws) × EdgesLeft (length (nextVertices n shelf (now ws))) m inner level (now rows) (drop at (now ws)) × RoomFor shelf kept (level .count) (length (joined (map (entryEdges (vertexIn (nextVertices n shelf (now ws))) (rowsIn (length (nextVertices n shelf (now ws))) m (now rows)) inner) (listsLeft level (drop at (now ws)))))) (length inner) (length (joined (listsLeft level (drop at (now ws)))))) ⌝ }
+    ensures shelf { λ r. ⌜ r ≡ withFacets shelf (level .count) ⌝ }
+    ensures within { λ _. ⌜ (take 2048 (now (ws .exit)) ≡ take 2048 (now (ws .entry))) × Within shelf (now (ws .entry)) (now (ws .exit)) ⌝ }
+    ensures keeps { λ r. ⌜ ((kept : List Kept) (inner : List Kept) (i : Inner) (left : ℕ) → Keeps n shelf kept (now (ws .entry)) → Ridges shelf kept (now (ws .entry)) → EdgesLeft (length (nextVertices n shelf (now (ws .entry)))) m inner level (now (rows .entry)) (drop at (now (ws .entry))) → i .orbit ≡ orbitOf n (orbitAt (now (ws .entry)) (shelf .orbits)) → i .answer ≡ answerLeft 0 (length (nextVertices n shelf (now (ws .entry)))) (rowsIn (length (nextVertices n shelf (now (ws .entry)))) m (now (rows .entry))) inner level (drop at (now (ws .entry))) left → Keeps n r (kept ++ (keptOf i ∷ [])) (now (ws .exit)) × Ridges r (kept ++ (keptOf i ∷ [])) (now (ws .exit))) ⌝ }
+{
+    let i = shelf.orbits;
+    let vertices = vertices_of(words::get_u32(ws, 8 * i), n);
+    store_ridges(ws, at, level, shelf.ridges, shelf.places, vertices);
+    keep_facets(ws, shelf, at, level, rows, m, vertices);
+    one_more(shelf, level.count)
 }
