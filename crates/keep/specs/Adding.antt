@@ -1,19 +1,17 @@
 -- One orbit more on a shelf: what the areas must hold then, said as one list behind another. Leans on Stocked and on the shelf.
-use mathlib.Core.Path.{_≡_, refl, sym, ap, _∙_, subst}
+use mathlib.Core.Path.{_≡_, refl, sym, ap, _∙_}
 use mathlib.Core.List.{List, [], _∷_, _++_, map, flatMap, map-append, append-nil, append-assoc}
 use mathlib.Core.Option.{Option}
-use Prim.Native.Nat.{ℕ, zero, suc, _+_, _*_, _-_, _≤_, _<_}
+use Prim.Native.Nat.{ℕ, suc, _+_, _*_, _≤_, _<_}
 use native.Mathlib.Omega.{arith}
 use native.Mathlib.Numerals.{add-one}
-use lib.ListN.{length, take, length-append, length-map}
+use lib.ListN.{length, length-append, length-map}
 use Rattle.definitions.specs.Lists.{Pair, mapAt, countFrom}
 use Rattle.definitions.specs.Job.{numberAt}
 use Rattle.definitions.specs.Figures.{componentsOf}
 use Rattle.definitions.specs.Orbits.{Orbit}
 use Rattle.definitions.specs.Search.{Facet}
 use Rattle.laws.specs.Lists.{flatMap-append, count-length}
-use Rattle.words.specs.Words.{words}
-use Rattle.compounds.specs.Labels.{labelsIn}
 use Rattle.openers.specs.Meaning.{codeOf}
 use Rattle.orbits.specs.Numbers.{orbitOf}
 use Rattle.orbits.specs.Workspace.{orbitsIn, orbits-front}
@@ -41,8 +39,8 @@ unfoldable pub orbitAt : List ℕ → ℕ → Pair
 orbitAt s i = (numberAt s (8 * i) 4, numberAt s (8 * i + 4) 4)
 
 -- a facet's components, in an orbit whose first facet has this number
-unfoldable pub labelsOf : ℕ → Kept → List (Option Pair)
-labelsOf first k = map (λ (f : ℕ). raised first (componentsOf (k .compounds) f)) (countFrom 0 (facetsIn k))
+unfoldable pub orbitLabels : ℕ → Kept → List (Option Pair)
+orbitLabels first k = map (λ (f : ℕ). raised first (componentsOf (k .compounds) f)) (countFrom 0 (facetsIn k))
 
 -- ---- lists over all facets
 
@@ -98,20 +96,20 @@ pub labels-length : (kept : List Kept) → length (labelsFrom 0 kept) ≡ length
 unfolding facetsOf facetsFrom
 labels-length kept = labels-length-from 0 0 kept
 
-labels-last : (first : ℕ) (kept : List Kept) (k : Kept) → labelsFrom first (kept ++ (k ∷ [])) ≡ labelsFrom first kept ++ labelsOf (first + length (labelsFrom first kept)) k
-unfolding labelsFrom labelsOf
+labels-last : (first : ℕ) (kept : List Kept) (k : Kept) → labelsFrom first (kept ++ (k ∷ [])) ≡ labelsFrom first kept ++ orbitLabels (first + length (labelsFrom first kept)) k
+unfolding labelsFrom orbitLabels
 labels-last first [] k = let e : first ≡ first + 0 = omega arith in append-nil _ ∙ ap (λ (o : ℕ). map (λ (f : ℕ). raised o (componentsOf (k .compounds) f)) (countFrom 0 (facetsIn k))) e
 labels-last first (h ∷ kept) k =
     let own : List (Option Pair) = map (λ (f : ℕ). raised first (componentsOf (h .compounds) f)) (countFrom 0 (facetsIn h)) in
     let n : length own ≡ facetsIn h = length-map (countFrom 0 (facetsIn h)) (λ (f : ℕ). raised first (componentsOf (h .compounds) f)) ∙ count-length 0 (facetsIn h) in
     let e : first + facetsIn h + length (labelsFrom (first + facetsIn h) kept) ≡ first + length (own ++ labelsFrom (first + facetsIn h) kept) = omega (arith, n, length-append own (labelsFrom (first + facetsIn h) kept)) in
-    ap (λ (l : List (Option Pair)). own ++ l) (labels-last (first + facetsIn h) kept k ∙ ap (λ (o : ℕ). labelsFrom (first + facetsIn h) kept ++ labelsOf o k) e)
-    ∙ sym (append-assoc own (labelsFrom (first + facetsIn h) kept) (labelsOf (first + length (own ++ labelsFrom (first + facetsIn h) kept)) k))
+    ap (λ (l : List (Option Pair)). own ++ l) (labels-last (first + facetsIn h) kept k ∙ ap (λ (o : ℕ). labelsFrom (first + facetsIn h) kept ++ orbitLabels o k) e)
+    ∙ sym (append-assoc own (labelsFrom (first + facetsIn h) kept) (orbitLabels (first + length (own ++ labelsFrom (first + facetsIn h) kept)) k))
 
-pub labels-more : (kept : List Kept) (k : Kept) → labelsFrom 0 (kept ++ (k ∷ [])) ≡ labelsFrom 0 kept ++ labelsOf (length (facetsOf kept)) k
+pub labels-more : (kept : List Kept) (k : Kept) → labelsFrom 0 (kept ++ (k ∷ [])) ≡ labelsFrom 0 kept ++ orbitLabels (length (facetsOf kept)) k
 labels-more kept k =
     let e : 0 + length (labelsFrom 0 kept) ≡ length (facetsOf kept) = omega (arith, labels-length kept) in
-    labels-last 0 kept k ∙ ap (λ (o : ℕ). labelsFrom 0 kept ++ labelsOf o k) e
+    labels-last 0 kept k ∙ ap (λ (o : ℕ). labelsFrom 0 kept ++ orbitLabels o k) e
 
 flat-last : {A B : Type 0} (f : A → List B) (l : List A) (x : A) → flatMap f (l ++ (x ∷ [])) ≡ flatMap f l ++ f x
 unfolding flatMap
@@ -149,7 +147,7 @@ stocked-with {n} {shelf} {kept} {s} k r =
 
 -- what is added to each area, one list behind another
 pub stocked-more : {shelf : Shelf} {s : List ℕ} (kept : List Kept) (k : Kept)
-    → Stocked shelf (map (map codeOf) (edgesOf kept) ++ map (map codeOf) (k .edges)) (labelsFrom 0 kept ++ labelsOf (length (facetsOf kept)) k) (ownersOf kept ++ map (λ (f : ℕ). length kept) (countFrom 0 (facetsIn k))) (map ridgeCodes kept ++ (ridgeCodes k ∷ [])) (placesOf kept ++ k .places) s
+    → Stocked shelf (map (map codeOf) (edgesOf kept) ++ map (map codeOf) (k .edges)) (labelsFrom 0 kept ++ orbitLabels (length (facetsOf kept)) k) (ownersOf kept ++ map (λ (f : ℕ). length kept) (countFrom 0 (facetsIn k))) (map ridgeCodes kept ++ (ridgeCodes k ∷ [])) (placesOf kept ++ k .places) s
     → StockedWith shelf (kept ++ (k ∷ [])) s
 stocked-more kept k stock = rw (edges-more kept k, labels-more kept k, owners-more kept k, ridges-more kept k, places-more kept k) stock
 

@@ -1,8 +1,8 @@
 -- A shelf with nothing on it: its three pools emptied one after another. Leans on Adding.
-use mathlib.Core.Path.{_≡_, refl, sym, ap, _∙_}
-use mathlib.Core.Logic.{inl, inr}
-use mathlib.Core.List.{List, [], _∷_, map, flatMap}
-use Prim.Native.Nat.{ℕ, _+_, _*_, _-_, _≤_, _<_}
+use mathlib.Core.Path.{_≡_, refl, ap, _∙_}
+use mathlib.Core.Logic.{inl}
+use mathlib.Core.List.{List, [], flatMap}
+use Prim.Native.Nat.{ℕ, _+_, _-_, _≤_}
 use native.Mathlib.Omega.{arith}
 use lib.ListN.{length}
 use Rattle.definitions.specs.Lists.{mapAt}
@@ -15,7 +15,7 @@ use Rattle.compounds.specs.Labels.{labelsIn}
 use Rattle.shelf.specs.declared.Shelf.{Shelf}
 use Rattle.shelf.specs.Keeps.{Keeps, Ridges, Fits, facetsOf, ownersOf, placesOf, edgesOf, labelsFrom, edgesPart, ridgesPart, placesPart}
 use Rattle.keep.specs.Storing.{Beside, beside-both, beside-wider, beside-part, beside-placed}
-use Rattle.keep.specs.Stocked.{Within, within-both}
+use Rattle.keep.specs.Stocked.{Within}
 
 emptied-length : (l : List ℕ) → length (emptied l) ≡ length l
 unfolding emptied

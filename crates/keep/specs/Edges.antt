@@ -1,18 +1,17 @@
 -- What is kept of an orbit of a call of rank 3: an edge between its set's first two vertices, each end a ridge of its own or both one. Leans on Adding.
-use mathlib.Core.Path.{_≡_, refl, sym, ap, _∙_, subst}
+use mathlib.Core.Path.{_≡_, refl, sym, ap, _∙_}
 use mathlib.Core.Bool.{Bool, true, false, cond, not}
-use mathlib.Core.List.{List, [], _∷_, _++_, map, flatMap, zipWith}
+use mathlib.Core.List.{List, [], _∷_, _++_, map, zipWith}
 use mathlib.Core.Option.{Option, none}
-use Prim.Native.Nat.{ℕ, zero, suc, _+_, _*_, _-_, _≤_, _<_, min, max}
+use Prim.Native.Nat.{ℕ, _+_, _*_, _-_, _≤_, _<_, min, max}
 use native.Mathlib.Omega.{arith}
-use lib.ListN.{length, getD, length-map, length-append}
+use lib.ListN.{length, getD, length-map}
 use Rattle.definitions.specs.Lists.{Pair, countFrom}
 use Rattle.definitions.specs.Job.{numberAt}
 use Rattle.definitions.specs.Orbits.{Orbit}
-use Rattle.definitions.specs.Figures.{Compound, rankOf, dyad, moveEnds, componentsOf}
-use Rattle.definitions.specs.Recursion.{Entry, Answer, Inner, vertexRidge, swappedEnds, separateEnds}
+use Rattle.definitions.specs.Figures.{rankOf, dyad, moveEnds, componentsOf}
+use Rattle.definitions.specs.Recursion.{Answer, Inner, vertexRidge, swappedEnds, separateEnds}
 use Rattle.definitions.specs.Faceting.{possibleFacets}
-use Rattle.laws.specs.Lists.{Mem, here, there}
 use Rattle.laws.specs.Sets.{verticesOf}
 use Rattle.words.specs.Words.{put}
 use Rattle.compounds.specs.Labels.{labelOf}
@@ -21,11 +20,11 @@ use Rattle.orbits.specs.Numbers.{orbitOf}
 use Rattle.shapes.specs.Polygons.{edgeVia, edgePairs}
 use Rattle.shapes.specs.Kept.{Kept, keptOf, endsOf}
 use Rattle.shelf.specs.declared.Shelf.{Shelf}
-use Rattle.shelf.specs.Keeps.{Keeps, Ridges, Fits, Lists, joined, facetsIn, facetsOf, placesOf, edgesOf, raised, ridgeCode, ridgeCodes, labelsFrom, ownersOf, edgesPart, ridgesPart, placesPart}
+use Rattle.shelf.specs.Keeps.{Keeps, Ridges, Fits, placesOf, edgesOf, raised, ridgeCode, ridgeCodes, labelsFrom, ownersOf}
 use Rattle.keep.specs.Short.{oneOrTwo}
 use Rattle.keep.specs.Storing.{Room, Stored}
 use Rattle.keep.specs.Stocked.{Stocked, Within, within-both, edges-within, ridges-within, places-within, stocked-edges, stocked-ridges, stocked-places, stocked-facet, put-within}
-use Rattle.keep.specs.Adding.{StockedWith, stocked-with, withFacets, orbitAt, labelsOf, labels-length, owners-length, stocked-more, kept-more}
+use Rattle.keep.specs.Adding.{StockedWith, stocked-with, withFacets, orbitAt, orbitLabels, labels-length, owners-length, stocked-more, kept-more}
 use Rattle.keep.specs.Rooms.{RoomFor, room-edges, room-ridges, room-places, places-number, edges-number, codes-items}
 
 -- the vertex at a position of an orbit's set
@@ -106,7 +105,7 @@ WithEdge shelf kept swapped v w s =
     (placesOf kept ++ (oneOrTwo (not swapped) 0 1 ∷ [])) s
 
 edge-stocked : (shelf : Shelf) (kept : List Kept) (swapped : Bool) (o : Orbit) (t : List ℕ) → WithEdge shelf kept swapped (vertexOf o 0) (vertexOf o 1) t → StockedWith shelf (kept ++ (edgeKept swapped o ∷ [])) t
-unfolding edgeKept labelsOf componentsOf raised countFrom codeOf
+unfolding edgeKept orbitLabels componentsOf raised countFrom codeOf
 edge-stocked shelf kept swapped o t stock = stocked-more kept (edgeKept swapped o) (rw (edge-ridges swapped o (cond swapped 2 1) refl) stock)
 
 -- the steps of `keep_edge`: the ends, the edge, then label and owner

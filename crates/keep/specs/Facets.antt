@@ -1,13 +1,12 @@
 -- The facets of an orbit of a call of rank 4, stored one after another: what one adds to the areas, what some do, and room for the next. Leans on Stocked, Rooms and Reading.
 use mathlib.Core.Path.{_≡_, refl, sym, ap, _∙_, subst}
-use mathlib.Core.Logic.{inl, inr}
 use mathlib.Core.Bool.{Bool, true, false}
 use mathlib.Core.List.{List, [], _∷_, _++_, map, flatMap, append-nil, append-assoc, map-append}
-use mathlib.Core.Option.{Option, some, none}
+use mathlib.Core.Option.{Option, none}
 use Prim.Native.Nat.{ℕ, zero, suc, _+_, _*_, _-_, _/_, _%_, _≤_, _<_}
 use native.Mathlib.Omega.{arith}
-use lib.ListN.{length, getD, take, drop, length-append, length-map, length-drop}
-use lib.Seq.{take-all, length-take-le, drop-drop}
+use lib.ListN.{length, getD, take, drop, length-append, length-map}
+use lib.Seq.{take-all, length-take-le}
 use Rattle.definitions.specs.Lists.{Pair, countFrom}
 use Rattle.definitions.specs.Job.{numberAt}
 use Rattle.laws.specs.Lists.{Mem, map-at, member-at, flatMap-append, count-length}
@@ -15,7 +14,6 @@ use Rattle.laws.specs.Parts.{take-more}
 use Rattle.words.specs.Words.{put, words, words-length, getD-words, numberAt-drop}
 use Rattle.pool.specs.Pool.{base}
 use Rattle.openers.specs.Rows.{rowsIn}
-use Rattle.openers.specs.Meaning.{codeOf}
 use Rattle.compounds.specs.Areas.{lists-length}
 use Rattle.compounds.specs.Labels.{labelOf, labelsIn}
 use Rattle.shapes.specs.Kept.{Kept}
@@ -28,7 +26,7 @@ use Rattle.keep.specs.Stocked.{Stocked, Within, within-both, edges-withi
 use Rattle.keep.specs.Rooms.{room-edges, room-places}
 use Rattle.keep.specs.Labels.{label-some}
 use Rattle.keep.specs.Marked.{codesMarked}
-use Rattle.keep.specs.Polygons.{EdgesLeft, imagesOf}
+use Rattle.keep.specs.Polygons.{EdgesLeft}
 use Rattle.keep.specs.Reading.{movedCode, marksOf, marked-below, entry-below, count-append, lent-tail}
 
 -- ---- what is read

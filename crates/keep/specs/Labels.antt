@@ -1,22 +1,21 @@
--- The components of an orbit's facets, raised by the number of facets kept before. Leans on tables of labels.
-use mathlib.Core.Path.{_≡_, refl, sym, ap, _∙_, subst}
-use mathlib.Core.Bool.{Bool, true, false, cond}
-use mathlib.Core.List.{List, [], _∷_, _++_, map}
+-- The components of an orbit's facets, raised by the number of facets kept before, and what a label names. Leans on tables of labels.
+use mathlib.Core.Path.{_≡_, refl, sym, ap, _∙_}
+use mathlib.Core.List.{List, [], _∷_, map}
 use mathlib.Core.Option.{Option, some, none}
 use Prim.Native.Nat.{ℕ, zero, suc, _+_, _*_, _/_, _%_, _≤_, _<_}
 use native.Mathlib.Omega.{arith}
 use borrow.Author.Tests.{eq-eqb, ne-eqb}
-use lib.Dec.{eqb}
 use lib.ListN.{length, getD}
 use Rattle.definitions.specs.Lists.{Pair, countFrom}
 use Rattle.definitions.specs.Figures.{Compound, componentsOf}
 use Rattle.laws.specs.Ranges.{map-places}
 use Rattle.laws.specs.Places.{map-same}
-use Rattle.compounds.specs.Labels.{labelOf}
-use Rattle.compounds.specs.Numbers.{compoundAt, compoundsFrom}
+use Rattle.compounds.specs.Labels.{labelOf, label-range}
+use Rattle.compounds.specs.Numbers.{compoundAt, compoundsFrom, labelNats, labelsOf}
+use Rattle.laws.specs.Lists.{Mem, of-map}
 use Rattle.shapes.specs.Kept.{Kept}
 use Rattle.shelf.specs.Keeps.{facetsIn, raised}
-use Rattle.keep.specs.Adding.{labelsOf}
+use Rattle.keep.specs.Adding.{orbitLabels}
 
 -- a compound is none of an earlier number
 components-before : (b x : ℕ) (labels : List (Option Pair)) → x < b → componentsOf (compoundsFrom b labels) x ≡ none
@@ -36,8 +35,8 @@ components-at a (suc x) (some p ∷ labels) =
     rw (ne-eqb (a + suc x) a (λ e. omega arith)) (ap (componentsOf (compoundsFrom (suc a) labels)) e ∙ components-at (suc a) x labels)
 
 -- the labels of an orbit's facets
-pub labels-raised : (first : ℕ) (k : Kept) (labels : List (Option Pair)) → k .compounds ≡ compoundsFrom 0 labels → facetsIn k ≡ length labels → labelsOf first k ≡ map (raised first) labels
-unfolding labelsOf
+pub labels-raised : (first : ℕ) (k : Kept) (labels : List (Option Pair)) → k .compounds ≡ compoundsFrom 0 labels → facetsIn k ≡ length labels → orbitLabels first k ≡ map (raised first) labels
+unfolding orbitLabels
 labels-raised first k labels e n =
     ap (λ (cs : List Compound). map (λ (f : ℕ). raised first (componentsOf cs f)) (countFrom 0 (facetsIn k))) e
     ∙ (ap (λ (m : ℕ). map (λ (f : ℕ). raised first (componentsOf (compoundsFrom 0 labels) f)) (countFrom 0 m)) n
@@ -65,3 +64,14 @@ raised-some first label r h k l e =
     let a : r % 65536 ≡ first + label % 65536 = omega arith in
     let b : r / 65536 ≡ first + label / 65536 = omega arith in
     rw (label-some label h) (label-some r (omega arith) ∙ (λ t. some (a t, b t)))
+
+-- ---- labels name entries
+
+-- so are the labels that `label_irc` leaves
+pub labels-inside : (lists : List (List ℕ)) (p : Pair) → Mem (some p) (labelsOf lists) → (p .0 < p .1) × (p .1 < length lists)
+unfolding labelsOf
+labels-inside lists p i =
+    let r = of-map (λ (items : List ℕ). labelNats items lists 0) (some p) lists i in
+    let q = label-range (r .0) lists 0 p (sym (r .2)) in
+    let u = q .1 in
+    (q .0, omega arith)

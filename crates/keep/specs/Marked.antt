@@ -3,22 +3,21 @@
 use mathlib.Core.Path.{_≡_, refl, sym, ap, _∙_, subst}
 use mathlib.Core.Logic.{_⊎_, inl, inr}
 use mathlib.Core.Bool.{Bool, true, false, cond, _||_}
-use mathlib.Core.List.{List, [], _∷_, _++_, map}
-use Prim.Native.Nat.{ℕ, zero, suc, _+_, _*_, _/_, _%_, _≤_, _<_, min, max, compare, Ordering, Ordering·lt}
+use mathlib.Core.List.{List, [], _∷_, map}
+use Prim.Native.Nat.{ℕ, suc, _+_, _*_, _/_, _%_, _≤_, _<_, min, max, compare, Ordering, Ordering·lt}
 use native.Mathlib.Omega.{arith}
-use lib.Dec.{T, eqb, eqb-refl, eqb→eq, isEq}
-use lib.ListN.{length, getD, take, drop, replicate, length-replicate, getD-replicate}
+use lib.Dec.{T, eqb, eqb-refl, eqb→eq}
+use lib.ListN.{getD, take, drop, replicate, length-replicate, getD-replicate}
 use Rattle.definitions.specs.Lists.{Pair, thenBy, comparePair, keep, countFrom, memberNat, anyOf}
-use Rattle.definitions.specs.Orbits.{Row, image, pairImage}
+use Rattle.definitions.specs.Orbits.{Row, pairImage}
 use Rattle.laws.specs.Bools.{same-test}
 use Rattle.laws.specs.Lists.{Mem, here, there, in-map, of-map, any-of, any-witness, in-count, of-count}
-use Rattle.laws.specs.Pairs.{Pairs, pairs-map, count-ascends}
+use Rattle.laws.specs.Pairs.{pairs-map, count-ascends}
 use Rattle.laws.specs.Orders.{nats, pairs, lt-compare}
 use Rattle.laws.specs.Segments.{le-or-lt}
 use Rattle.laws.specs.Ascending.{Ascends, seenAmong, seen-member, member-seen}
 use Rattle.laws.specs.Ranges.{in-order-kept}
-use Rattle.laws.specs.Parts.{rows}
-use Rattle.openers.specs.Rows.{rowsIn, RowsFit, image-at, same-images}
+use Rattle.openers.specs.Rows.{rowsIn, image-at, same-images}
 use Rattle.openers.specs.Marks.{marked, marked-at}
 use Rattle.openers.specs.Meaning.{codeOf, pairOf, pairCodes}
 use Rattle.shapes.specs.EdgeSets.{edgesInOrder}

@@ -2,13 +2,13 @@
 -- the edges that an entry names. Leans on what is kept and on what a call leaves.
 use mathlib.Core.Path.{_≡_, refl, sym, ap, _∙_, subst}
 use mathlib.Core.List.{List, [], _∷_, _++_, map, flatMap, append-nil, map-map}
-use mathlib.Core.Option.{Option, some, none}
-use Prim.Native.Nat.{ℕ, zero, suc, _+_, _*_, _-_, _≤_, _<_, min, max}
+use mathlib.Core.Option.{Option, some}
+use Prim.Native.Nat.{ℕ, suc, _+_, _<_, min, max}
 use native.Mathlib.Omega.{arith}
 use lib.ListN.{length, getD, drop, length-map}
 use Rattle.definitions.specs.Lists.{Pair, countFrom, mapAt}
-use Rattle.definitions.specs.Orbits.{Row, Orbit, image, pairImage}
-use Rattle.definitions.specs.Figures.{Figure, Compound, rankOf, moveEnds}
+use Rattle.definitions.specs.Orbits.{Row, Orbit, pairImage}
+use Rattle.definitions.specs.Figures.{Figure, rankOf, moveEnds}
 use Rattle.definitions.specs.Search.{Facet}
 use Rattle.definitions.specs.Recursion.{Entry, Answer, Inner}
 use Rattle.definitions.specs.Faceting.{possibleFacets}
@@ -23,7 +23,7 @@ use Rattle.shapes.specs.EdgeSets.{Proper, polygon, edgesInOrder}
 use Rattle.shapes.specs.Polygons.{endsVia, edgeVia, edgePairs, polygon-raised, polygon-edges}
 use Rattle.shapes.specs.Kept.{Kept, keptOf, endsOf, keptPossible, keptAt, keptEdgeImages, keptFigure}
 use Rattle.shelf.specs.declared.Level.{Level}
-use Rattle.shelf.specs.Keeps.{facetsIn, facetsOf, edgesOf, joined}
+use Rattle.shelf.specs.Keeps.{facetsIn, facetsOf, edgesOf}
 use Rattle.shelf.specs.Leaves.{Leaves, facetAt, entryLeft, answerLeft, listsLeft}
 use Rattle.keep.specs.Adding.{facetsFrom}
 
@@ -32,7 +32,7 @@ use Rattle.keep.specs.Adding.{facetsFrom}
 unfoldable pub edgeIn : Kept → Pair
 edgeIn k = getD (getD (k .edges) 0 []) 0 (0, 0)
 
--- what is known of an orbit of a call of rank 3 on n points
+-- what is known of an orbit of a call of rank 3 on n points. A count is at most the number of rows
 pub record OneEdge (n : ℕ) (k : Kept) : Type 0 where
   pub places : facetsIn k ≡ 1
   pub edges : k .edges ≡ (edgeIn k ∷ []) ∷ []
@@ -51,7 +51,7 @@ imagesOf rows inner numbers = flatMap (λ (x : ℕ). map (pairImage (edgeAt inne
 unfoldable pub entryEdges : (ℕ → ℕ) → List Row → List Kept → List ℕ → List Pair
 entryEdges to rows inner numbers = map (endsVia to) (edgesInOrder (imagesOf rows inner numbers))
 
--- what a call of rank 3 has left, on n points with m rows
+-- what a call of rank 3 has left, on n points with m rows. Its labels name entries, as those of `label_irc` do (`labels-inside` of Labels)
 pub record EdgesLeft (n m : ℕ) (inner : List Kept) (level : Level) (rows s : List ℕ) : Type 0 where
   pub leaves : Leaves 0 n (rowsIn n m rows) inner level s
   pub each : (k : Kept) → Mem k inner → OneEdge n k

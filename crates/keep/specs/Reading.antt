@@ -1,18 +1,16 @@
 -- What the loops over an inner call's answer read and push: steps of lists, marks and codes. Leans on Marked and Polygons.
 use mathlib.Core.Path.{_≡_, refl, sym, ap, _∙_, subst}
-use mathlib.Core.Logic.{_⊎_, inl, inr, ⊎-elim}
+use mathlib.Core.Logic.{⊎-elim}
 use mathlib.Core.Bool.{Bool, true, false, cond}
-use mathlib.Core.List.{List, [], _∷_, _++_, map, flatMap, zipWith, append-nil, append-assoc, map-append, map-map}
-use mathlib.Core.Option.{Option, some, none}
-use Prim.Native.Nat.{ℕ, zero, suc, _+_, _*_, _-_, _/_, _%_, _^_, _≤_, _<_}
+use mathlib.Core.List.{List, [], _∷_, _++_, map, flatMap, append-nil, map-append, map-map}
+use Prim.Native.Nat.{ℕ, zero, suc, _+_, _*_, _-_, _/_, _%_, _≤_, _<_}
 use native.Mathlib.Omega.{arith}
-use native.Mathlib.Numerals.{add-one}
 use lib.ListN.{length, getD, set, take, drop, replicate, length-append, length-drop, length-map, List·getD-append}
-use lib.Seq.{take-all, drop-drop, getD-append-seam}
+use lib.Seq.{take-all, getD-append-seam}
 use Rattle.definitions.specs.Lists.{Pair, comparePair, keep, countFrom}
 use Rattle.definitions.specs.Job.{numberAt}
 use Rattle.definitions.specs.Orbits.{Row, Orbit, image, pairImage}
-use Rattle.laws.specs.Lists.{Mem, here, there, in-map, of-map, of-flatMap, of-count, in-count, in-keep, map-at, member-at, at-member, flatMap-append}
+use Rattle.laws.specs.Lists.{Mem, in-map, of-map, of-flatMap, in-count, count-length, in-keep, map-at, member-at, at-member, flatMap-append}
 use Rattle.laws.specs.Bools.{true→holds}
 use Rattle.laws.specs.Orders.{pairs}
 use Rattle.laws.specs.Ascending.{of-in-order}
@@ -26,7 +24,7 @@ use Rattle.openers.specs.Marks.{marked}
 use Rattle.openers.specs.Meaning.{codeOf, pairOf, pairCodes}
 use Rattle.orbits.specs.Numbers.{orbitOf}
 use Rattle.orbits.specs.Workspace.{orbitsIn, orbits-length}
-use Rattle.shapes.specs.EdgeSets.{Proper, edgesInOrder}
+use Rattle.shapes.specs.EdgeSets.{edgesInOrder}
 use Rattle.shapes.specs.Polygons.{endsVia}
 use Rattle.shapes.specs.Kept.{Kept}
 use Rattle.shelf.specs.declared.Level.{Level}
@@ -64,7 +62,7 @@ images-more rows inner marks l i x h e =
 -- ---- codes moved to a call's vertices
 
 -- the code of a pair of positions, as the vertices at them
-unfoldable pub movedCode : List ℕ → ℕ → ℕ
+abbrev pub movedCode : List ℕ → ℕ → ℕ
 movedCode vertices c = 20 * getD vertices (c / 20) 0 + getD vertices (c % 20) 0
 
 abbrev Test : List Bool → ℕ → Bool
@@ -195,7 +193,7 @@ module _ (n m : ℕ) (s : List ℕ) (inner : List Kept) (numbers : List ℕ) (fi
 
   pub entry-codes : (vertices : List ℕ) (to : ℕ → ℕ) → ((p : ℕ) → p < n → getD vertices p 0 ≡ to p)
       → map codeOf (entryEdges to (rowsIn n m s) inner numbers) ≡ map (movedCode vertices) (codesMarked (marksOf (rowsIn n m s) inner numbers))
-  unfolding entryEdges movedCode codeOf endsVia pairOf
+  unfolding entryEdges codeOf endsVia pairOf
   entry-codes vertices to same =
       let codes = codesMarked (marksOf (rowsIn n m s) inner numbers) in
       ap (λ (l : List Pair). map codeOf (map (endsVia to) l)) in-order
@@ -203,6 +201,29 @@ module _ (n m : ℕ) (s : List ℕ) (inner : List Kept) (numbers : List ℕ) (fi
       ∙ (map-map (λ (e : Pair). codeOf (endsVia to e)) pairOf codes
       ∙ map-same (λ (c : ℕ). codeOf (endsVia to (pairOf c))) (movedCode vertices) codes
       (λ c i. let r = code-below c i in rw (same (c / 20) (r .0), same (c % 20) (r .1)) refl)))
+
+-- how many edges an entry has at most
+few-kept : (p : ℕ → Bool) (l : List ℕ) → length (keep p l) ≤ length l
+unfolding keep
+few-kept p [] = omega arith
+few-kept p (x ∷ l) = go (p x) (few-kept p l)
+  where
+    go : (b : Bool) → length (keep p l) ≤ length l → length (cond b (x ∷ keep p l) (keep p l)) ≤ suc (length l)
+    go true h = omega arith
+    go false h = omega arith
+
+pub few-marked : (marks : List Bool) → length (codesMarked marks) ≤ 400
+unfolding codesMarked
+few-marked marks = let n = count-length 0 400 in omega (arith, few-kept (Test marks) (countFrom 0 400))
+
+pub entry-few : (n m : ℕ) (s : List ℕ) (inner : List Kept) (numbers : List ℕ) → RowsFit n m s → ((k : Kept) → Mem k inner → OneEdge n k) → ((x : ℕ) → Mem x numbers → x < length inner)
+    → (to : ℕ → ℕ) → length (entryEdges to (rowsIn n m s) inner numbers) ≤ 400
+unfolding entryEdges
+entry-few n m s inner numbers fits each b to =
+    let marks = marksOf (rowsIn n m s) inner numbers in
+    let e = length-map (edgesInOrder (imagesOf (rowsIn n m s) inner numbers)) (endsVia to) in
+    let c = ap length (in-order n m s inner numbers fits each b) ∙ length-map (codesMarked marks) pairOf in
+    omega (arith, few-marked marks)
 
 -- ---- what a call of rank 3 has left, read
 
@@ -261,9 +282,9 @@ module _ {n m : ℕ} {inner : List Kept} {level : Level} {rows s : List ℕ} (le
         let b = edge-ends in
         ap (pairCodes (rowsIn 32 m rows)) same ∙ codes-wide n m (edgeAt inner x) rows (b .0) (b .1) (b .2)
 
--- images of a point below n, as the marking asks it
-pub images-under : {n m : ℕ} {s : List ℕ} → RowsFit n m s → (v : ℕ) → v < n → ImagesBelow 20 v m s
-images-under fits v h = record { below = λ i l. omega (arith, fits .images v h .below i l, fits .n-fits) }
+-- images of a point below n under the first rows, as the marking asks it
+pub images-under : {n m : ℕ} {s : List ℕ} → RowsFit n m s → (v few : ℕ) → v < n → few ≤ m → ImagesBelow 20 v few s
+images-under fits v few h k = record { below = λ i l. omega (arith, fits .images v h .below i (omega arith), fits .n-fits) }
 
 -- ---- the ridges
 

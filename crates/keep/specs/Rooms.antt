@@ -1,14 +1,14 @@
 -- Room on a shelf for one orbit more, in plain numbers. Leans on Adding.
-use mathlib.Core.Path.{_≡_, refl, sym, ap, _∙_, subst}
-use mathlib.Core.List.{List, [], _∷_, _++_, map, flatMap}
+use mathlib.Core.Path.{_≡_, refl, sym, _∙_}
+use mathlib.Core.List.{List, [], _∷_, map, flatMap}
 use mathlib.Core.Option.{Option}
-use Prim.Native.Nat.{ℕ, zero, suc, _+_, _*_, _-_, _≤_, _<_}
+use Prim.Native.Nat.{ℕ, suc, _+_, _*_, _-_, _≤_, _<_}
 use native.Mathlib.Omega.{arith}
 use lib.ListN.{length, getD, length-map, length-append}
 use Rattle.definitions.specs.Lists.{Pair, countFrom, mapAt}
 use Rattle.definitions.specs.Figures.{moveEnds}
 use Rattle.definitions.specs.Search.{Facet}
-use Rattle.definitions.specs.Recursion.{Entry, Answer, Inner}
+use Rattle.definitions.specs.Recursion.{Entry, Inner}
 use Rattle.definitions.specs.Faceting.{possibleFacets}
 use Rattle.laws.specs.Lists.{Mem, here, there, count-length}
 use Rattle.pool.specs.Pool.{base}
@@ -16,7 +16,7 @@ use Rattle.openers.specs.Meaning.{codeOf}
 use Rattle.shapes.specs.Polygons.{edgePairs}
 use Rattle.shapes.specs.Kept.{Kept, keptOf}
 use Rattle.shelf.specs.declared.Shelf.{Shelf}
-use Rattle.shelf.specs.Keeps.{Keeps, Ridges, Fits, joined, facetsIn, facetsOf, placesOf, edgesOf, ridgeCodes}
+use Rattle.shelf.specs.Keeps.{Fits, joined, facetsIn, facetsOf, placesOf, edgesOf, ridgeCodes}
 use Rattle.keep.specs.Storing.{Room}
 use Rattle.keep.specs.Stocked.{Stocked}
 use Rattle.keep.specs.Adding.{facetsFrom}

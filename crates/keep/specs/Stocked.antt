@@ -1,20 +1,18 @@
 -- A shelf while it is filled: what each of its areas holds, and what each step of storing adds. Leans on Storing and on the shelf.
-use mathlib.Core.Path.{_≡_, refl, sym, ap, _∙_, subst}
+use mathlib.Core.Path.{_≡_, ap, _∙_}
 use mathlib.Core.Logic.{_⊎_, inl, inr}
 use mathlib.Core.List.{List, [], _∷_, _++_, map, map-append}
 use mathlib.Core.Option.{Option}
-use Prim.Native.Nat.{ℕ, _+_, _*_, _-_, _^_, _≤_, _<_}
+use Prim.Native.Nat.{ℕ, _+_, _*_, _-_, _≤_, _<_}
 use native.Mathlib.Omega.{arith}
-use lib.ListN.{length, take, drop, length-append}
+use lib.ListN.{length, length-append}
 use Rattle.definitions.specs.Lists.{Pair}
-use Rattle.laws.specs.Segments.{part, placed, part-length, part-placed, placed-length}
+use Rattle.laws.specs.Segments.{part, part-length}
 use Rattle.words.specs.Words.{words, put, put-length, words-push, part-put-in, part-put-off}
-use Rattle.pool.specs.Pool.{base, emptied}
-use Rattle.pool.specs.Holds.{Holds, holds-none}
 use Rattle.compounds.specs.Labels.{labelOf, labelsIn}
 use Rattle.shelf.specs.declared.Shelf.{Shelf}
 use Rattle.shelf.specs.Keeps.{Lists, Fits, edgesPart, labelsPart, ownersPart, ridgesPart, placesPart}
-use Rattle.keep.specs.Storing.{Beside, beside-both, beside-wider, beside-part, beside-placed, beside-put, beside-self, Stored}
+use Rattle.keep.specs.Storing.{Beside, beside-both, beside-wider, beside-part, beside-put, Stored}
 
 -- the areas hold these lists of edges, labels, owners, ridges and places
 pub record Stocked (shelf : Shelf) (edges : List (List ℕ)) (labels : List (Option Pair)) (owners : List ℕ) (ridges places : List (List ℕ)) (s : List ℕ) : Type 0 where

@@ -11,8 +11,8 @@ use Rattle.laws.specs.Parts.{take-more}
 use Rattle.laws.specs.Lists.{flatMap-append}
 use Rattle.laws.specs.Segments.{part, placed, part-take, part-length, part-placed, placed-length, take-placed, drop-placed}
 use Rattle.words.specs.Words.{put, put-length, take-put, drop-put}
-use Rattle.pool.specs.Pool.{base, count, used, emptied, pushed, ended, pushed-length, ended-length}
-use Rattle.pool.specs.Holds.{Holds, holds-count, holds-none, holds-push, holds-end, push-room, end-room}
+use Rattle.pool.specs.Pool.{base, count, used, pushed, ended, pushed-length, ended-length}
+use Rattle.pool.specs.Holds.{Holds, holds-count, holds-push, holds-end, push-room, end-room}
 use Rattle.shelf.specs.Keeps.{Lists, joined}
 
 -- ---- beside an area

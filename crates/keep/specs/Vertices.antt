@@ -1,15 +1,13 @@
 -- A set's vertices one after another, as a loop takes them off its number. Leans on the sets of the laws.
-use mathlib.Core.Path.{_≡_, refl, sym, ap, _∙_, subst}
-use mathlib.Core.Bool.{Bool, true, false, cond}
+use mathlib.Core.Path.{_≡_, sym, ap, _∙_}
 use mathlib.Core.List.{List, [], _∷_, _++_}
 use Prim.Native.Nat.{ℕ, zero, suc, _+_, _-_, _/_, _≤_, _<_}
 use native.Mathlib.Omega.{arith}
-use native.Mathlib.Numerals.{add-one}
-use lib.ListN.{length, getD, take}
+use lib.ListN.{length, getD}
 use lib.Seq.{getD-take}
-use Rattle.laws.specs.Lists.{Mem, here, there, member-at}
+use Rattle.laws.specs.Lists.{member-at}
 use Rattle.laws.specs.Pairs.{Pairs}
-use Rattle.laws.specs.Sets.{verticesFrom, verticesOf, vertices-set, set-range, set-rises, SetFrom}
+use Rattle.laws.specs.Sets.{verticesFrom, verticesOf, vertices-set, set-range, set-rises}
 use Rattle.sets.specs.Steps.{vertices-step}
 use Rattle.openers.specs.Meaning.{verticesIn, HoldsVertices}
 use Rattle.openers.specs.declared.Vertices.{Vertices}

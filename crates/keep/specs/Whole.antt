@@ -1,18 +1,16 @@
 -- One orbit more of a call of rank 4, whole: its ridges and its facets stored, it keeps what `keptOf` says. Leans on Polygons, Labels and Facets.
-use mathlib.Core.Path.{_≡_, refl, sym, ap, _∙_, subst}
-use mathlib.Core.List.{List, [], _∷_, _++_, map, flatMap, zipWith}
-use mathlib.Core.Option.{Option}
-use Prim.Native.Nat.{ℕ, zero, suc, _+_, _*_, _-_, _/_, _%_, _≤_, _<_}
+use mathlib.Core.Path.{_≡_, refl, sym, ap, _∙_}
+use mathlib.Core.List.{List, [], _∷_, _++_, map, zipWith}
+use Prim.Native.Nat.{ℕ, _+_, _*_, _-_, _/_, _%_, _≤_, _<_}
 use native.Mathlib.Omega.{arith}
-use lib.ListN.{length, getD, drop, length-map}
-use Rattle.definitions.specs.Lists.{Pair, countFrom}
+use lib.ListN.{length, getD, drop}
 use Rattle.definitions.specs.Job.{numberAt}
-use Rattle.definitions.specs.Orbits.{Row, Orbit}
-use Rattle.definitions.specs.Recursion.{Inner}
+use Rattle.definitions.specs.Orbits.{Orbit}
+use Rattle.definitions.specs.Recursion.{Answer, Inner}
 use Rattle.laws.specs.Lists.{Mem, here, there}
 use Rattle.laws.specs.Places.{map-same}
 use Rattle.laws.specs.Sets.{verticesOf}
-use Rattle.openers.specs.Rows.{rowsIn, RowsFit}
+use Rattle.openers.specs.Rows.{rowsIn}
 use Rattle.openers.specs.Meaning.{codeOf, HoldsVertices}
 use Rattle.openers.specs.declared.Vertices.{Vertices}
 use Rattle.orbits.specs.Numbers.{orbitOf}
@@ -21,14 +19,13 @@ use Rattle.shapes.specs.Polygons.{endsVia}
 use Rattle.shapes.specs.Kept.{Kept, keptOf}
 use Rattle.shelf.specs.declared.Shelf.{Shelf}
 use Rattle.shelf.specs.declared.Level.{Level}
-use Rattle.shelf.specs.Keeps.{Keeps, Ridges, Fits, joined, facetsIn, facetsOf, edgesOf, placesOf, ownersOf, labelsFrom, ridgeCode, ridgeCodes, raised}
+use Rattle.shelf.specs.Keeps.{Keeps, Ridges, joined, facetsOf, edgesOf, placesOf, ownersOf, labelsFrom, ridgeCode, ridgeCodes, raised}
 use Rattle.shelf.specs.Leaves.{answerLeft, listsLeft}
-use Rattle.keep.specs.Storing.{Room, Stored, Beside}
+use Rattle.keep.specs.Storing.{Stored}
 use Rattle.keep.specs.Stocked.{Stocked, Within, within-both, ridges-within, stocked-ridges}
-use Rattle.keep.specs.Adding.{StockedWith, stocked-with, stocked-more, kept-more, withFacets, orbitAt, labelsOf, labels-length, owners-length}
-use Rattle.keep.specs.Rooms.{RoomFor, room-ridges, places-number, edges-number, codes-items}
+use Rattle.keep.specs.Adding.{StockedWith, stocked-with, stocked-more, kept-more, withFacets, orbitAt, orbitLabels, labels-length, owners-length}
+use Rattle.keep.specs.Rooms.{RoomFor, places-number, edges-number, codes-items}
 use Rattle.keep.specs.Labels.{labels-raised}
-use Rattle.keep.specs.Marked.{pair-code}
 use Rattle.keep.specs.Vertices.{vertex-at, vertex-below, vertex-rises}
 use Rattle.keep.specs.Polygons.{edgeIn, OneEdge, EdgesLeft, entryEdges, polygonKept, polygon-kept}
 use Rattle.keep.specs.Reading.{movedCode, ridgesMoved, entry-codes, lists-below}
@@ -42,6 +39,19 @@ nextVertices n shelf s = verticesOf n (numberAt s (8 * shelf .orbits) 4)
 abbrev pub vertexIn : List ℕ → ℕ → ℕ
 vertexIn vertices p = getD vertices p 0
 
+-- the next orbit's inner call, of rank 3 on the set's points, has left its answer from a place on
+abbrev pub InnerLeft : ℕ → Shelf → ℕ → ℕ → List Kept → Level → List ℕ → List ℕ → Type 0
+InnerLeft n shelf at m inner level rows s = EdgesLeft (length (nextVertices n shelf s)) m inner level rows (drop at s)
+
+-- the answer
+abbrev pub innerAnswer : ℕ → Shelf → ℕ → ℕ → List Kept → Level → List ℕ → List ℕ → ℕ → Answer
+innerAnswer n shelf at m inner level rows s left = answerLeft 0 (length (nextVertices n shelf s)) (rowsIn (length (nextVertices n shelf s)) m rows) inner level (drop at s) left
+
+-- room for its entries as facets: their edges, one ridge for each of its orbits, their places
+abbrev pub PolygonRoom : ℕ → Shelf → ℕ → ℕ → List Kept → List Kept → Level → List ℕ → List ℕ → Type 0
+PolygonRoom n shelf at m kept inner level rows s =
+    RoomFor shelf kept (level .count) (length (joined (map (entryEdges (vertexIn (nextVertices n shelf s)) (rowsIn (length (nextVertices n shelf s)) m rows) inner) (listsLeft level (drop at s))))) (length inner) (length (joined (listsLeft level (drop at s))))
+
 -- ---- the ridges
 
 ridges-zipped : (to : ℕ → ℕ) (inner : List Kept) → zipWith ridgeCode (map (λ (k : Kept). endsVia to (edgeIn k)) inner) (map (λ (k : Kept). k .orbit .count) inner) ≡ map (λ (k : Kept). ridgeCode (endsVia to (edgeIn k)) (k .orbit .count)) inner
@@ -51,7 +61,7 @@ ridges-zipped to (k ∷ inner) = ap (λ (l : List ℕ). ridgeCode (endsVia to (e
 
 module _ (N : ℕ) (inner : List Kept) (each : (k : Kept) → Mem k inner → OneEdge N k) (to : ℕ → ℕ) (vertices : List ℕ) (same : (p : ℕ) → p < N → getD vertices p 0 ≡ to p) (few : N ≤ 20) where
   ridge-same : (k : Kept) → OneEdge N k → ridgeCode (endsVia to (edgeIn k)) (k .orbit .count) ≡ movedCode vertices (codeOf (edgeIn k)) + 65536 * k .orbit .count
-  unfolding ridgeCode codeOf endsVia movedCode
+  unfolding ridgeCode codeOf endsVia
   ridge-same k one =
       let e = edgeIn k in
       let r = one .proper .rises in
@@ -161,7 +171,7 @@ module _ (n : ℕ) (shelf : Shelf) (m : ℕ) (inner : List Kept) (level : Level)
             ∙ ridges-moved N inner (left .each) to (vs .at) vertex-same (left .rowsFit .n-fits) in
             let c : map (map codeOf) (k o .edges) ≡ allCodes shelf N m inner level rows at (vs .at) s =
             ap (λ (l : List ℕ). map (map codeOf) (map (entryEdges (vertexIn l) (rowsIn N m rows) inner) (listsLeft level (drop at s)))) e ∙ codes-are in
-            let b : labelsOf (length (facetsOf kept)) (k o) ≡ allLabels shelf N m inner level rows at (vs .at) s =
+            let b : orbitLabels (length (facetsOf kept)) (k o) ≡ allLabels shelf N m inner level rows at (vs .at) s =
             labels-raised (length (facetsOf kept)) (k o) (labelsLeft level at s) refl (lists-long ∙ sym (labels-long shelf N m inner level rows at (vs .at) s))
             ∙ ap (λ (first : ℕ). map (raised first) (labelsLeft level at s)) (sym (keeps .facets)) in
             stocked-more kept (k o) (rw (r, c, b, lists-long, ← (keeps .orbits)) stock)

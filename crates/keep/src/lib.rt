@@ -1,43 +1,41 @@
 // What a call stores of an inner call's answer on its shelf: the orbit's ridges, and for each possible facet its places, its edges, its components and its orbit.
-// A call of rank 3 stores an edge (`keep_edge`). Each function says what the shelf keeps then, as `keptOf` has it. Leans on the shelf and on pools.
+// A call of rank 3 stores an edge (`keep_edge`), one of rank 4 the polygons that its inner call has left (`keep_polygons`). The contracts say what the shelf keeps then, as `keptOf` has
+// it. Leans on the shelf, on pools, and on the marks of pairs.
 use compounds::Area;
 use openers::Vertices;
 use shelf::Level;
 use shelf::Shelf;
 ghost use mathlib.Core.Path.{_≡_};
-ghost use mathlib.Core.Bool.{cond};
+ghost use mathlib.Core.Bool.{cond, true, false};
 ghost use mathlib.Core.List.{List, _∷_, [], _++_, map};
+ghost use mathlib.Core.Option.{none};
 ghost use Prim.Native.Nat.{ℕ, _+_, _*_, _-_, _/_, _%_, _≤_, _<_};
 ghost use lib.ListN.{length, getD, take, drop};
-ghost use mathlib.Core.Bool.{true, false};
 ghost use Rattle.definitions.specs.Job.{numberAt};
 ghost use Rattle.definitions.specs.Recursion.{Inner};
+ghost use Rattle.definitions.specs.Orbits.{pairImage};
 ghost use Rattle.laws.specs.Sets.{verticesFrom, verticesOf};
 ghost use Rattle.words.specs.Words.{put};
-ghost use Rattle.definitions.specs.Orbits.{pairImage};
 ghost use Rattle.openers.specs.Rows.{rowsIn};
 ghost use Rattle.openers.specs.Marks.{marked};
 ghost use Rattle.openers.specs.Meaning.{verticesIn, HoldsVertices, codeOf};
-ghost use Rattle.compounds.specs.Areas.{Holds};
 ghost use Rattle.orbits.specs.Numbers.{orbitOf};
+ghost use Rattle.compounds.specs.Areas.{Holds};
+ghost use Rattle.compounds.specs.Labels.{labelOf};
 ghost use Rattle.shapes.specs.Kept.{Kept, keptOf};
-ghost use Rattle.shelf.specs.Keeps.{Keeps, Ridges, Fits, Lists, edgesPart, raised, joined};
-ghost use Rattle.shelf.specs.Leaves.{listsLeft, answerLeft};
+ghost use Rattle.shelf.specs.Keeps.{Keeps, Ridges, Fits, Lists, edgesPart, raised};
+ghost use Rattle.shelf.specs.Leaves.{listsLeft};
 ghost use Rattle.keep.specs.Storing.{Room, Stored};
-ghost use Rattle.keep.specs.Stocked.{Stocked, Within};
+ghost use Rattle.keep.specs.Stocked.{Within};
 ghost use Rattle.keep.specs.Adding.{withFacets, orbitAt};
 ghost use Rattle.keep.specs.Rooms.{RoomFor};
 ghost use Rattle.keep.specs.Short.{oneOrTwo};
 ghost use Rattle.keep.specs.Edges.{edgeAnswer, EndsStored};
 ghost use Rattle.keep.specs.Marked.{codesMarked};
-ghost use Rattle.keep.specs.Polygons.{edgeAt, imagesOf, entryEdges, EdgesLeft};
-ghost use Rattle.keep.specs.Reading.{movedCode, ridgesMoved, marksOf};
+ghost use Rattle.keep.specs.Polygons.{edgeAt, imagesOf, EdgesLeft};
+ghost use Rattle.keep.specs.Reading.{movedCode, ridgesMoved};
 ghost use Rattle.keep.specs.Facets.{Source, FacetStored, FacetsStored, FacetsRoom, entryAt, labelsLeft, codesOf, allCodes, allLabels, allLists};
-ghost use Rattle.keep.specs.Whole.{nextVertices, vertexIn};
-ghost use mathlib.Core.Option.{none};
-ghost use Rattle.definitions.specs.Lists.{Pair};
-ghost use Rattle.pool.specs.Pool.{base};
-ghost use Rattle.compounds.specs.Labels.{labelOf};
+ghost use Rattle.keep.specs.Whole.{InnerLeft, PolygonRoom, innerAnswer};
 
 // ---- a shelf with nothing on it
 
@@ -385,10 +383,10 @@ pub fn keep_polygons(
     rows: &[u8],
     m: usize,
 ) -> Shelf
-    requires { ⌜ (n ≤ 20) × (shelf .end ≤ at) × (at ≤ length (now ws)) × ((kept : List Kept) × (inner : List Kept) × Keeps n shelf kept (now ws) × Ridges shelf kept (now ws) × EdgesLeft (length (nextVertices n shelf (now ws))) m inner level (now rows) (drop at (now ws)) × RoomFor shelf kept (level .count) (length (joined (map (entryEdges (vertexIn (nextVertices n shelf (now ws))) (rowsIn (length (nextVertices n shelf (now ws))) m (now rows)) inner) (listsLeft level (drop at (now ws)))))) (length inner) (length (joined (listsLeft level (drop at (now ws)))))) ⌝ }
+    requires { ⌜ (n ≤ 20) × (shelf .end ≤ at) × (at ≤ length (now ws)) × ((kept : List Kept) × (inner : List Kept) × Keeps n shelf kept (now ws) × Ridges shelf kept (now ws) × InnerLeft n shelf at m inner level (now rows) (now ws) × PolygonRoom n shelf at m kept inner level (now rows) (now ws)) ⌝ }
     ensures shelf { λ r. ⌜ r ≡ withFacets shelf (level .count) ⌝ }
     ensures within { λ _. ⌜ (take 2048 (now (ws .exit)) ≡ take 2048 (now (ws .entry))) × Within shelf (now (ws .entry)) (now (ws .exit)) ⌝ }
-    ensures keeps { λ r. ⌜ ((kept : List Kept) (inner : List Kept) (i : Inner) (left : ℕ) → Keeps n shelf kept (now (ws .entry)) → Ridges shelf kept (now (ws .entry)) → EdgesLeft (length (nextVertices n shelf (now (ws .entry)))) m inner level (now (rows .entry)) (drop at (now (ws .entry))) → i .orbit ≡ orbitOf n (orbitAt (now (ws .entry)) (shelf .orbits)) → i .answer ≡ answerLeft 0 (length (nextVertices n shelf (now (ws .entry)))) (rowsIn (length (nextVertices n shelf (now (ws .entry)))) m (now (rows .entry))) inner level (drop at (now (ws .entry))) left → Keeps n r (kept ++ (keptOf i ∷ [])) (now (ws .exit)) × Ridges r (kept ++ (keptOf i ∷ [])) (now (ws .exit))) ⌝ }
+    ensures keeps { λ r. ⌜ ((kept inner : List Kept) (i : Inner) (left : ℕ) → Keeps n shelf kept (now (ws .entry)) → Ridges shelf kept (now (ws .entry)) → InnerLeft n shelf at m inner level (now (rows .entry)) (now (ws .entry)) → i .orbit ≡ orbitOf n (orbitAt (now (ws .entry)) (shelf .orbits)) → i .answer ≡ innerAnswer n shelf at m inner level (now (rows .entry)) (now (ws .entry)) left → Keeps n r (kept ++ (keptOf i ∷ [])) (now (ws .exit)) × Ridges r (kept ++ (keptOf i ∷ [])) (now (ws .exit))) ⌝ }
 {
     let i = shelf.orbits;
     let vertices = vertices_of(words::get_u32(ws, 8 * i), n);

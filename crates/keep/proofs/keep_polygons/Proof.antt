@@ -1,5 +1,4 @@
 -- `keep::keep_polygons` meets its contract. Assumes nothing.
-use mathlib.Core.Path.{_≡_}
 use native.Mathlib.Omega.{arith}
 use lib.ListN.{length, length-map}
 use Rattle.shelf.specs.Keeps.{ridgeCodes}

@@ -6,7 +6,6 @@ use Rattle.openers.specs.Meaning.{codeOf}
 use Rattle.shelf.specs.Keeps.{edgesOf}
 use Rattle.openers.specs.Marks.{marked}
 use Rattle.keep.specs.Reading.{edge-known, edge-code, code-apart, code-images, images-under}
-use borrow.Author.Needs.{needs}
 use Rattle.keep.proofs.mark_facet.Statement.{statement}
 use Rattle.keep.proofs.mark_facet.Tie as tie
 
@@ -21,7 +20,7 @@ mark-pair-images-requires c κs =
     let e = edge-code l (s .args .x) (s .pre .3) (c .before .edge-at .result) (c .before .edge-at .ensures _ (l .leaves .keeps .edges) (known .0) (known .1)) in
     let a = code-apart l (s .args .x) (s .pre .3) (c .before .edge-at .result) e in
     let f = l .rowsFit in
-    (f .m-fits, omega (arith, a .3, f .n-fits), omega (arith, a .4, f .n-fits), images-under f _ (a .3), images-under f _ (a .4))
+    (omega (arith, f .m-fits), omega (arith, a .3, f .n-fits), omega (arith, a .4, f .n-fits), images-under f _ _ (a .3) (omega arith), images-under f _ _ (a .4) (omega arith))
 
 returns : tie.Need-returns
 returns c = λ n inner l h.

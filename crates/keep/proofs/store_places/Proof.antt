@@ -1,9 +1,8 @@
 -- `keep::store_places` meets its contract. Assumes nothing.
-use mathlib.Core.Path.{_≡_, _∙_}
 use mathlib.Core.List.{[]}
 use Prim.Native.Nat.{_-_, _≤_}
 use native.Mathlib.Omega.{arith}
-use lib.ListN.{length, getD, take, drop, length-drop}
+use lib.ListN.{getD, take, drop, length-drop}
 use Rattle.shelf.specs.Leaves.{listsLeft}
 use Rattle.keep.specs.Storing.{Growing, growing-none, growing-end, growing-end-room, taking-room, taking-push, taking-end, behind-lent}
 use Rattle.keep.specs.Reading.{lent-tail}

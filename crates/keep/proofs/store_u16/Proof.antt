@@ -1,11 +1,10 @@
 -- `keep::store_u16` meets its contract. Assumes nothing.
-use mathlib.Core.Path.{_≡_, sym, ap, _∙_, subst}
+use mathlib.Core.Path.{sym, subst}
 use mathlib.Core.Logic.{⊎-elim}
-use mathlib.Core.List.{List, _∷_, []}
+use mathlib.Core.List.{List}
 use Prim.Native.Nat.{ℕ, _-_}
 use native.Mathlib.Omega.{arith}
 use borrow.Author.Needs.{needs}
-use lib.ListN.{length}
 use Rattle.keep.specs.Storing.{Growing, growing-end, growing-end-room}
 use Rattle.keep.specs.Short.{oneOrTwo, first-room, first-pushed, second-room, second-pushed, second-left}
 use Rattle.keep.proofs.store_u16.Statement.{statement}

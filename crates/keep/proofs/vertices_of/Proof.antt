@@ -4,7 +4,7 @@ use mathlib.Core.List.{List, _++_, append-nil, append-assoc}
 use Prim.Native.Nat.{ℕ, _-_, _≤_}
 use native.Mathlib.Omega.{arith}
 use borrow.Author.Needs.{needs}
-use lib.ListN.{length, length-append}
+use lib.ListN.{length-append}
 use Rattle.laws.specs.Sets.{verticesFrom}
 use Rattle.openers.specs.Meaning.{verticesIn, HoldsVertices}
 use Rattle.keep.specs.Vertices.{toCome, come-turn, come-end, come-all}
