@@ -1,22 +1,21 @@
 -- Pairs walked with marks: a pair is its code, the walk is the definition's, and no more than 190 pairs are walked. Leans on Laws and Marks.
-use mathlib.Core.Path.{_≡_, refl, sym, ap, subst, _∙_}
+use mathlib.Core.Path.{_≡_, refl, sym, ap, _∙_}
 use mathlib.Core.Bool.{Bool, true, false, cond, _||_}
 use mathlib.Core.List.{List, [], _∷_, _++_, map, flatMap, append-nil, map-append}
-use Prim.Native.Nat.{ℕ, zero, suc, _+_, _*_, _-_, _/_, _%_, _≤_, _<_, min, max, Ordering·eq}
+use Prim.Native.Nat.{ℕ, zero, suc, _+_, _*_, _-_, _≤_, _<_, max}
 use native.Mathlib.Omega.{arith}
-use native.Mathlib.Numerals.{add-one}
-use lib.Dec.{T, eqb, eqb→eq, eqb-refl, isEq}
-use lib.ListN.{length, getD, take, drop, set, length-append, length-take, length-map, length-replicate, getD-replicate, replicate}
+use lib.Dec.{isEq}
+use lib.ListN.{length, getD, take, set, length-append, length-take, length-map, length-replicate, getD-replicate, replicate}
 use lib.Seq.{length-take-le, take-suc}
 use Rattle.definitions.specs.Lists.{Pair, anyOf, memberNat, memberPair, comparePair, countFrom}
 use Rattle.definitions.specs.Orbits.{Row, image, pairImage, vertexOpeners, pairOpeners, pairsFrom, above}
-use Rattle.laws.specs.Bools.{same-test}
-use Rattle.laws.specs.Lists.{Mem, here, there, in-map, of-map, of-flatMap, at-member, member-at, count-length, of-count, flatMap-append}
-use Rattle.laws.specs.Orders.{Linear, pairs, is-eq}
-use Rattle.laws.specs.Parts.{rows, getD-rows, length-rows, take-more, take-more-set, map-rows-more}
-use Rattle.openers.specs.Rows.{rowsIn, RowsFit, ImagesBelow, image-at, same-images}
+use Rattle.laws.specs.Lists.{Mem, here, there, of-map, of-flatMap, at-member, count-length, of-count, flatMap-append}
+use Rattle.laws.specs.Orders.{pairs}
+use Rattle.laws.specs.Parts.{rows, take-more, take-more-set}
+use Rattle.openers.specs.Rows.{rowsIn, RowsFit}
 use Rattle.openers.specs.Marks.{marked, marked-at, marked-length, passed, walked, marksAfter, walked-append, marks-append, walked-fewer, one-passed, one-opened}
-use Rattle.openers.specs.Meaning.{codeOf, pairOf, pairsIn, PairsFit, HoldsPairs, pairCodes, pairsAbove}
+use Rattle.openers.specs.Codes.{pair-of-code, code-small, member-codes, map-codes, codes-wide, row-below}
+use Rattle.openers.specs.Meaning.{codeOf, pairOf, pairsIn, HoldsPairs, pairCodes, pairsAbove}
 use Rattle.openers.specs.declared.Pairs.{Pairs}
 use Rattle.openers.proofs.Laws.{same-cond, count-more}
 
@@ -34,13 +33,6 @@ pub pairs-few : (r : Pairs) → length (pairsIn r) ≤ r .count
 unfolding pairsIn
 pairs-few r = let e = length-map (take (r .count) (r .codes)) pairOf in let f = length-take (r .count) (r .codes) in omega arith
 
-pub pair-of-code : (v w : ℕ) → w < 20 → pairOf (20 * v + w) ≡ (v, w)
-unfolding pairOf
-pair-of-code v w h =
-    let a : (20 * v + w) / 20 ≡ v = omega arith in
-    let b : (20 * v + w) % 20 ≡ w = omega arith in
-    λ i. (a i, b i)
-
 pub pairs-pushed : (codes : List ℕ) (count v w : ℕ) → w < 20 → count < length codes → map pairOf (take (count + 1) (set codes count (20 * v + w))) ≡ map pairOf (take count codes) ++ ((v, w) ∷ [])
 pairs-pushed codes count v w h l =
     ap (map pairOf) (take-more-set codes count (20 * v + w) l)
@@ -52,58 +44,7 @@ pub codes-none : (marks : List Bool) (p : Pair) (s : List ℕ) → marks ≡ mar
 unfolding marked pairCodes rowsIn rows
 codes-none marks p s = refl
 
-code-at : (n i : ℕ) (s : List ℕ) (v w : ℕ) → v < n → w < n
-    → codeOf (pairImage (v, w) (take n (drop (32 * i) s))) ≡ 20 * min (getD s (32 * i + v) 0) (getD s (32 * i + w) 0) + max (getD s (32 * i + v) 0) (getD s (32 * i + w) 0)
-unfolding codeOf pairImage
-code-at n i s v w h k = rw (image-at n i s v h, image-at n i s w k) refl
-
-pub codes-more : (m v w : ℕ) (s : List ℕ) → v < 32 → w < 32
-    → pairCodes (rowsIn 32 (m + 1) s) (v, w) ≡ pairCodes (rowsIn 32 m s) (v, w) ++ ((20 * min (getD s (32 * m + v) 0) (getD s (32 * m + w) 0) + max (getD s (32 * m + v) 0) (getD s (32 * m + w) 0)) ∷ [])
-unfolding pairCodes rowsIn
-codes-more m v w s h k =
-    map-rows-more (λ (row : Row). codeOf (pairImage (v, w) row)) 32 32 m s
-    ∙ ap (λ (u : ℕ). map (λ (row : Row). codeOf (pairImage (v, w) row)) (rowsIn 32 m s) ++ (u ∷ [])) (code-at 32 m s v w h k)
-
-codes-wide : (n m v w : ℕ) (s : List ℕ) → v < n → w < n → n ≤ 20 → pairCodes (rowsIn 32 m s) (v, w) ≡ pairCodes (rowsIn n m s) (v, w)
-unfolding pairCodes
-codes-wide n m v w s h k l =
-    same-images (λ (row : Row). codeOf (pairImage (v, w) row)) (λ (row : Row). codeOf (pairImage (v, w) row)) 32 n m s
-    (λ i _. code-at 32 i s v w (omega arith) (omega arith) ∙ sym (code-at n i s v w h k))
-
--- rows that fit send vertices to vertices
-row-below : {n m : ℕ} {s : List ℕ} → RowsFit n m s → (row : Row) → Mem row (rowsIn n m s) → (v : ℕ) → v < n → image row v < n
-unfolding rowsIn
-row-below {n} {m} {s} fits row h v below =
-    let r = at-member row (rows 32 n m s) [] h in
-    let len = length-rows 32 n m s in
-    let k : r .0 < m = omega (arith, r .1) in
-    let is : take n (drop (32 * r .0) s) ≡ row = sym (getD-rows 32 n m s (r .0) k) ∙ r .2 in
-    let e : getD s (32 * r .0 + v) 0 ≡ image row v = sym (image-at n (r .0) s v below) ∙ ap (λ (l : Row). image l v) is in
-    omega (arith, fits .images v below .below (r .0) k)
-
 -- ---- a pair is its code
-
-pair-same : (p q : Pair) → p .0 ≡ q .0 → p .1 ≡ q .1 → p ≡ q
-pair-same p q e f = λ i. (e i, f i)
-
-same-code : (p q : Pair) → p .1 < 20 → q .1 < 20 → isEq (comparePair p q) ≡ eqb (codeOf p) (codeOf q)
-unfolding codeOf
-same-code p q a b =
-    same-test (isEq (comparePair p q)) (eqb (codeOf p) (codeOf q))
-    (λ t. let e = pairs .equal p q (is-eq (comparePair p q) t) in subst (λ (x : Pair). T (eqb (codeOf p) (codeOf x))) e (eqb-refl (codeOf p)))
-    (λ t.
-    let e : 20 * p .0 + p .1 ≡ 20 * q .0 + q .1 = eqb→eq (codeOf p) (codeOf q) t in
-    let same = pair-same p q (omega arith) (omega arith) in
-    subst (λ (x : Pair). T (isEq (comparePair p x))) same (rw (pairs .self p) tt))
-
-code-small : (q : Pair) → q .0 < 20 → q .1 < 20 → codeOf q < 400
-unfolding codeOf
-code-small q h k = omega arith
-
-member-codes : (p : Pair) (ps : List Pair) → p .1 < 20 → ((q : Pair) → Mem q ps → q .1 < 20) → memberNat (codeOf p) (map codeOf ps) ≡ memberPair p ps
-unfolding memberNat memberPair anyOf
-member-codes p [] a h = refl
-member-codes p (q ∷ ps) a h = rw (same-code p q a (h q (here refl)), member-codes p ps a (λ x k. h x (there k))) refl
 
 member-append : (p : Pair) (xs ys : List Pair) → memberPair p (xs ++ ys) ≡ (memberPair p xs || memberPair p ys)
 unfolding memberPair anyOf
@@ -123,11 +64,6 @@ pub record AgreePairs (marks : List Bool) (seen : List Pair) : Type 0 where
 pub agree-none : AgreePairs (replicate 400 false) []
 unfolding memberPair anyOf codeOf
 agree-none = record { long = length-replicate 400 false; at = λ p h k. getD-replicate 400 (20 * p .0 + p .1) false false (omega arith) }
-
-map-codes : (rows : List Row) (p : Pair) → pairCodes rows p ≡ map codeOf (map (pairImage p) rows)
-unfolding pairCodes
-map-codes [] p = refl
-map-codes (row ∷ rows) p = ap (λ (l : List ℕ). codeOf (pairImage p row) ∷ l) (map-codes rows p)
 
 module _ (n m : ℕ) (s : List ℕ) (fits : RowsFit n m s) where
   image-small : (p q : Pair) → p .0 < n → p .1 < n → Mem q (map (pairImage p) (rowsIn n m s)) → q .1 < 20

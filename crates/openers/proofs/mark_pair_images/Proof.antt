@@ -7,7 +7,8 @@ use lib.ListN.{length, length-set}
 use Rattle.openers.specs.Rows.{rowsIn}
 use Rattle.openers.specs.Marks.{marked, marked-more}
 use Rattle.openers.specs.Meaning.{pairCodes}
-use Rattle.openers.proofs.PairWalk.{codes-more, codes-none}
+use Rattle.openers.specs.Codes.{codes-more}
+use Rattle.openers.proofs.PairWalk.{codes-none}
 use Rattle.openers.proofs.mark_pair_images.Statement.{statement}
 use Rattle.openers.proofs.mark_pair_images.Tie as tie
 
