@@ -1,0 +1,4 @@
+-- Pools in areas of the workspace, ridge orbits by marks, shares as codes, the tables of the search.
+pub mod Areas
+pub mod Numbering
+pub mod Ends

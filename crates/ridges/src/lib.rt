@@ -1,0 +1,157 @@
+// From what a call keeps of its inner calls to the tables that its search reads. A ridge is the code of its two ends, as in the openers; the ridges of all orbits are numbered in their order
+// by document 01's "Recursion on rank", with marks for the 400 codes. Each function equals a definition of specs/ for any rows, with the identity among them or not.
+use shelf::Shelf;
+ghost use mathlib.Core.Path.{_≡_};
+ghost use mathlib.Core.List.{_∷_, [], _++_, map};
+ghost use Prim.Native.Nat.{ℕ, _+_, _*_, _-_, _/_, _%_, _≤_, _<_};
+ghost use lib.ListN.{length, getD, take};
+ghost use Rattle.definitions.specs.Lists.{Pair};
+ghost use Rattle.definitions.specs.Orbits.{pairImage};
+ghost use Rattle.pool.specs.Pool.{base, count, closed};
+ghost use Rattle.openers.specs.Rows.{rowsIn, rowAt};
+ghost use Rattle.openers.specs.Meaning.{codeOf, pairOf, pairCodes};
+ghost use Rattle.shapes.specs.Ridges.{KnownKeys, noKeys};
+ghost use Rattle.shapes.specs.Kept.{numberEnds};
+ghost use Rattle.shelf.specs.Keeps.{ridgesPart};
+ghost use Rattle.ridges.specs.Areas.{Ready, Grown, Space, flat};
+ghost use Rattle.ridges.specs.Numbering.{Sent, Stands, marksJoined, manyJoined};
+ghost use Rattle.ridges.specs.Ends.{Reads, ridgesAt, numbered, allNumbered, AllNumbered};
+
+// ---- ridge orbits
+
+// The code of row i's image of a pair with this code.
+fn image_key(rows: &[u8], i: usize, key: usize) -> usize
+    requires { ⌜ (32 * i + 32 ≤ length (now rows)) × (key < 400) × (getD (now rows) (32 * i + key / 20) 0 < 20) × (getD (now rows) (32 * i + key % 20) 0 < 20) ⌝ }
+    ensures { λ r. ⌜ r ≡ codeOf (pairImage (pairOf key) (rowAt 32 i (now (rows .entry)))) ⌝ }
+{
+    openers::code(
+        openers::image(rows, i, key / 20),
+        openers::image(rows, i, key % 20),
+    )
+}
+
+// The images of a ridge that have no mark get this one; returns how many they are.
+fn open_ridge(rows: &[u8], m: usize, key: usize, mark: u16, marks: &mut [u16; 400]) -> usize
+    requires { ⌜ (32 * m ≤ length (now rows)) × (key < 400) × Sent m (now rows) (pairOf key) ⌝ }
+    ensures counts { λ r. ⌜ r ≡ manyJoined (now (marks .entry)) mark (pairCodes (rowsIn 32 m (now (rows .entry))) (pairOf key)) ⌝ }
+    ensures marks { λ _. ⌜ now (marks .exit) ≡ marksJoined (now (marks .entry)) mark (pairCodes (rowsIn 32 m (now (rows .entry))) (pairOf key)) ⌝ }
+{
+    let mut count = 0;
+    let mut i = 0;
+    while i < m {
+        let at = image_key(rows, i, key);
+        if marks[at] == 0 {
+            marks[at] = mark;
+            count += 1;
+        }
+        i += 1;
+    }
+    count
+}
+
+// A ridge's number, and how many ridge orbits there are then.
+pub struct Numbered {
+    pub number: u16,
+    pub known: usize,
+}
+
+// The number of the ridge orbit that holds a ridge; where there is none, one is opened and its count noted.
+fn number_ridge(
+    rows: &[u8],
+    m: usize,
+    key: usize,
+    marks: &mut [u16; 400],
+    counts: &mut [u32; 190],
+    known: usize,
+) -> Numbered
+    requires { ⌜ (32 * m ≤ length (now rows)) × (m ≤ 120) × (key < 400) × Sent m (now rows) (pairOf key) × ((keys : KnownKeys Pair) × Stands (now marks) (now counts) known keys × (length (numberEnds (rowsIn 32 m (now rows)) keys (pairOf key) .1 .counts) ≤ 190)) ⌝ }
+    ensures { λ r. ⌜ ((keys : KnownKeys Pair) → Stands (now (marks .entry)) (now (counts .entry)) known keys → (r .number ≡ numberEnds (rowsIn 32 m (now (rows .entry))) keys (pairOf key) .0) × Stands (now (marks .exit)) (now (counts .exit)) (r .known) (numberEnds (rowsIn 32 m (now (rows .entry))) keys (pairOf key) .1)) ⌝ }
+{
+    let mark = marks[key];
+    if 0 < mark {
+        return Numbered {
+            number: mark - 1,
+            known: known,
+        };
+    }
+    let count = open_ridge(rows, m, key, known as u16 + 1, marks);
+    counts[known] = count as u32;
+    Numbered {
+        number: known as u16,
+        known: known + 1,
+    }
+}
+
+// ---- the ridges of all orbits
+
+// Where what is made for a search lies in the workspace, behind the shelf: the numbers of the ridges, orbit by orbit, and the shares of the facets, which serve only here; then the tables
+// that the search reads, and what it works in.
+pub struct Desk {
+    pub numbers: usize,
+    pub shares: usize,
+    pub touched: usize,
+    pub ones: usize,
+    pub frames: usize,
+    pub totals: usize,
+    pub lists: usize,
+    pub end: usize,
+}
+
+// The numbers of one orbit's ridges are one list more; returns how many ridge orbits there are then.
+fn number_orbit(
+    rows: &[u8],
+    m: usize,
+    shelf: Shelf,
+    desk: Desk,
+    o: usize,
+    marks: &mut [u16; 400],
+    counts: &mut [u32; 190],
+    known: usize,
+    ws: &mut [u8],
+) -> usize
+    requires { ⌜ Reads m (now rows) shelf (now ws) (desk .numbers) × (o < count (ridgesPart shelf (now ws))) × Ready (desk .numbers) (desk .shares) 2 256 (now ws) (length (ridgesAt shelf (now ws) o)) 1 × ((keys : KnownKeys Pair) × Stands (now marks) (now counts) known keys × (length (numbered (rowsIn 32 m (now rows)) keys (ridgesAt shelf (now ws) o) .1 .counts) ≤ 190)) ⌝ }
+    ensures { λ r. ⌜ ((keys : KnownKeys Pair) → Stands (now (marks .entry)) (now (counts .entry)) known keys → (length (numbered (rowsIn 32 m (now (rows .entry))) keys (ridgesAt shelf (now (ws .entry)) o) .1 .counts) ≤ 190) → Stands (now (marks .exit)) (now (counts .exit)) r (numbered (rowsIn 32 m (now (rows .entry))) keys (ridgesAt shelf (now (ws .entry)) o) .1) × Grown (desk .numbers) (desk .shares) 2 256 (now (ws .entry)) (now (ws .exit)) (numbered (rowsIn 32 m (now (rows .entry))) keys (ridgesAt shelf (now (ws .entry)) o) .0 ∷ [])) ⌝ }
+{
+    let ridges = shelf.ridges;
+    let places = shelf.places;
+    let numbers = desk.numbers;
+    let shares = desk.shares;
+    let n = pool::list_length(&ws[ridges..places], o) as usize;
+    let mut reached = known;
+    let mut i = 0;
+    while i < n {
+        let code = pool::item_u32(&ws[ridges..places], 256, o, i);
+        let r = number_ridge(rows, m, (code % 65536) as usize, marks, counts, reached);
+        reached = r.known;
+        pool::push_u16(&mut ws[numbers..shares], 256, r.number);
+        i += 1;
+    }
+    pool::end_list(&mut ws[numbers..shares]);
+    reached
+}
+
+// The ridges of all orbits in order; returns how many ridge orbits there are.
+fn number_ridges(
+    rows: &[u8],
+    m: usize,
+    shelf: Shelf,
+    desk: Desk,
+    counts: &mut [u32; 190],
+    ws: &mut [u8],
+) -> usize
+    requires { ⌜ Reads m (now rows) shelf (now ws) (desk .numbers) × (shelf .orbits ≡ count (ridgesPart shelf (now ws))) × (length (now counts) ≡ 190) × Space (desk .numbers) (desk .shares) 2 256 (length (now ws)) (length (flat (closed 4 256 (ridgesPart shelf (now ws))))) (shelf .orbits) × (length (allNumbered (rowsIn 32 m (now rows)) (noKeys Pair) (closed 4 256 (ridgesPart shelf (now ws))) .1 .counts) ≤ 190) ⌝ }
+    ensures { λ r. ⌜ AllNumbered m (now (rows .entry)) (desk .numbers) (desk .shares) (closed 4 256 (ridgesPart shelf (now (ws .entry)))) (now (ws .entry)) (now (ws .exit)) (now (counts .exit)) r ⌝ }
+{
+    let numbers = desk.numbers;
+    let shares = desk.shares;
+    pool::clear(&mut ws[numbers..shares]);
+    let mut marks: [u16; 400] = [0; 400];
+    let orbits = shelf.orbits;
+    let mut known = 0;
+    let mut o = 0;
+    while o < orbits {
+        known = number_orbit(rows, m, shelf, desk, o, &mut marks, counts, known, ws);
+        o += 1;
+    }
+    known
+}
