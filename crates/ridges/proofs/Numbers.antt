@@ -85,7 +85,7 @@ pub record Numbers (m : ℕ) (rows : List ℕ) (from to : ℕ) (codes marks₀ c
 module _ {m : ℕ} {rows : List ℕ} {from to : ℕ} {codes ws₀ : List ℕ} (ready : Ready from to 2 256 ws₀ (length codes) 1) where
   pub numbers-start : (marks counts : List ℕ) (known : ℕ) → Numbers m rows from to codes marks counts known ws₀ marks counts ws₀ known 0
   unfolding numbered endsIn mapWith
-  numbers-start marks counts known = record { within = omega arith; long = refl; front = refl; each = λ keys st. record { stands = st; joined = joined-none ready } }
+  numbers-start marks counts known = record { within = omega arith; long = refl; front = refl; each = λ keys st. record { stands = st; joined = joined-none (ready .space) } }
 
   module _ {marks₀ counts₀ : List ℕ} {known : ℕ} {marks counts ws : List ℕ} {reached i : ℕ} (t : Numbers m rows from to codes marks₀ counts₀ known ws₀ marks counts ws reached i) where
     new-length : (keys : KnownKeys Pair) → length (numbered (rowsIn 32 m rows) keys (take i codes) .0) ≡ i
@@ -100,13 +100,13 @@ module _ {m : ℕ} {rows : List ℕ} {from to : ℕ} {codes ws₀ : List ℕ} (r
           (numbered (rowsIn 32 m rows) keys (take i codes) .1, t .each keys st .stands, rw e (omega (arith, numbered-few (rowsIn 32 m rows) keys codes (i + 1))))
 
       pub turn-push : (keys : KnownKeys Pair) → Stands marks₀ counts₀ known keys → (base 256 + 2 * (used (area from to ws) + 1) ≤ length (area from to ws)) × (used (area from to ws) + 1 < 4294967296)
-      turn-push keys st = push-asks ready (t .each keys st .joined) (omega (arith, new-length keys))
+      turn-push keys st = push-asks (ready .space) (t .each keys st .joined) (omega (arith, new-length keys))
 
       pub turn-more : (key : ℕ) → key ≡ getD codes i 0 % 65536 → (number : ℕ) → number < 65536 → (marks' counts' : List ℕ) (reached' : ℕ)
           → ((keys : KnownKeys Pair) → Stands marks counts reached keys → (number ≡ numberEnds (rowsIn 32 m rows) keys (pairOf key) .0) × Stands marks' counts' reached' (numberEnds (rowsIn 32 m rows) keys (pairOf key) .1))
           → (p : List ℕ) → p ≡ pushed 2 256 (area from to ws) number → (keys : KnownKeys Pair) → Stands marks₀ counts₀ known keys
           → Numbers m rows from to codes marks₀ counts₀ known ws₀ marks' counts' (placed from (to - from) ws p) reached' (i + 1)
-      turn-more key e number small marks' counts' reached' f p q keys₀ st₀ = let j = joined-push ready (t .each keys₀ st₀ .joined) (omega (arith, new-length keys₀)) number p (omega arith) q in record {
+      turn-more key e number small marks' counts' reached' f p q keys₀ st₀ = let j = joined-push (ready .space) (t .each keys₀ st₀ .joined) (omega (arith, new-length keys₀)) number p (omega arith) q in record {
         within = omega arith;
         long = j .long;
         front = j .front;
@@ -117,7 +117,7 @@ module _ {m : ℕ} {rows : List ℕ} {from to : ℕ} {codes ws₀ : List ℕ} (r
             numbered-more (rowsIn 32 m rows) keys codes i h ∙ (rw (g .0, e) refl) in
             record {
               stands = subst (λ (r : List ℕ × KnownKeys Pair). Stands marks' counts' reached' (r .1)) (sym more) (g .1);
-              joined = subst (λ (r : List ℕ × KnownKeys Pair). Joined from to 2 256 ws₀ (placed from (to - from) ws p) (r .0)) (sym more) (joined-push ready (t .each keys st .joined) (omega (arith, new-length keys)) number p (omega arith) q);
+              joined = subst (λ (r : List ℕ × KnownKeys Pair). Joined from to 2 256 ws₀ (placed from (to - from) ws p) (r .0)) (sym more) (joined-push (ready .space) (t .each keys st .joined) (omega (arith, new-length keys)) number p (omega arith) q);
             };
       }
 

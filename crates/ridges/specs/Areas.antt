@@ -2,14 +2,15 @@
 -- Leans on Pool and Holds. Assumes nothing.
 use mathlib.Core.Path.{_≡_, refl, sym, ap, _∙_}
 use mathlib.Core.List.{List, [], _∷_, _++_, flatMap, append-assoc, append-nil}
-use mathlib.Core.Logic.{inl, inr}
+use mathlib.Core.Logic.{⊎-elim}
 use Prim.Native.Nat.{ℕ, zero, suc, _+_, _-_, _*_, _^_, _≤_, _<_}
 use native.Mathlib.Omega.{arith}
 use native.Mathlib.Nat.{mul-le-mul-left}
-use lib.ListN.{length, getD, take, drop, length-append}
+use native.Mathlib.Numerals.{add-one}
+use lib.ListN.{length, getD, take, drop, length-append, List·getD-append}
 use lib.Seq.{take-take}
 use Rattle.laws.specs.Lists.{flatMap-append}
-use Rattle.laws.specs.Segments.{part, placed, part-take, part-length, placed-length, part-placed, part-placed-off, take-placed}
+use Rattle.laws.specs.Segments.{part, placed, le-or-lt, part-take, part-length, placed-length, part-placed, part-placed-off, take-placed}
 use Rattle.pool.specs.Pool.{base, count, used, closed, opened, emptied, pushed, ended, Sound, pushed-length, ended-length}
 use Rattle.pool.specs.Holds.{Holds, holds-none, holds-push, holds-end, holds-count}
 use Rattle.words.specs.Words.{put-length}
@@ -21,16 +22,20 @@ area from to s = part from (to - from) s
 abbrev pub flat : List (List ℕ) → List ℕ
 flat ls = flatMap (λ (l : List ℕ). l) ls
 
--- a pool in an area, with an empty open list and room for so many items and lists more
-pub record Ready (from to w most : ℕ) (s : List ℕ) (items lists : ℕ) : Type 0 where
+-- a pool in an area, with room for so many items and lists more
+pub record Room (from to w most : ℕ) (s : List ℕ) (items lists : ℕ) : Type 0 where
   pub order : from ≤ to
   pub inside : to ≤ length s
   pub sound : Sound w most (area from to s)
-  pub empty : opened w most (area from to s) ≡ []
   pub room : base most + w * (used (area from to s) + items) ≤ to - from
   pub small : used (area from to s) + items < 4294967296
   pub few : count (area from to s) + lists ≤ most
   pub most-few : most < 4294967296
+
+-- and with an empty open list
+pub record Ready (from to w most : ℕ) (s : List ℕ) (items lists : ℕ) : Type 0 where
+  pub space : Room from to w most s items lists
+  pub empty : opened w most (area from to s) ≡ []
 
 -- items joined the open list
 pub record Joined (from to w most : ℕ) (s t new : List ℕ) : Type 0 where
@@ -77,7 +82,10 @@ module _ (from to w most : ℕ) (s : List ℕ) (order : from ≤ to) (inside : t
       let l = area-long from to w most s order inside in
       rw (back-area from to w most s order inside p (ap length e ∙ emptied-long)) (holds-none w most (area from to s) p e (omega arith))
 
-module _ {from to w most : ℕ} {s : List ℕ} {items lists : ℕ} (r : Ready from to w most s items lists) where
+module _ {from to w most : ℕ} {s : List ℕ} {items lists : ℕ} (r : Room from to w most s items lists) where
+  own-pool : Holds w most (area from to s) (closed w most (area from to s)) (opened w most (area from to s)) (used (area from to s))
+  own-pool = record { sound = r .sound; lists-are = refl; open-is = refl; many-are = refl }
+
   pub joined-none : Joined from to w most s s []
   joined-none = record {
     long = refl;
@@ -86,19 +94,6 @@ module _ {from to w most : ℕ} {s : List ℕ} {items lists : ℕ} (r : Ready fr
       sound = r .sound;
       lists-are = refl;
       open-is = sym (append-nil (opened w most (area from to s)));
-      many-are = omega arith;
-    };
-  }
-
-  pub grown-none : Grown from to w most s s []
-  unfolding flatMap
-  grown-none = record {
-    long = refl;
-    front = refl;
-    pool = record {
-      sound = r .sound;
-      lists-are = sym (append-nil (closed w most (area from to s)));
-      open-is = r .empty;
       many-are = omega arith;
     };
   }
@@ -135,26 +130,70 @@ module _ {from to w most : ℕ} {s : List ℕ} {items lists : ℕ} (r : Ready fr
                 (holds-push (j .pool) v p e room-here small-here small);
           }
 
+    pub joined-room : (k : ℕ) → length new + k ≤ items → Room from to w most t k lists
+    joined-room k h =
+        let c = holds-count (j .pool) in
+        let d = holds-count own-pool in
+        let m : w * (used (area from to t) + k) ≤ w * (used (area from to s) + items) = mul-le-mul-left w (omega (arith, j .pool .many-are)) in
+        record {
+          order = r .order;
+          inside = within;
+          sound = j .pool .sound;
+          room = omega (arith, r .room);
+          small = omega (arith, j .pool .many-are, r .small);
+          few = omega (arith, r .few);
+          most-few = r .most-few;
+        }
+
+    pub joined-more : {u more : List ℕ} → Joined from to w most t u more → Joined from to w most s u (new ++ more)
+    joined-more {u} {more} k =
+        let f = length-append new more in
+        record {
+          long = k .long ∙ j .long;
+          front = k .front ∙ j .front;
+          pool = record {
+            sound = k .pool .sound;
+            lists-are = k .pool .lists-are ∙ j .pool .lists-are;
+            open-is = k .pool .open-is ∙ (ap (λ (o : List ℕ). o ++ more) (j .pool .open-is) ∙ append-assoc (opened w most (area from to s)) new more);
+            many-are = omega (arith, k .pool .many-are, j .pool .many-are);
+          };
+        }
+
+module _ {from to w most : ℕ} {s : List ℕ} {items lists : ℕ} (ready : Ready from to w most s items lists) where
+  pub grown-none : Grown from to w most s s []
+  unfolding flatMap
+  grown-none = record {
+    long = refl;
+    front = refl;
+    pool = record {
+      sound = ready .space .sound;
+      lists-are = sym (append-nil (closed w most (area from to s)));
+      open-is = ready .empty;
+      many-are = omega arith;
+    };
+  }
+
+  module _ {t new : List ℕ} (j : Joined from to w most s t new) where
     -- what `end_list` asks
     module _ (h : 0 < lists) where
       free : length (closed w most (area from to s)) < most
-      free = omega (arith, r .few, holds-count {w = w} {most = most} {s = area from to s} {open-list = opened w most (area from to s)} {many = used (area from to s)} (record { sound = r .sound; lists-are = refl; open-is = refl; many-are = refl }))
+      free = omega (arith, ready .space .few, holds-count (own-pool (ready .space)))
 
       pub end-asks : (16 + 4 * count (area from to t) ≤ length (area from to t)) × (count (area from to t) + 1 < 4294967296)
-      end-asks = let c = holds-count (j .pool) in (omega (arith, free, j .pool .sound .fits), omega (arith, free, r .most-few))
+      end-asks = let c = holds-count (j .pool) in (omega (arith, free, j .pool .sound .fits), omega (arith, free, ready .space .most-few))
 
       pub joined-end : (p : List ℕ) → p ≡ ended (area from to t) → Grown from to w most s (placed from (to - from) t p) (new ∷ [])
       unfolding flatMap
       joined-end p e =
           let c = holds-count (j .pool) in
-          let n : length p ≡ to - from = ap length e ∙ (ended-length w most (area from to t) (j .pool .sound) (omega (arith, free)) (r .most-few) ∙ t-long) in
-          let g = holds-end (j .pool) p e free (r .most-few) in
+          let n : length p ≡ to - from = ap length e ∙ (ended-length w most (area from to t) (j .pool .sound) (omega (arith, free)) (ready .space .most-few) ∙ t-long (ready .space) j) in
+          let g = holds-end (j .pool) p e free (ready .space .most-few) in
           record {
-            long = back-long from to w most t (r .order) within p n ∙ j .long;
-            front = back-front from to w most t (r .order) within p n ∙ j .front;
-            pool = rw (back-area from to w most t (r .order) within p n, append-nil new) record {
+            long = back-long from to w most t (ready .space .order) (within (ready .space) j) p n ∙ j .long;
+            front = back-front from to w most t (ready .space .order) (within (ready .space) j) p n ∙ j .front;
+            pool = rw (back-area from to w most t (ready .space .order) (within (ready .space) j) p n, append-nil new) record {
               sound = g .sound;
-              lists-are = g .lists-are ∙ ap (λ (o : List ℕ). closed w most (area from to s) ++ ((o ++ new) ∷ [])) (r .empty);
+              lists-are = g .lists-are ∙ ap (λ (o : List ℕ). closed w most (area from to s) ++ ((o ++ new) ∷ [])) (ready .empty);
               open-is = g .open-is;
               many-are = g .many-are;
             };
@@ -165,18 +204,20 @@ module _ {from to w most : ℕ} {s : List ℕ} {items lists : ℕ} (r : Ready fr
     pub grown-ready : (k l : ℕ) → length (flat new) + k ≤ items → length new + l ≤ lists → Ready from to w most t k l
     grown-ready k l h f =
         let c = holds-count (g .pool) in
-        let d = holds-count {w = w} {most = most} {s = area from to s} {open-list = opened w most (area from to s)} {many = used (area from to s)} (record { sound = r .sound; lists-are = refl; open-is = refl; many-are = refl }) in
+        let d = holds-count (own-pool (ready .space)) in
         let a = length-append (closed w most (area from to s)) new in
         let m : w * (used (area from to t) + k) ≤ w * (used (area from to s) + items) = mul-le-mul-left w (omega (arith, g .pool .many-are)) in
         record {
-          order = r .order;
-          inside = omega (arith, g .long, r .inside);
-          sound = g .pool .sound;
           empty = g .pool .open-is;
-          room = omega (arith, r .room);
-          small = omega (arith, g .pool .many-are, r .small);
-          few = omega (arith, r .few);
-          most-few = r .most-few;
+          space = record {
+            order = ready .space .order;
+            inside = omega (arith, g .long, ready .space .inside);
+            sound = g .pool .sound;
+            room = omega (arith, ready .space .room);
+            small = omega (arith, g .pool .many-are, ready .space .small);
+            few = omega (arith, ready .space .few);
+            most-few = ready .space .most-few;
+          };
         }
 
     pub grown-more : {u : List ℕ} {more : List (List ℕ)} → Grown from to w most t u more → Grown from to w most s u (new ++ more)
@@ -221,14 +262,16 @@ module _ {from to w most : ℕ} (s : List ℕ) {items lists : ℕ} (h : Space fr
       let c = holds-count clear-holds in
       let z : used (area from to (placed from (to - from) s p)) + items ≡ items = omega (arith, clear-holds .many-are) in
       record {
-        order = h .order;
-        inside = omega (arith, h .inside, clear-kept .0);
-        sound = clear-holds .sound;
         empty = clear-holds .open-is;
-        room = rw z (h .room);
-        small = omega (arith, h .small);
-        few = omega (arith, h .few);
-        most-few = h .most-few;
+        space = record {
+          order = h .order;
+          inside = omega (arith, h .inside, clear-kept .0);
+          sound = clear-holds .sound;
+          room = rw z (h .room);
+          small = omega (arith, h .small);
+          few = omega (arith, h .few);
+          most-few = h .most-few;
+        };
       }
 
 -- a pool that grew from none
@@ -255,3 +298,37 @@ flat-few (l ∷ lists) most h =
     let e = length-append l (flat lists) in
     let f : suc (length lists) * most ≡ length lists * most + most = omega arith in
     omega (arith, h 0 (omega arith), flat-few lists most (λ k i. h (suc k) (omega arith)))
+
+-- ---- lists by their numbers
+
+module _ {A : Type 0} where
+  unfoldable pub listsTo : (ℕ → A) → ℕ → List A
+  listsTo at zero = []
+  listsTo at (suc n) = listsTo at n ++ (at n ∷ [])
+
+  pub lists-more : (at : ℕ → A) (n : ℕ) → listsTo at (n + 1) ≡ listsTo at n ++ (at n ∷ [])
+  unfolding listsTo
+  lists-more at n = ap (listsTo at) (add-one n)
+
+  pub lists-long : (at : ℕ → A) (n : ℕ) → length (listsTo at n) ≡ n
+  unfolding listsTo
+  lists-long at zero = refl
+  lists-long at (suc n) = length-append (listsTo at n) (at n ∷ []) ∙ omega (arith, lists-long at n)
+
+  pub lists-at : (at : ℕ → A) (n k : ℕ) (d : A) → k < n → getD (listsTo at n) k d ≡ at k
+  unfolding listsTo
+  lists-at at zero k d h = absurd (omega arith)
+  lists-at at (suc n) k d h = ⊎-elim
+      (λ l. let e : k ≡ length (listsTo at n) = omega (arith, lists-long at n) in ap (λ (j : ℕ). getD (listsTo at n ++ (at n ∷ [])) j d) e ∙ (last (listsTo at n) (at n) d ∙ ap at (omega (arith, lists-long at n))))
+      (λ l. List·getD-append (listsTo at n) (at n ∷ []) d k (omega (arith, lists-long at n)) ∙ lists-at at n k d l)
+      (le-or-lt n k)
+    where
+      last : (l : List A) (v d : A) → getD (l ++ (v ∷ [])) (length l) d ≡ v
+      last [] v d = refl
+      last (x ∷ l) v d = last l v d
+
+-- a pool made from none: what lies before it is as it was
+pub record Made (from to w most : ℕ) (s t : List ℕ) (lists : List (List ℕ)) : Type 0 where
+  pub long : length t ≡ length s
+  pub front : take from t ≡ take from s
+  pub pool : Holds w most (area from to t) lists [] (length (flat lists))

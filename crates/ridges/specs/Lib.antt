@@ -2,3 +2,4 @@
 pub mod Areas
 pub mod Numbering
 pub mod Ends
+pub mod Codes

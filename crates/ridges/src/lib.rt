@@ -7,13 +7,14 @@ ghost use Prim.Native.Nat.{ℕ, _+_, _*_, _-_, _/_, _%_, _≤_, _<_};
 ghost use lib.ListN.{length, getD, take};
 ghost use Rattle.definitions.specs.Lists.{Pair};
 ghost use Rattle.definitions.specs.Orbits.{pairImage};
-ghost use Rattle.pool.specs.Pool.{base, count, closed};
+ghost use Rattle.pool.specs.Pool.{count, closed, Sound};
 ghost use Rattle.openers.specs.Rows.{rowsIn, rowAt};
 ghost use Rattle.openers.specs.Meaning.{codeOf, pairOf, pairCodes};
 ghost use Rattle.shapes.specs.Ridges.{KnownKeys, noKeys};
 ghost use Rattle.shapes.specs.Kept.{numberEnds};
 ghost use Rattle.shelf.specs.Keeps.{ridgesPart};
-ghost use Rattle.ridges.specs.Areas.{Ready, Grown, Space, flat};
+ghost use Rattle.ridges.specs.Areas.{area, Room, Ready, Joined, Grown, Space, Made, flat, listsTo};
+ghost use Rattle.ridges.specs.Codes.{amountOf, touchedTo, touchedOf, onesIn, onesTo, onesOf};
 ghost use Rattle.ridges.specs.Numbering.{Sent, Stands, marksJoined, manyJoined};
 ghost use Rattle.ridges.specs.Ends.{Reads, ridgesAt, numbered, allNumbered, AllNumbered};
 
@@ -154,4 +155,111 @@ fn number_ridges(
         o += 1;
     }
     known
+}
+
+// ---- the tables of the search
+
+// What facet x adds to a ridge orbit, cut off at 3: the last share there × the number of places there.
+fn amount(shares: &[u8], x: usize, ridge: usize) -> usize
+    requires { ⌜ Sound 4 1024 (now shares) × (x < count (now shares)) ⌝ }
+    ensures { λ r. ⌜ r ≡ amountOf ridge (getD (closed 4 1024 (now (shares .entry))) x []) ⌝ }
+{
+    let n = pool::list_length(shares, x) as usize;
+    let mut places = 0;
+    let mut last = 0;
+    let mut i = 0;
+    while i < n {
+        let code = pool::item_u32(shares, 1024, x, i) as usize;
+        if code % 65536 == ridge {
+            places += 1;
+            last = code / 65536;
+        }
+        i += 1;
+    }
+    let total = last * places;
+    if 3 < total { 3 } else { total }
+}
+
+// What facet x adds, as one list more: 4 × ridge orbit + amount for each ridge orbit where it adds something.
+fn touch_facet(ws: &mut [u8], desk: Desk, facets: usize, ridges: usize, x: usize)
+    requires { ⌜ (desk .shares ≤ desk .touched) × Sound 4 1024 (area (desk .shares) (desk .touched) (now ws)) × (x < count (area (desk .shares) (desk .touched) (now ws))) × (ridges ≤ 190) × Ready (desk .touched) (desk .ones) 2 facets (now ws) ridges 1 ⌝ }
+    ensures { λ _. ⌜ Grown (desk .touched) (desk .ones) 2 facets (now (ws .entry)) (now (ws .exit)) (touchedTo ridges (getD (closed 4 1024 (area (desk .shares) (desk .touched) (now (ws .entry)))) x []) ∷ []) ⌝ }
+{
+    let shares = desk.shares;
+    let touched = desk.touched;
+    let ones = desk.ones;
+    let mut ridge = 0;
+    while ridge < ridges {
+        let added = amount(&ws[shares..touched], x, ridge);
+        if 0 < added {
+            pool::push_u16(&mut ws[touched..ones], facets, (4 * ridge + added) as u16);
+        }
+        ridge += 1;
+    }
+    pool::end_list(&mut ws[touched..ones]);
+}
+
+// What each facet adds.
+fn touch_facets(ws: &mut [u8], desk: Desk, facets: usize, ridges: usize)
+    requires { ⌜ (desk .shares ≤ desk .touched) × Sound 4 1024 (area (desk .shares) (desk .touched) (now ws)) × (facets ≡ count (area (desk .shares) (desk .touched) (now ws))) × (ridges ≤ 190) × Space (desk .touched) (desk .ones) 2 facets (length (now ws)) (facets * ridges) facets ⌝ }
+    ensures { λ _. ⌜ Made (desk .touched) (desk .ones) 2 facets (now (ws .entry)) (now (ws .exit)) (listsTo (touchedOf ridges (closed 4 1024 (area (desk .shares) (desk .touched) (now (ws .entry))))) facets) ⌝ }
+{
+    let touched = desk.touched;
+    let ones = desk.ones;
+    pool::clear(&mut ws[touched..ones]);
+    let mut x = 0;
+    while x < facets {
+        touch_facet(ws, desk, facets, ridges, x);
+        x += 1;
+    }
+}
+
+// Facet x joins the open list, once for each share of 1 that it has in a ridge orbit.
+fn ones_of_facet(ws: &mut [u8], desk: Desk, ridges: usize, ridge: usize, x: usize)
+    requires { ⌜ (desk .shares ≤ desk .touched) × (desk .touched ≤ desk .ones) × Sound 4 1024 (area (desk .shares) (desk .touched) (now ws)) × (x < count (area (desk .shares) (desk .touched) (now ws))) × (ridge < 65536) × (x < 65536) × Room (desk .ones) (desk .frames) 2 ridges (now ws) (length (onesIn ridge x (getD (closed 4 1024 (area (desk .shares) (desk .touched) (now ws))) x []))) 1 ⌝ }
+    ensures { λ _. ⌜ Joined (desk .ones) (desk .frames) 2 ridges (now (ws .entry)) (now (ws .exit)) (onesIn ridge x (getD (closed 4 1024 (area (desk .shares) (desk .touched) (now (ws .entry)))) x [])) ⌝ }
+{
+    let shares = desk.shares;
+    let touched = desk.touched;
+    let ones = desk.ones;
+    let frames = desk.frames;
+    let n = pool::list_length(&ws[shares..touched], x) as usize;
+    let mut i = 0;
+    while i < n {
+        let code = pool::item_u32(&ws[shares..touched], 1024, x, i) as usize;
+        if 65536 + ridge == code {
+            pool::push_u16(&mut ws[ones..frames], ridges, x as u16);
+        }
+        i += 1;
+    }
+}
+
+// The facets with shares of 1 in a ridge orbit, as one list more.
+fn ones_of_ridge(ws: &mut [u8], desk: Desk, facets: usize, ridges: usize, ridge: usize)
+    requires { ⌜ (desk .shares ≤ desk .touched) × (desk .touched ≤ desk .ones) × Sound 4 1024 (area (desk .shares) (desk .touched) (now ws)) × (facets ≡ count (area (desk .shares) (desk .touched) (now ws))) × (ridge < 65536) × (facets ≤ 1024) × Ready (desk .ones) (desk .frames) 2 ridges (now ws) (length (onesTo ridge (closed 4 1024 (area (desk .shares) (desk .touched) (now ws))) facets)) 1 ⌝ }
+    ensures { λ _. ⌜ Grown (desk .ones) (desk .frames) 2 ridges (now (ws .entry)) (now (ws .exit)) (onesTo ridge (closed 4 1024 (area (desk .shares) (desk .touched) (now (ws .entry)))) facets ∷ []) ⌝ }
+{
+    let ones = desk.ones;
+    let frames = desk.frames;
+    let mut x = 0;
+    while x < facets {
+        ones_of_facet(ws, desk, ridges, ridge, x);
+        x += 1;
+    }
+    pool::end_list(&mut ws[ones..frames]);
+}
+
+// For each ridge orbit the facets with shares of 1 in it. Every place is looked at once for each ridge orbit.
+fn lay_ones(ws: &mut [u8], desk: Desk, facets: usize, ridges: usize)
+    requires { ⌜ (desk .shares ≤ desk .touched) × (desk .touched ≤ desk .ones) × Sound 4 1024 (area (desk .shares) (desk .touched) (now ws)) × (facets ≡ count (area (desk .shares) (desk .touched) (now ws))) × (ridges ≤ 190) × Space (desk .ones) (desk .frames) 2 ridges (length (now ws)) (length (flat (closed 4 1024 (area (desk .shares) (desk .touched) (now ws))))) ridges ⌝ }
+    ensures { λ _. ⌜ Made (desk .ones) (desk .frames) 2 ridges (now (ws .entry)) (now (ws .exit)) (listsTo (onesOf (closed 4 1024 (area (desk .shares) (desk .touched) (now (ws .entry)))) facets) ridges) ⌝ }
+{
+    let ones = desk.ones;
+    let frames = desk.frames;
+    pool::clear(&mut ws[ones..frames]);
+    let mut ridge = 0;
+    while ridge < ridges {
+        ones_of_ridge(ws, desk, facets, ridges, ridge);
+        ridge += 1;
+    }
 }

@@ -96,7 +96,7 @@ part-push-u16-start c = search needs
 
 -- src/lib.rt:126:24
 part-push-u16-end : tie.Need-part-push-u16-end Inv-loop μ-loop
-part-push-u16-end c = let s = c .before .before .before .before .before .before .before .before .before .before .before .before .before in let l = c .before .before .before .before .before .before .before .loop in omega (arith, l .inv .1 .long, s .pre .2 .inside)
+part-push-u16-end c = let s = c .before .before .before .before .before .before .before .before .before .before .before .before .before in let l = c .before .before .before .before .before .before .before .loop in omega (arith, l .inv .1 .long, s .pre .2 .space .inside)
 
 -- src/lib.rt:126:9
 push-u16-requires : tie.Need-push-u16-requires Inv-loop μ-loop
@@ -129,7 +129,7 @@ part-end-list-start c = search needs
 
 -- src/lib.rt:129:20
 part-end-list-end : tie.Need-part-end-list-end Inv-loop μ-loop
-part-end-list-end c = let s = c .before .before .before .before .before .before .before in let l = c .before .loop in omega (arith, l .inv .1 .long, s .pre .2 .inside)
+part-end-list-end c = let s = c .before .before .before .before .before .before .before in let l = c .before .loop in omega (arith, l .inv .1 .long, s .pre .2 .space .inside)
 
 -- src/lib.rt:129:5
 end-list-requires : tie.Need-end-list-requires Inv-loop μ-loop

@@ -1,0 +1,176 @@
+-- The turns of the loops that make the search's tables. Leans on Codes and Areas.
+use mathlib.Core.Path.{_≡_, refl, sym, ap, subst, _∙_}
+use mathlib.Core.List.{List, [], _∷_, _++_, append-nil}
+use Prim.Native.Nat.{ℕ, suc, _+_, _*_, _-_, _/_, _%_, _^_, _≤_, _<_, min}
+use native.Mathlib.Omega.{arith}
+use native.Mathlib.Nat.{mul-le-mul-left, mul-le-mul-right}
+use lib.ListN.{length, getD, take}
+use lib.Seq.{take-all}
+use Rattle.definitions.specs.Search.{Share, lastShare}
+use Rattle.laws.specs.Parts.{take-more}
+use Rattle.laws.specs.Segments.{placed}
+use Rattle.pool.specs.Pool.{count, base, used, closed, emptied, pushed, ended, Sound}
+use Rattle.ridges.specs.Areas.{area, flat, Room, Ready, Joined, Grown, Space, Made, area-kept, flat-few, clear-kept, clear-ready, clear-holds, grown-none, grown-more, grown-ready, grown-all, listsTo, lists-more, lists-long, lists-at, joined-room, joined-more, joined-none, push-asks, joined-push, end-asks, joined-end}
+use Rattle.ridges.specs.Codes.{touchedOf, onesIn, onesTo, ones-append, one-joins, one-stays, ones-left, ones-to-few, ones-more, sharesHere, amountOf, here-none, here-joins, here-stays, touchedTo, touchedCode, touched-more, code-some, code-none, touched-few, amount-small}
+
+-- ---- what a facet adds to one ridge orbit
+
+-- the first i places are counted
+pub record Adding (codes : List ℕ) (ridge places last i : ℕ) : Type 0 where
+  pub within : i ≤ length codes
+  pub few : places ≤ i
+  pub small : last < 65536
+  pub places-are : places ≡ length (sharesHere ridge (take i codes))
+  pub last-is : last ≡ lastShare 0 (sharesHere ridge (take i codes))
+
+pub adding-start : (codes : List ℕ) (ridge : ℕ) → Adding codes ridge 0 0 0
+unfolding lastShare
+adding-start codes ridge = record {
+  within = omega arith;
+  few = omega arith;
+  small = omega arith;
+  places-are = rw here-none refl;
+  last-is = rw here-none refl;
+}
+
+module _ {codes : List ℕ} {ridge places last i : ℕ} (a : Adding codes ridge places last i) (h : i < length codes) (code : ℕ) (e : code ≡ getD codes i 0) (small : code < 4294967296) where
+  more : take (i + 1) codes ≡ take i codes ++ (code ∷ [])
+  more = take-more codes i 0 h ∙ ap (λ (c : ℕ). take i codes ++ (c ∷ [])) (sym e)
+
+  pub adding-joins : code % 65536 ≡ ridge → Adding codes ridge (places + 1) (code / 65536) (i + 1)
+  adding-joins q =
+      let j = here-joins ridge (take i codes) code q in
+      record {
+        within = omega arith;
+        few = omega (arith, a .few);
+        small = omega arith;
+        places-are = rw more (omega (arith, j .0, a .places-are));
+        last-is = rw more (sym (j .1));
+      }
+
+  pub adding-stays : (code % 65536 ≡ ridge → ⊥) → Adding codes ridge places last (i + 1)
+  adding-stays n =
+      let j = here-stays ridge (take i codes) code n in
+      record {
+        within = omega arith;
+        few = omega (arith, a .few);
+        small = a .small;
+        places-are = rw (more, j) (a .places-are);
+        last-is = rw (more, j) (a .last-is);
+      }
+
+module _ {codes : List ℕ} {ridge places last i : ℕ} (a : Adding codes ridge places last i) where
+  pub total-small : length codes < 4294967296 → last * places ≤ 281474976710656
+  total-small h = let m : last * places ≤ last * 4294967296 = mul-le-mul-left last (omega (arith, a .few, a .within)) in omega (arith, a .small)
+
+  pub adding-end : length codes ≤ i → min (last * places) 3 ≡ amountOf ridge codes
+  unfolding amountOf
+  adding-end h =
+      let e : take i codes ≡ codes = take-all i codes h in
+      let p = a .places-are ∙ ap (λ (l : List ℕ). length (sharesHere ridge l)) e in
+      let q = a .last-is ∙ ap (λ (l : List ℕ). lastShare 0 (sharesHere ridge l)) e in
+      λ t. min (q t * p t) 3
+
+-- ---- what a facet adds, as a list
+
+module _ {from to most : ℕ} {ws₀ : List ℕ} {ridges : ℕ} (codes : List ℕ) (ready : Ready from to 2 most ws₀ ridges 1) where
+  pub touch-start : Joined from to 2 most ws₀ ws₀ (touchedTo 0 codes)
+  unfolding touchedTo
+  touch-start = joined-none (ready .space)
+
+  module _ {ws : List ℕ} (ridge : ℕ) (j : Joined from to 2 most ws₀ ws (touchedTo ridge codes)) where
+    module _ (h : ridge < ridges) where
+      pub touch-asks : (base most + 2 * (used (area from to ws) + 1) ≤ length (area from to ws)) × (used (area from to ws) + 1 < 4294967296)
+      touch-asks = push-asks (ready .space) j (omega (arith, touched-few ridge codes))
+
+      pub touch-joins : (added : ℕ) → added ≡ amountOf ridge codes → 0 < added → ridges ≤ 190 → (p : List ℕ) → p ≡ pushed 2 most (area from to ws) (4 * ridge + added)
+          → Joined from to 2 most ws₀ (placed from (to - from) ws p) (touchedTo (ridge + 1) codes)
+      touch-joins added e some few p q =
+          let m : touchedTo (ridge + 1) codes ≡ touchedTo ridge codes ++ ((4 * ridge + added) ∷ []) =
+          touched-more ridge codes ∙ ap (λ (l : List ℕ). touchedTo ridge codes ++ l) (ap (touchedCode ridge) (sym e) ∙ code-some ridge added some) in
+          rw m (joined-push (ready .space) j (omega (arith, touched-few ridge codes)) (4 * ridge + added) p (omega (arith, amount-small ridge codes)) q)
+
+    pub touch-stays : (added : ℕ) → added ≡ amountOf ridge codes → added ≤ 0 → Joined from to 2 most ws₀ ws (touchedTo (ridge + 1) codes)
+    touch-stays added e none =
+        let m : touchedTo (ridge + 1) codes ≡ touchedTo ridge codes =
+        touched-more ridge codes ∙ (ap (λ (l : List ℕ). touchedTo ridge codes ++ l) (ap (touchedCode ridge) (sym e) ∙ code-none ridge added (omega arith)) ∙ append-nil (touchedTo ridge codes)) in
+        rw m j
+
+    pub touch-end : ridges ≤ ridge → ridge ≤ ridges → (p : List ℕ) → p ≡ ended (area from to ws) → Grown from to 2 most ws₀ (placed from (to - from) ws p) (touchedTo ridges codes ∷ [])
+    touch-end a b p e = let q : ridge ≡ ridges = omega arith in rw (← q) (joined-end ready j (omega arith) p e)
+
+-- ---- pools laid list by list
+
+module _ {from to w most : ℕ} (s : List ℕ) {items lists : ℕ} (space : Space from to w most (length s) items lists) (p : List ℕ) (e : p ≡ emptied (area from to s)) (at : ℕ → List ℕ) where
+  pub laid-start : Grown from to w most (placed from (to - from) s p) (placed from (to - from) s p) (listsTo at 0)
+  unfolding listsTo
+  laid-start = grown-none (clear-ready s space p e)
+
+  module _ {ws : List ℕ} (n : ℕ) (g : Grown from to w most (placed from (to - from) s p) ws (listsTo at n)) where
+    pub laid-more : {t : List ℕ} → Grown from to w most ws t (at n ∷ []) → Grown from to w most (placed from (to - from) s p) t (listsTo at (n + 1))
+    laid-more {t} k = rw (lists-more at n) (grown-more (clear-ready s space p e) g k)
+
+    pub laid-ready : (k : ℕ) → length (flat (listsTo at n)) + k ≤ items → n < lists → Ready from to w most ws k 1
+    laid-ready k h l = grown-ready (clear-ready s space p e) g k 1 h (omega (arith, lists-long at n))
+
+    pub laid-end : Made from to w most s ws (listsTo at n)
+    laid-end =
+        let k = clear-kept s space p e in
+        record { long = g .long ∙ k .0; front = g .front ∙ k .1; pool = grown-all (clear-holds s space p e) g }
+
+    -- an area before it
+    pub laid-area : (a b : ℕ) → a ≤ b → b ≤ from → area a b ws ≡ area a b s
+    laid-area a b o h = area-kept from a b s ws (g .front ∙ clear-kept s space p e .1) o h
+
+  pub clear-area : (a b : ℕ) → a ≤ b → b ≤ from → area a b (placed from (to - from) s p) ≡ area a b s
+  clear-area a b o h = area-kept from a b s (placed from (to - from) s p) (clear-kept s space p e .1) o h
+
+-- room for what one facet more adds
+pub touched-room : (ridges : ℕ) (lists : List (List ℕ)) (x facets : ℕ) → x < facets → length (flat (listsTo (touchedOf ridges lists) x)) + ridges ≤ facets * ridges
+touched-room ridges lists x facets h =
+    let n = lists-long (touchedOf ridges lists) x in
+    let f = flat-few (listsTo (touchedOf ridges lists) x) ridges (λ k i. rw (lists-at (touchedOf ridges lists) x k [] (omega arith)) (touched-few ridges (getD lists k []))) in
+    let g : length (listsTo (touchedOf ridges lists) x) * ridges ≡ x * ridges = ap (λ (j : ℕ). j * ridges) n in
+    let m : suc x * ridges ≤ facets * ridges = mul-le-mul-right ridges h in
+    let q : suc x * ridges ≡ x * ridges + ridges = omega arith in
+    omega arith
+
+-- ---- shares of 1
+
+module _ {from to most : ℕ} {ws₀ : List ℕ} {lists : ℕ} (ridge x : ℕ) (codes : List ℕ) (room : Room from to 2 most ws₀ (length (onesIn ridge x codes)) lists) where
+  pub ones-start : Joined from to 2 most ws₀ ws₀ (onesIn ridge x (take 0 codes))
+  unfolding onesIn
+  ones-start = joined-none room
+
+  module _ {ws : List ℕ} (i : ℕ) (j : Joined from to 2 most ws₀ ws (onesIn ridge x (take i codes))) (h : i < length codes) (code : ℕ) (v : code ≡ getD codes i 0) where
+    one-more : onesIn ridge x (take (i + 1) codes) ≡ onesIn ridge x (take i codes) ++ onesIn ridge x (code ∷ [])
+    one-more = ap (onesIn ridge x) (take-more codes i 0 h ∙ ap (λ (c : ℕ). take i codes ++ (c ∷ [])) (sym v)) ∙ ones-append ridge x (take i codes) (code ∷ [])
+
+    pub ones-asks : 65536 + ridge ≡ code → (base most + 2 * (used (area from to ws) + 1) ≤ length (area from to ws)) × (used (area from to ws) + 1 < 4294967296)
+    ones-asks e = push-asks room j (ones-left ridge x codes i h (sym v ∙ sym e))
+
+    pub ones-joins : 65536 + ridge ≡ code → x < 65536 → (p : List ℕ) → p ≡ pushed 2 most (area from to ws) x → Joined from to 2 most ws₀ (placed from (to - from) ws p) (onesIn ridge x (take (i + 1) codes))
+    ones-joins e small p q =
+        rw (one-more, one-joins ridge x code e) (joined-push room j (ones-left ridge x codes i h (sym v ∙ sym e)) x p (omega arith) q)
+
+    pub ones-stays : (65536 + ridge ≡ code → ⊥) → Joined from to 2 most ws₀ ws (onesIn ridge x (take (i + 1) codes))
+    ones-stays n = rw (one-more, one-stays ridge x code n, append-nil (onesIn ridge x (take i codes))) j
+
+  pub ones-end : {ws : List ℕ} (i : ℕ) → Joined from to 2 most ws₀ ws (onesIn ridge x (take i codes)) → length codes ≤ i → Joined from to 2 most ws₀ ws (onesIn ridge x codes)
+  ones-end {ws} i j h = subst (λ (l : List ℕ). Joined from to 2 most ws₀ ws (onesIn ridge x l)) (take-all i codes h) j
+
+-- facet by facet
+module _ {from to most : ℕ} {ws₀ : List ℕ} (ridge : ℕ) (lists : List (List ℕ)) (facets : ℕ) (ready : Ready from to 2 most ws₀ (length (onesTo ridge lists facets)) 1) where
+  pub ridge-start : Joined from to 2 most ws₀ ws₀ (onesTo ridge lists 0)
+  unfolding onesTo
+  ridge-start = joined-none (ready .space)
+
+  module _ {ws : List ℕ} (x : ℕ) (j : Joined from to 2 most ws₀ ws (onesTo ridge lists x)) where
+    pub ridge-room : x < facets → Room from to 2 most ws (length (onesIn ridge x (getD lists x []))) 1
+    ridge-room h = joined-room (ready .space) j (length (onesIn ridge x (getD lists x []))) (ones-to-few ridge lists x facets h)
+
+    pub ridge-more : {t : List ℕ} → Joined from to 2 most ws t (onesIn ridge x (getD lists x [])) → Joined from to 2 most ws₀ t (onesTo ridge lists (x + 1))
+    ridge-more {t} k = rw (ones-more ridge lists x) (joined-more (ready .space) j k)
+
+    pub ridge-end : facets ≤ x → x ≤ facets → (p : List ℕ) → p ≡ ended (area from to ws) → Grown from to 2 most ws₀ (placed from (to - from) ws p) (onesTo ridge lists facets ∷ [])
+    ridge-end a b p e = let q : x ≡ facets = omega arith in rw (← q) (joined-end ready j (omega arith) p e)
