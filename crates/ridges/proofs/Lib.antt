@@ -2,3 +2,4 @@
 pub mod Images
 pub mod Numbers
 pub mod Tables
+pub mod Sharing

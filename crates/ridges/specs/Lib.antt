@@ -3,3 +3,4 @@ pub mod Areas
 pub mod Numbering
 pub mod Ends
 pub mod Codes
+pub mod Shares

@@ -12,8 +12,9 @@ ghost use Rattle.openers.specs.Rows.{rowsIn, rowAt};
 ghost use Rattle.openers.specs.Meaning.{codeOf, pairOf, pairCodes};
 ghost use Rattle.shapes.specs.Ridges.{KnownKeys, noKeys};
 ghost use Rattle.shapes.specs.Kept.{numberEnds};
-ghost use Rattle.shelf.specs.Keeps.{ridgesPart};
+ghost use Rattle.shelf.specs.Keeps.{ridgesPart, placesPart};
 ghost use Rattle.ridges.specs.Areas.{area, Room, Ready, Joined, Grown, Space, Made, flat, listsTo};
+ghost use Rattle.ridges.specs.Shares.{Orders, SourcesFit, sourcesOf, ridgesIn, placesIn, codeAt, facetCodes};
 ghost use Rattle.ridges.specs.Codes.{amountOf, touchedTo, touchedOf, onesIn, onesTo, onesOf};
 ghost use Rattle.ridges.specs.Numbering.{Sent, Stands, marksJoined, manyJoined};
 ghost use Rattle.ridges.specs.Ends.{Reads, ridgesAt, numbered, allNumbered, AllNumbered};
@@ -155,6 +156,66 @@ fn number_ridges(
         o += 1;
     }
     known
+}
+
+// ---- shares
+
+// The code of the share of a place with inner orbit a, of a facet of orbit o: its ridge orbit + 65,536 × floor(orbit count × inner count / ridge orbit count).
+fn share_code(ws: &[u8], shelf: Shelf, desk: Desk, counts: &[u32], o: usize, a: usize) -> u32
+    requires { ⌜ Orders shelf desk (length (now ws)) × SourcesFit (sourcesOf shelf desk (now ws)) (now counts) (shelf .facets) × (o < count (ridgesPart shelf (now ws))) × (a < length (ridgesIn (sourcesOf shelf desk (now ws)) o)) ⌝ }
+    ensures { λ r. ⌜ r ≡ codeAt (sourcesOf shelf desk (now (ws .entry))) (now (counts .entry)) o a ⌝ }
+{
+    let ridges = shelf.ridges;
+    let places = shelf.places;
+    let numbers = desk.numbers;
+    let shares = desk.shares;
+    let own = words::get_u32(&ws[0..2048], 8 * o + 4);
+    let inner = pool::item_u32(&ws[ridges..places], 256, o, a) / 65536;
+    let ridge = pool::item_u16(&ws[numbers..shares], 256, o, a);
+    let all = counts[ridge as usize];
+    if all == 0 {
+        return ridge as u32;
+    }
+    ridge as u32 + 65536 * (own * inner / all)
+}
+
+// The shares of facet x, as one list more.
+fn share_facet(ws: &mut [u8], shelf: Shelf, desk: Desk, counts: &[u32], x: usize)
+    requires { ⌜ Orders shelf desk (length (now ws)) × SourcesFit (sourcesOf shelf desk (now ws)) (now counts) (shelf .facets) × (x < shelf .facets) × Ready (desk .shares) (desk .touched) 4 1024 (now ws) (length (placesIn (sourcesOf shelf desk (now ws)) x)) 1 ⌝ }
+    ensures { λ _. ⌜ Grown (desk .shares) (desk .touched) 4 1024 (now (ws .entry)) (now (ws .exit)) (facetCodes (sourcesOf shelf desk (now (ws .entry))) (now (counts .entry)) x ∷ []) ⌝ }
+{
+    let owners = shelf.owners;
+    let ridges = shelf.ridges;
+    let places = shelf.places;
+    let end = shelf.end;
+    let shares = desk.shares;
+    let touched = desk.touched;
+    let o = words::get_u16(&ws[owners..ridges], 2 * x) as usize;
+    let n = pool::list_length(&ws[places..end], x) as usize;
+    let mut i = 0;
+    while i < n {
+        let a = pool::item_u16(&ws[places..end], 1024, x, i) as usize;
+        let code = share_code(ws, shelf, desk, counts, o, a);
+        pool::push_u32(&mut ws[shares..touched], 1024, code);
+        i += 1;
+    }
+    pool::end_list(&mut ws[shares..touched]);
+}
+
+// The shares of each facet.
+fn share_facets(ws: &mut [u8], shelf: Shelf, desk: Desk, counts: &[u32])
+    requires { ⌜ Orders shelf desk (length (now ws)) × SourcesFit (sourcesOf shelf desk (now ws)) (now counts) (shelf .facets) × Space (desk .shares) (desk .touched) 4 1024 (length (now ws)) (length (flat (closed 2 1024 (placesPart shelf (now ws))))) (shelf .facets) ⌝ }
+    ensures { λ _. ⌜ Made (desk .shares) (desk .touched) 4 1024 (now (ws .entry)) (now (ws .exit)) (listsTo (facetCodes (sourcesOf shelf desk (now (ws .entry))) (now (counts .entry))) (shelf .facets)) ⌝ }
+{
+    let shares = desk.shares;
+    let touched = desk.touched;
+    let facets = shelf.facets;
+    pool::clear(&mut ws[shares..touched]);
+    let mut x = 0;
+    while x < facets {
+        share_facet(ws, shelf, desk, counts, x);
+        x += 1;
+    }
 }
 
 // ---- the tables of the search
