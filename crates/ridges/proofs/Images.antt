@@ -4,12 +4,11 @@ use mathlib.Core.Bool.{cond}
 use mathlib.Core.List.{List, [], _∷_, _++_, map}
 use Prim.Native.Nat.{ℕ, suc, _+_, _*_, _/_, _%_, _-_, _≤_, _<_, min, max}
 use native.Mathlib.Omega.{arith}
-use lib.ListN.{length, getD, set, take, drop, length-set, length-append, length-map}
+use lib.ListN.{length, getD, set, length-set, length-append, length-map}
 use native.Mathlib.Numerals.{add-one}
 use Rattle.definitions.specs.Lists.{Pair, comparePair, fresh}
 use Rattle.definitions.specs.Orbits.{Row, image, pairImage}
 use Rattle.laws.specs.Parts.{rows, length-rows}
-use Rattle.laws.specs.Parts as parts
 use Rattle.openers.specs.Rows.{rowsIn, rowAt}
 use Rattle.openers.specs.Meaning.{codeOf, pairOf, pairCodes}
 use Rattle.shapes.specs.Polygons.{edgeVia}
@@ -17,6 +16,7 @@ use Rattle.shapes.specs.Ridges.{KnownKeys, openKeyOrbit}
 use Rattle.shapes.specs.Kept.{numberEnds}
 use Rattle.ridges.specs.Numbering.{Sent, Stands, number-held, number-opened, opened-stands, many-few, unmarked, is-unmarked, is-marked, markedAt, marksJoined, manyJoined, marks-more, many-more}
 use Rattle.openers.specs.Codes.{code-at, codes-more}
+use Rattle.laws.specs.Parts as parts
 
 -- the code of an image, from the row's bytes
 pub key-is : (i key : ℕ) (s : List ℕ) → key < 400

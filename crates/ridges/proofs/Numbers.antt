@@ -1,9 +1,9 @@
 -- The turns of the loops that number ridges: over one orbit's ridges, and over the orbits. Leans on Ends and Areas.
 use mathlib.Core.Path.{_≡_, refl, sym, ap, subst, _∙_}
-use mathlib.Core.List.{List, [], _∷_, _++_, map, map-append}
-use Prim.Native.Nat.{ℕ, suc, _+_, _*_, _-_, _/_, _%_, _^_, _≤_, _<_}
+use mathlib.Core.List.{List, [], _∷_, _++_, map-append}
+use Prim.Native.Nat.{ℕ, _+_, _*_, _-_, _%_, _≤_, _<_}
 use native.Mathlib.Omega.{arith}
-use lib.ListN.{length, getD, take, drop, length-map, length-append, replicate, take-append-drop}
+use lib.ListN.{length, getD, take, drop, length-map, replicate, take-append-drop}
 use lib.Seq.{length-take-le, take-all}
 use Rattle.definitions.specs.Lists.{Pair, mapWith}
 use Rattle.definitions.specs.Orbits.{Row}
@@ -19,7 +19,7 @@ use Rattle.shapes.specs.Kept.{numberEnds}
 use Rattle.shelf.specs.declared.Shelf.{Shelf}
 use Rattle.shelf.specs.Keeps.{ridgesPart}
 use Rattle.ridges.specs.Areas.{area, flat, Space, clear-kept, clear-ready, area-kept, flat-more, grown-none, grown-ready, grown-more, grown-all, Ready, Joined, Grown, joined-none, push-asks, joined-push, end-asks, joined-end}
-use Rattle.ridges.specs.Numbering.{Sent, Stands, stands-none}
+use Rattle.ridges.specs.Numbering.{Stands, stands-none}
 use Rattle.ridges.specs.Ends.{Reads, reads-kept, ridgesAt, allNumbered, AllNumbered, all-more, all-few, all-long, all-count, endsIn, numbered, with-more, with-append, with-length, counts-up, number-up}
 
 -- ---- lists of a pool, read

@@ -1,7 +1,7 @@
 -- What the loops over facets and their places read, and what their shares come to. Leans on Shares, and on the reading of pools.
-use mathlib.Core.Path.{_≡_, refl, sym, ap, subst, _∙_}
+use mathlib.Core.Path.{_≡_, refl, ap, subst, _∙_}
 use mathlib.Core.List.{List, [], _∷_, _++_, map, flatMap, append-nil}
-use Prim.Native.Nat.{ℕ, zero, suc, _+_, _-_, _*_, _/_, _^_, _≤_, _<_}
+use Prim.Native.Nat.{ℕ, zero, suc, _+_, _-_, _*_, _/_, _≤_, _<_}
 use native.Mathlib.Omega.{arith}
 use native.Mathlib.Nat.{div-zero, mul-le-mul-left}
 use lib.ListN.{length, getD, take, length-map, length-append}
@@ -9,11 +9,11 @@ use lib.Seq.{take-suc, take-all, length-take-le}
 use Rattle.definitions.specs.Job.{numberAt}
 use Rattle.laws.specs.Lists.{flatMap-append}
 use Rattle.laws.specs.Segments.{placed}
-use Rattle.pool.specs.Pool.{count, base, used, closed, pushed, ended, placeAt, lengthAt, Sound, closed-length}
+use Rattle.pool.specs.Pool.{count, base, used, closed, pushed, ended, placeAt, lengthAt, closed-length}
 use Rattle.shelf.specs.declared.Shelf.{Shelf}
 use Rattle.shelf.specs.Keeps.{ownersPart, ridgesPart, placesPart}
 use Rattle.ridges.specs.declared.Desk.{Desk}
-use Rattle.ridges.specs.Areas.{area, flat, area-kept, Ready, Joined, Grown, Space, area-long, joined-none, push-asks, joined-push, joined-end, flat-more, flat-few, listsTo, lists-long}
+use Rattle.ridges.specs.Areas.{area, flat, area-kept, Ready, Joined, Grown, area-long, joined-none, push-asks, joined-push, joined-end, flat-more, listsTo}
 use Rattle.ridges.specs.Codes.{shareCode}
 use Rattle.ridges.specs.Shares.{Sources, sources-kept, sourcesOf, countOf, ownerOf, ridgesIn, numbersIn, placesIn, codeAt, facetCodes, Orders, SourcesFit, share-small, codes-more, codes-long}
 use Rattle.ridges.proofs.Numbers.{length-asks, length-read, item-asks, item-read}

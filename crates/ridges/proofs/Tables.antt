@@ -1,16 +1,16 @@
 -- The turns of the loops that make the search's tables. Leans on Codes and Areas.
 use mathlib.Core.Path.{_≡_, refl, sym, ap, subst, _∙_}
 use mathlib.Core.List.{List, [], _∷_, _++_, append-nil}
-use Prim.Native.Nat.{ℕ, suc, _+_, _*_, _-_, _/_, _%_, _^_, _≤_, _<_, min}
+use Prim.Native.Nat.{ℕ, suc, _+_, _*_, _-_, _/_, _%_, _≤_, _<_, min}
 use native.Mathlib.Omega.{arith}
 use native.Mathlib.Nat.{mul-le-mul-left, mul-le-mul-right}
 use lib.ListN.{length, getD, take}
 use lib.Seq.{take-all}
-use Rattle.definitions.specs.Search.{Share, lastShare}
+use Rattle.definitions.specs.Search.{lastShare}
 use Rattle.laws.specs.Parts.{take-more}
 use Rattle.laws.specs.Segments.{placed}
-use Rattle.pool.specs.Pool.{count, base, used, closed, emptied, pushed, ended, Sound}
-use Rattle.ridges.specs.Areas.{area, flat, Room, Ready, Joined, Grown, Space, Made, area-kept, flat-few, clear-kept, clear-ready, clear-holds, grown-none, grown-more, grown-ready, grown-all, listsTo, lists-more, lists-long, lists-at, joined-room, joined-more, joined-none, push-asks, joined-push, end-asks, joined-end}
+use Rattle.pool.specs.Pool.{base, used, emptied, pushed, ended}
+use Rattle.ridges.specs.Areas.{area, flat, Room, Ready, Joined, Grown, Space, Made, area-kept, flat-few, clear-kept, clear-ready, clear-holds, grown-none, grown-more, grown-ready, grown-all, listsTo, lists-more, lists-long, lists-at, joined-room, joined-more, joined-none, push-asks, joined-push, joined-end}
 use Rattle.ridges.specs.Codes.{touchedOf, onesIn, onesTo, ones-append, one-joins, one-stays, ones-left, ones-to-few, ones-more, sharesHere, amountOf, here-none, here-joins, here-stays, touchedTo, touchedCode, touched-more, code-some, code-none, touched-few, amount-small}
 
 -- ---- what a facet adds to one ridge orbit
@@ -95,9 +95,6 @@ module _ {from to most : ℕ} {ws₀ : List ℕ} {ridges : ℕ} (codes : List �
         let m : touchedTo (ridge + 1) codes ≡ touchedTo ridge codes =
         touched-more ridge codes ∙ (ap (λ (l : List ℕ). touchedTo ridge codes ++ l) (ap (touchedCode ridge) (sym e) ∙ code-none ridge added (omega arith)) ∙ append-nil (touchedTo ridge codes)) in
         rw m j
-
-    pub touch-end : ridges ≤ ridge → ridge ≤ ridges → (p : List ℕ) → p ≡ ended (area from to ws) → Grown from to 2 most ws₀ (placed from (to - from) ws p) (touchedTo ridges codes ∷ [])
-    touch-end a b p e = let q : ridge ≡ ridges = omega arith in rw (← q) (joined-end ready j (omega arith) p e)
 
 -- ---- pools laid list by list
 

@@ -7,10 +7,10 @@ use Prim.Native.Nat.{ℕ, zero, suc, _+_, _-_, _*_, _^_, _≤_, _<_}
 use native.Mathlib.Omega.{arith}
 use native.Mathlib.Nat.{mul-le-mul-left}
 use native.Mathlib.Numerals.{add-one}
-use lib.ListN.{length, getD, take, drop, length-append, List·getD-append}
+use lib.ListN.{length, getD, take, length-append, List·getD-append}
 use lib.Seq.{take-take}
 use Rattle.laws.specs.Lists.{flatMap-append}
-use Rattle.laws.specs.Segments.{part, placed, le-or-lt, part-take, part-length, placed-length, part-placed, part-placed-off, take-placed}
+use Rattle.laws.specs.Segments.{part, placed, le-or-lt, part-take, part-length, placed-length, part-placed, take-placed}
 use Rattle.pool.specs.Pool.{base, count, used, closed, opened, emptied, pushed, ended, Sound, pushed-length, ended-length}
 use Rattle.pool.specs.Holds.{Holds, holds-none, holds-push, holds-end, holds-count}
 use Rattle.words.specs.Words.{put-length}

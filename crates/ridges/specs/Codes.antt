@@ -2,16 +2,16 @@
 -- Leans on the definition of the search and on the layout of its tables.
 use mathlib.Core.Path.{_≡_, refl, sym, ap, _∙_}
 use mathlib.Core.Bool.{Bool, true, false, cond, _&&_}
-use mathlib.Core.List.{List, [], _∷_, _++_, map, flatMap, append-assoc, append-nil, map-append}
-use mathlib.Core.Logic.{_⊎_, inl, inr, ⊎-elim}
-use Prim.Native.Nat.{ℕ, zero, suc, _+_, _-_, _*_, _/_, _%_, _≤_, _<_, min}
+use mathlib.Core.List.{List, [], _∷_, _++_, map, flatMap, append-nil, map-append}
+use mathlib.Core.Logic.{⊎-elim}
+use Prim.Native.Nat.{ℕ, zero, suc, _+_, _*_, _/_, _%_, _≤_, _<_, min}
 use native.Mathlib.Omega.{arith}
 use native.Mathlib.Decide.{ℕ-discrete}
 use native.Mathlib.Numerals.{add-one}
 use borrow.Author.Tests.{eq-eqb, ne-eqb, le-leb, lt-leb, lt-ltb, le-ltb}
 use lib.Dec.{eqb, leb, ltb}
 use lib.ListN.{length, getD, take, drop, replicate, take-append-drop, length-append, List·getD-append}
-use lib.Seq.{take-suc, take-all}
+use lib.Seq.{take-suc}
 use Rattle.definitions.specs.Lists.{keep}
 use Rattle.definitions.specs.Search.{Share, sharesAt, lastShare}
 use Rattle.laws.specs.Lists.{flatMap-append}
@@ -75,15 +75,6 @@ module _ (ridge : ℕ) (l : List ℕ) (c : ℕ) where
 pub here-none : (ridge : ℕ) → sharesHere ridge [] ≡ []
 unfolding sharesHere sharesAt keep
 here-none ridge = refl
-
-here-few : (ridge : ℕ) (l : List ℕ) → length (sharesHere ridge l) ≤ length l
-unfolding sharesHere sharesAt keep shareOf
-here-few ridge [] = omega arith
-here-few ridge (c ∷ l) = go (eqb ridge (c % 65536)) (here-few ridge l)
-  where
-    go : (b : Bool) → length (sharesHere ridge l) ≤ length l → length (cond b (shareOf c ∷ sharesHere ridge l) (sharesHere ridge l)) ≤ suc (length l)
-    go true h = omega arith
-    go false h = omega arith
 
 -- ---- the codes of what a facet adds: 4 × ridge orbit + amount for each ridge orbit where it adds something
 

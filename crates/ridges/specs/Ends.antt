@@ -1,9 +1,9 @@
 -- The ridges of a call, orbit by orbit, as they stand on the shelf: the ends of each from its code, and their numbers by document 01's "Recursion on rank".
 -- Leans on Keeps, Numbering and Areas.
-use mathlib.Core.Path.{_≡_, refl, sym, ap, subst, _∙_}
+use mathlib.Core.Path.{_≡_, refl, sym, ap, _∙_}
 use mathlib.Core.Option.{Option, some, none}
 use mathlib.Core.List.{List, [], _∷_, _++_, map, flatMap}
-use Prim.Native.Nat.{ℕ, zero, suc, _+_, _*_, _-_, _%_, _≤_, _<_}
+use Prim.Native.Nat.{ℕ, suc, _+_, _*_, _%_, _≤_, _<_}
 use native.Mathlib.Omega.{arith}
 use lib.ListN.{length, getD, take, drop, length-append, length-map, take-append-drop}
 use Rattle.definitions.specs.Lists.{Pair, comparePair, mapWith}

@@ -4,3 +4,10 @@ pub mod Numbering
 pub mod Ends
 pub mod Codes
 pub mod Shares
+pub mod Facets
+pub mod Small
+pub mod Below
+pub mod Shared
+pub mod Laid
+pub mod Desks
+pub mod Ranks

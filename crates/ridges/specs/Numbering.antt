@@ -4,23 +4,22 @@ use mathlib.Core.Path.{_≡_, refl, sym, ap, subst, _∙_}
 use mathlib.Core.Bool.{Bool, true, false, cond, not, _||_}
 use mathlib.Core.Option.{Option, some, none}
 use mathlib.Core.List.{List, [], _∷_, _++_, map}
-use mathlib.Core.Logic.{⊎-elim}
-use Prim.Native.Nat.{ℕ, zero, suc, _+_, _*_, _/_, _%_, _≤_, _<_, _-_, min, max}
+use Prim.Native.Nat.{ℕ, zero, suc, _+_, _*_, _≤_, _<_, _-_, min, max}
 use native.Mathlib.Omega.{arith}
 use native.Mathlib.Decide.{ℕ-discrete}
 use borrow.Author.Tests.{eq-eqb, ne-eqb}
-use lib.Dec.{T, eqb, isEq}
+use lib.Dec.{T, eqb}
 use lib.ListN.{length, getD, set, take, drop, replicate, length-append, length-set, length-replicate, getD-replicate}
 use lib.Seq.{getD-set-same, getD-set-other}
-use Rattle.definitions.specs.Lists.{Pair, comparePair, anyOf, memberNat, memberPair, fresh, mapWith}
+use Rattle.definitions.specs.Lists.{Pair, comparePair, anyOf, memberNat, memberPair, fresh}
 use Rattle.definitions.specs.Orbits.{Row, image, pairImage}
 use Rattle.laws.specs.Bools.{same-test}
 use Rattle.laws.specs.Lists.{Mem, here, there, of-map, at-member}
 use Rattle.laws.specs.Orders.{pairs}
-use Rattle.laws.specs.Ascending.{seen-member, member-seen}
+use Rattle.laws.specs.Ascending.{seen-member}
 use Rattle.laws.specs.Parts.{rows, getD-rows, length-rows, take-more-set}
 use Rattle.openers.specs.Rows.{rowsIn, ImagesBelow, image-at}
-use Rattle.openers.specs.Meaning.{codeOf, pairOf, pairCodes}
+use Rattle.openers.specs.Meaning.{codeOf, pairCodes}
 use Rattle.openers.specs.Codes.{same-code, code-small, member-codes, map-codes}
 use Rattle.shapes.specs.Polygons.{edgeVia}
 use Rattle.shapes.specs.Ridges.{KnownKeys, noKeys, keyHeldBy, openKeyOrbit, numberOrOpenKey}
@@ -213,9 +212,6 @@ many-fresh marks k seen (x ∷ images) l u small =
     go (memberPair x seen) refl (u x (s .0) (s .1)) (many-fresh marks k seen images l u (λ q i. small q (there i)))
     (many-fresh (set marks (codeOf x) (suc k)) k (x ∷ seen) images (length-set marks (codeOf x) (suc k) ∙ l) (more s) (λ q i. small q (there i)))
   where
-    other : (g : ℕ) (a b : Bool) → unmarked g ≡ not b → a ≡ false → unmarked g ≡ not (a || b)
-    other g a b e f = rw f e
-
     one : (p : Pair) → p .0 < 20 → p .1 < 20 → (x .0 < 20) × (x .1 < 20) → Dec (codeOf p ≡ codeOf x) → unmarked (getD (set marks (codeOf x) (suc k)) (codeOf p) 0) ≡ not (eqb (codeOf p) (codeOf x) || memberPair p seen)
     one p h i s (yes e) = rw (e, eq-eqb (codeOf x) (codeOf x) refl, getD-set-same marks (codeOf x) (suc k) 0 (omega (arith, code-small x (s .0) (s .1), l))) refl
     one p h i s (no n) = rw (getD-set-other marks (codeOf x) (codeOf p) (suc k) 0 n, ne-eqb (codeOf p) (codeOf x) n) (u p h i)

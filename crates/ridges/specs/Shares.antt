@@ -1,12 +1,11 @@
 -- The share of each place, from the areas that it is read from: the orbits' counts, each facet's orbit, each orbit's ridges with their inner counts and their numbers, each facet's places.
 -- Leans on Keeps, Areas and Codes.
-use mathlib.Core.Path.{_≡_, refl, sym, ap, _∙_}
+use mathlib.Core.Path.{_≡_, ap, _∙_}
 use mathlib.Core.List.{List, [], _∷_, _++_, map, map-append}
-use Prim.Native.Nat.{ℕ, suc, _+_, _-_, _*_, _/_, _≤_, _<_}
+use Prim.Native.Nat.{ℕ, _+_, _*_, _/_, _≤_, _<_}
 use native.Mathlib.Omega.{arith}
 use native.Mathlib.Nat.{div-le-self, mul-le-mul-left}
 use lib.ListN.{length, getD, take, length-map}
-use lib.Seq.{take-all}
 use Rattle.definitions.specs.Job.{numberAt}
 use Rattle.laws.specs.Parts.{take-more}
 use Rattle.pool.specs.Pool.{count, closed, Sound}

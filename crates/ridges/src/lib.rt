@@ -1,18 +1,21 @@
 // From what a call keeps of its inner calls to the tables that its search reads. A ridge is the code of its two ends, as in the openers; the ridges of all orbits are numbered in their order
 // by document 01's "Recursion on rank", with marks for the 400 codes. Each function equals a definition of specs/ for any rows, with the identity among them or not.
+use facets::Areas;
 use shelf::Shelf;
 ghost use mathlib.Core.Path.{_≡_};
-ghost use mathlib.Core.List.{_∷_, [], _++_, map};
-ghost use Prim.Native.Nat.{ℕ, _+_, _*_, _-_, _/_, _%_, _≤_, _<_};
-ghost use lib.ListN.{length, getD, take};
+ghost use mathlib.Core.List.{List, _∷_, []};
+ghost use Prim.Native.Nat.{ℕ, _+_, _*_, _/_, _%_, _≤_, _<_};
+ghost use lib.ListN.{length, getD, take, drop};
 ghost use Rattle.definitions.specs.Lists.{Pair};
 ghost use Rattle.definitions.specs.Orbits.{pairImage};
 ghost use Rattle.pool.specs.Pool.{count, closed, Sound};
 ghost use Rattle.openers.specs.Rows.{rowsIn, rowAt};
 ghost use Rattle.openers.specs.Meaning.{codeOf, pairOf, pairCodes};
 ghost use Rattle.shapes.specs.Ridges.{KnownKeys, noKeys};
-ghost use Rattle.shapes.specs.Kept.{numberEnds};
+ghost use Rattle.shapes.specs.Kept.{Kept, numberEnds, keptTable};
 ghost use Rattle.shelf.specs.Keeps.{ridgesPart, placesPart};
+ghost use Rattle.facets.specs.Layout.{Inputs};
+ghost use Rattle.ridges.specs.Desks.{Given, areasOf};
 ghost use Rattle.ridges.specs.Areas.{area, Room, Ready, Joined, Grown, Space, Made, flat, listsTo};
 ghost use Rattle.ridges.specs.Shares.{Orders, SourcesFit, sourcesOf, ridgesIn, placesIn, codeAt, facetCodes};
 ghost use Rattle.ridges.specs.Codes.{amountOf, touchedTo, touchedOf, onesIn, onesTo, onesOf};
@@ -323,4 +326,41 @@ fn lay_ones(ws: &mut [u8], desk: Desk, facets: usize, ridges: usize)
         ones_of_ridge(ws, desk, facets, ridges, ridge);
         ridge += 1;
     }
+}
+
+// ---- the whole
+
+// The areas of the search, counted from the owners.
+fn areas_from(shelf: Shelf, desk: Desk, known: usize) -> Areas
+    requires { ⌜ (shelf .owners ≤ desk .touched) × (desk .touched ≤ desk .ones) × (desk .ones ≤ desk .frames) × (desk .frames ≤ desk .totals) × (desk .totals + known ≤ desk .lists) × (desk .lists ≤ desk .end) ⌝ }
+    ensures { λ r. ⌜ r ≡ areasOf shelf desk known ⌝ }
+{
+    let owners = shelf.owners;
+    let totals = desk.totals - owners;
+    Areas {
+        facets: shelf.facets,
+        ridges: known,
+        orbits: shelf.orbits,
+        bound: 1024,
+        touched: desk.touched - owners,
+        ones: desk.ones - owners,
+        frames: desk.frames - owners,
+        totals: totals,
+        used: totals + known,
+        lists: desk.lists - owners,
+        end: desk.end - owners,
+    }
+}
+
+// The tables of the search, from what is kept, and where they lie: the search is called on the workspace from the owners on. The shelf stays as it is.
+pub fn lay_tables(rows: &[u8], m: usize, shelf: Shelf, desk: Desk, ws: &mut [u8]) -> Areas
+    requires { ⌜ ((n : ℕ) × (most : ℕ) × (ridges : ℕ) × (kept : List Kept) × Given n most ridges m (now rows) kept shelf desk (now ws)) ⌝ }
+    ensures { λ r. ⌜ ((n : ℕ) (most : ℕ) (ridges : ℕ) (kept : List Kept) → Given n most ridges m (now (rows .entry)) kept shelf desk (now (ws .entry)) → Inputs (keptTable (rowsIn n m (now (rows .entry))) kept) r (drop (shelf .owners) (now (ws .exit))) × (take (shelf .end) (now (ws .exit)) ≡ take (shelf .end) (now (ws .entry)))) ⌝ }
+{
+    let mut counts: [u32; 190] = [0; 190];
+    let known = number_ridges(rows, m, shelf, desk, &mut counts, ws);
+    share_facets(ws, shelf, desk, &counts);
+    touch_facets(ws, desk, shelf.facets, known);
+    lay_ones(ws, desk, shelf.facets, known);
+    areas_from(shelf, desk, known)
 }

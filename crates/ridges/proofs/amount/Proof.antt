@@ -1,22 +1,16 @@
-use mathlib.Core.Path.{sym}
-use Prim.Native.Nat.{_<_, _*_, min}
-use Rattle.ridges.specs.Codes.{amountOf}
+-- `amount` meets its contract. The loop's invariant: the first i places are counted. The measure is what is left of them.
+use mathlib.Core.Path.{_≡_, _∙_}
+use Prim.Native.Nat.{_<_, _-_}
 use borrow.Author.Needs.{needs}
-use mathlib.Core.Path.{_≡_, refl, ap, _∙_}
 use mathlib.Core.List.{[]}
 use mathlib.Core.Logic.{⊎-elim}
-use Prim.Native.Nat.{_-_}
 use native.Mathlib.Omega.{arith}
 use lib.ListN.{length, getD}
 use Rattle.pool.specs.Pool.{closed}
-use Rattle.ridges.proofs.Numbers.{length-asks, length-read, item-asks, item-read}
+use Rattle.ridges.proofs.Numbers.{length-read, item-asks, item-read}
 use Rattle.ridges.proofs.Tables.{Adding, adding-start, adding-joins, adding-stays, total-small, adding-end}
 use Rattle.ridges.proofs.amount.Statement.{statement}
 use Rattle.ridges.proofs.amount.Tie as tie
-use Rattle.ridges.proofs.amount.Reads as reads
-use Rattle.ridges.proofs.amount.Lts as lts
-use Rattle.pool.proofs.item_u32.Reads as item-u32-reads
-use Rattle.pool.proofs.list_length.Reads as list-length-reads
 
 abbrev Inv-loop : tie.InvT-loop
 Inv-loop shares x ridge n places₀ last₀ i₀ places last i = (n ≡ length (getD (closed 4 1024 shares) x [])) × Adding (getD (closed 4 1024 shares) x []) ridge places last i
@@ -24,39 +18,30 @@ Inv-loop shares x ridge n places₀ last₀ i₀ places last i = (n ≡ length (
 abbrev μ-loop : tie.MeasureT-loop
 μ-loop shares x ridge n places₀ last₀ i₀ places last i = n - i
 
--- src/lib.rt:167:13
 list-length-requires : tie.Need-list-length-requires Inv-loop μ-loop
 list-length-requires c κs = search needs
 
--- src/lib.rt:167:13
 cast-n : tie.Need-cast-n Inv-loop μ-loop
 cast-n c = search needs
 
--- src/lib.rt:171:5
 loop-holds : tie.Need-loop-holds Inv-loop μ-loop
 loop-holds c = let s = c .before .before in (c .list-length .ensures ∙ length-read 4 1024 _ (s .pre .0) (s .args .x) (s .pre .1), adding-start _ _)
 
--- src/lib.rt:172:20
 item-u32-requires : tie.Need-item-u32-requires Inv-loop μ-loop
 item-u32-requires c κs = let s = c .before .before .before .before in let l = c .before .loop in item-asks 4 1024 _ (s .pre .0) (s .args .x) (s .pre .1) (l .i) (omega (arith, l .inv .0, c .loop-test .taken))
 
--- src/lib.rt:172:20
 cast-code : tie.Need-cast-code Inv-loop μ-loop
 cast-code c = search needs
 
--- src/lib.rt:174:13
 add-places : tie.Need-add-places Inv-loop μ-loop
 add-places c = search needs
 
--- src/lib.rt:177:9
 add-i : tie.Need-add-i Inv-loop μ-loop
 add-i c = search needs
 
--- src/lib.rt:171:5
 loop-less : tie.Need-loop-less Inv-loop μ-loop
 loop-less c = search needs
 
--- src/lib.rt:171:5
 loop-again : tie.Need-loop-again Inv-loop μ-loop
 loop-again c = let s = c .before .before .before .before .before .before in let l = c .before .before .before .loop in
     let h : l .i < length (getD (closed 4 1024 (s .args .shares .now)) (s .args .x) []) = omega (arith, l .inv .0, c .before .before .loop-test .taken) in
@@ -68,15 +53,12 @@ loop-again c = let s = c .before .before .before .before .before .before in let 
           (c .if1 .came),
     )
 
--- src/lib.rt:179:17
 mul-total : tie.Need-mul-total Inv-loop μ-loop
 mul-total c = let l = c .before .loop in omega (arith, total-small (l .inv .1) (omega (arith, l .inv .0, c .before .before .list-length .ok)))
 
--- src/lib.rt:163:1
 returns : tie.Need-returns Inv-loop μ-loop
 returns c = let l = c .before .before .loop in let e = adding-end (l .inv .1) (omega (arith, l .inv .0, c .before .loop-test .left)) in omega (arith, e, c .if2 .taken)
 
--- src/lib.rt:163:1
 returns-2 : tie.Need-returns-2 Inv-loop μ-loop
 returns-2 c = let l = c .before .before .loop in let e = adding-end (l .inv .1) (omega (arith, l .inv .0, c .before .loop-test .left)) in omega (arith, e, c .if2 .left)
 

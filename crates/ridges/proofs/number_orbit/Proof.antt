@@ -1,26 +1,16 @@
-use mathlib.Core.Path.{refl, ap, _∙_}
-use Prim.Native.Nat.{ℕ, _%_, _<_}
-use Rattle.ridges.specs.Areas.{area-kept}
+-- `number_orbit` meets its contract. The loop's invariant: the first i ridges are numbered. The measure is what is left of them.
+use mathlib.Core.Path.{ap, _∙_, _≡_}
+use Prim.Native.Nat.{ℕ, _%_, _<_, _-_}
+use Rattle.ridges.specs.Areas.{area-kept, area}
 use Rattle.ridges.proofs.Images.{sent-small}
-use Rattle.ridges.proofs.Numbers.{length-read, item-asks, item-read, numbers-start, turn-asks, turn-push, turn-more, turn-end-asks, turn-end}
+use Rattle.ridges.proofs.Numbers.{length-read, item-asks, item-read, numbers-start, turn-asks, turn-push, turn-more, turn-end-asks, turn-end, Numbers}
 use borrow.Author.Needs.{needs}
-use mathlib.Core.Path.{_≡_}
 use mathlib.Core.List.{[]}
-use Prim.Native.Nat.{_-_}
 use native.Mathlib.Omega.{arith}
 use lib.ListN.{length, getD}
 use Rattle.pool.specs.Pool.{closed}
-use Rattle.ridges.specs.Areas.{area}
-use Rattle.ridges.proofs.Numbers.{Numbers}
 use Rattle.ridges.proofs.number_orbit.Statement.{statement}
 use Rattle.ridges.proofs.number_orbit.Tie as tie
-use Rattle.ridges.proofs.number_orbit.Reads as reads
-use Rattle.ridges.proofs.number_orbit.Lts as lts
-use Rattle.pool.proofs.end_list.Reads as end-list-reads
-use Rattle.pool.proofs.item_u32.Reads as item-u32-reads
-use Rattle.pool.proofs.list_length.Reads as list-length-reads
-use Rattle.pool.proofs.push_u16.Reads as push-u16-reads
-use Rattle.ridges.proofs.number_ridge.Reads as number-ridge-reads
 
 abbrev Inv-loop : tie.InvT-loop
 Inv-loop rows m o marks₀ counts₀ known ws₀ ridges places numbers shares n reached₀ i₀ marks counts ws reached i =
@@ -30,53 +20,41 @@ abbrev μ-loop : tie.MeasureT-loop
 μ-loop rows m o marks₀ counts₀ known ws₀ ridges places numbers shares n reached₀ i₀ marks counts ws reached i =
     n - i
 
--- src/lib.rt:119:31
 sub-list-length : tie.Need-sub-list-length Inv-loop μ-loop
 sub-list-length c = search needs
 
--- src/lib.rt:119:31
 part-list-length-start : tie.Need-part-list-length-start Inv-loop μ-loop
 part-list-length-start c = search needs
 
--- src/lib.rt:119:31
 part-list-length-end : tie.Need-part-list-length-end Inv-loop μ-loop
 part-list-length-end c = search needs
 
--- src/lib.rt:119:13
 list-length-requires : tie.Need-list-length-requires Inv-loop μ-loop
 list-length-requires c κs = search needs
 
--- src/lib.rt:119:13
 cast-n : tie.Need-cast-n Inv-loop μ-loop
 cast-n c = search needs
 
--- src/lib.rt:122:5
 loop-holds : tie.Need-loop-holds Inv-loop μ-loop
 loop-holds c = let s = c .before .before .before .before .before in (c .list-length .ensures ∙ length-read 4 256 _ (s .pre .0 .sound) (s .args .o) (s .pre .1), numbers-start (s .pre .2) _ _ _)
 
--- src/lib.rt:123:35
 sub-item-u32 : tie.Need-sub-item-u32 Inv-loop μ-loop
 sub-item-u32 c = search needs
 
--- src/lib.rt:123:35
 part-item-u32-start : tie.Need-part-item-u32-start Inv-loop μ-loop
 part-item-u32-start c = search needs
 
--- src/lib.rt:123:35
 part-item-u32-end : tie.Need-part-item-u32-end Inv-loop μ-loop
 part-item-u32-end c = let s = c .before .before .before .before .before .before .before .before in let l = c .before .before .loop in omega (arith, l .inv .1 .long, s .pre .0 .before, s .pre .0 .inside)
 
--- src/lib.rt:123:13
 item-u32-requires : tie.Need-item-u32-requires Inv-loop μ-loop
 item-u32-requires c κs = let s = c .before .before .before .before .before .before .before .before .before in let l = c .before .before .before .loop in
     let e = area-kept (s .args .desk .numbers) (s .args .shelf .ridges) (s .args .shelf .places) (s .args .ws .now) (l .ws) (l .inv .1 .front) (s .pre .0 .order) (s .pre .0 .before) in
     rw e (item-asks 4 256 _ (s .pre .0 .sound) (s .args .o) (s .pre .1) (l .i) (omega (arith, l .inv .0)))
 
--- src/lib.rt:124:39
 cast-number-ridge : tie.Need-cast-number-ridge Inv-loop μ-loop
 cast-number-ridge c = search needs
 
--- src/lib.rt:124:13
 number-ridge-requires : tie.Need-number-ridge-requires Inv-loop μ-loop
 number-ridge-requires c κs = let s = c .before .before .before .before .before .before .before .before .before .before .before .before in let l = c .before .before .before .before .before .before .loop in
     let e = area-kept (s .args .desk .numbers) (s .args .shelf .ridges) (s .args .shelf .places) (s .args .ws .now) (l .ws) (l .inv .1 .front) (s .pre .0 .order) (s .pre .0 .before) in
@@ -86,31 +64,24 @@ number-ridge-requires c κs = let s = c .before .before .before .before .before 
     let t = rw (← k) at (s .pre .0 .sent (s .args .o) (l .i) h) in
     (s .pre .0 .rows-fit, s .pre .0 .rows-few, sent-small _ t, t, turn-asks (s .pre .2) (l .inv .1) h _ k (s .pre .3 .0) (s .pre .3 .1) (s .pre .3 .2))
 
--- src/lib.rt:126:24
 sub-push-u16 : tie.Need-sub-push-u16 Inv-loop μ-loop
 sub-push-u16 c = search needs
 
--- src/lib.rt:126:24
 part-push-u16-start : tie.Need-part-push-u16-start Inv-loop μ-loop
 part-push-u16-start c = search needs
 
--- src/lib.rt:126:24
 part-push-u16-end : tie.Need-part-push-u16-end Inv-loop μ-loop
 part-push-u16-end c = let s = c .before .before .before .before .before .before .before .before .before .before .before .before .before in let l = c .before .before .before .before .before .before .before .loop in omega (arith, l .inv .1 .long, s .pre .2 .space .inside)
 
--- src/lib.rt:126:9
 push-u16-requires : tie.Need-push-u16-requires Inv-loop μ-loop
 push-u16-requires c κs = let s = c .before .before .before .before .before .before .before .before .before .before .before .before .before .before in let l = c .before .before .before .before .before .before .before .before .loop in turn-push (s .pre .2) (l .inv .1) (omega (arith, l .inv .0, c .before .before .before .before .before .before .before .loop-test .taken)) (s .pre .3 .0) (s .pre .3 .1)
 
--- src/lib.rt:127:9
 add-i : tie.Need-add-i Inv-loop μ-loop
 add-i c = search needs
 
--- src/lib.rt:122:5
 loop-less : tie.Need-loop-less Inv-loop μ-loop
 loop-less c = search needs
 
--- src/lib.rt:122:5
 loop-again : tie.Need-loop-again Inv-loop μ-loop
 loop-again c = let s = c .before .before .before .before .before .before .before .before .before .before .before .before .before .before .before .before .before in let l = c .before .before .before .before .before .before .before .before .before .before .before .loop in
     let e = area-kept (s .args .desk .numbers) (s .args .shelf .ridges) (s .args .shelf .places) (s .args .ws .now) (l .ws) (l .inv .1 .front) (s .pre .0 .order) (s .pre .0 .before) in
@@ -119,27 +90,21 @@ loop-again c = let s = c .before .before .before .before .before .before .before
     let k = ap (λ (x : ℕ). x % 65536) v in
     (l .inv .0, turn-more (s .pre .2) (l .inv .1) h _ k _ (omega (arith, c .before .before .before .before .number-ridge .ok)) _ _ _ (c .before .before .before .before .number-ridge .ensures) _ (c .before .before .push-u16 .ensures) (s .pre .3 .0) (s .pre .3 .1))
 
--- src/lib.rt:129:20
 sub-end-list : tie.Need-sub-end-list Inv-loop μ-loop
 sub-end-list c = search needs
 
--- src/lib.rt:129:20
 part-end-list-start : tie.Need-part-end-list-start Inv-loop μ-loop
 part-end-list-start c = search needs
 
--- src/lib.rt:129:20
 part-end-list-end : tie.Need-part-end-list-end Inv-loop μ-loop
 part-end-list-end c = let s = c .before .before .before .before .before .before .before in let l = c .before .loop in omega (arith, l .inv .1 .long, s .pre .2 .space .inside)
 
--- src/lib.rt:129:5
 end-list-requires : tie.Need-end-list-requires Inv-loop μ-loop
 end-list-requires c κs = let s = c .before .before .before .before .before .before .before .before in let l = c .before .before .loop in turn-end-asks (s .pre .2) (l .inv .1) (omega (arith, l .inv .0, c .before .loop-test .left)) (s .pre .3 .0) (s .pre .3 .1)
 
--- src/lib.rt:101:1
 same-length : tie.Need-same-length Inv-loop μ-loop
 same-length c = search needs
 
--- src/lib.rt:101:1
 returns : tie.Need-returns Inv-loop μ-loop
 returns c = λ keys st few. let s = c .before .before .before .before .before .before .before .before .before .before .before in let l = c .before .before .before .before .before .loop in turn-end (s .pre .2) (l .inv .1) (omega (arith, l .inv .0, c .before .before .before .before .loop-test .left)) _ (c .before .before .end-list .ensures) keys st
 

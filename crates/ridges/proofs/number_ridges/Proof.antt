@@ -1,18 +1,12 @@
+-- `number_ridges` meets its contract. The loop's invariant: the first o orbits are numbered. The measure is what is left of them.
 use Rattle.ridges.specs.Areas.{clear-kept, clear-holds}
-use Rattle.ridges.proofs.Numbers.{begun, orbits-start, orbit-asks, orbits-more, orbits-end}
+use Rattle.ridges.proofs.Numbers.{begun, orbits-start, orbit-asks, orbits-more, orbits-end, Begun, Orbits}
 use borrow.Author.Needs.{needs}
-use mathlib.Core.Path.{_≡_, refl, ap, _∙_}
+use mathlib.Core.Path.{_≡_, refl}
 use Prim.Native.Nat.{_-_}
-use native.Mathlib.Omega.{arith}
 use lib.ListN.{length}
-use Rattle.ridges.specs.Areas.{area}
-use Rattle.ridges.proofs.Numbers.{Begun, Orbits}
 use Rattle.ridges.proofs.number_ridges.Statement.{statement}
 use Rattle.ridges.proofs.number_ridges.Tie as tie
-use Rattle.ridges.proofs.number_ridges.Reads as reads
-use Rattle.ridges.proofs.number_ridges.Lts as lts
-use Rattle.pool.proofs.clear.Reads as clear-reads
-use Rattle.ridges.proofs.number_orbit.Reads as number-orbit-reads
 
 abbrev Inv-loop : tie.InvT-loop
 Inv-loop rows m shelf desk counts₀ ws₀ numbers shares marks₀ orbits known₀ o₀ counts ws marks known o =
@@ -22,47 +16,36 @@ abbrev μ-loop : tie.MeasureT-loop
 μ-loop rows m shelf desk counts₀ ws₀ numbers shares marks₀ orbits known₀ o₀ counts ws marks known o =
     orbits - o
 
--- src/lib.rt:147:17
 sub-clear : tie.Need-sub-clear Inv-loop μ-loop
 sub-clear c = search needs
 
--- src/lib.rt:147:17
 part-clear-start : tie.Need-part-clear-start Inv-loop μ-loop
 part-clear-start c = search needs
 
--- src/lib.rt:147:17
 part-clear-end : tie.Need-part-clear-end Inv-loop μ-loop
 part-clear-end c = search needs
 
--- src/lib.rt:147:5
 clear-requires : tie.Need-clear-requires Inv-loop μ-loop
 clear-requires c κs = search needs
 
--- src/lib.rt:152:5
 loop-holds : tie.Need-loop-holds Inv-loop μ-loop
 loop-holds c = let s = c .before .before .before .before .before .before in let b = begun (s .args .ws .now) (s .pre .0) (s .pre .1) (s .pre .3) (s .pre .4) _ (c .before .before .clear .ensures) in (b, orbits-start b _ (s .pre .2), refl)
 
--- src/lib.rt:153:9
 number-orbit-requires : tie.Need-number-orbit-requires Inv-loop μ-loop
 number-orbit-requires c κs = let l = c .before .before .before .before .loop in orbit-asks (l .inv .0) (l .inv .1) (c .before .before .before .loop-test .taken)
 
--- src/lib.rt:154:9
 add-o : tie.Need-add-o Inv-loop μ-loop
 add-o c = search needs
 
--- src/lib.rt:152:5
 loop-less : tie.Need-loop-less Inv-loop μ-loop
 loop-less c = search needs
 
--- src/lib.rt:152:5
 loop-again : tie.Need-loop-again Inv-loop μ-loop
 loop-again c = let l = c .before .before .before .before .before .before .before .loop in let o = orbits-more (l .inv .0) (l .inv .1) (c .before .before .before .before .before .before .loop-test .taken) (c .before .before .number-orbit .ensures) in (l .inv .0, o, o .grown .long)
 
--- src/lib.rt:134:1
 same-length : tie.Need-same-length Inv-loop μ-loop
 same-length c = search needs
 
--- src/lib.rt:134:1
 returns : tie.Need-returns Inv-loop μ-loop
 returns c = let s = c .before .before .before .before .before .before .before .before in let l = c .before .loop in let e = c .before .before .before .before .clear .ensures in
     let k = clear-kept (s .args .ws .now) (s .pre .3) _ e in

@@ -1,7 +1,8 @@
+-- `ones_of_facet` meets its contract. The loop's invariant: the shares of 1 among the first i places are pushed. The measure is what is left of them.
 use Rattle.ridges.proofs.Numbers.{length-read, item-asks, item-read}
 use Rattle.ridges.proofs.Tables.{ones-start, ones-asks, ones-joins, ones-stays, ones-end}
 use borrow.Author.Needs.{needs}
-use mathlib.Core.Path.{_≡_, refl, sym, ap, _∙_}
+use mathlib.Core.Path.{_≡_, refl, _∙_}
 use mathlib.Core.List.{[]}
 use mathlib.Core.Logic.{⊎-elim}
 use Prim.Native.Nat.{_-_, _≤_, _<_}
@@ -12,11 +13,6 @@ use Rattle.ridges.specs.Areas.{area, Joined, area-kept}
 use Rattle.ridges.specs.Codes.{onesIn}
 use Rattle.ridges.proofs.ones_of_facet.Statement.{statement}
 use Rattle.ridges.proofs.ones_of_facet.Tie as tie
-use Rattle.ridges.proofs.ones_of_facet.Reads as reads
-use Rattle.ridges.proofs.ones_of_facet.Lts as lts
-use Rattle.pool.proofs.item_u32.Reads as item-u32-reads
-use Rattle.pool.proofs.list_length.Reads as list-length-reads
-use Rattle.pool.proofs.push_u16.Reads as push-u16-reads
 
 abbrev Inv-loop : tie.InvT-loop
 Inv-loop ws₀ ridges ridge x shares touched ones frames n i₀ ws i =
@@ -26,73 +22,56 @@ abbrev μ-loop : tie.MeasureT-loop
 μ-loop ws₀ ridges ridge x shares touched ones frames n i₀ ws i =
     n - i
 
--- src/lib.rt:226:31
 sub-list-length : tie.Need-sub-list-length Inv-loop μ-loop
 sub-list-length c = search needs
 
--- src/lib.rt:226:31
 part-list-length-start : tie.Need-part-list-length-start Inv-loop μ-loop
 part-list-length-start c = search needs
 
--- src/lib.rt:226:31
 part-list-length-end : tie.Need-part-list-length-end Inv-loop μ-loop
 part-list-length-end c = search needs
 
--- src/lib.rt:226:13
 list-length-requires : tie.Need-list-length-requires Inv-loop μ-loop
 list-length-requires c κs = search needs
 
--- src/lib.rt:226:13
 cast-n : tie.Need-cast-n Inv-loop μ-loop
 cast-n c = search needs
 
--- src/lib.rt:228:5
 loop-holds : tie.Need-loop-holds Inv-loop μ-loop
 loop-holds c = let s = c .before .before .before .before in (refl, c .list-length .ensures ∙ length-read 4 1024 _ (s .pre .2) (s .args .x) (s .pre .3), omega arith, ones-start _ _ _ (s .pre .6))
 
--- src/lib.rt:229:35
 sub-item-u32 : tie.Need-sub-item-u32 Inv-loop μ-loop
 sub-item-u32 c = search needs
 
--- src/lib.rt:229:35
 part-item-u32-start : tie.Need-part-item-u32-start Inv-loop μ-loop
 part-item-u32-start c = search needs
 
--- src/lib.rt:229:35
 part-item-u32-end : tie.Need-part-item-u32-end Inv-loop μ-loop
 part-item-u32-end c = search needs
 
--- src/lib.rt:229:20
 item-u32-requires : tie.Need-item-u32-requires Inv-loop μ-loop
 item-u32-requires c κs = let s = c .before .before .before .before .before .before .before .before in let l = c .before .before .before .loop in
     let e = area-kept (s .args .desk .ones) (s .args .desk .shares) (s .args .desk .touched) (s .args .ws .now) (l .ws) (l .inv .3 .front) (s .pre .0) (s .pre .1) in
     rw e (item-asks 4 1024 _ (s .pre .2) (s .args .x) (s .pre .3) (l .i) (omega (arith, l .inv .1, c .before .before .loop-test .taken)))
 
--- src/lib.rt:229:20
 cast-code : tie.Need-cast-code Inv-loop μ-loop
 cast-code c = search needs
 
--- src/lib.rt:230:12
 add-if1 : tie.Need-add-if1 Inv-loop μ-loop
 add-if1 c = search needs
 
--- src/lib.rt:231:28
 sub-push-u16 : tie.Need-sub-push-u16 Inv-loop μ-loop
 sub-push-u16 c = search needs
 
--- src/lib.rt:231:28
 part-push-u16-start : tie.Need-part-push-u16-start Inv-loop μ-loop
 part-push-u16-start c = search needs
 
--- src/lib.rt:231:28
 part-push-u16-end : tie.Need-part-push-u16-end Inv-loop μ-loop
 part-push-u16-end c = search needs
 
--- src/lib.rt:231:59
 cast-push-u16 : tie.Need-cast-push-u16 Inv-loop μ-loop
 cast-push-u16 c = search needs
 
--- src/lib.rt:231:13
 push-u16-requires : tie.Need-push-u16-requires Inv-loop μ-loop
 push-u16-requires c κs = let s = c .before .before .before .before .before .before .before .before .before .before .before in let l = c .before .before .before .before .before .before .loop in
     let e = area-kept (s .args .desk .ones) (s .args .desk .shares) (s .args .desk .touched) (s .args .ws .now) (l .ws) (l .inv .3 .front) (s .pre .0) (s .pre .1) in
@@ -100,15 +79,12 @@ push-u16-requires c κs = let s = c .before .before .before .before .before .bef
     let v = rw e at (c .before .before .item-u32 .ensures) ∙ item-read 4 1024 _ (s .pre .2) (s .args .x) (s .pre .3) (l .i) h in
     ones-asks (s .args .ridge) (s .args .x) _ (s .pre .6) (l .i) (l .inv .3) h _ v (c .before .if1 .taken)
 
--- src/lib.rt:233:9
 add-i : tie.Need-add-i Inv-loop μ-loop
 add-i c = search needs
 
--- src/lib.rt:228:5
 loop-less : tie.Need-loop-less Inv-loop μ-loop
 loop-less c = search needs
 
--- src/lib.rt:228:5
 loop-again : tie.Need-loop-again Inv-loop μ-loop
 loop-again c = let s = c .before .before .before .before .before .before .before .before .before .before in let l = c .before .before .before .before .before .loop in
     let e = area-kept (s .args .desk .ones) (s .args .desk .shares) (s .args .desk .touched) (s .args .ws .now) (l .ws) (l .inv .3 .front) (s .pre .0) (s .pre .1) in
@@ -119,11 +95,9 @@ loop-again c = let s = c .before .before .before .before .before .before .before
     (λ w. let j = ones-stays (s .args .ridge) (s .args .x) _ (s .pre .6) (l .i) (l .inv .3) h _ v (w .0 .left) in rw (w .1) (j .long, l .inv .1, omega arith, j))
     (c .if1 .came)
 
--- src/lib.rt:218:1
 same-length : tie.Need-same-length Inv-loop μ-loop
 same-length c = search needs
 
--- src/lib.rt:218:1
 returns : tie.Need-returns Inv-loop μ-loop
 returns c = let s = c .before .before .before .before .before .before in let l = c .before .loop in ones-end (s .args .ridge) (s .args .x) _ (s .pre .6) (l .i) (l .inv .3) (omega (arith, l .inv .1, c .loop-test .left))
 

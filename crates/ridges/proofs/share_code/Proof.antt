@@ -1,3 +1,4 @@
+-- `share_code` meets its contract: what it reads stands there, and the numbers stay small.
 use native.Mathlib.Omega.{arith}
 use Rattle.ridges.proofs.Sharing.{orbit-few, orbit-asks, ridge-asks, number-asks, ridge-inside, product-small, part-small, code-made, code-none}
 use lib.ListN.{getD}
@@ -5,109 +6,79 @@ use mathlib.Core.Path.{refl}
 use borrow.Author.Needs.{needs}
 use Rattle.ridges.proofs.share_code.Statement.{statement}
 use Rattle.ridges.proofs.share_code.Tie as tie
-use Rattle.ridges.proofs.share_code.Reads as reads
-use Rattle.ridges.proofs.share_code.Lts as lts
-use Rattle.pool.proofs.item_u16.Reads as item-u16-reads
-use Rattle.pool.proofs.item_u32.Reads as item-u32-reads
-use Rattle.words.proofs.get_u32.Reads as get-u32-reads
 
--- src/lib.rt:179:30
 sub-get-u32 : tie.Need-sub-get-u32
 sub-get-u32 c = search needs
 
--- src/lib.rt:179:30
 part-get-u32-start : tie.Need-part-get-u32-start
 part-get-u32-start c = search needs
 
--- src/lib.rt:179:30
 part-get-u32-end : tie.Need-part-get-u32-end
 part-get-u32-end c = search needs
 
--- src/lib.rt:179:44
 mul-get-u32 : tie.Need-mul-get-u32
 mul-get-u32 c = let s = c .before .before .before in omega (arith, orbit-few (s .args .shelf) (s .args .desk) (s .args .ws .now) (s .args .counts .now) (s .pre .0) (s .pre .1) (s .args .o) (s .pre .2))
 
--- src/lib.rt:179:44
 add-get-u32 : tie.Need-add-get-u32
 add-get-u32 c = let s = c .before .before .before in omega (arith, orbit-few (s .args .shelf) (s .args .desk) (s .args .ws .now) (s .args .counts .now) (s .pre .0) (s .pre .1) (s .args .o) (s .pre .2))
 
--- src/lib.rt:179:9
 get-u32-requires : tie.Need-get-u32-requires
 get-u32-requires c κs = let s = c .before .before .before in orbit-asks (s .args .shelf) (s .args .desk) (s .args .ws .now) (s .args .counts .now) (s .pre .0) (s .pre .1) (s .args .o) (s .pre .2)
 
--- src/lib.rt:180:32
 sub-item-u32 : tie.Need-sub-item-u32
 sub-item-u32 c = search needs
 
--- src/lib.rt:180:32
 part-item-u32-start : tie.Need-part-item-u32-start
 part-item-u32-start c = search needs
 
--- src/lib.rt:180:32
 part-item-u32-end : tie.Need-part-item-u32-end
 part-item-u32-end c = search needs
 
--- src/lib.rt:180:17
 item-u32-requires : tie.Need-item-u32-requires
 item-u32-requires c κs = let s = c .before .before .before .before .before in ridge-asks (s .args .shelf) (s .args .desk) (s .args .ws .now) (s .args .counts .now) (s .pre .0) (s .pre .1) (s .args .o) (s .pre .2) (s .args .a) (s .pre .3)
 
--- src/lib.rt:181:32
 sub-item-u16 : tie.Need-sub-item-u16
 sub-item-u16 c = search needs
 
--- src/lib.rt:181:32
 part-item-u16-start : tie.Need-part-item-u16-start
 part-item-u16-start c = search needs
 
--- src/lib.rt:181:32
 part-item-u16-end : tie.Need-part-item-u16-end
 part-item-u16-end c = search needs
 
--- src/lib.rt:181:9
 item-u16-requires : tie.Need-item-u16-requires
 item-u16-requires c κs = let s = c .before .before .before .before .before .before .before in number-asks (s .args .shelf) (s .args .desk) (s .args .ws .now) (s .args .counts .now) (s .pre .0) (s .pre .1) (s .args .o) (s .pre .2) (s .args .a) (s .pre .3)
 
--- src/lib.rt:182:22
 cast-all : tie.Need-cast-all
 cast-all c = search needs
 
--- src/lib.rt:182:15
 mul-all : tie.Need-mul-all
 mul-all c = search needs
 
--- src/lib.rt:182:15
 shared-slice-read-all : tie.Need-shared-slice-read-all
 shared-slice-read-all c = let s = c .before .before .before .before .before .before .before .before .before in omega (arith, ridge-inside (s .args .shelf) (s .args .desk) (s .args .ws .now) (s .args .counts .now) (s .pre .0) (s .pre .1) (s .args .o) (s .pre .2) (s .args .a) (s .pre .3) _ _ _ (c .before .before .before .before .before .get-u32 .ensures) (c .before .before .before .item-u32 .ensures) (c .before .item-u16 .ensures))
 
--- src/lib.rt:184:16
 cast-result : tie.Need-cast-result
 cast-result c = search needs
 
--- src/lib.rt:184:9
 returns : tie.Need-returns
 returns c = let s = c .before .before .before .before .before .before .before .before .before .before in code-none (s .args .shelf) (s .args .desk) (s .args .ws .now) (s .args .counts .now) (s .pre .0) (s .pre .1) (s .args .o) (s .pre .2) (s .args .a) (s .pre .3) _ _ _ (c .before .before .before .before .before .before .get-u32 .ensures) (c .before .before .before .before .item-u32 .ensures) (c .before .before .item-u16 .ensures) _ refl (c .if1 .taken)
 
--- src/lib.rt:186:5
 cast-result-2 : tie.Need-cast-result-2
 cast-result-2 c = search needs
 
--- src/lib.rt:186:29
 mul-result : tie.Need-mul-result
 mul-result c = let s = c .before .before .before .before .before .before .before .before .before .before in omega (arith, product-small (s .args .shelf) (s .args .desk) (s .args .ws .now) (s .args .counts .now) (s .pre .0) (s .pre .1) (s .args .o) (s .pre .2) (s .args .a) (s .pre .3) _ _ _ (c .before .before .before .before .before .before .get-u32 .ensures) (c .before .before .before .before .item-u32 .ensures) (c .before .before .item-u16 .ensures))
 
--- src/lib.rt:186:29
 div-result : tie.Need-div-result
 div-result c = search needs
 
--- src/lib.rt:186:20
 mul-result-2 : tie.Need-mul-result-2
 mul-result-2 c = let s = c .before .before .before .before .before .before .before .before .before .before in omega (arith, part-small (s .args .shelf) (s .args .desk) (s .args .ws .now) (s .args .counts .now) (s .pre .0) (s .pre .1) (s .args .o) (s .pre .2) (s .args .a) (s .pre .3) _ _ _ (c .before .before .before .before .before .before .get-u32 .ensures) (c .before .before .before .before .item-u32 .ensures) (c .before .before .item-u16 .ensures) (getD (s .args .counts .now) (c .before .before .item-u16 .result) 0))
 
--- src/lib.rt:186:5
 add-result : tie.Need-add-result
 add-result c = let s = c .before .before .before .before .before .before .before .before .before .before in omega (arith, c .before .before .item-u16 .ok, part-small (s .args .shelf) (s .args .desk) (s .args .ws .now) (s .args .counts .now) (s .pre .0) (s .pre .1) (s .args .o) (s .pre .2) (s .args .a) (s .pre .3) _ _ _ (c .before .before .before .before .before .before .get-u32 .ensures) (c .before .before .before .before .item-u32 .ensures) (c .before .before .item-u16 .ensures) (getD (s .args .counts .now) (c .before .before .item-u16 .result) 0))
 
--- src/lib.rt:164:1
 returns-2 : tie.Need-returns-2
 returns-2 c = let s = c .before .before .before .before .before .before .before .before .before .before in code-made (s .args .shelf) (s .args .desk) (s .args .ws .now) (s .args .counts .now) (s .pre .0) (s .pre .1) (s .args .o) (s .pre .2) (s .args .a) (s .pre .3) _ _ _ (c .before .before .before .before .before .before .get-u32 .ensures) (c .before .before .before .before .item-u32 .ensures) (c .before .before .item-u16 .ensures) _ refl
 

@@ -1,24 +1,15 @@
-use Rattle.ridges.specs.Areas.{area-kept, end-asks}
-use Rattle.ridges.specs.Shares.{sources-kept}
+-- `share_facet` meets its contract. The loop's invariant: the shares of the first i places are pushed. The measure is what is left of them.
+use Rattle.ridges.specs.Areas.{area-kept, end-asks, Joined}
+use Rattle.ridges.specs.Shares.{sources-kept, sourcesOf, ownerOf, placesIn, codeAt}
 use Rattle.ridges.proofs.Sharing.{owner-asks, owner-is, facet-length-asks, facet-length, place-asks, place-is, place-requires, codes-start, codes-asks, codes-push, codes-end}
 use borrow.Author.Needs.{needs}
-use mathlib.Core.Path.{_≡_, refl, sym, ap, _∙_}
+use mathlib.Core.Path.{_≡_, refl}
 use mathlib.Core.List.{map}
 use Prim.Native.Nat.{_-_, _≤_, _<_}
 use native.Mathlib.Omega.{arith}
-use lib.ListN.{length, getD, take}
-use Rattle.ridges.specs.Areas.{Joined}
-use Rattle.ridges.specs.Shares.{sourcesOf, ownerOf, placesIn, codeAt}
+use lib.ListN.{length, take}
 use Rattle.ridges.proofs.share_facet.Statement.{statement}
 use Rattle.ridges.proofs.share_facet.Tie as tie
-use Rattle.ridges.proofs.share_facet.Reads as reads
-use Rattle.ridges.proofs.share_facet.Lts as lts
-use Rattle.pool.proofs.end_list.Reads as end-list-reads
-use Rattle.pool.proofs.item_u16.Reads as item-u16-reads
-use Rattle.pool.proofs.list_length.Reads as list-length-reads
-use Rattle.pool.proofs.push_u32.Reads as push-u32-reads
-use Rattle.ridges.proofs.share_code.Reads as share-code-reads
-use Rattle.words.proofs.get_u16.Reads as get-u16-reads
 
 abbrev Inv-loop : tie.InvT-loop
 Inv-loop ws₀ shelf desk counts x owners ridges places end shares touched o n i₀ ws i =
@@ -28,108 +19,83 @@ abbrev μ-loop : tie.MeasureT-loop
 μ-loop ws₀ shelf desk counts x owners ridges places end shares touched o n i₀ ws i =
     n - i
 
--- src/lib.rt:200:28
 sub-get-u16 : tie.Need-sub-get-u16 Inv-loop μ-loop
 sub-get-u16 c = search needs
 
--- src/lib.rt:200:28
 part-get-u16-start : tie.Need-part-get-u16-start Inv-loop μ-loop
 part-get-u16-start c = let s = c .before .before .before in omega (arith, s .pre .0 .orbits, s .pre .0 .owners, s .pre .0 .ridges, s .pre .0 .places, s .pre .0 .end, s .pre .0 .numbers, s .pre .0 .inside)
 
--- src/lib.rt:200:28
 part-get-u16-end : tie.Need-part-get-u16-end Inv-loop μ-loop
 part-get-u16-end c = let s = c .before .before .before in omega (arith, s .pre .0 .orbits, s .pre .0 .owners, s .pre .0 .ridges, s .pre .0 .places, s .pre .0 .end, s .pre .0 .numbers, s .pre .0 .inside)
 
--- src/lib.rt:200:49
 mul-get-u16 : tie.Need-mul-get-u16 Inv-loop μ-loop
 mul-get-u16 c = let s = c .before .before .before .before in omega (arith, s .pre .2, s .pre .0 .orbits, s .pre .0 .owners, s .pre .0 .ridges, s .pre .0 .places, s .pre .0 .end, s .pre .0 .numbers, s .pre .0 .inside)
 
--- src/lib.rt:200:13
 get-u16-requires : tie.Need-get-u16-requires Inv-loop μ-loop
 get-u16-requires c κs = let s = c .before .before .before .before in owner-asks (s .args .shelf) (s .args .desk) (s .args .ws .now) (s .args .counts .now) (s .pre .0) (s .pre .1) (s .args .x) (s .pre .2)
 
--- src/lib.rt:200:13
 cast-o : tie.Need-cast-o Inv-loop μ-loop
 cast-o c = search needs
 
--- src/lib.rt:201:31
 sub-list-length : tie.Need-sub-list-length Inv-loop μ-loop
 sub-list-length c = let s = c .before .before .before .before .before in omega (arith, s .pre .0 .orbits, s .pre .0 .owners, s .pre .0 .ridges, s .pre .0 .places, s .pre .0 .end, s .pre .0 .numbers, s .pre .0 .inside)
 
--- src/lib.rt:201:31
 part-list-length-start : tie.Need-part-list-length-start Inv-loop μ-loop
 part-list-length-start c = let s = c .before .before .before .before .before .before in omega (arith, s .pre .0 .orbits, s .pre .0 .owners, s .pre .0 .ridges, s .pre .0 .places, s .pre .0 .end, s .pre .0 .numbers, s .pre .0 .inside)
 
--- src/lib.rt:201:31
 part-list-length-end : tie.Need-part-list-length-end Inv-loop μ-loop
 part-list-length-end c = let s = c .before .before .before .before .before .before in omega (arith, s .pre .0 .orbits, s .pre .0 .owners, s .pre .0 .ridges, s .pre .0 .places, s .pre .0 .end, s .pre .0 .numbers, s .pre .0 .inside)
 
--- src/lib.rt:201:13
 list-length-requires : tie.Need-list-length-requires Inv-loop μ-loop
 list-length-requires c κs = let s = c .before .before .before .before .before .before .before in facet-length-asks (s .args .shelf) (s .args .desk) (s .args .ws .now) (s .args .counts .now) (s .pre .0) (s .pre .1) (s .args .x) (s .pre .2)
 
--- src/lib.rt:201:13
 cast-n : tie.Need-cast-n Inv-loop μ-loop
 cast-n c = search needs
 
--- src/lib.rt:203:5
 loop-holds : tie.Need-loop-holds Inv-loop μ-loop
 loop-holds c = let s = c .before .before .before .before .before .before .before .before in (refl, owner-is (s .args .shelf) (s .args .desk) (s .args .ws .now) (s .args .counts .now) (s .pre .0) (s .pre .1) (s .args .x) (s .pre .2) _ (c .before .before .before .get-u16 .ensures), facet-length (s .args .shelf) (s .args .desk) (s .args .ws .now) (s .args .counts .now) (s .pre .0) (s .pre .1) (s .args .x) (s .pre .2) _ (c .list-length .ensures), omega arith, codes-start (sourcesOf (s .args .shelf) (s .args .desk) (s .args .ws .now)) (s .args .counts .now) (s .args .x) (s .pre .3))
 
--- src/lib.rt:204:32
 sub-item-u16 : tie.Need-sub-item-u16 Inv-loop μ-loop
 sub-item-u16 c = search needs
 
--- src/lib.rt:204:32
 part-item-u16-start : tie.Need-part-item-u16-start Inv-loop μ-loop
 part-item-u16-start c = let s = c .before .before .before .before .before .before .before .before .before .before .before in omega (arith, s .pre .0 .orbits, s .pre .0 .owners, s .pre .0 .ridges, s .pre .0 .places, s .pre .0 .end, s .pre .0 .numbers, s .pre .0 .inside)
 
--- src/lib.rt:204:32
 part-item-u16-end : tie.Need-part-item-u16-end Inv-loop μ-loop
 part-item-u16-end c = let s = c .before .before .before .before .before .before .before .before .before .before .before in let l = c .before .before .loop in omega (arith, l .inv .0, s .pre .0 .orbits, s .pre .0 .owners, s .pre .0 .ridges, s .pre .0 .places, s .pre .0 .end, s .pre .0 .numbers, s .pre .0 .inside)
 
--- src/lib.rt:204:17
 item-u16-requires : tie.Need-item-u16-requires Inv-loop μ-loop
 item-u16-requires c κs = let s = c .before .before .before .before .before .before .before .before .before .before .before .before in let l = c .before .before .before .loop in
     let e = area-kept (s .args .desk .shares) (s .args .shelf .places) (s .args .shelf .end) (s .args .ws .now) (l .ws) (l .inv .4 .front) (s .pre .0 .places) (omega (arith, s .pre .0 .orbits, s .pre .0 .owners, s .pre .0 .ridges, s .pre .0 .places, s .pre .0 .end, s .pre .0 .numbers, s .pre .0 .inside)) in
     rw e (place-asks (s .args .shelf) (s .args .desk) (s .args .ws .now) (s .args .counts .now) (s .pre .0) (s .pre .1) (s .args .x) (s .pre .2) (l .i) (omega (arith, l .inv .2, c .before .before .loop-test .taken)))
 
--- src/lib.rt:204:17
 cast-a : tie.Need-cast-a Inv-loop μ-loop
 cast-a c = search needs
 
--- src/lib.rt:205:13
 share-code-requires : tie.Need-share-code-requires Inv-loop μ-loop
 share-code-requires c κs = let s = c .before .before .before .before .before .before .before .before .before .before .before .before .before .before in let l = c .before .before .before .before .before .loop in
     let e = area-kept (s .args .desk .shares) (s .args .shelf .places) (s .args .shelf .end) (s .args .ws .now) (l .ws) (l .inv .4 .front) (s .pre .0 .places) (omega (arith, s .pre .0 .orbits, s .pre .0 .owners, s .pre .0 .ridges, s .pre .0 .places, s .pre .0 .end, s .pre .0 .numbers, s .pre .0 .inside)) in
     let h : l .i < length (placesIn (sourcesOf (s .args .shelf) (s .args .desk) (s .args .ws .now)) (s .args .x)) = omega (arith, l .inv .2, c .before .before .before .before .loop-test .taken) in
     place-requires (s .args .shelf) (s .args .desk) (s .args .ws .now) (s .args .counts .now) (s .pre .0) (s .pre .1) (s .args .x) (s .pre .2) (l .i) h (l .ws) (l .inv .0) (l .inv .4 .front) _ (l .inv .1) _ (place-is (s .args .shelf) (s .args .desk) (s .args .ws .now) (s .args .counts .now) (s .pre .0) (s .pre .1) (s .args .x) (s .pre .2) (l .i) h _ (rw e at (c .before .item-u16 .ensures)))
 
--- src/lib.rt:206:24
 sub-push-u32 : tie.Need-sub-push-u32 Inv-loop μ-loop
 sub-push-u32 c = search needs
 
--- src/lib.rt:206:24
 part-push-u32-start : tie.Need-part-push-u32-start Inv-loop μ-loop
 part-push-u32-start c = let s = c .before .before .before .before .before .before .before .before .before .before .before .before .before .before .before in omega (arith, s .pre .3 .space .order, s .pre .3 .space .inside)
 
--- src/lib.rt:206:24
 part-push-u32-end : tie.Need-part-push-u32-end Inv-loop μ-loop
 part-push-u32-end c = let s = c .before .before .before .before .before .before .before .before .before .before .before .before .before .before .before in let l = c .before .before .before .before .before .before .loop in omega (arith, l .inv .0, s .pre .3 .space .order, s .pre .3 .space .inside)
 
--- src/lib.rt:206:9
 push-u32-requires : tie.Need-push-u32-requires Inv-loop μ-loop
 push-u32-requires c κs = let s = c .before .before .before .before .before .before .before .before .before .before .before .before .before .before .before .before in let l = c .before .before .before .before .before .before .before .loop in codes-asks (sourcesOf (s .args .shelf) (s .args .desk) (s .args .ws .now)) (s .args .counts .now) (s .args .x) (s .pre .3) (l .i) (l .inv .4) (omega (arith, l .inv .2, c .before .before .before .before .before .before .loop-test .taken))
 
--- src/lib.rt:207:9
 add-i : tie.Need-add-i Inv-loop μ-loop
 add-i c = search needs
 
--- src/lib.rt:203:5
 loop-less : tie.Need-loop-less Inv-loop μ-loop
 loop-less c = search needs
 
--- src/lib.rt:203:5
 loop-again : tie.Need-loop-again Inv-loop μ-loop
 loop-again c = let s = c .before .before .before .before .before .before .before .before .before .before .before .before .before .before .before .before .before .before .before in let l = c .before .before .before .before .before .before .before .before .before .before .loop in
     let e = area-kept (s .args .desk .shares) (s .args .shelf .places) (s .args .shelf .end) (s .args .ws .now) (l .ws) (l .inv .4 .front) (s .pre .0 .places) (omega (arith, s .pre .0 .orbits, s .pre .0 .owners, s .pre .0 .ridges, s .pre .0 .places, s .pre .0 .end, s .pre .0 .numbers, s .pre .0 .inside)) in
@@ -140,27 +106,21 @@ loop-again c = let s = c .before .before .before .before .before .before .before
     let j = codes-push (sourcesOf (s .args .shelf) (s .args .desk) (s .args .ws .now)) (s .args .counts .now) (s .args .x) (s .pre .3) (l .i) (l .inv .4) h _ v (omega (arith, c .before .before .before .before .share-code .ok)) _ (c .before .before .push-u32 .ensures) in
     (j .long, l .inv .1, l .inv .2, omega arith, j)
 
--- src/lib.rt:209:20
 sub-end-list : tie.Need-sub-end-list Inv-loop μ-loop
 sub-end-list c = search needs
 
--- src/lib.rt:209:20
 part-end-list-start : tie.Need-part-end-list-start Inv-loop μ-loop
 part-end-list-start c = let s = c .before .before .before .before .before .before .before .before .before .before in omega (arith, s .pre .3 .space .order, s .pre .3 .space .inside)
 
--- src/lib.rt:209:20
 part-end-list-end : tie.Need-part-end-list-end Inv-loop μ-loop
 part-end-list-end c = let s = c .before .before .before .before .before .before .before .before .before .before in let l = c .before .loop in omega (arith, l .inv .0, s .pre .3 .space .order, s .pre .3 .space .inside)
 
--- src/lib.rt:209:5
 end-list-requires : tie.Need-end-list-requires Inv-loop μ-loop
 end-list-requires c κs = let s = c .before .before .before .before .before .before .before .before .before .before .before in let l = c .before .before .loop in end-asks (s .pre .3) (l .inv .4) (omega arith)
 
--- src/lib.rt:190:1
 same-length : tie.Need-same-length Inv-loop μ-loop
 same-length c = search needs
 
--- src/lib.rt:190:1
 returns : tie.Need-returns Inv-loop μ-loop
 returns c = let s = c .before .before .before .before .before .before .before .before .before .before .before .before .before .before in let l = c .before .before .before .before .before .loop in codes-end (sourcesOf (s .args .shelf) (s .args .desk) (s .args .ws .now)) (s .args .counts .now) (s .args .x) (s .pre .3) (l .i) (l .inv .4) (omega (arith, l .inv .2, c .before .before .before .before .loop-test .left)) _ (c .before .before .end-list .ensures)
 

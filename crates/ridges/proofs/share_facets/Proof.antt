@@ -1,6 +1,7 @@
+-- `share_facets` meets its contract. The loop's invariant: the first x facets have their lists. The measure is what is left of them.
 use borrow.Author.Needs.{needs}
-use mathlib.Core.Path.{_≡_, refl, sym, ap, _∙_}
-use Prim.Native.Nat.{_-_, _≤_, _<_}
+use mathlib.Core.Path.{_≡_, refl, sym, _∙_}
+use Prim.Native.Nat.{_-_, _≤_}
 use native.Mathlib.Omega.{arith}
 use lib.ListN.{length}
 use Rattle.ridges.specs.Areas.{Grown, listsTo, clear-kept}
@@ -9,10 +10,6 @@ use Rattle.ridges.proofs.Tables.{laid-start, laid-more, laid-ready, lai
 use Rattle.ridges.proofs.Sharing.{facet-requires, facets-room}
 use Rattle.ridges.proofs.share_facets.Statement.{statement}
 use Rattle.ridges.proofs.share_facets.Tie as tie
-use Rattle.ridges.proofs.share_facets.Reads as reads
-use Rattle.ridges.proofs.share_facets.Lts as lts
-use Rattle.pool.proofs.clear.Reads as clear-reads
-use Rattle.ridges.proofs.share_facet.Reads as share-facet-reads
 
 abbrev Inv-loop : tie.InvT-loop
 Inv-loop ws₀ shelf desk counts shares touched facets x₀ ws x =
@@ -22,27 +19,21 @@ abbrev μ-loop : tie.MeasureT-loop
 μ-loop ws₀ shelf desk counts shares touched facets x₀ ws x =
     facets - x
 
--- src/lib.rt:220:17
 sub-clear : tie.Need-sub-clear Inv-loop μ-loop
 sub-clear c = search needs
 
--- src/lib.rt:220:17
 part-clear-start : tie.Need-part-clear-start Inv-loop μ-loop
 part-clear-start c = search needs
 
--- src/lib.rt:220:17
 part-clear-end : tie.Need-part-clear-end Inv-loop μ-loop
 part-clear-end c = search needs
 
--- src/lib.rt:220:5
 clear-requires : tie.Need-clear-requires Inv-loop μ-loop
 clear-requires c κs = search needs
 
--- src/lib.rt:222:5
 loop-holds : tie.Need-loop-holds Inv-loop μ-loop
 loop-holds c = let s = c .before .before .before .before .before .before in (refl, omega arith, laid-start (s .args .ws .now) (s .pre .2) _ (c .before .before .clear .ensures) (facetCodes (sourcesOf (s .args .shelf) (s .args .desk) _) (s .args .counts .now)))
 
--- src/lib.rt:223:9
 share-facet-requires : tie.Need-share-facet-requires Inv-loop μ-loop
 share-facet-requires c κs = let s = c .before .before .before .before .before .before .before .before .before in let l = c .before .before .loop in
     let k = clear-kept (s .args .ws .now) (s .pre .2) _ (c .before .before .before .before .before .clear .ensures) in
@@ -52,15 +43,12 @@ share-facet-requires c κs = let s = c .before .before .before .before .before .
     (laid-ready (s .args .ws .now) (s .pre .2) _ (c .before .before .before .before .before .clear .ensures) _ (l .x) g _ (facets-room (s .args .shelf) (s .args .desk) (s .args .ws .now) (s .args .counts .now) (s .pre .1) (l .x) (c .before .loop-test .taken)) (c .before .loop-test .taken)) in
     (r .0, r .1, c .before .loop-test .taken, r .2)
 
--- src/lib.rt:224:9
 add-x : tie.Need-add-x Inv-loop μ-loop
 add-x c = search needs
 
--- src/lib.rt:222:5
 loop-less : tie.Need-loop-less Inv-loop μ-loop
 loop-less c = search needs
 
--- src/lib.rt:222:5
 loop-again : tie.Need-loop-again Inv-loop μ-loop
 loop-again c = let s = c .before .before .before .before .before .before .before .before .before .before .before .before in let l = c .before .before .before .before .before .loop in
     let k = clear-kept (s .args .ws .now) (s .pre .2) _ (c .before .before .before .before .before .before .before .before .clear .ensures) in
@@ -68,11 +56,9 @@ loop-again c = let s = c .before .before .before .before .before .before .before
     let g = laid-more (s .args .ws .now) (s .pre .2) _ (c .before .before .before .before .before .before .before .before .clear .ensures) _ (l .x) (l .inv .2) (rw z at (c .before .before .share-facet .ensures)) in
     (g .long, omega arith, g)
 
--- src/lib.rt:213:1
 same-length : tie.Need-same-length Inv-loop μ-loop
 same-length c = search needs
 
--- src/lib.rt:213:1
 returns : tie.Need-returns Inv-loop μ-loop
 returns c = let s = c .before .before .before .before .before .before .before .before in let l = c .before .loop in
     let k = clear-kept (s .args .ws .now) (s .pre .2) _ (c .before .before .before .before .clear .ensures) in

@@ -1,6 +1,7 @@
-use Rattle.ridges.specs.Codes.{amount-small}
+-- `touch_facet` meets its contract. The loop's invariant: what the facet adds to the first ridge orbits is pushed. The measure is what is left of them.
+use Rattle.ridges.specs.Codes.{amount-small, touchedTo}
 use borrow.Author.Needs.{needs}
-use mathlib.Core.Path.{_≡_, refl, ap, _∙_}
+use mathlib.Core.Path.{_≡_, refl}
 use mathlib.Core.List.{[]}
 use mathlib.Core.Logic.{⊎-elim}
 use Prim.Native.Nat.{_-_, _≤_}
@@ -8,15 +9,9 @@ use native.Mathlib.Omega.{arith}
 use lib.ListN.{length, getD}
 use Rattle.pool.specs.Pool.{closed}
 use Rattle.ridges.specs.Areas.{area, Joined, area-kept, end-asks, joined-end}
-use Rattle.ridges.specs.Codes.{touchedTo}
 use Rattle.ridges.proofs.Tables.{touch-start, touch-asks, touch-joins, touch-stays}
 use Rattle.ridges.proofs.touch_facet.Statement.{statement}
 use Rattle.ridges.proofs.touch_facet.Tie as tie
-use Rattle.ridges.proofs.touch_facet.Reads as reads
-use Rattle.ridges.proofs.touch_facet.Lts as lts
-use Rattle.pool.proofs.end_list.Reads as end-list-reads
-use Rattle.pool.proofs.push_u16.Reads as push-u16-reads
-use Rattle.ridges.proofs.amount.Reads as amount-reads
 
 abbrev Inv-loop : tie.InvT-loop
 Inv-loop ws₀ facets ridges x shares touched ones ridge₀ ws ridge =
@@ -25,65 +20,50 @@ Inv-loop ws₀ facets ridges x shares touched ones ridge₀ ws ridge =
 abbrev μ-loop : tie.MeasureT-loop
 μ-loop ws₀ facets ridges x shares touched ones ridge₀ ws ridge = ridges - ridge
 
--- src/lib.rt:192:5
 loop-holds : tie.Need-loop-holds Inv-loop μ-loop
 loop-holds c = let s = c .before in (refl, omega arith, touch-start _ (s .pre .4))
 
--- src/lib.rt:193:28
 sub-amount : tie.Need-sub-amount Inv-loop μ-loop
 sub-amount c = search needs
 
--- src/lib.rt:193:28
 part-amount-start : tie.Need-part-amount-start Inv-loop μ-loop
 part-amount-start c = search needs
 
--- src/lib.rt:193:28
 part-amount-end : tie.Need-part-amount-end Inv-loop μ-loop
 part-amount-end c = search needs
 
--- src/lib.rt:193:13
 amount-requires : tie.Need-amount-requires Inv-loop μ-loop
 amount-requires c κs = let s = c .before .before .before .before .before in let l = c .before .before .before .loop in
     let e = area-kept (s .args .desk .touched) (s .args .desk .shares) (s .args .desk .touched) (s .args .ws .now) (l .ws) (l .inv .2 .front) (s .pre .0) (omega arith) in
     rw e (s .pre .1, s .pre .2)
 
--- src/lib.rt:195:28
 sub-push-u16 : tie.Need-sub-push-u16 Inv-loop μ-loop
 sub-push-u16 c = search needs
 
--- src/lib.rt:195:28
 part-push-u16-start : tie.Need-part-push-u16-start Inv-loop μ-loop
 part-push-u16-start c = search needs
 
--- src/lib.rt:195:28
 part-push-u16-end : tie.Need-part-push-u16-end Inv-loop μ-loop
 part-push-u16-end c = search needs
 
--- src/lib.rt:195:61
 mul-push-u16 : tie.Need-mul-push-u16 Inv-loop μ-loop
 mul-push-u16 c = search needs
 
--- src/lib.rt:195:61
 add-push-u16 : tie.Need-add-push-u16 Inv-loop μ-loop
 add-push-u16 c = let l = c .before .before .before .before .before .before .loop in omega (arith, c .before .before .amount .ensures, amount-small (l .ridge) (getD (closed 4 1024 (area (c .before .before .before .before .before .before .before .before .args .desk .shares) (c .before .before .before .before .before .before .before .before .args .desk .touched) (l .ws))) (c .before .before .before .before .before .before .before .before .args .x) []))
 
--- src/lib.rt:195:60
 cast-push-u16 : tie.Need-cast-push-u16 Inv-loop μ-loop
 cast-push-u16 c = let l = c .before .before .before .before .before .before .loop in record { fits = omega (arith, c .before .before .amount .ensures, amount-small (l .ridge) (getD (closed 4 1024 (area (c .before .before .before .before .before .before .before .before .args .desk .shares) (c .before .before .before .before .before .before .before .before .args .desk .touched) (l .ws))) (c .before .before .before .before .before .before .before .before .args .x) [])) }
 
--- src/lib.rt:195:13
 push-u16-requires : tie.Need-push-u16-requires Inv-loop μ-loop
 push-u16-requires c κs = let s = c .before .before .before .before .before .before .before .before in let l = c .before .before .before .before .before .before .loop in touch-asks (getD (closed 4 1024 (area (s .args .desk .shares) (s .args .desk .touched) (s .args .ws .now))) (s .args .x) []) (s .pre .4) (l .ridge) (l .inv .2) (c .before .before .before .before .before .loop-test .taken)
 
--- src/lib.rt:197:9
 add-ridge : tie.Need-add-ridge Inv-loop μ-loop
 add-ridge c = search needs
 
--- src/lib.rt:192:5
 loop-less : tie.Need-loop-less Inv-loop μ-loop
 loop-less c = search needs
 
--- src/lib.rt:192:5
 loop-again : tie.Need-loop-again Inv-loop μ-loop
 loop-again c = let s = c .before .before .before .before .before .before .before in let l = c .before .before .before .before .before .loop in
     let e = area-kept (s .args .desk .touched) (s .args .desk .shares) (s .args .desk .touched) (s .args .ws .now) (l .ws) (l .inv .2 .front) (s .pre .0) (omega arith) in
@@ -94,27 +74,21 @@ loop-again c = let s = c .before .before .before .before .before .before .before
     (λ w. let j = touch-stays codes (s .pre .4) (l .ridge) (l .inv .2) _ v (w .0 .left) in rw (w .1) (j .long, omega arith, j))
     (c .if1 .came)
 
--- src/lib.rt:199:20
 sub-end-list : tie.Need-sub-end-list Inv-loop μ-loop
 sub-end-list c = search needs
 
--- src/lib.rt:199:20
 part-end-list-start : tie.Need-part-end-list-start Inv-loop μ-loop
 part-end-list-start c = search needs
 
--- src/lib.rt:199:20
 part-end-list-end : tie.Need-part-end-list-end Inv-loop μ-loop
 part-end-list-end c = search needs
 
--- src/lib.rt:199:5
 end-list-requires : tie.Need-end-list-requires Inv-loop μ-loop
 end-list-requires c κs = let s = c .before .before .before .before in let l = c .before .before .loop in end-asks (s .pre .4) (l .inv .2) (omega arith)
 
--- src/lib.rt:184:1
 same-length : tie.Need-same-length Inv-loop μ-loop
 same-length c = search needs
 
--- src/lib.rt:184:1
 returns : tie.Need-returns Inv-loop μ-loop
 returns c = let s = c .before .before .before .before .before .before .before in let l = c .before .before .before .before .before .loop in let e : l .ridge ≡ s .args .ridges = omega (arith, l .inv .1, c .before .before .before .before .loop-test .left) in rw (← e) (joined-end (s .pre .4) (l .inv .2) (omega arith) _ (c .before .before .end-list .ensures))
 
