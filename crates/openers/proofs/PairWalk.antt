@@ -14,7 +14,7 @@ use Rattle.laws.specs.Orders.{pairs}
 use Rattle.laws.specs.Parts.{rows, take-more, take-more-set}
 use Rattle.openers.specs.Rows.{rowsIn, RowsFit}
 use Rattle.openers.specs.Marks.{marked, marked-at, marked-length, passed, walked, marksAfter, walked-append, marks-append, walked-fewer, one-passed, one-opened}
-use Rattle.openers.specs.Codes.{pair-of-code, code-small, member-codes, map-codes, codes-wide, row-below}
+use Rattle.openers.specs.Codes.{pair-of-code, code-small, member-codes, map-codes, codes-wide, image-small}
 use Rattle.openers.specs.Meaning.{codeOf, pairOf, pairsIn, HoldsPairs, pairCodes, pairsAbove}
 use Rattle.openers.specs.declared.Pairs.{Pairs}
 use Rattle.openers.proofs.Laws.{same-cond, count-more}
@@ -66,13 +66,6 @@ unfolding memberPair anyOf codeOf
 agree-none = record { long = length-replicate 400 false; at = λ p h k. getD-replicate 400 (20 * p .0 + p .1) false false (omega arith) }
 
 module _ (n m : ℕ) (s : List ℕ) (fits : RowsFit n m s) where
-  image-small : (p q : Pair) → p .0 < n → p .1 < n → Mem q (map (pairImage p) (rowsIn n m s)) → q .1 < 20
-  unfolding pairImage
-  image-small p q a b h =
-      let r = of-map (pairImage p) q (rowsIn n m s) h in
-      let e : q .1 ≡ max (image (r .0) (p .0)) (image (r .0) (p .1)) = ap (λ (x : Pair). x .1) (r .2) in
-      omega (arith, row-below fits (r .0) (r .1) (p .0) a, row-below fits (r .0) (r .1) (p .1) b, fits .n-fits)
-
   agree-more : (marks : List Bool) (seen : List Pair) (p : Pair) → p .0 < n → p .1 < n → AgreePairs marks seen → AgreePairs (marked marks (pairCodes (rowsIn 32 m s) p)) (map (pairImage p) (rowsIn n m s) ++ seen)
   agree-more marks seen p a b g = record {
     long = marked-length marks _ ∙ g .long;
@@ -81,7 +74,7 @@ module _ (n m : ℕ) (s : List ℕ) (fits : RowsFit n m s) where
         let codes : pairCodes (rowsIn 32 m s) p ≡ map codeOf new = codes-wide n m (p .0) (p .1) s a b (fits .n-fits) ∙ map-codes (rowsIn n m s) p in
         marked-at marks (pairCodes (rowsIn 32 m s) p) (codeOf q) (omega (arith, code-small q h k, g .long))
         ∙ (ap (λ (l : List ℕ). memberNat (codeOf q) l || getD marks (codeOf q) false) codes
-        ∙ (rw (member-codes q new k (λ x i. image-small p x a b i), g .at q h k) refl ∙ sym (member-append q new seen)));
+        ∙ (rw (member-codes q new k (λ x i. image-small fits p x a b i), g .at q h k) refl ∙ sym (member-append q new seen)));
   }
 
   pub pairs-walked : (skip : Pair → Bool) (marks : List Bool) (seen ps : List Pair) → AgreePairs marks seen → ((p : Pair) → Mem p ps → (p .0 < n) × (p .1 < n))

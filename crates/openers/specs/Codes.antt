@@ -8,7 +8,7 @@ use lib.ListN.{length, getD, take, drop}
 use Rattle.definitions.specs.Lists.{Pair, comparePair, anyOf, memberNat, memberPair}
 use Rattle.definitions.specs.Orbits.{Row, image, pairImage}
 use Rattle.laws.specs.Bools.{same-test}
-use Rattle.laws.specs.Lists.{Mem, here, there, at-member}
+use Rattle.laws.specs.Lists.{Mem, here, there, of-map, at-member}
 use Rattle.laws.specs.Orders.{pairs, is-eq}
 use Rattle.laws.specs.Parts.{rows, getD-rows, length-rows, map-rows-more}
 use Rattle.openers.specs.Rows.{rowsIn, RowsFit, image-at, same-images}
@@ -80,3 +80,10 @@ row-below {n} {m} {s} fits row h v below =
     let is : take n (drop (32 * r .0) s) ≡ row = sym (getD-rows 32 n m s (r .0) k) ∙ r .2 in
     let e : getD s (32 * r .0 + v) 0 ≡ image row v = sym (image-at n (r .0) s v below) ∙ ap (λ (l : Row). image l v) is in
     omega (arith, fits .images v below .below (r .0) k)
+
+pub image-small : {n m : ℕ} {s : List ℕ} → RowsFit n m s → (p q : Pair) → p .0 < n → p .1 < n → Mem q (map (pairImage p) (rowsIn n m s)) → q .1 < 20
+unfolding pairImage
+image-small {n} {m} {s} fits p q a b h =
+    let r = of-map (pairImage p) q (rowsIn n m s) h in
+    let e : q .1 ≡ max (image (r .0) (p .0)) (image (r .0) (p .1)) = ap (λ (x : Pair). x .1) (r .2) in
+    omega (arith, row-below fits (r .0) (r .1) (p .0) a, row-below fits (r .0) (r .1) (p .1) b, fits .n-fits)
