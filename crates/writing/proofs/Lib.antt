@@ -1,0 +1,5 @@
+-- What the proofs of this crate cite.
+pub mod Laws
+pub mod Turns
+pub mod Possible
+pub mod Asked

@@ -1,0 +1,74 @@
+-- `writing::write_edge_facets` meets its contract.
+use mathlib.Core.List.{_++_, flatMap}
+use mathlib.Core.Path.{_≡_, ap, _∙_}
+use Prim.Native.Nat.{ℕ, _+_, _-_, _≤_}
+use native.Mathlib.Omega.{arith}
+use borrow.Author.Needs.{needs}
+use lib.ListN.{take, drop}
+use Rattle.definitions.specs.Job.{figureWords}
+use Rattle.pool.specs.Pool.{closed-length, closed}
+use Rattle.openers.specs.Meaning.{pairOf}
+use Rattle.compounds.specs.Areas.{listAt}
+use Rattle.shapes.specs.Edges.{edgeFigure}
+use Rattle.writing.specs.Wrote.{Wrote, wrote-none, wrote-then, wrote-as}
+use Rattle.writing.specs.Answers.{edgeFigureWords}
+use Rattle.writing.proofs.Turns.{stretch-none, stretch-more}
+use Rattle.writing.proofs.write_edge_facets.Statement.{statement}
+use Rattle.writing.proofs.write_edge_facets.Tie as tie
+
+abbrev Inv-loop : tie.InvT-loop
+Inv-loop answer₀ at edges from to cursor₀ x₀ answer cursor x = (from ≤ x) × (x ≤ to) × Wrote answer₀ cursor₀ answer cursor (flatMap edgeFigureWords (take (x - from) (drop from (closed 2 1024 edges))))
+
+abbrev μ-loop : tie.MeasureT-loop
+μ-loop answer₀ at edges from to cursor₀ x₀ answer cursor x = to - x
+
+loop-holds : tie.Need-loop-holds Inv-loop μ-loop
+loop-holds c = let s = c .before .before in (omega arith, omega arith, wrote-as (wrote-none _ _) (stretch-none edgeFigureWords (closed 2 1024 (s .args .edges .now)) (s .args .from)))
+
+item-of-requires : tie.Need-item-of-requires Inv-loop μ-loop
+unfolding listAt
+item-of-requires c κs = let l = c .before .loop in let s = c .before .before .before .before in
+    let n = closed-length 2 1024 (s .args .edges .now) in
+    (s .pre .0, omega (arith, s .pre .2), s .pre .3 .some (l .x) (omega (arith, s .pre .2)))
+
+cast-code : tie.Need-cast-code Inv-loop μ-loop
+cast-code c = search needs
+
+write-edge-figure-requires : tie.Need-write-edge-figure-requires Inv-loop μ-loop
+write-edge-figure-requires c κs = search needs
+
+add-x : tie.Need-add-x Inv-loop μ-loop
+add-x c = search needs
+
+loop-less : tie.Need-loop-less Inv-loop μ-loop
+loop-less c = search needs
+
+loop-again : tie.Need-loop-again Inv-loop μ-loop
+unfolding listAt edgeFigureWords
+loop-again c = let l = c .before .before .before .before .before .before .loop in let s = c .before .before .before .before .before .before .before .before .before in
+    let edges = closed 2 1024 (s .args .edges .now) in
+    let n = closed-length 2 1024 (s .args .edges .now) in
+    (omega arith, omega arith, wrote-as (wrote-then (l .inv .2) (c .before .before .write-edge-figure .ensures)) (ap (λ (v : ℕ). flatMap edgeFigureWords (take (l .x - s .args .from) (drop (s .args .from) edges)) ++ figureWords (edgeFigure (pairOf v))) (c .before .before .before .before .item-of .ensures) ∙ stretch-more edgeFigureWords edges (s .args .from) (l .x) (l .inv .0) (omega (arith, s .pre .2))))
+
+same-length : tie.Need-same-length Inv-loop μ-loop
+same-length c = search needs
+
+returns : tie.Need-returns Inv-loop μ-loop
+returns c = let l = c .before .loop in let s = c .before .before .before .before in let e : l .x ≡ s .args .to = omega arith in
+    wrote-as (l .inv .2) (ap (λ (k : ℕ). flatMap edgeFigureWords (take (k - s .args .from) (drop (s .args .from) (closed 2 1024 (s .args .edges .now))))) e)
+
+pub write-edge-facets-spec : {M : Type 1} → statement M
+write-edge-facets-spec =
+    tie.close
+    (tie.spec
+    Inv-loop
+    μ-loop
+    loop-holds
+    item-of-requires
+    cast-code
+    write-edge-figure-requires
+    add-x
+    loop-less
+    loop-again
+    same-length
+    returns)

@@ -1,0 +1,28 @@
+-- The words of an answer from what stands in the workspace: counts, possible facets, entries and summaries. Leans on Facets and Marks.
+use mathlib.Core.List.{List, [], _∷_, _++_, map, flatMap}
+use Prim.Native.Nat.{ℕ, zero, suc, _+_, _<_}
+use lib.ListN.{length, getD, take, drop}
+use Rattle.definitions.specs.Lists.{Pair}
+use Rattle.definitions.specs.Job.{figureWords}
+use Rattle.openers.specs.Meaning.{pairOf}
+use Rattle.shapes.specs.Edges.{edgeFigure}
+use Rattle.writing.specs.Facets.{leading}
+
+-- how many orbits, and the count of each
+unfoldable pub countWords : List Pair → List ℕ
+countWords orbits = length orbits ∷ map (λ (p : Pair). p .1) orbits
+
+-- every list has an item
+pub record NoneEmpty (lists : List (List ℕ)) : Type 0 where
+  pub some : (x : ℕ) → x < length lists → 0 < length (getD lists x [])
+
+-- the figure of a facet of rank 2
+unfoldable pub edgeFigureWords : List ℕ → List ℕ
+edgeFigureWords codes = figureWords (edgeFigure (pairOf (getD codes 0 0)))
+
+-- for each orbit, from one on, the number of its facets and their figures
+unfoldable pub possibleFrom : (List ℕ → List ℕ) → ℕ → ℕ → List ℕ → List (List ℕ) → List ℕ
+possibleFrom figure zero orbit owners edges = []
+possibleFrom figure (suc more) orbit owners edges =
+    let many = leading orbit owners in
+    many ∷ flatMap figure (take many edges) ++ possibleFrom figure more (suc orbit) (drop many owners) (drop many edges)

@@ -1,0 +1,6 @@
+-- What is written: words in an answer buffer, and an answer's words from what stands in the workspace.
+pub mod Wrote
+pub mod Marks
+pub mod Facets
+pub mod Answers
+pub mod Standing

@@ -1,0 +1,63 @@
+-- What stands in the workspace when an answer is written, said of its bytes alone: what the writing functions ask, and the words of an answer of rank 3 in those terms.
+-- Written says that this is what a call leaves, and that the words are document 01's. Leans on Facets, Marks and Answers.
+use mathlib.Core.List.{List, [], _∷_, _++_, flatMap}
+use Prim.Native.Nat.{ℕ, _+_, _*_, _-_, _≤_}
+use lib.ListN.{length, drop}
+use Rattle.definitions.specs.Job.{counted, figureWords, compoundWords}
+use Rattle.definitions.specs.Orbits.{Row}
+use Rattle.words.specs.Words.{words}
+use Rattle.pool.specs.Pool.{count, closed}
+use Rattle.orbits.specs.Workspace.{orbitsIn}
+use Rattle.compounds.specs.Areas.{Holds}
+use Rattle.compounds.specs.Labels.{labelsIn}
+use Rattle.compounds.specs.Numbers.{AllBelow, compoundsFrom}
+use Rattle.shapes.specs.EdgeSets.{polygon}
+use Rattle.shelf.specs.Keeps.{Fits, ownersPart, edgesPart}
+use Rattle.shelf.specs.Leaves.{listsLeft}
+use Rattle.shelf.specs.declared.Level.{Level}
+use Rattle.writing.specs.Facets.{OwnersBelow, listWords}
+use Rattle.writing.specs.Marks.{EdgesFit, marksOf, codesMarked, edgesMarked}
+use Rattle.writing.specs.Answers.{countWords, NoneEmpty, edgeFigureWords, possibleFrom}
+
+-- the orbit of each facet, and the codes of each facet's edges
+abbrev pub ownersIn : Level → List ℕ → List ℕ
+ownersIn level s = words 2 (ownersPart (level .shelf) s) (level .shelf .facets)
+
+abbrev pub edgesIn : Level → List ℕ → List (List ℕ)
+edgesIn level s = closed 2 1024 (edgesPart (level .shelf) s)
+
+-- the split lists, and the orbits of their facets
+pub record Listed (level : Level) (s : List ℕ) : Type 0 where
+  pub fits : Fits (level .shelf) (length s)
+  pub fewFacets : level .shelf .facets ≤ 1024
+  pub owners : OwnersBelow 256 (ownersIn level s)
+  pub area : Holds 1024 (level .bytes) (level .count) (drop (level .lists) s)
+  pub fewEntries : level .count ≤ 1024
+  pub room : level .lists + (level .bytes + 2048 + 4 * level .count) ≤ length s
+  pub numbers : AllBelow (level .shelf .facets) (listsLeft level s)
+
+-- and the edges of the facets, each with an edge, and what the rows do to them
+pub record Standing (m : ℕ) (rows : List ℕ) (level : Level) (s : List ℕ) : Type 0 where
+  pub listed : Listed level s
+  pub fewOrbits : level .shelf .orbits ≤ 256
+  pub rowsFit : 32 * m ≤ length rows
+  pub edges : EdgesFit m rows (edgesPart (level .shelf) s)
+  pub each : level .shelf .facets ≤ count (edgesPart (level .shelf) s)
+  pub some : NoneEmpty (edgesIn level s)
+
+-- ---- the words of an answer of rank 3
+
+unfoldable pub entryFrom : ℕ → List Row → List ℕ → List (List ℕ) → List ℕ → List ℕ
+entryFrom n rows owners edges numbers = listWords owners numbers ++ figureWords (polygon n (edgesMarked (marksOf rows edges numbers)))
+
+unfoldable pub summaryFrom : ℕ → List Row → List (List ℕ) → List ℕ → List ℕ
+summaryFrom n rows edges numbers = let many = length (codesMarked (marksOf rows edges numbers) 400) in n ∷ many ∷ many ∷ []
+
+unfoldable pub answerFrom : ℕ → List Row → Level → List ℕ → ℕ → ℕ → List ℕ
+answerFrom n rows level s budget left =
+    (budget - left)
+    ∷ countWords (orbitsIn s (level .shelf .orbits))
+    ++ counted (entryFrom n rows (ownersIn level s) (edgesIn level s)) (listsLeft level s)
+    ++ possibleFrom edgeFigureWords (level .shelf .orbits) 0 (ownersIn level s) (edgesIn level s)
+    ++ counted compoundWords (compoundsFrom 0 (labelsIn (level .bytes + 2048) (level .count) (drop (level .lists) s)))
+    ++ flatMap (summaryFrom n rows (edgesIn level s)) (listsLeft level s)

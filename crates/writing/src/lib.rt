@@ -1,0 +1,557 @@
+// The answer's words from what a call leaves in the workspace. Every function takes the answer buffer and its cursor and returns the new cursor; its contract names the words that it
+// writes behind those that stand there (`Wrote`). Words for which there is no room are dropped, and the cursor tells.
+use compounds::Area;
+use shelf::Level;
+ghost use mathlib.Core.Path.{_≡_};
+ghost use mathlib.Core.List.{_∷_, [], _++_, map, flatMap};
+ghost use Prim.Native.Nat.{ℕ, _+_, _*_, _-_, _≤_, _<_};
+ghost use lib.ListN.{length, getD, drop};
+ghost use Rattle.laws.specs.Segments.{part};
+ghost use Rattle.words.specs.Words.{words};
+ghost use Rattle.pool.specs.Pool.{count, closed, Sound};
+ghost use Rattle.definitions.specs.Job.{counted, figureWords, compoundWords};
+ghost use Rattle.orbits.specs.Workspace.{orbitsIn};
+ghost use Rattle.compounds.specs.Areas.{listAt, listOf, Holding};
+ghost use Rattle.compounds.specs.Labels.{labelOf, labelsIn};
+ghost use Rattle.compounds.specs.Numbers.{Below, compoundAt, compoundsFrom};
+ghost use Rattle.openers.specs.Meaning.{pairOf};
+ghost use Rattle.openers.specs.Marks.{marked};
+ghost use Rattle.openers.specs.Rows.{rowsIn};
+ghost use Rattle.shapes.specs.Edges.{edgeFigure};
+ghost use Rattle.shapes.specs.EdgeSets.{polygon};
+ghost use Rattle.shapes.specs.FigureWords.{pointWords, edgeWords, bodyWords};
+ghost use Rattle.writing.specs.Wrote.{Wrote};
+ghost use Rattle.writing.specs.Facets.{itemWords, listWords, OwnersBelow, Firsts, leading};
+ghost use Rattle.writing.specs.Marks.{EdgesFit, imageCodes, marksOf, codesMarked, edgesMarked, markAt, markWords};
+ghost use Rattle.shelf.specs.Leaves.{listsLeft};
+ghost use Rattle.writing.specs.Standing.{Listed, Standing, ownersIn, edgesIn, entryFrom, summaryFrom, answerFrom};
+ghost use Rattle.writing.specs.Answers.{countWords, NoneEmpty, edgeFigureWords, possibleFrom};
+
+// ---- words
+
+fn push(answer: &mut [u8], at: usize, v: u32) -> usize
+    ensures { λ r. ⌜ Wrote (now (answer .entry)) at (now (answer .exit)) r (v ∷ []) ⌝ }
+{
+    words::push_word(answer, at, v)
+}
+
+fn push_three(answer: &mut [u8], at: usize, a: u32, b: u32, c: u32) -> usize
+    ensures { λ r. ⌜ Wrote (now (answer .entry)) at (now (answer .exit)) r (a ∷ b ∷ c ∷ []) ⌝ }
+{
+    let first = push(answer, at, a);
+    let second = push(answer, first, b);
+    push(answer, second, c)
+}
+
+// ---- the ranks of a figure
+
+// An element with the one sub 0 for each point.
+pub fn write_points(answer: &mut [u8], at: usize, n: usize) -> usize
+    ensures { λ r. ⌜ Wrote (now (answer .entry)) at (now (answer .exit)) r (pointWords n) ⌝ }
+{
+    let mut cursor = at;
+    let mut i = 0;
+    while i < n {
+        cursor = push(answer, cursor, 1);
+        cursor = push(answer, cursor, 0);
+        i += 1;
+    }
+    cursor
+}
+
+// The number of ranks, the empty element, and the points.
+fn write_head(answer: &mut [u8], at: usize, ranks: u32, n: usize) -> usize
+    requires { ⌜ n < 4294967296 ⌝ }
+    ensures { λ r. ⌜ Wrote (now (answer .entry)) at (now (answer .exit)) r (ranks ∷ 1 ∷ 0 ∷ n ∷ pointWords n) ⌝ }
+{
+    let head = push_three(answer, at, ranks, 1, 0);
+    let many = push(answer, head, n as u32);
+    write_points(answer, many, n)
+}
+
+// The ends of the edge with a code.
+fn write_edge(answer: &mut [u8], at: usize, code: usize) -> usize
+    requires { ⌜ code < 65536 ⌝ }
+    ensures { λ r. ⌜ Wrote (now (answer .entry)) at (now (answer .exit)) r (edgeWords (pairOf code ∷ [])) ⌝ }
+{
+    push_three(answer, at, 2, (code / 20) as u32, (code % 20) as u32)
+}
+
+// The edges whose codes are list k of a pool.
+pub fn write_edges(answer: &mut [u8], at: usize, pool: &[u8], most: usize, k: usize) -> usize
+    requires { ⌜ Sound 2 most (now pool) × (k < count (now pool)) ⌝ }
+    ensures { λ r. ⌜ Wrote (now (answer .entry)) at (now (answer .exit)) r (edgeWords (map pairOf (listAt most (now (pool .entry)) k))) ⌝ }
+{
+    let n = compounds::length_of(pool, most, k);
+    let mut cursor = at;
+    let mut i = 0;
+    while i < n {
+        let code = compounds::item_of(pool, most, k, i) as usize;
+        cursor = write_edge(answer, cursor, code);
+        i += 1;
+    }
+    cursor
+}
+
+// A body that names the facets 0 to n - 1.
+pub fn write_body(answer: &mut [u8], at: usize, n: usize) -> usize
+    requires { ⌜ n < 4294967296 ⌝ }
+    ensures { λ r. ⌜ Wrote (now (answer .entry)) at (now (answer .exit)) r (bodyWords n) ⌝ }
+{
+    let one = push(answer, at, 1);
+    let mut cursor = push(answer, one, n as u32);
+    let mut i = 0;
+    while i < n {
+        cursor = push(answer, cursor, i as u32);
+        i += 1;
+    }
+    cursor
+}
+
+// ---- figures of facets
+
+// The figure of rank 2 that is an edge.
+pub fn write_edge_figure(answer: &mut [u8], at: usize, code: usize) -> usize
+    requires { ⌜ code < 65536 ⌝ }
+    ensures { λ r. ⌜ Wrote (now (answer .entry)) at (now (answer .exit)) r (figureWords (edgeFigure (pairOf code))) ⌝ }
+{
+    let head = write_head(answer, at, 3, 2);
+    let many = push(answer, head, 1);
+    write_edge(answer, many, code)
+}
+
+// The polygon over n points with the edges whose codes are list k of a pool.
+pub fn write_polygon(
+    answer: &mut [u8],
+    at: usize,
+    n: usize,
+    pool: &[u8],
+    most: usize,
+    k: usize,
+) -> usize
+    requires { ⌜ (n < 4294967296) × Sound 2 most (now pool) × (k < count (now pool)) ⌝ }
+    ensures { λ r. ⌜ Wrote (now (answer .entry)) at (now (answer .exit)) r (figureWords (polygon n (map pairOf (listAt most (now (pool .entry)) k)))) ⌝ }
+{
+    let edges = compounds::length_of(pool, most, k);
+    let head = write_head(answer, at, 4, n);
+    let many = push(answer, head, edges as u32);
+    let body = write_edges(answer, many, pool, most, k);
+    write_body(answer, body, edges)
+}
+
+// ---- orbits and split lists
+
+// How many orbits there are, and how many sets each has.
+fn write_counts(answer: &mut [u8], at: usize, ws: &[u8], orbits: usize) -> usize
+    requires { ⌜ (8 * orbits ≤ length (now ws)) × (orbits < 4294967296) ⌝ }
+    ensures { λ r. ⌜ Wrote (now (answer .entry)) at (now (answer .exit)) r (countWords (orbitsIn (now (ws .entry)) orbits)) ⌝ }
+{
+    let mut cursor = push(answer, at, orbits as u32);
+    let mut i = 0;
+    while i < orbits {
+        cursor = push(answer, cursor, words::get_u32(ws, 8 * i + 4));
+        i += 1;
+    }
+    cursor
+}
+
+// The number of the first facet of each orbit that has facets: the last facet comes first, so that the first one stays.
+fn first_facets(owners: &[u8], facets: usize) -> [usize; 256]
+    requires { ⌜ (2 * facets ≤ length (now owners)) × OwnersBelow 256 (words 2 (now owners) facets) ⌝ }
+    ensures { λ r. ⌜ Firsts (words 2 (now (owners .entry)) facets) r ⌝ }
+{
+    let mut firsts = [0; 256];
+    let mut x = facets;
+    while 0 < x {
+        x -= 1;
+        let orbit = words::get_u16(owners, 2 * x) as usize;
+        firsts[orbit] = x;
+    }
+    firsts
+}
+
+// A facet of a list: its orbit, and its number in the orbit.
+fn write_item(
+    answer: &mut [u8],
+    at: usize,
+    owners: &[u8],
+    facets: usize,
+    firsts: &[usize; 256],
+    x: usize,
+) -> usize
+    requires { ⌜ (2 * facets ≤ length (now owners)) × (facets < 4294967296) × OwnersBelow 256 (words 2 (now owners) facets) × Firsts (words 2 (now owners) facets) (now firsts) × (x < facets) ⌝ }
+    ensures { λ r. ⌜ Wrote (now (answer .entry)) at (now (answer .exit)) r (itemWords (words 2 (now (owners .entry)) facets) x) ⌝ }
+{
+    let orbit = words::get_u16(owners, 2 * x) as usize;
+    let first = firsts[orbit];
+    let number = push(answer, at, orbit as u32);
+    push(answer, number, (x - first) as u32)
+}
+
+// The list at place k of an area: its length, and its facets.
+fn write_list(
+    answer: &mut [u8],
+    at: usize,
+    owners: &[u8],
+    facets: usize,
+    firsts: &[usize; 256],
+    lists: &[u8],
+    area: Area,
+    k: usize,
+) -> usize
+    requires { ⌜ (2 * facets ≤ length (now owners)) × (facets < 4294967296) × OwnersBelow 256 (words 2 (now owners) facets) × Firsts (words 2 (now owners) facets) (now firsts) × Holding area (now lists) × (k < area .count) × Below facets (listOf area (now lists) k) ⌝ }
+    ensures { λ r. ⌜ Wrote (now (answer .entry)) at (now (answer .exit)) r (listWords (words 2 (now (owners .entry)) facets) (listOf area (now (lists .entry)) k)) ⌝ }
+{
+    let n = compounds::length_at(lists, area, k);
+    let mut cursor = push(answer, at, n as u32);
+    let mut i = 0;
+    while i < n {
+        let x = compounds::item_at(lists, area, k, i) as usize;
+        cursor = write_item(answer, cursor, owners, facets, firsts, x);
+        i += 1;
+    }
+    cursor
+}
+
+// ---- edges as marks
+
+// All row images of the edges of facet x are marked.
+fn mark_facet(edges: &[u8], x: usize, rows: &[u8], m: usize, marks: &mut [bool; 400])
+    requires { ⌜ (32 * m ≤ length (now rows)) × EdgesFit m (now rows) (now edges) × (x < count (now edges)) ⌝ }
+    ensures { λ _. ⌜ now (marks .exit) ≡ marked (now (marks .entry)) (imageCodes (rowsIn 32 m (now (rows .entry))) (listAt 1024 (now (edges .entry)) x)) ⌝ }
+{
+    let n = compounds::length_of(edges, 1024, x);
+    let mut i = 0;
+    while i < n {
+        let code = compounds::item_of(edges, 1024, x, i) as usize;
+        openers::mark_pair_images(rows, m, code / 20, code % 20, marks);
+        i += 1;
+    }
+}
+
+// All row images of the edges of the facets of the list at place k of an area.
+fn mark_list(lists: &[u8], area: Area, k: usize, edges: &[u8], rows: &[u8], m: usize) -> [bool; 400]
+    requires { ⌜ (32 * m ≤ length (now rows)) × EdgesFit m (now rows) (now edges) × Holding area (now lists) × (k < area .count) × Below (count (now edges)) (listOf area (now lists) k) ⌝ }
+    ensures { λ r. ⌜ r ≡ marksOf (rowsIn 32 m (now (rows .entry))) (closed 2 1024 (now (edges .entry))) (listOf area (now (lists .entry)) k) ⌝ }
+{
+    let mut marks = [false; 400];
+    let n = compounds::length_at(lists, area, k);
+    let mut i = 0;
+    while i < n {
+        let x = compounds::item_at(lists, area, k, i) as usize;
+        mark_facet(edges, x, rows, m, &mut marks);
+        i += 1;
+    }
+    marks
+}
+
+fn mark_at(marks: &[bool; 400], code: usize) -> usize
+    requires { ⌜ code < 400 ⌝ }
+    ensures { λ r. ⌜ r ≡ markAt (now (marks .entry)) code ⌝ }
+{
+    if marks[code] { 1 } else { 0 }
+}
+
+// How many edges are marked.
+fn count_marks(marks: &[bool; 400]) -> usize
+    ensures { λ r. ⌜ (r ≡ length (codesMarked (now (marks .entry)) 400)) × (r ≤ 400) ⌝ }
+{
+    let mut many = 0;
+    let mut code = 0;
+    while code < 400 {
+        many += mark_at(marks, code);
+        code += 1;
+    }
+    many
+}
+
+fn write_mark(answer: &mut [u8], at: usize, marks: &[bool; 400], code: usize) -> usize
+    requires { ⌜ code < 400 ⌝ }
+    ensures { λ r. ⌜ Wrote (now (answer .entry)) at (now (answer .exit)) r (markWords (now (marks .entry)) code) ⌝ }
+{
+    if marks[code] {
+        return write_edge(answer, at, code);
+    }
+    at
+}
+
+// The marked edges, upward.
+fn write_marks(answer: &mut [u8], at: usize, marks: &[bool; 400]) -> usize
+    ensures { λ r. ⌜ Wrote (now (answer .entry)) at (now (answer .exit)) r (edgeWords (edgesMarked (now (marks .entry)))) ⌝ }
+{
+    let mut cursor = at;
+    let mut code = 0;
+    while code < 400 {
+        cursor = write_mark(answer, cursor, marks, code);
+        code += 1;
+    }
+    cursor
+}
+
+// The polygon over n points with the marked edges.
+fn write_marked(answer: &mut [u8], at: usize, n: usize, marks: &[bool; 400]) -> usize
+    requires { ⌜ n < 4294967296 ⌝ }
+    ensures { λ r. ⌜ Wrote (now (answer .entry)) at (now (answer .exit)) r (figureWords (polygon n (edgesMarked (now (marks .entry))))) ⌝ }
+{
+    let edges = count_marks(marks);
+    let head = write_head(answer, at, 4, n);
+    let many = push(answer, head, edges as u32);
+    let body = write_marks(answer, many, marks);
+    write_body(answer, body, edges)
+}
+
+// ---- compounds
+
+// 1 for a label that names two lists, 0 for one that names none.
+fn is_compound(label: u32) -> usize
+    ensures { λ r. ⌜ r ≡ length (compoundAt 0 (labelOf label)) ⌝ }
+{
+    if label < 65536 { 0 } else { 1 }
+}
+
+fn count_compounds(s: &[u8], at: usize, n: usize) -> usize
+    requires { ⌜ at + 4 * n ≤ length (now s) ⌝ }
+    ensures { λ r. ⌜ (r ≡ length (compoundsFrom 0 (labelsIn at n (now (s .entry))))) × (r ≤ n) ⌝ }
+{
+    let mut many = 0;
+    let mut i = 0;
+    while i < n {
+        many += is_compound(words::get_u32(s, at + 4 * i));
+        i += 1;
+    }
+    many
+}
+
+fn write_compound(answer: &mut [u8], at: usize, whole: usize, label: u32) -> usize
+    requires { ⌜ whole < 4294967296 ⌝ }
+    ensures { λ r. ⌜ Wrote (now (answer .entry)) at (now (answer .exit)) r (flatMap compoundWords (compoundAt whole (labelOf label))) ⌝ }
+{
+    if label < 65536 {
+        return at;
+    }
+    push_three(answer, at, whole as u32, label % 65536, label / 65536)
+}
+
+// How many compounds a table of n labels has, and each, ascending.
+fn write_compounds(answer: &mut [u8], at: usize, s: &[u8], labels: usize, n: usize) -> usize
+    requires { ⌜ (labels + 4 * n ≤ length (now s)) × (n < 4294967296) ⌝ }
+    ensures { λ r. ⌜ Wrote (now (answer .entry)) at (now (answer .exit)) r (counted compoundWords (compoundsFrom 0 (labelsIn labels n (now (s .entry))))) ⌝ }
+{
+    let many = count_compounds(s, labels, n);
+    let mut cursor = push(answer, at, many as u32);
+    let mut i = 0;
+    while i < n {
+        cursor = write_compound(answer, cursor, i, words::get_u32(s, labels + 4 * i));
+        i += 1;
+    }
+    cursor
+}
+
+// ---- possible facets
+
+// The first facet from x on that is not of an orbit, or the number of facets.
+fn end_of_orbit(owners: &[u8], facets: usize, x: usize, orbit: usize) -> usize
+    requires { ⌜ (2 * facets ≤ length (now owners)) × (x ≤ facets) ⌝ }
+    ensures { λ r. ⌜ (r ≡ x + leading orbit (drop x (words 2 (now (owners .entry)) facets))) × (r ≤ facets) ⌝ }
+{
+    let mut i = x;
+    while i < facets {
+        let owner = words::get_u16(owners, 2 * i) as usize;
+        if owner != orbit {
+            return i;
+        }
+        i += 1;
+    }
+    i
+}
+
+// The figures of the facets from one number to another, each an edge.
+fn write_edge_facets(answer: &mut [u8], at: usize, edges: &[u8], from: usize, to: usize) -> usize
+    requires { ⌜ Sound 2 1024 (now edges) × (from ≤ to) × (to ≤ count (now edges)) × NoneEmpty (closed 2 1024 (now edges)) ⌝ }
+    ensures { λ r. ⌜ Wrote (now (answer .entry)) at (now (answer .exit)) r (flatMap edgeFigureWords (part from (to - from) (closed 2 1024 (now (edges .entry))))) ⌝ }
+{
+    let mut cursor = at;
+    let mut x = from;
+    while x < to {
+        let code = compounds::item_of(edges, 1024, x, 0) as usize;
+        cursor = write_edge_figure(answer, cursor, code);
+        x += 1;
+    }
+    cursor
+}
+
+// For each orbit the number of its facets, then their figures.
+fn write_possible(
+    answer: &mut [u8],
+    at: usize,
+    owners: &[u8],
+    facets: usize,
+    orbits: usize,
+    edges: &[u8],
+) -> usize
+    requires { ⌜ (2 * facets ≤ length (now owners)) × (facets < 4294967296) × Sound 2 1024 (now edges) × (facets ≤ count (now edges)) × NoneEmpty (closed 2 1024 (now edges)) ⌝ }
+    ensures { λ r. ⌜ Wrote (now (answer .entry)) at (now (answer .exit)) r (possibleFrom edgeFigureWords orbits 0 (words 2 (now (owners .entry)) facets) (closed 2 1024 (now (edges .entry)))) ⌝ }
+{
+    let mut cursor = at;
+    let mut x = 0;
+    let mut orbit = 0;
+    while orbit < orbits {
+        let end = end_of_orbit(owners, facets, x, orbit);
+        cursor = push(answer, cursor, (end - x) as u32);
+        cursor = write_edge_facets(answer, cursor, edges, x, end);
+        x = end;
+        orbit += 1;
+    }
+    cursor
+}
+
+// ---- rank 3
+
+// The marks of the edges of entry k.
+fn entry_marks(ws: &[u8], level: Level, rows: &[u8], m: usize, k: usize) -> [bool; 400]
+    requires { ⌜ Standing m (now rows) level (now ws) × (k < level .count) ⌝ }
+    ensures { λ r. ⌜ r ≡ marksOf (rowsIn 32 m (now (rows .entry))) (edgesIn level (now (ws .entry))) (getD (listsLeft level (now (ws .entry))) k []) ⌝ }
+{
+    let lists = level.lists;
+    let edges = level.shelf.edges;
+    let labels = level.shelf.labels;
+    mark_list(
+        &ws[lists..],
+        Area {
+            most: 1024,
+            bytes: level.bytes,
+            count: level.count,
+        },
+        k,
+        &ws[edges..labels],
+        rows,
+        m,
+    )
+}
+
+// The split list of entry k.
+fn write_entry_list(
+    answer: &mut [u8],
+    at: usize,
+    ws: &[u8],
+    level: Level,
+    firsts: &[usize; 256],
+    k: usize,
+) -> usize
+    requires { ⌜ Listed level (now ws) × Firsts (ownersIn level (now ws)) (now firsts) × (k < level .count) ⌝ }
+    ensures { λ r. ⌜ Wrote (now (answer .entry)) at (now (answer .exit)) r (listWords (ownersIn level (now (ws .entry))) (getD (listsLeft level (now (ws .entry))) k [])) ⌝ }
+{
+    let lists = level.lists;
+    let owners = level.shelf.owners;
+    let ridges = level.shelf.ridges;
+    write_list(
+        answer,
+        at,
+        &ws[owners..ridges],
+        level.shelf.facets,
+        firsts,
+        &ws[lists..],
+        Area {
+            most: 1024,
+            bytes: level.bytes,
+            count: level.count,
+        },
+        k,
+    )
+}
+
+// How many entries there are, and each: its split list, and the polygon of all row images of its facets' edges.
+fn write_entries(
+    answer: &mut [u8],
+    at: usize,
+    ws: &[u8],
+    level: Level,
+    rows: &[u8],
+    m: usize,
+    n: usize,
+) -> usize
+    requires { ⌜ Standing m (now rows) level (now ws) × (n < 4294967296) ⌝ }
+    ensures { λ r. ⌜ Wrote (now (answer .entry)) at (now (answer .exit)) r (counted (entryFrom n (rowsIn 32 m (now (rows .entry))) (ownersIn level (now (ws .entry))) (edgesIn level (now (ws .entry)))) (listsLeft level (now (ws .entry)))) ⌝ }
+{
+    let owners = level.shelf.owners;
+    let ridges = level.shelf.ridges;
+    let firsts = first_facets(&ws[owners..ridges], level.shelf.facets);
+    let count = level.count;
+    let mut cursor = push(answer, at, count as u32);
+    let mut k = 0;
+    while k < count {
+        let marks = entry_marks(ws, level, rows, m, k);
+        cursor = write_entry_list(answer, cursor, ws, level, &firsts, k);
+        cursor = write_marked(answer, cursor, n, &marks);
+        k += 1;
+    }
+    cursor
+}
+
+// A summary of each entry: points, edges, and again edges, which are the facets.
+fn write_summaries(
+    answer: &mut [u8],
+    at: usize,
+    ws: &[u8],
+    level: Level,
+    rows: &[u8],
+    m: usize,
+    n: usize,
+) -> usize
+    requires { ⌜ Standing m (now rows) level (now ws) × (n < 4294967296) ⌝ }
+    ensures { λ r. ⌜ Wrote (now (answer .entry)) at (now (answer .exit)) r (flatMap (summaryFrom n (rowsIn 32 m (now (rows .entry))) (edgesIn level (now (ws .entry)))) (listsLeft level (now (ws .entry)))) ⌝ }
+{
+    let count = level.count;
+    let mut cursor = at;
+    let mut k = 0;
+    while k < count {
+        let marks = entry_marks(ws, level, rows, m, k);
+        let edges = count_marks(&marks);
+        cursor = push_three(answer, cursor, n as u32, edges as u32, edges as u32);
+        k += 1;
+    }
+    cursor
+}
+
+// The answer of a call of rank 3 from what it leaves.
+pub fn write_answer(
+    answer: &mut [u8],
+    at: usize,
+    ws: &[u8],
+    level: Level,
+    rows: &[u8],
+    m: usize,
+    n: usize,
+    budget: u32,
+    left: u32,
+) -> usize
+    requires { ⌜ Standing m (now rows) level (now ws) × (n < 4294967296) × (left ≤ budget) ⌝ }
+    ensures { λ r. ⌜ Wrote (now (answer .entry)) at (now (answer .exit)) r (answerFrom n (rowsIn 32 m (now (rows .entry))) level (now (ws .entry)) budget left) ⌝ }
+{
+    let owners = level.shelf.owners;
+    let ridges = level.shelf.ridges;
+    let edges = level.shelf.edges;
+    let labels = level.shelf.labels;
+    let lists = level.lists;
+    let facets = level.shelf.facets;
+    let orbits = level.shelf.orbits;
+    let examined = push(answer, at, budget - left);
+    let counts = write_counts(answer, examined, ws, orbits);
+    let entries = write_entries(answer, counts, ws, level, rows, m, n);
+    let possible = write_possible(
+        answer,
+        entries,
+        &ws[owners..ridges],
+        facets,
+        orbits,
+        &ws[edges..labels],
+    );
+    let compounds = write_compounds(
+        answer,
+        possible,
+        &ws[lists..],
+        level.bytes + 2048,
+        level.count,
+    );
+    write_summaries(answer, compounds, ws, level, rows, m, n)
+}
