@@ -3,3 +3,4 @@ pub mod Laws
 pub mod Turns
 pub mod Possible
 pub mod Asked
+pub mod Segments

@@ -4,3 +4,4 @@ pub mod Marks
 pub mod Facets
 pub mod Answers
 pub mod Standing
+pub mod Written

@@ -3,25 +3,25 @@ use mathlib.Core.Path.{_≡_, refl, sym, ap, _∙_, subst}
 use mathlib.Core.Bool.{Bool, false, _||_, cond}
 use mathlib.Core.List.{List, [], _∷_, map, flatMap}
 use mathlib.Core.Logic.{_⊎_, inl, inr, ⊎-elim}
-use Prim.Native.Nat.{ℕ, _/_, _%_, _≤_, _<_, compare, Ordering·lt}
+use Prim.Native.Nat.{ℕ, _/_, _%_, _≤_, _<_, compare, Ordering·lt, min, max}
 use native.Mathlib.Omega.{arith}
 use lib.Dec.{T, eqb, eqb→eq, eqb-refl}
 use lib.ListN.{length, getD, replicate, length-replicate, getD-replicate}
 use Rattle.definitions.specs.Lists.{Pair, keep, countFrom, comparePair, thenBy, memberNat}
-use Rattle.definitions.specs.Orbits.{Row}
+use Rattle.definitions.specs.Orbits.{Row, image, pairImage}
 use Rattle.laws.specs.Bools.{either, left-of}
-use Rattle.laws.specs.Lists.{Mem, in-keep, kept, in-map, of-map, any-of, any-witness, in-count, of-count}
+use Rattle.laws.specs.Lists.{Mem, in-keep, kept, in-map, of-map, any-of, any-witness, in-count, of-count, flatMap-same, of-flatMap, member-at, map-at}
 use Rattle.laws.specs.Segments.{le-or-lt}
 use Rattle.laws.specs.Orders.{nats, pairs, compare-lt, lt-compare}
 use Rattle.laws.specs.Pairs.{pairs-keep}
 use Rattle.laws.specs.Ascending.{Ascends, same-ascending, in-order-ascends, in-in-order, of-in-order}
-use Rattle.laws.specs.Places.{ascends-map}
+use Rattle.laws.specs.Places.{ascends-map, flatMap-map, map-flatMap}
 use Rattle.laws.specs.Ranges.{count-ascending}
 use Rattle.pool.specs.Pool.{count, Sound}
 use Rattle.openers.specs.Marks.{marked, marked-at}
 use Rattle.openers.specs.Meaning.{codeOf, pairOf, pairCodes}
-use Rattle.openers.specs.Rows.{ImagesBelow}
-use Rattle.openers.specs.Codes.{pair-of-code, code-small}
+use Rattle.openers.specs.Rows.{ImagesBelow, rowsIn, RowsFit}
+use Rattle.openers.specs.Codes.{pair-of-code, code-small, row-below, codes-wide, map-codes}
 use Rattle.compounds.specs.Areas.{listAt}
 use Rattle.shapes.specs.FigureWords.{edgeWords}
 use Rattle.shapes.specs.EdgeSets.{edgesInOrder}
@@ -132,3 +132,53 @@ module _ (ps : List Pair) (small : (p : Pair) → Mem p ps → Ends 20 p) where
             subst (λ (p : Pair). Mem p (map pairOf (codesMarked marks 400))) (pair-code x (s .second))
             (in-map pairOf (codeOf x) (codesMarked marks 400) (in-keep (λ (code : ℕ). getD marks code false) (codeOf x) (countFrom 0 400) (in-count 0 400 (codeOf x) (omega arith) (omega arith)) (is-marked x m)));
       })
+
+-- ---- the images of facets' edges, as codes and as pairs
+
+module _ {n m : ℕ} {s : List ℕ} (fits : RowsFit n m s) where
+  -- an edge's image under a row has its vertices below 20
+  image-ends : (e p : Pair) → Ends n e → Mem p (map (pairImage e) (rowsIn n m s)) → Ends 20 p
+  unfolding pairImage
+  image-ends e p h i =
+      let r = of-map (pairImage e) p (rowsIn n m s) i in
+      let a = row-below fits (r .0) (r .1) (e .0) (h .first) in
+      let b = row-below fits (r .0) (r .1) (e .1) (h .second) in
+      let f : p .0 ≡ min (image (r .0) (e .0)) (image (r .0) (e .1)) = ap (λ (x : Pair). x .0) (r .2) in
+      let g : p .1 ≡ max (image (r .0) (e .0)) (image (r .0) (e .1)) = ap (λ (x : Pair). x .1) (r .2) in
+      record { first = omega (arith, fits .n-fits); second = omega (arith, fits .n-fits) }
+
+  one-edge : (e : Pair) → Ends n e → pairCodes (rowsIn 32 m s) (pairOf (codeOf e)) ≡ map codeOf (map (pairImage e) (rowsIn n m s))
+  one-edge e h =
+      ap (pairCodes (rowsIn 32 m s)) (pair-code e (omega (arith, h .second, fits .n-fits)))
+      ∙ (codes-wide n m (e .0) (e .1) s (h .first) (h .second) (fits .n-fits) ∙ map-codes (rowsIn n m s) e)
+
+  pub edge-images : (es : List Pair) → ((e : Pair) → Mem e es → Ends n e) → imageCodes (rowsIn 32 m s) (map codeOf es) ≡ map codeOf (flatMap (λ (e : Pair). map (pairImage e) (rowsIn n m s)) es)
+  unfolding imageCodes
+  edge-images es h =
+      flatMap-map (λ (code : ℕ). pairCodes (rowsIn 32 m s) (pairOf code)) codeOf es
+      ∙ (flatMap-same (λ (e : Pair). pairCodes (rowsIn 32 m s) (pairOf (codeOf e))) (λ (e : Pair). map codeOf (map (pairImage e) (rowsIn n m s))) es (λ e i. one-edge e (h e i))
+      ∙ sym (map-flatMap codeOf (λ (e : Pair). map (pairImage e) (rowsIn n m s)) es))
+
+  -- the edges marked for numbered facets are all row images of their edges, in order
+  module _ (edges : List (List Pair)) (proper : (l : List Pair) → Mem l edges → (e : Pair) → Mem e l → Ends n e) where
+    abbrev images : ℕ → List Pair
+    images x = flatMap (λ (e : Pair). map (pairImage e) (rowsIn n m s)) (getD edges x [])
+
+    ends-at : (x : ℕ) → x < length edges → (e : Pair) → Mem e (getD edges x []) → Ends n e
+    ends-at x h e i = proper (getD edges x []) (member-at edges x [] h) e i
+
+    facet-images : (x : ℕ) → x < length edges → imageCodes (rowsIn 32 m s) (getD (map (map codeOf) edges) x []) ≡ map codeOf (images x)
+    facet-images x h = ap (imageCodes (rowsIn 32 m s)) (map-at (map codeOf) edges x [] [] h) ∙ edge-images (getD edges x []) (ends-at x h)
+
+    pub marked-edges : (numbers : List ℕ) → ((x : ℕ) → Mem x numbers → x < length edges)
+        → edgesMarked (marksOf (rowsIn 32 m s) (map (map codeOf) edges) numbers) ≡ edgesInOrder (flatMap images numbers)
+    unfolding marksOf facetCodes
+    marked-edges numbers h =
+        let codes : flatMap (λ (x : ℕ). imageCodes (rowsIn 32 m s) (getD (map (map codeOf) edges) x [])) numbers ≡ map codeOf (flatMap images numbers) =
+        flatMap-same (λ (x : ℕ). imageCodes (rowsIn 32 m s) (getD (map (map codeOf) edges) x [])) (λ (x : ℕ). map codeOf (images x)) numbers (λ x i. facet-images x (h x i))
+        ∙ sym (map-flatMap codeOf images numbers) in
+        ap (λ (l : List ℕ). edgesMarked (marked (replicate 400 false) l)) codes
+        ∙ marked-in-order (flatMap images numbers) (λ p i.
+        let r = of-flatMap images p numbers i in
+        let q = of-flatMap (λ (e : Pair). map (pairImage e) (rowsIn n m s)) p (getD edges (r .0) []) (r .2) in
+        image-ends (q .0) p (ends-at (r .0) (h (r .0) (r .1)) (q .0) (q .1)) (q .2))

@@ -9,7 +9,9 @@ ghost use lib.ListN.{length, getD, drop};
 ghost use Rattle.laws.specs.Segments.{part};
 ghost use Rattle.words.specs.Words.{words};
 ghost use Rattle.pool.specs.Pool.{count, closed, Sound};
-ghost use Rattle.definitions.specs.Job.{counted, figureWords, compoundWords};
+ghost use Rattle.definitions.specs.Job.{counted, figureWords, compoundWords, answerWords};
+ghost use Rattle.definitions.specs.Figures.{dyad};
+ghost use Rattle.definitions.specs.Recursion.{vertexRidge, swappedEnds, separateEnds};
 ghost use Rattle.orbits.specs.Workspace.{orbitsIn};
 ghost use Rattle.compounds.specs.Areas.{listAt, listOf, Holding};
 ghost use Rattle.compounds.specs.Labels.{labelOf, labelsIn};
@@ -24,7 +26,8 @@ ghost use Rattle.writing.specs.Wrote.{Wrote};
 ghost use Rattle.writing.specs.Facets.{itemWords, listWords, OwnersBelow, Firsts, leading};
 ghost use Rattle.writing.specs.Marks.{EdgesFit, imageCodes, marksOf, codesMarked, edgesMarked, markAt, markWords};
 ghost use Rattle.shelf.specs.Leaves.{listsLeft};
-ghost use Rattle.writing.specs.Standing.{Listed, Standing, ownersIn, edgesIn, entryFrom, summaryFrom, answerFrom};
+ghost use Rattle.writing.specs.Standing.{Listed, Standing, ownersIn, edgesIn, entryFrom, summaryFrom};
+ghost use Rattle.writing.specs.Written.{WroteAnswer};
 ghost use Rattle.writing.specs.Answers.{countWords, NoneEmpty, edgeFigureWords, possibleFrom};
 
 // ---- words
@@ -513,7 +516,7 @@ fn write_summaries(
     cursor
 }
 
-// The answer of a call of rank 3 from what it leaves.
+// The answer of a call of rank 3 from what it leaves. `standing` (specs/Written) says that what it leaves is what is asked for here.
 pub fn write_answer(
     answer: &mut [u8],
     at: usize,
@@ -526,7 +529,7 @@ pub fn write_answer(
     left: u32,
 ) -> usize
     requires { ⌜ Standing m (now rows) level (now ws) × (n < 4294967296) × (left ≤ budget) ⌝ }
-    ensures { λ r. ⌜ Wrote (now (answer .entry)) at (now (answer .exit)) r (answerFrom n (rowsIn 32 m (now (rows .entry))) level (now (ws .entry)) budget left) ⌝ }
+    ensures { λ r. ⌜ WroteAnswer n m (now (rows .entry)) level (now (ws .entry)) budget left (now (answer .entry)) at (now (answer .exit)) r ⌝ }
 {
     let owners = level.shelf.owners;
     let ridges = level.shelf.ridges;
@@ -554,4 +557,52 @@ pub fn write_answer(
         level.count,
     );
     write_summaries(answer, compounds, ws, level, rows, m, n)
+}
+
+// ---- rank 2
+
+// What every answer of rank 2 has behind its counts and before its ridges: the end of the one entry, which is the segment.
+fn write_segment(answer: &mut [u8], at: usize) -> usize
+    ensures { λ r. ⌜ Wrote (now (answer .entry)) at (now (answer .exit)) r (figureWords dyad) ⌝ }
+{
+    write_edge_figure(answer, at, 1)
+}
+
+// A ridge of rank 2: a vertex.
+fn write_vertex(answer: &mut [u8], at: usize, v: u32) -> usize
+    ensures { λ r. ⌜ Wrote (now (answer .entry)) at (now (answer .exit)) r (counted figureWords (vertexRidge v ∷ [])) ⌝ }
+{
+    let first = push_three(answer, at, 1, 3, 0);
+    let second = push_three(answer, first, 1, 1, 0);
+    push_three(answer, second, 1, 1, v)
+}
+
+// The answer where some row changes the two ends.
+pub fn write_swapped(answer: &mut [u8], at: usize, budget: u32, left: u32) -> usize
+    requires { ⌜ left ≤ budget ⌝ }
+    ensures { λ r. ⌜ Wrote (now (answer .entry)) at (now (answer .exit)) r (answerWords budget (swappedEnds left)) ⌝ }
+{
+    let counts = push_three(answer, at, budget - left, 1, 2);
+    let entries = push_three(answer, counts, 1, 1, 0);
+    let list = push(answer, entries, 0);
+    let segment = write_segment(answer, list);
+    let vertex = write_vertex(answer, segment, 0);
+    let compounds = push(answer, vertex, 0);
+    push_three(answer, compounds, 2, 1, 2)
+}
+
+// The answer where none does.
+pub fn write_separate(answer: &mut [u8], at: usize, budget: u32, left: u32) -> usize
+    requires { ⌜ left ≤ budget ⌝ }
+    ensures { λ r. ⌜ Wrote (now (answer .entry)) at (now (answer .exit)) r (answerWords budget (separateEnds left)) ⌝ }
+{
+    let counts = push_three(answer, at, budget - left, 2, 1);
+    let entries = push_three(answer, counts, 1, 1, 2);
+    let list = push_three(answer, entries, 0, 0, 1);
+    let items = push(answer, list, 0);
+    let segment = write_segment(answer, items);
+    let first = write_vertex(answer, segment, 0);
+    let second = write_vertex(answer, first, 1);
+    let compounds = push(answer, second, 0);
+    push_three(answer, compounds, 2, 1, 2)
 }

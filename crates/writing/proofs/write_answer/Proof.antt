@@ -2,6 +2,7 @@
 use mathlib.Core.Path.{_∙_}
 use native.Mathlib.Omega.{arith}
 use borrow.Author.Needs.{needs}
+use Rattle.writing.specs.Written.{answer-words}
 use Rattle.writing.specs.Wrote.{wrote-then, wrote-as}
 use Rattle.writing.specs.Standing.{answerFrom}
 use Rattle.writing.proofs.Asked.{owners-asked, labels-asked, labels-are}
@@ -65,7 +66,7 @@ same-length c = c .before .before .write-summaries .ensures .long ∙ (c .before
 returns : tie.Need-returns
 unfolding answerFrom
 returns c = let s = c .before .before .before .before .before .before .before .before .before .before .before .before .before .before .before .before .before .before .before .before .before .before .before .before .before .before .before .before .before .before .before in
-    wrote-then (wrote-then (wrote-then (wrote-then (wrote-then (c .before .before .before .before .before .before .before .before .before .before .before .before .before .before .before .before .before .before .before .before .before .before .before .before .before .before .push .ensures) (c .before .before .before .before .before .before .before .before .before .before .before .before .before .before .before .before .before .before .before .before .before .before .write-counts .ensures)) (c .before .before .before .before .before .before .before .before .before .before .before .before .before .before .before .before .before .before .write-entries .ensures)) (c .before .before .before .before .before .before .before .before .before .before .before .before .write-possible .ensures)) (wrote-as (c .before .before .before .before .before .before .write-compounds .ensures) (labels-are (s .pre .0 .listed)))) (c .before .before .write-summaries .ensures)
+    record { wrote = λ kept left. wrote-as (wrote-then (wrote-then (wrote-then (wrote-then (wrote-then (c .before .before .before .before .before .before .before .before .before .before .before .before .before .before .before .before .before .before .before .before .before .before .before .before .before .before .push .ensures) (c .before .before .before .before .before .before .before .before .before .before .before .before .before .before .before .before .before .before .before .before .before .before .write-counts .ensures)) (c .before .before .before .before .before .before .before .before .before .before .before .before .before .before .before .before .before .before .write-entries .ensures)) (c .before .before .before .before .before .before .before .before .before .before .before .before .write-possible .ensures)) (wrote-as (c .before .before .before .before .before .before .write-compounds .ensures) (labels-are (s .pre .0 .listed)))) (c .before .before .write-summaries .ensures)) (answer-words (left .rows) (left .edges) (left .leaves) (s .args .budget) (s .args .left)) }
 
 pub write-answer-spec : {M : Type 1} → statement M
 write-answer-spec =

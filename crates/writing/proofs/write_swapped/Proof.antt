@@ -1,0 +1,51 @@
+-- `writing::write_swapped` meets its contract.
+use borrow.Author.Needs.{needs}
+use Rattle.writing.specs.Wrote.{wrote-then, wrote-as}
+use Rattle.writing.proofs.Segments.{swapped-words}
+use Rattle.writing.proofs.write_swapped.Statement.{statement}
+use Rattle.writing.proofs.write_swapped.Tie as tie
+
+sub-push-three : tie.Need-sub-push-three
+sub-push-three c = search needs
+
+push-three-requires : tie.Need-push-three-requires
+push-three-requires c κs = search needs
+
+push-three-requires-2 : tie.Need-push-three-requires-2
+push-three-requires-2 c κs = search needs
+
+push-requires : tie.Need-push-requires
+push-requires c κs = search needs
+
+write-segment-requires : tie.Need-write-segment-requires
+write-segment-requires c κs = search needs
+
+write-vertex-requires : tie.Need-write-vertex-requires
+write-vertex-requires c κs = search needs
+
+push-requires-2 : tie.Need-push-requires-2
+push-requires-2 c κs = search needs
+
+push-three-requires-3 : tie.Need-push-three-requires-3
+push-three-requires-3 c κs = search needs
+
+same-length : tie.Need-same-length
+same-length c = search needs
+
+returns : tie.Need-returns
+returns c = let s = c .before .before .before .before .before .before .before .before .before .before .before .before .before .before .before .before .before .before .before .before .before .before .before .before .before .before .before .before .before in wrote-as (wrote-then (c .before .before .before .before .before .before .before .before .before .before .before .before .before .before .before .before .before .before .before .before .before .before .before .before .before .before .push-three .ensures) (wrote-then (c .before .before .before .before .before .before .before .before .before .before .before .before .before .before .before .before .before .before .before .before .before .before .push-three2 .ensures) (wrote-then (c .before .before .before .before .before .before .before .before .before .before .before .before .before .before .before .before .before .before .push .ensures) (wrote-then (c .before .before .before .before .before .before .before .before .before .before .before .before .before .before .write-segment .ensures) (wrote-then (c .before .before .before .before .before .before .before .before .before .before .write-vertex .ensures) (wrote-then (c .before .before .before .before .before .before .push2 .ensures) (c .before .before .push-three3 .ensures))))))) (swapped-words (s .args .budget) (s .args .left))
+
+pub write-swapped-spec : {M : Type 1} → statement M
+write-swapped-spec =
+    tie.close
+    (tie.spec
+    sub-push-three
+    push-three-requires
+    push-three-requires-2
+    push-requires
+    write-segment-requires
+    write-vertex-requires
+    push-requires-2
+    push-three-requires-3
+    same-length
+    returns)

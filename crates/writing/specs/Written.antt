@@ -1,0 +1,276 @@
+-- What a call of rank 3 leaves is what the writing functions ask for, and the words that they write are document 01's answer. Leans on Standing, and on what a call leaves.
+use mathlib.Core.Path.{_≡_, refl, sym, ap, _∙_, subst}
+use mathlib.Core.List.{List, [], _∷_, _++_, map, flatMap, map-append, map-map}
+use Prim.Native.Nat.{ℕ, suc, _+_, _*_, _-_, _/_, _%_, _≤_, _<_}
+use native.Mathlib.Omega.{arith}
+use lib.ListN.{length, getD, take, drop, replicate, length-map, length-replicate}
+use lib.Seq.{take-at, drop-at}
+use Rattle.definitions.specs.Lists.{Pair}
+use Rattle.definitions.specs.Orbits.{Orbit, pairImage}
+use Rattle.definitions.specs.Search.{Facet}
+use Rattle.definitions.specs.Recursion.{Entry}
+use Rattle.definitions.specs.Job.{counted, figureWords, entryWords, compoundWords, summaryWords, answerWords}
+use Rattle.laws.specs.Lists.{Mem, here, there, of-flatMap, flatMap-same, member-at, map-at}
+use Rattle.laws.specs.Places.{flat-singles, flatMap-map}
+use Rattle.pool.specs.Pool.{count, closed, closed-length}
+use Rattle.orbits.specs.Numbers.{orbitOf}
+use Rattle.orbits.specs.Workspace.{orbitsIn}
+use Rattle.openers.specs.Meaning.{codeOf, pairOf}
+use Rattle.openers.specs.Rows.{rowsIn, RowsFit, ImagesBelow}
+use Rattle.compounds.specs.Areas.{listAt}
+use Rattle.compounds.specs.Labels.{labelsIn}
+use Rattle.compounds.specs.Numbers.{compoundsFrom}
+use Rattle.shapes.specs.Edges.{edgeFigure}
+use Rattle.shapes.specs.EdgeSets.{Proper, polygon, edgesInOrder}
+use Rattle.shapes.specs.FigureWords.{polygon-summary}
+use Rattle.shapes.specs.Kept.{Kept, keptPossible, keptEdgeImages, keptFigure}
+use Rattle.shelf.specs.Keeps.{facetsIn, edgesOf, edgesPart}
+use Rattle.shelf.specs.Leaves.{facetAt, listsLeft, entryLeft, answerLeft, Leaves}
+use Rattle.shelf.specs.declared.Level.{Level}
+use Rattle.writing.specs.Wrote.{Wrote}
+use Rattle.writing.specs.Facets.{OwnersBelow, itemOf, itemWords, listWords, ownersFrom, owners-all, item-is, owners-below, Each, edges-at, many-edges, leading-is}
+use Rattle.writing.specs.Marks.{Ends, EdgesFit, marksOf, codesMarked, edgesMarked, pair-code, marked-edges}
+use Rattle.writing.specs.Answers.{countWords, NoneEmpty, edgeFigureWords, possibleFrom}
+use Rattle.writing.specs.Standing.{ownersIn, edgesIn, Standing, entryFrom, summaryFrom, answerFrom}
+
+-- What is kept of a call's facets: edges for each, one at least, and each edge with its smaller vertex first.
+pub record EdgesKept (n : ℕ) (kept : List Kept) : Type 0 where
+  pub each : (k : Kept) → Mem k kept → length (k .edges) ≡ facetsIn k
+  pub some : (k : Kept) → Mem k kept → (l : List Pair) → Mem l (k .edges) → 0 < length l
+  pub proper : (k : Kept) → Mem k kept → (l : List Pair) → Mem l (k .edges) → (e : Pair) → Mem e l → Proper n e
+
+module _ {n : ℕ} {kept : List Kept} (h : EdgesKept n kept) where
+  all-each : Each kept
+  all-each = record { each = h .each }
+
+  all-some : (l : List Pair) → Mem l (edgesOf kept) → 0 < length l
+  unfolding edgesOf
+  all-some l i = let r = of-flatMap (λ (k : Kept). k .edges) l kept i in h .some (r .0) (r .1) l (r .2)
+
+  all-ends : (l : List Pair) → Mem l (edgesOf kept) → (e : Pair) → Mem e l → Ends n e
+  unfolding edgesOf
+  all-ends l i e j =
+      let r = of-flatMap (λ (k : Kept). k .edges) l kept i in
+      let p = h .proper (r .0) (r .1) l (r .2) e j in
+      record { first = omega (arith, p .rises, p .below); second = p .below }
+
+-- ---- possible facets
+
+-- the figure of a facet's first edge, from its code
+first-edge : (n : ℕ) (l : List Pair) → n ≤ 20 → ((e : Pair) → Mem e l → Ends n e) → edgeFigureWords (map codeOf l) ≡ figureWords (edgeFigure (getD l 0 (0, 0)))
+unfolding edgeFigureWords pairOf
+first-edge n [] b h = refl
+first-edge n (e ∷ l) b h = ap (λ (p : Pair). figureWords (edgeFigure p)) (pair-code e (omega (arith, h e (here refl) .second)))
+
+split-edges : (k : Kept) (kept : List Kept) → map (map codeOf) (edgesOf (k ∷ kept)) ≡ map (map codeOf) (k .edges) ++ map (map codeOf) (edgesOf kept)
+unfolding edgesOf flatMap
+split-edges k kept = map-append (map codeOf) (k .edges) (edgesOf kept)
+
+split-owners : (o : ℕ) (k : Kept) (kept : List Kept) → drop (facetsIn k) (ownersFrom o (k ∷ kept)) ≡ ownersFrom (suc o) kept
+unfolding ownersFrom
+split-owners o k kept = drop-at (replicate (facetsIn k) o) (ownersFrom (suc o) kept) (facetsIn k) (length-replicate (facetsIn k) o)
+
+possible-length : (k : Kept) → length (keptPossible 0 k) ≡ length (k .edges)
+unfolding keptPossible
+possible-length k = length-map (k .edges) (λ (edges : List Pair). edgeFigure (getD edges 0 (0, 0)))
+
+figures-of : (n : ℕ) (k : Kept) → n ≤ 20 → ((l : List Pair) → Mem l (k .edges) → (e : Pair) → Mem e l → Proper n e) → flatMap edgeFigureWords (map (map codeOf) (k .edges)) ≡ flatMap figureWords (keptPossible 0 k)
+unfolding keptPossible
+figures-of n k b proper =
+    flatMap-map edgeFigureWords (map codeOf) (k .edges)
+    ∙ (flatMap-same (λ (l : List Pair). edgeFigureWords (map codeOf l)) (λ (l : List Pair). figureWords (edgeFigure (getD l 0 (0, 0)))) (k .edges) (λ l i. first-edge n l b (λ e j. ends (proper l i e j)))
+    ∙ sym (flatMap-map figureWords (λ (edges : List Pair). edgeFigure (getD edges 0 (0, 0))) (k .edges)))
+  where
+    ends : {e : Pair} → Proper n e → Ends n e
+    ends p = record { first = omega (arith, p .rises, p .below); second = p .below }
+
+possible-from : (n o : ℕ) (kept : List Kept) → n ≤ 20 → EdgesKept n kept
+    → possibleFrom edgeFigureWords (length kept) o (ownersFrom o kept) (map (map codeOf) (edgesOf kept)) ≡ flatMap (counted figureWords) (map (keptPossible 0) kept)
+unfolding possibleFrom flatMap counted
+possible-from n o [] b h = refl
+possible-from n o (k ∷ kept) b h =
+    let m = facetsIn k in
+    let many : length (k .edges) ≡ m = h .each k (here refl) in
+    let codes : List (List ℕ) = map (map codeOf) (k .edges) in
+    let rest : List (List ℕ) = map (map codeOf) (edgesOf kept) in
+    let codes-many : length codes ≡ m = length-map (k .edges) (map codeOf) ∙ many in
+    let later : EdgesKept n kept = record { each = λ j i. h .each j (there i); some = λ j i. h .some j (there i); proper = λ j i. h .proper j (there i) } in
+    let first = figures-of n k b (h .proper k (here refl)) in
+    let number : m ≡ length (keptPossible 0 k) = sym (possible-length k ∙ many) in
+    let start = leading-is o k kept in
+    let owners-left = split-owners o k kept in
+    ap (λ (es : List (List ℕ)). possibleFrom edgeFigureWords (suc (length kept)) o (ownersFrom o (k ∷ kept)) es) (split-edges k kept)
+    ∙ (ap (λ (j : ℕ). j ∷ flatMap edgeFigureWords (take j (codes ++ rest)) ++ possibleFrom edgeFigureWords (length kept) (suc o) (drop j (ownersFrom o (k ∷ kept))) (drop j (codes ++ rest))) start
+    ∙ ((λ t. m ∷ flatMap edgeFigureWords (take-at codes rest m codes-many t) ++ possibleFrom edgeFigureWords (length kept) (suc o) (owners-left t) (drop-at codes rest m codes-many t))
+    ∙ (λ t. number t ∷ first t ++ possible-from n (suc o) kept b later t)))
+
+-- ---- what a call leaves is what is asked for
+
+module _ {n m : ℕ} {bytes : List ℕ} {kept : List Kept} {level : Level} {s : List ℕ} (fits : RowsFit n m bytes) (h : EdgesKept n kept) (left : Leaves 0 n (rowsIn n m bytes) kept level s) where
+  abbrev pool : List ℕ
+  pool = edgesPart (level .shelf) s
+
+  edges-are : closed 2 1024 pool ≡ map (map codeOf) (edgesOf kept)
+  edges-are = left .keeps .edges .lists-are
+
+  owners-are : ownersIn level s ≡ ownersFrom 0 kept
+  owners-are = left .keeps .owners ∙ owners-all kept
+
+  pub many-facets : level .shelf .facets ≡ length (edgesOf kept)
+  many-facets = left .keeps .facets ∙ sym (many-edges kept (all-each h))
+
+  many-lists : count pool ≡ length (edgesOf kept)
+  many-lists = sym (closed-length 2 1024 pool) ∙ (ap length edges-are ∙ length-map (edgesOf kept) (map codeOf))
+
+  -- a facet's edges as codes
+  list-is : (k : ℕ) → k < count pool → listAt 1024 pool k ≡ map codeOf (getD (edgesOf kept) k [])
+  unfolding listAt
+  list-is k l = ap (λ (ls : List (List ℕ)). getD ls k []) edges-are ∙ map-at (map codeOf) (edgesOf kept) k [] [] (omega (arith, many-lists))
+
+  -- an edge's code, read in the pool
+  record Read (code : ℕ) : Type 0 where
+    edge : Pair
+    ends : Ends n edge
+    is : code ≡ 20 * edge .0 + edge .1
+
+  code-read : (k i : ℕ) → k < count pool → i < length (listAt 1024 pool k) → Read (getD (listAt 1024 pool k) i 0)
+  unfolding codeOf
+  code-read k i a b =
+      let es = getD (edgesOf kept) k [] in
+      let e = list-is k a in
+      let inside : i < length es = omega (arith, b, ap length e, length-map es codeOf) in
+      record {
+        edge = getD es i (0, 0);
+        ends = all-ends h es (member-at (edgesOf kept) k [] (omega (arith, many-lists))) (getD es i (0, 0)) (member-at es i (0, 0) inside);
+        is = ap (λ (l : List ℕ). getD l i 0) e ∙ map-at codeOf es i 0 (0, 0) inside;
+      }
+
+  below-20 : (v : ℕ) → v < n → ImagesBelow 20 v m bytes
+  below-20 v a = record { below = λ i l. omega (arith, fits .images v a .below i l, fits .n-fits) }
+
+  edges-fit : EdgesFit m bytes pool
+  edges-fit = record {
+    sound = left .keeps .edges .sound;
+    low = λ k i a b. let r = code-read k i a b in omega (arith, r .is, r .ends .first, r .ends .second, fits .n-fits);
+    first = λ k i a b.
+        let r = code-read k i a b in
+        let e : getD (listAt 1024 pool k) i 0 / 20 ≡ r .edge .0 = omega (arith, r .is, r .ends .second, fits .n-fits) in
+        subst (λ (v : ℕ). ImagesBelow 20 v m bytes) (sym e) (below-20 (r .edge .0) (r .ends .first));
+    second = λ k i a b.
+        let r = code-read k i a b in
+        let e : getD (listAt 1024 pool k) i 0 % 20 ≡ r .edge .1 = omega (arith, r .is, r .ends .second, fits .n-fits) in
+        subst (λ (v : ℕ). ImagesBelow 20 v m bytes) (sym e) (below-20 (r .edge .1) (r .ends .second));
+  }
+
+  none-empty : NoneEmpty (edgesIn level s)
+  unfolding listAt
+  none-empty = record {
+    some = λ x l.
+        let es = getD (edgesOf kept) x [] in
+        let e = list-is x (omega (arith, closed-length 2 1024 pool)) in
+        omega (arith, ap length e, length-map es codeOf, all-some h es (member-at (edgesOf kept) x [] (omega (arith, many-lists, closed-length 2 1024 pool))));
+  }
+
+  pub standing : Standing m bytes level s
+  standing = record {
+    listed = record {
+      fits = left .keeps .fits;
+      fewFacets = left .keeps .fewFacets;
+      owners = subst (λ (l : List ℕ). OwnersBelow 256 l) (sym owners-are) (owners-below kept 256 (omega (arith, left .keeps .orbits, left .keeps .fewOrbits)));
+      area = left .area;
+      fewEntries = left .fewEntries;
+      room = left .room;
+      numbers = left .numbers;
+    };
+    fewOrbits = left .keeps .fewOrbits;
+    rowsFit = fits .m-fits;
+    edges = edges-fit;
+    each = omega (arith, many-facets, many-lists);
+    some = none-empty;
+  }
+
+  -- ---- counts
+
+  counts-are : countWords (orbitsIn s (level .shelf .orbits)) ≡ counted (λ (c : ℕ). c ∷ []) (map (λ (k : Kept). k .orbit .count) kept)
+  unfolding countWords counted orbitOf
+  counts-are =
+      let orbits = orbitsIn s (level .shelf .orbits) in
+      let same : map (λ (p : Pair). p .1) orbits ≡ map (λ (k : Kept). k .orbit .count) kept =
+      sym (map-map (λ (o : Orbit). o .count) (orbitOf n) orbits) ∙ (ap (map (λ (o : Orbit). o .count)) (left .keeps .sets) ∙ map-map (λ (o : Orbit). o .count) (λ (k : Kept). k .orbit) kept) in
+      let many : length orbits ≡ length (map (λ (k : Kept). k .orbit .count) kept) = sym (length-map orbits (λ (p : Pair). p .1)) ∙ ap length same in
+      (λ t. many t ∷ same t) ∙ ap (λ (l : List ℕ). length (map (λ (k : Kept). k .orbit .count) kept) ∷ l) (sym (flat-singles (map (λ (k : Kept). k .orbit .count) kept)))
+
+  -- ---- entries
+
+  module _ (numbers : List ℕ) (inside : (x : ℕ) → Mem x numbers → x < level .shelf .facets) where
+    abbrev parts : List Facet
+    parts = map (facetAt kept) numbers
+
+    list-words : listWords (ownersIn level s) numbers ≡ counted (λ (item : Pair). item .0 ∷ item .1 ∷ []) parts
+    unfolding listWords counted itemWords
+    list-words =
+        let items : flatMap (itemWords (ownersIn level s)) numbers ≡ flatMap (λ (item : Pair). item .0 ∷ item .1 ∷ []) parts =
+        flatMap-same (itemWords (ownersIn level s)) (λ (x : ℕ). facetAt kept x .0 ∷ facetAt kept x .1 ∷ []) numbers (λ x i.
+        let e : itemOf (ownersIn level s) x ≡ facetAt kept x = ap (λ (l : List ℕ). itemOf l x) owners-are ∙ sym (item-is kept x (omega (arith, inside x i, left .keeps .facets))) in
+        λ t. e t .0 ∷ e t .1 ∷ [])
+        ∙ sym (flatMap-map (λ (item : Pair). item .0 ∷ item .1 ∷ []) (facetAt kept) numbers) in
+        λ t. sym (length-map numbers (facetAt kept)) t ∷ items t
+
+    edges-written : edgesMarked (marksOf (rowsIn 32 m bytes) (edgesIn level s) numbers) ≡ edgesInOrder (flatMap (keptEdgeImages (rowsIn n m bytes) kept) parts)
+    unfolding keptEdgeImages
+    edges-written =
+        let images : Facet → List Pair = keptEdgeImages (rowsIn n m bytes) kept in
+        ap (λ (es : List (List ℕ)). edgesMarked (marksOf (rowsIn 32 m bytes) es numbers)) edges-are
+        ∙ (marked-edges fits (edgesOf kept) (all-ends h) numbers (λ x i. omega (arith, inside x i, many-facets))
+        ∙ ap edgesInOrder
+        (flatMap-same (λ (x : ℕ). flatMap (λ (e : Pair). map (pairImage e) (rowsIn n m bytes)) (getD (edgesOf kept) x [])) (λ (x : ℕ). images (facetAt kept x)) numbers (λ x i.
+        ap (flatMap (λ (e : Pair). map (pairImage e) (rowsIn n m bytes))) (sym (edges-at kept x (all-each h) (omega (arith, inside x i, left .keeps .facets)))))
+        ∙ sym (flatMap-map images (facetAt kept) numbers)))
+
+    entry-words : entryFrom n (rowsIn 32 m bytes) (ownersIn level s) (edgesIn level s) numbers ≡ entryWords (entryLeft 0 n (rowsIn n m bytes) kept numbers)
+    unfolding entryFrom entryWords entryLeft keptFigure
+    entry-words = λ t. list-words t ++ figureWords (polygon n (edges-written t))
+
+    summary-words : summaryFrom n (rowsIn 32 m bytes) (edgesIn level s) numbers ≡ summaryWords (entryLeft 0 n (rowsIn n m bytes) kept numbers)
+    unfolding summaryFrom entryLeft keptFigure edgesMarked
+    summary-words =
+        let edges = edgesInOrder (flatMap (keptEdgeImages (rowsIn n m bytes) kept) parts) in
+        let codes = codesMarked (marksOf (rowsIn 32 m bytes) (edgesIn level s) numbers) 400 in
+        let many : length codes ≡ length edges = sym (length-map codes pairOf) ∙ ap length edges-written in
+        (λ t. n ∷ many t ∷ many t ∷ []) ∙ sym (polygon-summary (entryLeft 0 n (rowsIn n m bytes) kept numbers) n edges refl)
+
+  entries-are : counted (entryFrom n (rowsIn 32 m bytes) (ownersIn level s) (edgesIn level s)) (listsLeft level s) ≡ counted entryWords (map (entryLeft 0 n (rowsIn n m bytes) kept) (listsLeft level s))
+  unfolding counted
+  entries-are =
+      let lists = listsLeft level s in
+      let entry : List ℕ → Entry = entryLeft 0 n (rowsIn n m bytes) kept in
+      let each =
+      flatMap-same (entryFrom n (rowsIn 32 m bytes) (ownersIn level s) (edgesIn level s)) (λ (l : List ℕ). entryWords (entry l)) lists (λ l i. entry-words l (left .numbers l i))
+      ∙ sym (flatMap-map entryWords entry lists) in
+      λ t. sym (length-map lists entry) t ∷ each t
+
+  summaries-are : flatMap (summaryFrom n (rowsIn 32 m bytes) (edgesIn level s)) (listsLeft level s) ≡ flatMap summaryWords (map (entryLeft 0 n (rowsIn n m bytes) kept) (listsLeft level s))
+  summaries-are =
+      flatMap-same (summaryFrom n (rowsIn 32 m bytes) (edgesIn level s)) (λ (l : List ℕ). summaryWords (entryLeft 0 n (rowsIn n m bytes) kept l)) (listsLeft level s) (λ l i. summary-words l (left .numbers l i))
+      ∙ sym (flatMap-map summaryWords (entryLeft 0 n (rowsIn n m bytes) kept) (listsLeft level s))
+
+  possible-are : possibleFrom edgeFigureWords (level .shelf .orbits) 0 (ownersIn level s) (edgesIn level s) ≡ flatMap (counted figureWords) (map (keptPossible 0) kept)
+  possible-are =
+      (λ t. possibleFrom edgeFigureWords (left .keeps .orbits t) 0 (owners-are t) (edges-are t)) ∙ possible-from n 0 kept (fits .n-fits) h
+
+  -- ---- the answer
+
+  pub answer-words : (budget rest : ℕ) → answerFrom n (rowsIn 32 m bytes) level s budget rest ≡ answerWords budget (answerLeft 0 n (rowsIn n m bytes) kept level s rest)
+  unfolding answerFrom answerWords answerLeft
+  answer-words budget rest =
+      λ t. (budget - rest) ∷ counts-are t ++ entries-are t ++ possible-are t ++ counted compoundWords (compoundsFrom 0 (labelsIn (level .bytes + 2048) (level .count) (drop (level .lists) s))) ++ summaries-are t
+
+-- what a call of rank 3 leaves, at every reading of it as what is kept: the rows, the edges and the areas
+pub record Left (n m : ℕ) (bytes : List ℕ) (kept : List Kept) (level : Level) (s : List ℕ) : Type 0 where
+  pub rows : RowsFit n m bytes
+  pub edges : EdgesKept n kept
+  pub leaves : Leaves 0 n (rowsIn n m bytes) kept level s
+
+-- the answer is written: for whatever is kept there, the words of document 01's answer that stands in the workspace
+pub record WroteAnswer (n m : ℕ) (bytes : List ℕ) (level : Level) (s : List ℕ) (budget left : ℕ) (before : List ℕ) (at : ℕ) (after : List ℕ) (r : ℕ) : Type 0 where
+  pub wrote : (kept : List Kept) → Left n m bytes kept level s → Wrote before at after r (answerWords budget (answerLeft 0 n (rowsIn n m bytes) kept level s left))
