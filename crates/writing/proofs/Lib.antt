@@ -4,3 +4,5 @@ pub mod Turns
 pub mod Possible
 pub mod Asked
 pub mod Segments
+pub mod Choosing
+pub mod SolidWords

@@ -10,7 +10,7 @@ use Rattle.writing.specs.Wrote.{Wrote, wrote-none, wrote-then, wrote-as}
 use Rattle.writing.specs.Facets.{leading}
 use Rattle.writing.specs.Answers.{possibleFrom}
 
-module _ (figure : List ℕ → List ℕ) (orbits : ℕ) (owners : List ℕ) (edges : List (List ℕ)) where
+module _ (figure : ℕ → List ℕ → List ℕ) (orbits : ℕ) (owners : List ℕ) (edges : List (List ℕ)) where
   -- the orbits before one, whose first facet is x, are written
   pub record SoFar (orbit x : ℕ) (before : List ℕ) (at : ℕ) (after : List ℕ) (r : ℕ) : Type 0 where
     pub words : List ℕ
@@ -21,14 +21,14 @@ module _ (figure : List ℕ → List ℕ) (orbits : ℕ) (owners : List ℕ) (ed
   possible-none s at = record { words = []; wrote = wrote-none s at; rest = let e : orbits - 0 ≡ orbits = omega arith in rw e refl }
 
   module _ {orbit x : ℕ} {s t : List ℕ} {at q : ℕ} (f : SoFar orbit x s at t q) where
-    pub possible-more : {u v : List ℕ} {r i : ℕ} (end : ℕ) → orbit < orbits → end ≡ x + leading orbit (drop x owners) → Wrote t q u r ((end - x) ∷ []) → Wrote u r v i (flatMap figure (take (end - x) (drop x edges)))
+    pub possible-more : {u v : List ℕ} {r i : ℕ} (end : ℕ) → orbit < orbits → end ≡ x + leading orbit (drop x owners) → Wrote t q u r ((end - x) ∷ []) → Wrote u r v i (flatMap (figure orbit) (take (end - x) (drop x edges)))
         → SoFar (orbit + 1) end s at v i
     unfolding possibleFrom
     possible-more {u} {v} {r} {i} end h e a b =
         let many = leading orbit (drop x owners) in
         let m : end - x ≡ many = omega arith in
         let k : orbits - orbit ≡ suc (orbits - (orbit + 1)) = omega arith in
-        let one = (end - x) ∷ flatMap figure (take (end - x) (drop x edges)) in
+        let one = (end - x) ∷ flatMap (figure orbit) (take (end - x) (drop x edges)) in
         let left = possibleFrom figure (orbits - (orbit + 1)) (orbit + 1) (drop end owners) (drop end edges) in
         let owners-left : drop many (drop x owners) ≡ drop end owners = drop-drop many x owners ∙ ap (λ (j : ℕ). drop j owners) (sym e) in
         let edges-left : drop many (drop x edges) ≡ drop end edges = drop-drop many x edges ∙ ap (λ (j : ℕ). drop j edges) (sym e) in

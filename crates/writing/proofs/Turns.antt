@@ -154,7 +154,7 @@ label-words-some a n h = rw (ne-eqb (n / 65536) 0 (λ e. let z : n / 65536 ≡ 0
 -- ---- marks
 
 module _ (marks : List Bool) where
-  codes-more : (c : ℕ) → codesMarked marks (c + 1) ≡ codesMarked marks c ++ keep (λ (code : ℕ). getD marks code false) (c ∷ [])
+  pub codes-more : (c : ℕ) → codesMarked marks (c + 1) ≡ codesMarked marks c ++ keep (λ (code : ℕ). getD marks code false) (c ∷ [])
   unfolding codesMarked keep
   codes-more c = ap (keep (λ (code : ℕ). getD marks code false)) (count-more c) ∙ keep-append (λ (code : ℕ). getD marks code false) (countFrom 0 c) (c ∷ [])
     where

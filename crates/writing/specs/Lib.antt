@@ -5,3 +5,6 @@ pub mod Facets
 pub mod Answers
 pub mod Standing
 pub mod Written
+pub mod Images
+pub mod Solids
+pub mod Arranged

@@ -58,6 +58,6 @@ answerFrom n rows level s budget left =
     (budget - left)
     ∷ countWords (orbitsIn s (level .shelf .orbits))
     ++ counted (entryFrom n rows (ownersIn level s) (edgesIn level s)) (listsLeft level s)
-    ++ possibleFrom edgeFigureWords (level .shelf .orbits) 0 (ownersIn level s) (edgesIn level s)
+    ++ possibleFrom (λ (orbit : ℕ). edgeFigureWords) (level .shelf .orbits) 0 (ownersIn level s) (edgesIn level s)
     ++ counted compoundWords (compoundsFrom 0 (labelsIn (level .bytes + 2048) (level .count) (drop (level .lists) s)))
     ++ flatMap (summaryFrom n rows (edgesIn level s)) (listsLeft level s)

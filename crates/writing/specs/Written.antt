@@ -85,7 +85,7 @@ figures-of n k b proper =
     ends p = record { first = omega (arith, p .rises, p .below); second = p .below }
 
 possible-from : (n o : ℕ) (kept : List Kept) → n ≤ 20 → EdgesKept n kept
-    → possibleFrom edgeFigureWords (length kept) o (ownersFrom o kept) (map (map codeOf) (edgesOf kept)) ≡ flatMap (counted figureWords) (map (keptPossible 0) kept)
+    → possibleFrom (λ (orbit : ℕ). edgeFigureWords) (length kept) o (ownersFrom o kept) (map (map codeOf) (edgesOf kept)) ≡ flatMap (counted figureWords) (map (keptPossible 0) kept)
 unfolding possibleFrom flatMap counted
 possible-from n o [] b h = refl
 possible-from n o (k ∷ kept) b h =
@@ -99,9 +99,9 @@ possible-from n o (k ∷ kept) b h =
     let number : m ≡ length (keptPossible 0 k) = sym (possible-length k ∙ many) in
     let start = leading-is o k kept in
     let owners-left = split-owners o k kept in
-    ap (λ (es : List (List ℕ)). possibleFrom edgeFigureWords (suc (length kept)) o (ownersFrom o (k ∷ kept)) es) (split-edges k kept)
-    ∙ (ap (λ (j : ℕ). j ∷ flatMap edgeFigureWords (take j (codes ++ rest)) ++ possibleFrom edgeFigureWords (length kept) (suc o) (drop j (ownersFrom o (k ∷ kept))) (drop j (codes ++ rest))) start
-    ∙ ((λ t. m ∷ flatMap edgeFigureWords (take-at codes rest m codes-many t) ++ possibleFrom edgeFigureWords (length kept) (suc o) (owners-left t) (drop-at codes rest m codes-many t))
+    ap (λ (es : List (List ℕ)). possibleFrom (λ (orbit : ℕ). edgeFigureWords) (suc (length kept)) o (ownersFrom o (k ∷ kept)) es) (split-edges k kept)
+    ∙ (ap (λ (j : ℕ). j ∷ flatMap edgeFigureWords (take j (codes ++ rest)) ++ possibleFrom (λ (orbit : ℕ). edgeFigureWords) (length kept) (suc o) (drop j (ownersFrom o (k ∷ kept))) (drop j (codes ++ rest))) start
+    ∙ ((λ t. m ∷ flatMap edgeFigureWords (take-at codes rest m codes-many t) ++ possibleFrom (λ (orbit : ℕ). edgeFigureWords) (length kept) (suc o) (owners-left t) (drop-at codes rest m codes-many t))
     ∙ (λ t. number t ∷ first t ++ possible-from n (suc o) kept b later t)))
 
 -- ---- what a call leaves is what is asked for
@@ -254,9 +254,9 @@ module _ {n m : ℕ} {bytes : List ℕ} {kept : List Kept} {level : Level} {s : 
       flatMap-same (summaryFrom n (rowsIn 32 m bytes) (edgesIn level s)) (λ (l : List ℕ). summaryWords (entryLeft 0 n (rowsIn n m bytes) kept l)) (listsLeft level s) (λ l i. summary-words l (left .numbers l i))
       ∙ sym (flatMap-map summaryWords (entryLeft 0 n (rowsIn n m bytes) kept) (listsLeft level s))
 
-  possible-are : possibleFrom edgeFigureWords (level .shelf .orbits) 0 (ownersIn level s) (edgesIn level s) ≡ flatMap (counted figureWords) (map (keptPossible 0) kept)
+  possible-are : possibleFrom (λ (orbit : ℕ). edgeFigureWords) (level .shelf .orbits) 0 (ownersIn level s) (edgesIn level s) ≡ flatMap (counted figureWords) (map (keptPossible 0) kept)
   possible-are =
-      (λ t. possibleFrom edgeFigureWords (left .keeps .orbits t) 0 (owners-are t) (edges-are t)) ∙ possible-from n 0 kept (fits .n-fits) h
+      (λ t. possibleFrom (λ (orbit : ℕ). edgeFigureWords) (left .keeps .orbits t) 0 (owners-are t) (edges-are t)) ∙ possible-from n 0 kept (fits .n-fits) h
 
   -- ---- the answer
 

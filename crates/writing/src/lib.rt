@@ -4,8 +4,11 @@ use compounds::Area;
 use shelf::Level;
 ghost use mathlib.Core.Path.{_≡_};
 ghost use mathlib.Core.List.{_∷_, [], _++_, map, flatMap};
-ghost use Prim.Native.Nat.{ℕ, _+_, _*_, _-_, _≤_, _<_};
-ghost use lib.ListN.{length, getD, drop};
+ghost use Prim.Native.Nat.{ℕ, _+_, _*_, _-_, _/_, _%_, _≤_, _<_};
+ghost use mathlib.Core.Bool.{false, cond, not, _&&_};
+ghost use lib.Dec.{eqb, leb};
+ghost use lib.ListN.{length, getD, drop, replicate};
+ghost use Rattle.laws.specs.Sets.{verticesOf};
 ghost use Rattle.laws.specs.Segments.{part};
 ghost use Rattle.words.specs.Words.{words};
 ghost use Rattle.pool.specs.Pool.{count, closed, Sound};
@@ -26,9 +29,11 @@ ghost use Rattle.writing.specs.Wrote.{Wrote};
 ghost use Rattle.writing.specs.Facets.{itemWords, listWords, OwnersBelow, Firsts, leading};
 ghost use Rattle.writing.specs.Marks.{EdgesFit, imageCodes, marksOf, codesMarked, edgesMarked, markAt, markWords};
 ghost use Rattle.shelf.specs.Leaves.{listsLeft};
+ghost use Rattle.writing.specs.Images.{NumbersOf, NumbersBelow, imageMarks, numberWords, facetWords, idWords, IdsBelow, nextChoice, chosenFrom};
+ghost use Rattle.writing.specs.Solids.{polyhedronFrom, ImagesStand, solidFrom, solidEntryFrom, solidSummaryFrom, solidAnswerFrom};
 ghost use Rattle.writing.specs.Standing.{Listed, Standing, ownersIn, edgesIn, entryFrom, summaryFrom};
 ghost use Rattle.writing.specs.Written.{WroteAnswer};
-ghost use Rattle.writing.specs.Answers.{countWords, NoneEmpty, edgeFigureWords, possibleFrom};
+ghost use Rattle.writing.specs.Answers.{countWords, NoneEmpty, edgeFigureWords, polygonWords, sizeIn, possibleFrom};
 
 // ---- words
 
@@ -393,7 +398,7 @@ fn write_possible(
     edges: &[u8],
 ) -> usize
     requires { ⌜ (2 * facets ≤ length (now owners)) × (facets < 4294967296) × Sound 2 1024 (now edges) × (facets ≤ count (now edges)) × NoneEmpty (closed 2 1024 (now edges)) ⌝ }
-    ensures { λ r. ⌜ Wrote (now (answer .entry)) at (now (answer .exit)) r (possibleFrom edgeFigureWords orbits 0 (words 2 (now (owners .entry)) facets) (closed 2 1024 (now (edges .entry)))) ⌝ }
+    ensures { λ r. ⌜ Wrote (now (answer .entry)) at (now (answer .exit)) r (possibleFrom (λ (orbit : ℕ). edgeFigureWords) orbits 0 (words 2 (now (owners .entry)) facets) (closed 2 1024 (now (edges .entry)))) ⌝ }
 {
     let mut cursor = at;
     let mut x = 0;
@@ -605,4 +610,424 @@ pub fn write_separate(answer: &mut [u8], at: usize, budget: u32, left: u32) -> u
     let second = write_vertex(answer, first, 1);
     let compounds = push(answer, second, 0);
     push_three(answer, compounds, 2, 1, 2)
+}
+
+// ---- possible facets of rank 3
+
+// How many vertices a set has.
+fn set_size(set: u32, n: usize) -> usize
+    ensures { λ r. ⌜ (r ≡ length (verticesOf n set)) × (r ≤ n) ⌝ }
+{
+    let mut rest = set;
+    let mut many = 0;
+    let mut v = 0;
+    while v < n {
+        many += (rest % 2) as usize;
+        rest = rest / 2;
+        v += 1;
+    }
+    many
+}
+
+// The figures of the facets from one number to another, each a polygon over n points.
+fn write_polygon_facets(
+    answer: &mut [u8],
+    at: usize,
+    edges: &[u8],
+    from: usize,
+    to: usize,
+    n: usize,
+) -> usize
+    requires { ⌜ Sound 2 1024 (now edges) × (from ≤ to) × (to ≤ count (now edges)) × (n < 4294967296) ⌝ }
+    ensures { λ r. ⌜ Wrote (now (answer .entry)) at (now (answer .exit)) r (flatMap (polygonWords n) (part from (to - from) (closed 2 1024 (now (edges .entry))))) ⌝ }
+{
+    let mut cursor = at;
+    let mut x = from;
+    while x < to {
+        cursor = write_polygon(answer, cursor, n, edges, 1024, x);
+        x += 1;
+    }
+    cursor
+}
+
+// For each orbit the number of its facets, then their figures, over the points of the orbit's set.
+fn write_possible_polygons(
+    answer: &mut [u8],
+    at: usize,
+    ws: &[u8],
+    n: usize,
+    owners: &[u8],
+    facets: usize,
+    orbits: usize,
+    edges: &[u8],
+) -> usize
+    requires { ⌜ (8 * orbits ≤ length (now ws)) × (n < 4294967296) × (2 * facets ≤ length (now owners)) × (facets < 4294967296) × Sound 2 1024 (now edges) × (facets ≤ count (now edges)) ⌝ }
+    ensures { λ r. ⌜ Wrote (now (answer .entry)) at (now (answer .exit)) r (possibleFrom (λ (orbit : ℕ). polygonWords (sizeIn n (now (ws .entry)) orbit)) orbits 0 (words 2 (now (owners .entry)) facets) (closed 2 1024 (now (edges .entry)))) ⌝ }
+{
+    let mut cursor = at;
+    let mut x = 0;
+    let mut orbit = 0;
+    while orbit < orbits {
+        let size = set_size(words::get_u32(ws, 8 * orbit), n);
+        let end = end_of_orbit(owners, facets, x, orbit);
+        cursor = push(answer, cursor, (end - x) as u32);
+        cursor = write_polygon_facets(answer, cursor, edges, x, end, size);
+        x = end;
+        orbit += 1;
+    }
+    cursor
+}
+
+// ---- the facets of a polyhedron
+
+// The number of each marked edge: how many marks lie below it.
+fn edge_numbers(marks: &[bool; 400]) -> [usize; 400]
+    ensures { λ r. ⌜ NumbersOf (now (marks .entry)) r ⌝ }
+{
+    let mut numbers = [0; 400];
+    let mut many = 0;
+    let mut code = 0;
+    while code < 400 {
+        numbers[code] = many;
+        many += mark_at(marks, code);
+        code += 1;
+    }
+    numbers
+}
+
+// The facets of the list at place k of an area.
+fn list_marks(lists: &[u8], area: Area, k: usize) -> [bool; 1024]
+    requires { ⌜ Holding area (now lists) × (k < area .count) × Below 1024 (listOf area (now lists) k) ⌝ }
+    ensures { λ r. ⌜ r ≡ marked (replicate 1024 false) (listOf area (now (lists .entry)) k) ⌝ }
+{
+    let mut marks = [false; 1024];
+    let n = compounds::length_at(lists, area, k);
+    let mut i = 0;
+    while i < n {
+        let x = compounds::item_at(lists, area, k, i) as usize;
+        marks[x] = true;
+        i += 1;
+    }
+    marks
+}
+
+// The edges of the image of facet x under a row.
+fn image_marks(edges: &[u8], x: usize, rows: &[u8], m: usize, row: usize) -> [bool; 400]
+    requires { ⌜ (32 * m ≤ length (now rows)) × EdgesFit m (now rows) (now edges) × (x < count (now edges)) × (row < m) ⌝ }
+    ensures { λ r. ⌜ r ≡ imageMarks (now (edges .entry)) (now (rows .entry)) x row ⌝ }
+{
+    let from = 32 * row;
+    let mut marks = [false; 400];
+    mark_facet(edges, x, &rows[from..], 1, &mut marks);
+    marks
+}
+
+// The number of a marked edge.
+fn write_number(
+    answer: &mut [u8],
+    at: usize,
+    image: &[bool; 400],
+    numbers: &[usize; 400],
+    code: usize,
+) -> usize
+    requires { ⌜ (code < 400) × NumbersBelow (now numbers) ⌝ }
+    ensures { λ r. ⌜ Wrote (now (answer .entry)) at (now (answer .exit)) r (numberWords (now (image .entry)) (now (numbers .entry)) code) ⌝ }
+{
+    if image[code] {
+        return push(answer, at, numbers[code] as u32);
+    }
+    at
+}
+
+// A facet: how many edges it has, and their numbers.
+fn write_facet(answer: &mut [u8], at: usize, image: &[bool; 400], numbers: &[usize; 400]) -> usize
+    requires { ⌜ NumbersBelow (now numbers) ⌝ }
+    ensures { λ r. ⌜ Wrote (now (answer .entry)) at (now (answer .exit)) r (facetWords (now (image .entry)) (now (numbers .entry))) ⌝ }
+{
+    let many = count_marks(image);
+    let mut cursor = push(answer, at, many as u32);
+    let mut code = 0;
+    while code < 400 {
+        cursor = write_number(answer, cursor, image, numbers, code);
+        code += 1;
+    }
+    cursor
+}
+
+// ---- images in order
+
+// Whether an image equals one that was chosen: it equals the one before it, of which that is known.
+fn was_chosen(before: usize, id: usize) -> bool
+    ensures { λ r. ⌜ r ≡ (leb 131072 id && not (eqb before 0)) ⌝ }
+{
+    if id < 131072 {
+        return false;
+    }
+    before != 0
+}
+
+// What comes of an image, from what came of the one before it: 1 for one that is chosen, 2 for one that equals one chosen before, 0 for any other.
+fn next_choice(inside: &[bool; 1024], before: usize, id: usize) -> usize
+    ensures { λ r. ⌜ r ≡ nextChoice (now (inside .entry)) before id ⌝ }
+{
+    if was_chosen(before, id) {
+        return 2;
+    }
+    if inside[id % 1024] { 1 } else { 0 }
+}
+
+fn is_chosen(choice: usize) -> usize
+    ensures { λ r. ⌜ r ≡ cond (eqb choice 1) 1 0 ⌝ }
+{
+    if choice == 1 { 1 } else { 0 }
+}
+
+// How many images are chosen.
+fn count_chosen(ids: &[u8], many: usize, inside: &[bool; 1024]) -> usize
+    requires { ⌜ 4 * many ≤ length (now ids) ⌝ }
+    ensures { λ r. ⌜ (r ≡ length (chosenFrom (now (inside .entry)) 0 (words 4 (now (ids .entry)) many))) × (r ≤ many) ⌝ }
+{
+    let mut total = 0;
+    let mut choice = 0;
+    let mut i = 0;
+    while i < many {
+        let id = words::get_u32(ids, 4 * i) as usize;
+        choice = next_choice(inside, choice, id);
+        total += is_chosen(choice);
+        i += 1;
+    }
+    total
+}
+
+// The image with an id, where it is chosen.
+fn write_chosen(
+    answer: &mut [u8],
+    at: usize,
+    choice: usize,
+    edges: &[u8],
+    rows: &[u8],
+    m: usize,
+    id: usize,
+    numbers: &[usize; 400],
+) -> usize
+    requires { ⌜ (32 * m ≤ length (now rows)) × EdgesFit m (now rows) (now edges) × (id % 1024 < count (now edges)) × (id % 131072 / 1024 < m) × NumbersBelow (now numbers) ⌝ }
+    ensures { λ r. ⌜ Wrote (now (answer .entry)) at (now (answer .exit)) r (cond (eqb choice 1) (idWords (now (edges .entry)) (now (rows .entry)) (now (numbers .entry)) id) []) ⌝ }
+{
+    if choice != 1 {
+        return at;
+    }
+    let image = image_marks(edges, id % 1024, rows, m, id % 131072 / 1024);
+    write_facet(answer, at, &image, numbers)
+}
+
+// The chosen images, in order.
+fn write_images(
+    answer: &mut [u8],
+    at: usize,
+    ids: &[u8],
+    many: usize,
+    inside: &[bool; 1024],
+    edges: &[u8],
+    rows: &[u8],
+    m: usize,
+    numbers: &[usize; 400],
+) -> usize
+    requires { ⌜ (4 * many ≤ length (now ids)) × (32 * m ≤ length (now rows)) × EdgesFit m (now rows) (now edges) × IdsBelow (count (now edges)) m (words 4 (now ids) many) × NumbersBelow (now numbers) ⌝ }
+    ensures { λ r. ⌜ Wrote (now (answer .entry)) at (now (answer .exit)) r (flatMap (idWords (now (edges .entry)) (now (rows .entry)) (now (numbers .entry))) (chosenFrom (now (inside .entry)) 0 (words 4 (now (ids .entry)) many))) ⌝ }
+{
+    let mut cursor = at;
+    let mut choice = 0;
+    let mut i = 0;
+    while i < many {
+        let id = words::get_u32(ids, 4 * i) as usize;
+        choice = next_choice(inside, choice, id);
+        cursor = write_chosen(answer, cursor, choice, edges, rows, m, id, numbers);
+        i += 1;
+    }
+    cursor
+}
+
+// ---- rank 4
+
+// The polyhedron over n points with the marked edges and the chosen images.
+fn write_polyhedron(
+    answer: &mut [u8],
+    at: usize,
+    n: usize,
+    marks: &[bool; 400],
+    inside: &[bool; 1024],
+    ids: &[u8],
+    many: usize,
+    edges: &[u8],
+    rows: &[u8],
+    m: usize,
+) -> usize
+    requires { ⌜ (n < 4294967296) × (4 * many ≤ length (now ids)) × (many < 4294967296) × (32 * m ≤ length (now rows)) × EdgesFit m (now rows) (now edges) × IdsBelow (count (now edges)) m (words 4 (now ids) many) ⌝ }
+    ensures { λ r. ⌜ Wrote (now (answer .entry)) at (now (answer .exit)) r (polyhedronFrom n (now (marks .entry)) (now (inside .entry)) (words 4 (now (ids .entry)) many) (now (edges .entry)) (now (rows .entry))) ⌝ }
+{
+    let numbers = edge_numbers(marks);
+    let lines = count_marks(marks);
+    let facets = count_chosen(ids, many, inside);
+    let head = write_head(answer, at, 5, n);
+    let first = push(answer, head, lines as u32);
+    let drawn = write_marks(answer, first, marks);
+    let second = push(answer, drawn, facets as u32);
+    let body = write_images(answer, second, ids, many, inside, edges, rows, m, &numbers);
+    write_body(answer, body, facets)
+}
+
+// The facets of entry k.
+fn entry_facets(ws: &[u8], level: Level, k: usize) -> [bool; 1024]
+    requires { ⌜ Listed level (now ws) × (k < level .count) ⌝ }
+    ensures { λ r. ⌜ r ≡ marked (replicate 1024 false) (getD (listsLeft level (now (ws .entry))) k []) ⌝ }
+{
+    let lists = level.lists;
+    list_marks(
+        &ws[lists..],
+        Area {
+            most: 1024,
+            bytes: level.bytes,
+            count: level.count,
+        },
+        k,
+    )
+}
+
+// The figure of entry k.
+fn write_solid(
+    answer: &mut [u8],
+    at: usize,
+    ws: &[u8],
+    level: Level,
+    rows: &[u8],
+    m: usize,
+    n: usize,
+    ids: &[u8],
+    many: usize,
+    k: usize,
+) -> usize
+    requires { ⌜ Standing m (now rows) level (now ws) × ImagesStand m level (now ws) (now ids) many × (n < 4294967296) × (k < level .count) ⌝ }
+    ensures { λ r. ⌜ Wrote (now (answer .entry)) at (now (answer .exit)) r (solidFrom n m (now (rows .entry)) level (now (ws .entry)) (words 4 (now (ids .entry)) many) (getD (listsLeft level (now (ws .entry))) k [])) ⌝ }
+{
+    let edges = level.shelf.edges;
+    let labels = level.shelf.labels;
+    let marks = entry_marks(ws, level, rows, m, k);
+    let inside = entry_facets(ws, level, k);
+    write_polyhedron(
+        answer,
+        at,
+        n,
+        &marks,
+        &inside,
+        ids,
+        many,
+        &ws[edges..labels],
+        rows,
+        m,
+    )
+}
+
+// How many entries there are, and each: its split list and its polyhedron.
+fn write_solids(
+    answer: &mut [u8],
+    at: usize,
+    ws: &[u8],
+    level: Level,
+    rows: &[u8],
+    m: usize,
+    n: usize,
+    ids: &[u8],
+    many: usize,
+) -> usize
+    requires { ⌜ Standing m (now rows) level (now ws) × ImagesStand m level (now ws) (now ids) many × (n < 4294967296) ⌝ }
+    ensures { λ r. ⌜ Wrote (now (answer .entry)) at (now (answer .exit)) r (counted (solidEntryFrom n m (now (rows .entry)) level (now (ws .entry)) (words 4 (now (ids .entry)) many)) (listsLeft level (now (ws .entry)))) ⌝ }
+{
+    let owners = level.shelf.owners;
+    let ridges = level.shelf.ridges;
+    let firsts = first_facets(&ws[owners..ridges], level.shelf.facets);
+    let count = level.count;
+    let mut cursor = push(answer, at, count as u32);
+    let mut k = 0;
+    while k < count {
+        cursor = write_entry_list(answer, cursor, ws, level, &firsts, k);
+        cursor = write_solid(answer, cursor, ws, level, rows, m, n, ids, many, k);
+        k += 1;
+    }
+    cursor
+}
+
+// A summary of each entry: points, edges, facets.
+fn write_solid_summaries(
+    answer: &mut [u8],
+    at: usize,
+    ws: &[u8],
+    level: Level,
+    rows: &[u8],
+    m: usize,
+    n: usize,
+    ids: &[u8],
+    many: usize,
+) -> usize
+    requires { ⌜ Standing m (now rows) level (now ws) × ImagesStand m level (now ws) (now ids) many × (n < 4294967296) ⌝ }
+    ensures { λ r. ⌜ Wrote (now (answer .entry)) at (now (answer .exit)) r (flatMap (solidSummaryFrom n m (now (rows .entry)) level (now (ws .entry)) (words 4 (now (ids .entry)) many)) (listsLeft level (now (ws .entry)))) ⌝ }
+{
+    let count = level.count;
+    let mut cursor = at;
+    let mut k = 0;
+    while k < count {
+        let marks = entry_marks(ws, level, rows, m, k);
+        let inside = entry_facets(ws, level, k);
+        let lines = count_marks(&marks);
+        let facets = count_chosen(ids, many, &inside);
+        cursor = push_three(answer, cursor, n as u32, lines as u32, facets as u32);
+        k += 1;
+    }
+    cursor
+}
+
+// The answer of a call of rank 4 from what it leaves and from its facets' images in order.
+pub fn write_solid_answer(
+    answer: &mut [u8],
+    at: usize,
+    ws: &[u8],
+    level: Level,
+    rows: &[u8],
+    m: usize,
+    n: usize,
+    ids: &[u8],
+    many: usize,
+    budget: u32,
+    left: u32,
+) -> usize
+    requires { ⌜ Standing m (now rows) level (now ws) × ImagesStand m level (now ws) (now ids) many × (n < 4294967296) × (left ≤ budget) ⌝ }
+    ensures { λ r. ⌜ Wrote (now (answer .entry)) at (now (answer .exit)) r (solidAnswerFrom n m (now (rows .entry)) level (now (ws .entry)) (words 4 (now (ids .entry)) many) budget left) ⌝ }
+{
+    let owners = level.shelf.owners;
+    let ridges = level.shelf.ridges;
+    let edges = level.shelf.edges;
+    let labels = level.shelf.labels;
+    let lists = level.lists;
+    let facets = level.shelf.facets;
+    let orbits = level.shelf.orbits;
+    let examined = push(answer, at, budget - left);
+    let counts = write_counts(answer, examined, ws, orbits);
+    let entries = write_solids(answer, counts, ws, level, rows, m, n, ids, many);
+    let possible = write_possible_polygons(
+        answer,
+        entries,
+        ws,
+        n,
+        &ws[owners..ridges],
+        facets,
+        orbits,
+        &ws[edges..labels],
+    );
+    let compounds = write_compounds(
+        answer,
+        possible,
+        &ws[lists..],
+        level.bytes + 2048,
+        level.count,
+    );
+    write_solid_summaries(answer, compounds, ws, level, rows, m, n, ids, many)
 }
