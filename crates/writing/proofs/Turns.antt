@@ -25,7 +25,7 @@ use Rattle.compounds.specs.Labels.{labelOf, labelsIn}
 use Rattle.compounds.specs.Numbers.{compoundAt, compoundsFrom}
 use Rattle.shapes.specs.FigureWords.{edgeWords}
 use Rattle.writing.specs.Facets.{firstOf, FirstsFrom, Firsts, leading}
-use Rattle.writing.specs.Marks.{codesMarked, markAt, markWords}
+use Rattle.writing.specs.Marks.{keep-append, codesMarked, markAt, markWords}
 use Rattle.writing.specs.Answers.{countWords}
 use Rattle.writing.proofs.Laws.{count-more, flat-more}
 
@@ -157,14 +157,6 @@ module _ (marks : List Bool) where
   pub codes-more : (c : ℕ) → codesMarked marks (c + 1) ≡ codesMarked marks c ++ keep (λ (code : ℕ). getD marks code false) (c ∷ [])
   unfolding codesMarked keep
   codes-more c = ap (keep (λ (code : ℕ). getD marks code false)) (count-more c) ∙ keep-append (λ (code : ℕ). getD marks code false) (countFrom 0 c) (c ∷ [])
-    where
-      keep-append : (p : ℕ → Bool) (l m : List ℕ) → keep p (l ++ m) ≡ keep p l ++ keep p m
-      keep-append p [] m = refl
-      keep-append p (x ∷ l) m = go (p x) (keep-append p l m)
-        where
-          go : (b : Bool) → keep p (l ++ m) ≡ keep p l ++ keep p m → cond b (x ∷ keep p (l ++ m)) (keep p (l ++ m)) ≡ cond b (x ∷ keep p l) (keep p l) ++ keep p m
-          go true e = ap (λ (r : List ℕ). x ∷ r) e
-          go false e = e
 
   pub marks-count : (c many one : ℕ) → one ≡ markAt marks c → many ≡ length (codesMarked marks c) → (many + one ≡ length (codesMarked marks (c + 1))) × (one ≤ 1)
   unfolding markAt keep

@@ -8,3 +8,4 @@ pub mod Written
 pub mod Images
 pub mod Solids
 pub mod Arranged
+pub mod SolidWritten

@@ -1,7 +1,7 @@
 -- Edges as marks: a place for each code of a pair. What is marked, read off upward, is the marked edges in order, each once. Leans on the marks and codes of openers.
 use mathlib.Core.Path.{_≡_, refl, sym, ap, _∙_, subst}
-use mathlib.Core.Bool.{Bool, false, _||_, cond}
-use mathlib.Core.List.{List, [], _∷_, map, flatMap}
+use mathlib.Core.Bool.{true, Bool, false, _||_, cond}
+use mathlib.Core.List.{List, [], _++_, _∷_, map, flatMap}
 use mathlib.Core.Logic.{_⊎_, inl, inr, ⊎-elim}
 use Prim.Native.Nat.{ℕ, _/_, _%_, _≤_, _<_, compare, Ordering·lt, min, max}
 use native.Mathlib.Omega.{arith}
@@ -79,11 +79,22 @@ pairs-rise x y e =
     rw (q, nats .self (y / 20)) (lt-compare (x % 20) (y % 20) (omega arith)))
     (⊎-elim inr inl (le-or-lt (y / 20) (x / 20)))
 
-codes-ascend : (marks : List Bool) (bound : ℕ) → Ascends comparePair (map pairOf (codesMarked marks bound))
+pub codes-up : (marks : List Bool) (bound : ℕ) → Ascends compare (codesMarked marks bound)
 unfolding codesMarked
+codes-up marks bound = pairs-keep (λ x y. compare x y ≡ Ordering·lt) (λ (code : ℕ). getD marks code false) (countFrom 0 bound) (count-ascending 0 bound)
+
+codes-ascend : (marks : List Bool) (bound : ℕ) → Ascends comparePair (map pairOf (codesMarked marks bound))
 codes-ascend marks bound =
-    ascends-map compare nats comparePair pairs pairOf (λ x. Unit {0}) (λ x y u v e. pairs-rise x y e) (codesMarked marks bound) (λ x i. tt)
-    (pairs-keep (λ x y. compare x y ≡ Ordering·lt) (λ (code : ℕ). getD marks code false) (countFrom 0 bound) (count-ascending 0 bound))
+    ascends-map compare nats comparePair pairs pairOf (λ x. Unit {0}) (λ x y u v e. pairs-rise x y e) (codesMarked marks bound) (λ x i. tt) (codes-up marks bound)
+
+pub keep-append : (p : ℕ → Bool) (l m : List ℕ) → keep p (l ++ m) ≡ keep p l ++ keep p m
+unfolding keep
+keep-append p [] m = refl
+keep-append p (x ∷ l) m = go (p x) (keep-append p l m)
+  where
+    go : (b : Bool) → keep p (l ++ m) ≡ keep p l ++ keep p m → cond b (x ∷ keep p (l ++ m)) (keep p (l ++ m)) ≡ cond b (x ∷ keep p l) (keep p l) ++ keep p m
+    go true e = ap (λ (r : List ℕ). x ∷ r) e
+    go false e = e
 
 -- ---- what is marked is read off in order
 
@@ -137,7 +148,7 @@ module _ (ps : List Pair) (small : (p : Pair) → Mem p ps → Ends 20 p) where
 
 module _ {n m : ℕ} {s : List ℕ} (fits : RowsFit n m s) where
   -- an edge's image under a row has its vertices below 20
-  image-ends : (e p : Pair) → Ends n e → Mem p (map (pairImage e) (rowsIn n m s)) → Ends 20 p
+  pub image-ends : (e p : Pair) → Ends n e → Mem p (map (pairImage e) (rowsIn n m s)) → Ends 20 p
   unfolding pairImage
   image-ends e p h i =
       let r = of-map (pairImage e) p (rowsIn n m s) i in

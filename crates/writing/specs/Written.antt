@@ -6,6 +6,7 @@ use native.Mathlib.Omega.{arith}
 use lib.ListN.{length, getD, take, drop, replicate, length-map, length-replicate}
 use lib.Seq.{take-at, drop-at}
 use Rattle.definitions.specs.Lists.{Pair}
+use Rattle.definitions.specs.Figures.{Figure}
 use Rattle.definitions.specs.Orbits.{Orbit, pairImage}
 use Rattle.definitions.specs.Search.{Facet}
 use Rattle.definitions.specs.Recursion.{Entry}
@@ -40,14 +41,14 @@ pub record EdgesKept (n : ℕ) (kept : List Kept) : Type 0 where
   pub proper : (k : Kept) → Mem k kept → (l : List Pair) → Mem l (k .edges) → (e : Pair) → Mem e l → Proper n e
 
 module _ {n : ℕ} {kept : List Kept} (h : EdgesKept n kept) where
-  all-each : Each kept
+  pub all-each : Each kept
   all-each = record { each = h .each }
 
   all-some : (l : List Pair) → Mem l (edgesOf kept) → 0 < length l
   unfolding edgesOf
   all-some l i = let r = of-flatMap (λ (k : Kept). k .edges) l kept i in h .some (r .0) (r .1) l (r .2)
 
-  all-ends : (l : List Pair) → Mem l (edgesOf kept) → (e : Pair) → Mem e l → Ends n e
+  pub all-ends : (l : List Pair) → Mem l (edgesOf kept) → (e : Pair) → Mem e l → Ends n e
   unfolding edgesOf
   all-ends l i e j =
       let r = of-flatMap (λ (k : Kept). k .edges) l kept i in
@@ -84,46 +85,57 @@ figures-of n k b proper =
     ends : {e : Pair} → Proper n e → Ends n e
     ends p = record { first = omega (arith, p .rises, p .below); second = p .below }
 
-possible-from : (n o : ℕ) (kept : List Kept) → n ≤ 20 → EdgesKept n kept
-    → possibleFrom (λ (orbit : ℕ). edgeFigureWords) (length kept) o (ownersFrom o kept) (map (map codeOf) (edgesOf kept)) ≡ flatMap (counted figureWords) (map (keptPossible 0) kept)
+-- each orbit's facets have these figures, by the orbit's number
+abbrev pub Figured : (ℕ → List ℕ → List ℕ) → (Kept → List Figure) → ℕ → List Kept → Type 0
+Figured figure says o [] = Unit {0}
+Figured figure says o (k ∷ kept) =
+    ((flatMap (figure o) (map (map codeOf) (k .edges)) ≡ flatMap figureWords (says k)) × (length (says k) ≡ length (k .edges))) × Figured figure says (suc o) kept
+
+pub possible-of : (figure : ℕ → List ℕ → List ℕ) (says : Kept → List Figure) (o : ℕ) (kept : List Kept) → Each kept → Figured figure says o kept
+    → possibleFrom figure (length kept) o (ownersFrom o kept) (map (map codeOf) (edgesOf kept)) ≡ flatMap (counted figureWords) (map says kept)
 unfolding possibleFrom flatMap counted
-possible-from n o [] b h = refl
-possible-from n o (k ∷ kept) b h =
+possible-of figure says o [] each h = refl
+possible-of figure says o (k ∷ kept) each h =
     let m = facetsIn k in
-    let many : length (k .edges) ≡ m = h .each k (here refl) in
+    let many : length (k .edges) ≡ m = each .each k (here refl) in
     let codes : List (List ℕ) = map (map codeOf) (k .edges) in
     let rest : List (List ℕ) = map (map codeOf) (edgesOf kept) in
     let codes-many : length codes ≡ m = length-map (k .edges) (map codeOf) ∙ many in
-    let later : EdgesKept n kept = record { each = λ j i. h .each j (there i); some = λ j i. h .some j (there i); proper = λ j i. h .proper j (there i) } in
-    let first = figures-of n k b (h .proper k (here refl)) in
-    let number : m ≡ length (keptPossible 0 k) = sym (possible-length k ∙ many) in
-    let start = leading-is o k kept in
+    let later : Each kept = record { each = λ j i. each .each j (there i) } in
+    let number : m ≡ length (says k) = sym (h .0 .1 ∙ many) in
     let owners-left = split-owners o k kept in
-    ap (λ (es : List (List ℕ)). possibleFrom (λ (orbit : ℕ). edgeFigureWords) (suc (length kept)) o (ownersFrom o (k ∷ kept)) es) (split-edges k kept)
-    ∙ (ap (λ (j : ℕ). j ∷ flatMap edgeFigureWords (take j (codes ++ rest)) ++ possibleFrom (λ (orbit : ℕ). edgeFigureWords) (length kept) (suc o) (drop j (ownersFrom o (k ∷ kept))) (drop j (codes ++ rest))) start
-    ∙ ((λ t. m ∷ flatMap edgeFigureWords (take-at codes rest m codes-many t) ++ possibleFrom (λ (orbit : ℕ). edgeFigureWords) (length kept) (suc o) (owners-left t) (drop-at codes rest m codes-many t))
-    ∙ (λ t. number t ∷ first t ++ possible-from n (suc o) kept b later t)))
+    let first = h .0 .0 in
+    ap (λ (es : List (List ℕ)). possibleFrom figure (suc (length kept)) o (ownersFrom o (k ∷ kept)) es) (split-edges k kept)
+    ∙ (ap (λ (j : ℕ). j ∷ flatMap (figure o) (take j (codes ++ rest)) ++ possibleFrom figure (length kept) (suc o) (drop j (ownersFrom o (k ∷ kept))) (drop j (codes ++ rest))) (leading-is o k kept)
+    ∙ ((λ t. m ∷ flatMap (figure o) (take-at codes rest m codes-many t) ++ possibleFrom figure (length kept) (suc o) (owners-left t) (drop-at codes rest m codes-many t))
+    ∙ (λ t. number t ∷ first t ++ possible-of figure says (suc o) kept later (h .1) t)))
+
+edges-figured : (n o : ℕ) (kept : List Kept) → n ≤ 20 → EdgesKept n kept → Figured (λ (orbit : ℕ). edgeFigureWords) (keptPossible 0) o kept
+edges-figured n o [] b h = tt
+edges-figured n o (k ∷ kept) b h =
+    let later : EdgesKept n kept = record { each = λ j i. h .each j (there i); some = λ j i. h .some j (there i); proper = λ j i. h .proper j (there i) } in
+    ((figures-of n k b (h .proper k (here refl)), possible-length k), edges-figured n (suc o) kept b later)
 
 -- ---- what a call leaves is what is asked for
 
-module _ {n m : ℕ} {bytes : List ℕ} {kept : List Kept} {level : Level} {s : List ℕ} (fits : RowsFit n m bytes) (h : EdgesKept n kept) (left : Leaves 0 n (rowsIn n m bytes) kept level s) where
-  abbrev pool : List ℕ
+module _ {more n m : ℕ} {bytes : List ℕ} {kept : List Kept} {level : Level} {s : List ℕ} (fits : RowsFit n m bytes) (h : EdgesKept n kept) (left : Leaves more n (rowsIn n m bytes) kept level s) where
+  abbrev pub pool : List ℕ
   pool = edgesPart (level .shelf) s
 
-  edges-are : closed 2 1024 pool ≡ map (map codeOf) (edgesOf kept)
+  pub edges-are : closed 2 1024 pool ≡ map (map codeOf) (edgesOf kept)
   edges-are = left .keeps .edges .lists-are
 
-  owners-are : ownersIn level s ≡ ownersFrom 0 kept
+  pub owners-are : ownersIn level s ≡ ownersFrom 0 kept
   owners-are = left .keeps .owners ∙ owners-all kept
 
   pub many-facets : level .shelf .facets ≡ length (edgesOf kept)
   many-facets = left .keeps .facets ∙ sym (many-edges kept (all-each h))
 
-  many-lists : count pool ≡ length (edgesOf kept)
+  pub many-lists : count pool ≡ length (edgesOf kept)
   many-lists = sym (closed-length 2 1024 pool) ∙ (ap length edges-are ∙ length-map (edgesOf kept) (map codeOf))
 
   -- a facet's edges as codes
-  list-is : (k : ℕ) → k < count pool → listAt 1024 pool k ≡ map codeOf (getD (edgesOf kept) k [])
+  pub list-is : (k : ℕ) → k < count pool → listAt 1024 pool k ≡ map codeOf (getD (edgesOf kept) k [])
   unfolding listAt
   list-is k l = ap (λ (ls : List (List ℕ)). getD ls k []) edges-are ∙ map-at (map codeOf) (edgesOf kept) k [] [] (omega (arith, many-lists))
 
@@ -191,7 +203,7 @@ module _ {n m : ℕ} {bytes : List ℕ} {kept : List Kept} {level : Level} {s : 
 
   -- ---- counts
 
-  counts-are : countWords (orbitsIn s (level .shelf .orbits)) ≡ counted (λ (c : ℕ). c ∷ []) (map (λ (k : Kept). k .orbit .count) kept)
+  pub counts-are : countWords (orbitsIn s (level .shelf .orbits)) ≡ counted (λ (c : ℕ). c ∷ []) (map (λ (k : Kept). k .orbit .count) kept)
   unfolding countWords counted orbitOf
   counts-are =
       let orbits = orbitsIn s (level .shelf .orbits) in
@@ -203,10 +215,10 @@ module _ {n m : ℕ} {bytes : List ℕ} {kept : List Kept} {level : Level} {s : 
   -- ---- entries
 
   module _ (numbers : List ℕ) (inside : (x : ℕ) → Mem x numbers → x < level .shelf .facets) where
-    abbrev parts : List Facet
+    abbrev pub parts : List Facet
     parts = map (facetAt kept) numbers
 
-    list-words : listWords (ownersIn level s) numbers ≡ counted (λ (item : Pair). item .0 ∷ item .1 ∷ []) parts
+    pub list-words : listWords (ownersIn level s) numbers ≡ counted (λ (item : Pair). item .0 ∷ item .1 ∷ []) parts
     unfolding listWords counted itemWords
     list-words =
         let items : flatMap (itemWords (ownersIn level s)) numbers ≡ flatMap (λ (item : Pair). item .0 ∷ item .1 ∷ []) parts =
@@ -216,7 +228,7 @@ module _ {n m : ℕ} {bytes : List ℕ} {kept : List Kept} {level : Level} {s : 
         ∙ sym (flatMap-map (λ (item : Pair). item .0 ∷ item .1 ∷ []) (facetAt kept) numbers) in
         λ t. sym (length-map numbers (facetAt kept)) t ∷ items t
 
-    edges-written : edgesMarked (marksOf (rowsIn 32 m bytes) (edgesIn level s) numbers) ≡ edgesInOrder (flatMap (keptEdgeImages (rowsIn n m bytes) kept) parts)
+    pub edges-written : edgesMarked (marksOf (rowsIn 32 m bytes) (edgesIn level s) numbers) ≡ edgesInOrder (flatMap (keptEdgeImages (rowsIn n m bytes) kept) parts)
     unfolding keptEdgeImages
     edges-written =
         let images : Facet → List Pair = keptEdgeImages (rowsIn n m bytes) kept in
@@ -256,7 +268,7 @@ module _ {n m : ℕ} {bytes : List ℕ} {kept : List Kept} {level : Level} {s : 
 
   possible-are : possibleFrom (λ (orbit : ℕ). edgeFigureWords) (level .shelf .orbits) 0 (ownersIn level s) (edgesIn level s) ≡ flatMap (counted figureWords) (map (keptPossible 0) kept)
   possible-are =
-      (λ t. possibleFrom (λ (orbit : ℕ). edgeFigureWords) (left .keeps .orbits t) 0 (owners-are t) (edges-are t)) ∙ possible-from n 0 kept (fits .n-fits) h
+      (λ t. possibleFrom (λ (orbit : ℕ). edgeFigureWords) (left .keeps .orbits t) 0 (owners-are t) (edges-are t)) ∙ possible-of (λ (orbit : ℕ). edgeFigureWords) (keptPossible 0) 0 kept (all-each h) (edges-figured n 0 kept (fits .n-fits) h)
 
   -- ---- the answer
 

@@ -30,7 +30,8 @@ ghost use Rattle.writing.specs.Facets.{itemWords, listWords, OwnersBelow
 ghost use Rattle.writing.specs.Marks.{EdgesFit, imageCodes, marksOf, codesMarked, edgesMarked, markAt, markWords};
 ghost use Rattle.shelf.specs.Leaves.{listsLeft};
 ghost use Rattle.writing.specs.Images.{NumbersOf, NumbersBelow, imageMarks, numberWords, facetWords, idWords, IdsBelow, nextChoice, chosenFrom};
-ghost use Rattle.writing.specs.Solids.{polyhedronFrom, ImagesStand, solidFrom, solidEntryFrom, solidSummaryFrom, solidAnswerFrom};
+ghost use Rattle.writing.specs.Solids.{polyhedronFrom, ImagesStand, solidFrom, solidEntryFrom, solidSummaryFrom};
+ghost use Rattle.writing.specs.SolidWritten.{WroteSolidAnswer};
 ghost use Rattle.writing.specs.Standing.{Listed, Standing, ownersIn, edgesIn, entryFrom, summaryFrom};
 ghost use Rattle.writing.specs.Written.{WroteAnswer};
 ghost use Rattle.writing.specs.Answers.{countWords, NoneEmpty, edgeFigureWords, polygonWords, sizeIn, possibleFrom};
@@ -108,10 +109,10 @@ pub fn write_body(answer: &mut [u8], at: usize, n: usize) -> usize
 {
     let one = push(answer, at, 1);
     let mut cursor = push(answer, one, n as u32);
-    let mut i = 0;
-    while i < n {
-        cursor = push(answer, cursor, i as u32);
-        i += 1;
+    let mut facet = 0;
+    while facet < n {
+        cursor = push(answer, cursor, facet as u32);
+        facet += 1;
     }
     cursor
 }
@@ -985,7 +986,8 @@ fn write_solid_summaries(
     cursor
 }
 
-// The answer of a call of rank 4 from what it leaves and from its facets' images in order.
+// The answer of a call of rank 4 from what it leaves and from its facets' images in order. `standing` (specs/Written) and `images-stand` (specs/SolidWritten) say that these are what is
+// asked for here.
 pub fn write_solid_answer(
     answer: &mut [u8],
     at: usize,
@@ -1000,7 +1002,7 @@ pub fn write_solid_answer(
     left: u32,
 ) -> usize
     requires { ⌜ Standing m (now rows) level (now ws) × ImagesStand m level (now ws) (now ids) many × (n < 4294967296) × (left ≤ budget) ⌝ }
-    ensures { λ r. ⌜ Wrote (now (answer .entry)) at (now (answer .exit)) r (solidAnswerFrom n m (now (rows .entry)) level (now (ws .entry)) (words 4 (now (ids .entry)) many) budget left) ⌝ }
+    ensures { λ r. ⌜ WroteSolidAnswer n m (now (rows .entry)) level (now (ws .entry)) (words 4 (now (ids .entry)) many) budget left (now (answer .entry)) at (now (answer .exit)) r ⌝ }
 {
     let owners = level.shelf.owners;
     let ridges = level.shelf.ridges;

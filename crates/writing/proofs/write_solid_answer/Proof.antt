@@ -1,3 +1,4 @@
+use Rattle.writing.specs.SolidWritten.{answer-words}
 -- `writing::write_solid_answer` meets its contract.
 use mathlib.Core.Path.{_∙_}
 use native.Mathlib.Omega.{arith}
@@ -65,7 +66,7 @@ same-length c = c .before .before .write-solid-summaries .ensures .long ∙ (c .
 returns : tie.Need-returns
 unfolding solidAnswerFrom
 returns c = let s = c .before .before .before .before .before .before .before .before .before .before .before .before .before .before .before .before .before .before .before .before .before .before .before .before .before .before .before .before .before .before .before .before in
-    wrote-then (wrote-then (wrote-then (wrote-then (wrote-then (c .before .before .before .before .before .before .before .before .before .before .before .before .before .before .before .before .before .before .before .before .before .before .before .before .before .before .push .ensures) (c .before .before .before .before .before .before .before .before .before .before .before .before .before .before .before .before .before .before .before .before .before .before .write-counts .ensures)) (c .before .before .before .before .before .before .before .before .before .before .before .before .before .before .before .before .before .before .write-solids .ensures)) (c .before .before .before .before .before .before .before .before .before .before .before .before .write-possible-polygons .ensures)) (wrote-as (c .before .before .before .before .before .before .write-compounds .ensures) (labels-are (s .pre .0 .listed)))) (c .before .before .write-solid-summaries .ensures)
+    record { wrote = λ kept left. wrote-as (wrote-then (wrote-then (wrote-then (wrote-then (wrote-then (c .before .before .before .before .before .before .before .before .before .before .before .before .before .before .before .before .before .before .before .before .before .before .before .before .before .before .push .ensures) (c .before .before .before .before .before .before .before .before .before .before .before .before .before .before .before .before .before .before .before .before .before .before .write-counts .ensures)) (c .before .before .before .before .before .before .before .before .before .before .before .before .before .before .before .before .before .before .write-solids .ensures)) (c .before .before .before .before .before .before .before .before .before .before .before .before .write-possible-polygons .ensures)) (wrote-as (c .before .before .before .before .before .before .write-compounds .ensures) (labels-are (s .pre .0 .listed)))) (c .before .before .write-solid-summaries .ensures)) (answer-words (left .rows) (left .edges) (left .leaves) (left .images) (s .args .budget) (s .args .left)) }
 
 pub write-solid-answer-spec : {M : Type 1} → statement M
 write-solid-answer-spec =

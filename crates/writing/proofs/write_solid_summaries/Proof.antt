@@ -44,10 +44,10 @@ cast-push-three : tie.Need-cast-push-three Inv-loop μ-loop
 cast-push-three c = search needs
 
 cast-push-three-2 : tie.Need-cast-push-three-2 Inv-loop μ-loop
-cast-push-three-2 c = search needs
+cast-push-three-2 c = let s = c .before .before .before .before .before .before .before .before .before .before .before .before .before in omega (arith, c .before .count-chosen .ensures .1, c .before .before .before .count-marks .ensures .1, s .pre .1 .few)
 
 cast-push-three-3 : tie.Need-cast-push-three-3 Inv-loop μ-loop
-cast-push-three-3 c = let s = c .before .before .before .before .before .before .before .before .before .before .before .before .before in omega (arith, c .before .count-chosen .ensures .1, s .pre .1 .few)
+cast-push-three-3 c = let s = c .before .before .before .before .before .before .before .before .before .before .before .before .before in omega (arith, c .before .count-chosen .ensures .1, c .before .before .before .count-marks .ensures .1, s .pre .1 .few)
 
 push-three-requires : tie.Need-push-three-requires Inv-loop μ-loop
 push-three-requires c κs = search needs
