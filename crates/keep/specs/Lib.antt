@@ -13,3 +13,4 @@ pub mod Labels
 pub mod Reading
 pub mod Facets
 pub mod Whole
+pub mod Totals
