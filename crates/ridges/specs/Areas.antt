@@ -302,6 +302,16 @@ flat-few (l ∷ lists) most h =
 -- ---- lists by their numbers
 
 module _ {A : Type 0} where
+  -- the item behind a list, and where there is none
+  pub last-at : (l : List A) (v d : A) → getD (l ++ (v ∷ [])) (length l) d ≡ v
+  last-at [] v d = refl
+  last-at (x ∷ l) v d = last-at l v d
+
+  pub none-behind : (l : List A) (k : ℕ) (d : A) → length l ≤ k → getD l k d ≡ d
+  none-behind [] k d h = refl
+  none-behind (x ∷ l) zero d h = absurd (omega arith)
+  none-behind (x ∷ l) (suc k) d h = none-behind l k d (omega arith)
+
   unfoldable pub listsTo : (ℕ → A) → ℕ → List A
   listsTo at zero = []
   listsTo at (suc n) = listsTo at n ++ (at n ∷ [])
@@ -319,13 +329,9 @@ module _ {A : Type 0} where
   unfolding listsTo
   lists-at at zero k d h = absurd (omega arith)
   lists-at at (suc n) k d h = ⊎-elim
-      (λ l. let e : k ≡ length (listsTo at n) = omega (arith, lists-long at n) in ap (λ (j : ℕ). getD (listsTo at n ++ (at n ∷ [])) j d) e ∙ (last (listsTo at n) (at n) d ∙ ap at (omega (arith, lists-long at n))))
+      (λ l. let e : k ≡ length (listsTo at n) = omega (arith, lists-long at n) in ap (λ (j : ℕ). getD (listsTo at n ++ (at n ∷ [])) j d) e ∙ (last-at (listsTo at n) (at n) d ∙ ap at (omega (arith, lists-long at n))))
       (λ l. List·getD-append (listsTo at n) (at n ∷ []) d k (omega (arith, lists-long at n)) ∙ lists-at at n k d l)
       (le-or-lt n k)
-    where
-      last : (l : List A) (v d : A) → getD (l ++ (v ∷ [])) (length l) d ≡ v
-      last [] v d = refl
-      last (x ∷ l) v d = last l v d
 
 -- a pool made from none: what lies before it is as it was
 pub record Made (from to w most : ℕ) (s t : List ℕ) (lists : List (List ℕ)) : Type 0 where

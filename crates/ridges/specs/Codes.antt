@@ -18,7 +18,7 @@ use Rattle.laws.specs.Lists.{flatMap-append}
 use Rattle.laws.specs.Parts.{take-more}
 use Rattle.laws.specs.Segments.{le-or-lt}
 use Rattle.facets.specs.Layout.{amountIn}
-use Rattle.ridges.specs.Areas.{flat, listsTo}
+use Rattle.ridges.specs.Areas.{flat, listsTo, last-at}
 
 unfoldable pub shareCode : Share → ℕ
 shareCode s = s .0 + 65536 * s .1
@@ -166,10 +166,6 @@ amounts-are (suc at) ridge codes h = go (ℕ-discrete ridge at) (amounts-are at 
         let c : cond (eqb ridge at) (amountOf at codes) 0 ≡ 0 = rw (ne-eqb ridge at n) refl in
         omega (arith, a, b, ih (omega (arith, n)))
 
-last-at : (l : List ℕ) (v : ℕ) → getD (l ++ (v ∷ [])) (length l) 0 ≡ v
-last-at [] v = refl
-last-at (x ∷ l) v = last-at l v
-
 within-more : (ridge amount : ℕ) (l : List ℕ) (i : ℕ) → amount ≤ 3 → (i < length l → getD l i 0 / 4 < ridge) → i < length (l ++ touchedCode ridge amount) → getD (l ++ touchedCode ridge amount) i 0 / 4 < suc ridge
 unfolding touchedCode
 within-more ridge zero l i s f h = rw append-nil (omega (arith, f (rw append-nil at h)))
@@ -178,7 +174,7 @@ within-more ridge (suc amount) l i s f h =
     ⊎-elim
     (λ k.
     let e : i ≡ length l = omega arith in
-    let g : getD (l ++ ((4 * ridge + suc amount) ∷ [])) i 0 ≡ 4 * ridge + suc amount = ap (λ (j : ℕ). getD (l ++ ((4 * ridge + suc amount) ∷ [])) j 0) e ∙ last-at l (4 * ridge + suc amount) in
+    let g : getD (l ++ ((4 * ridge + suc amount) ∷ [])) i 0 ≡ 4 * ridge + suc amount = ap (λ (j : ℕ). getD (l ++ ((4 * ridge + suc amount) ∷ [])) j 0) e ∙ last-at l (4 * ridge + suc amount) 0 in
     omega arith)
     (λ k. rw (List·getD-append l ((4 * ridge + suc amount) ∷ []) 0 i k) (omega (arith, f k)))
     (le-or-lt (length l) i)

@@ -27,7 +27,7 @@ use Rattle.shelf.specs.Keeps.{Keeps, Ridges, facetsOf, ownersOf, placesOf, ridg
 use Rattle.facets.specs.Layout.{Inputs, facetOf}
 use Rattle.facets.specs.declared.Areas.{Areas}
 use Rattle.ridges.specs.declared.Desk.{Desk}
-use Rattle.ridges.specs.Areas.{area, flat, Space, Made, area-kept, take-kept, flat-few, listsTo, lists-long, lists-at}
+use Rattle.ridges.specs.Areas.{area, flat, Space, Made, area-kept, take-kept, flat-few, listsTo, lists-long, lists-at, last-at, none-behind}
 use Rattle.ridges.specs.Numbering.{Sent}
 use Rattle.ridges.specs.Ends.{Reads, ridgesAt, allNumbered, AllNumbered}
 use Rattle.ridges.specs.Codes.{shareCode, touchedOf}
@@ -103,13 +103,9 @@ orbit-at s (suc k) o h = ⊎-elim
     let e : o ≡ length (orbitsIn s k) = omega (arith, orbits-length s k) in
     let f : k ≡ o = omega arith in
     ap (λ (j : ℕ). getD (orbitsIn s k ++ ((numberAt s (8 * k) 4, numberAt s (8 * k + 4) 4) ∷ [])) j (0, 0)) e
-    ∙ (last (orbitsIn s k) (numberAt s (8 * k) 4, numberAt s (8 * k + 4) 4) ∙ ap (λ (j : ℕ). (numberAt s (8 * j) 4, numberAt s (8 * j + 4) 4)) f))
+    ∙ (last-at (orbitsIn s k) (numberAt s (8 * k) 4, numberAt s (8 * k + 4) 4) (0, 0) ∙ ap (λ (j : ℕ). (numberAt s (8 * j) 4, numberAt s (8 * j + 4) 4)) f))
     (λ l. List·getD-append (orbitsIn s k) ((numberAt s (8 * k) 4, numberAt s (8 * k + 4) 4) ∷ []) (0, 0) o (omega (arith, orbits-length s k)) ∙ orbit-at s k o l)
     (le-or-lt k o)
-  where
-    last : (l : List Pair) (p : Pair) → getD (l ++ (p ∷ [])) (length l) (0, 0) ≡ p
-    last [] p = refl
-    last (x ∷ l) p = last l p
 
 module _ (n most ridges m : ℕ) (rows : List ℕ) (kept : List Kept) (shelf : Shelf) (desk : Desk) (s : List ℕ) (g : Given n most ridges m rows kept shelf desk s) where
   -- the areas lie in order
@@ -144,7 +140,7 @@ module _ (n most ridges m : ℕ) (rows : List ℕ) (kept : List Kept) (shelf : S
   sent-is : (o i : ℕ) → i < length (ridgesAt shelf s o) → Sent m rows (pairOf (getD (ridgesAt shelf s o) i 0 % 65536))
   unfolding ridgeCodes
   sent-is o i h = ⊎-elim
-      (λ k. absurd (let e = ap length (behind (closed 4 256 (ridgesPart shelf s)) o (omega (arith, closed-length 4 256 (ridgesPart shelf s), ridges-count))) in omega arith))
+      (λ k. absurd (let e = ap length (none-behind (closed 4 256 (ridgesPart shelf s)) o [] (omega (arith, closed-length 4 256 (ridgesPart shelf s), ridges-count))) in omega arith))
       (λ k.
       let r = item-at kept o k in
       let l = g .small .long (r .item) (r .member) in
@@ -164,11 +160,6 @@ module _ (n most ridges m : ℕ) (rows : List ℕ) (kept : List Kept) (shelf : S
         second = record { below = λ q l. omega (arith, g .rows-fit .images (p .1) (b .1) .below q l) };
       }))
       (le-or-lt (length kept) o)
-    where
-      behind : (l : List (List ℕ)) (o : ℕ) → length l ≤ o → getD l o [] ≡ []
-      behind [] o h = refl
-      behind (x ∷ l) zero h = absurd (omega arith)
-      behind (x ∷ l) (suc o) h = behind l o (omega arith)
 
   numbers-same : allNumbered (rowsIn 32 m rows) (noKeys Pair) (closed 4 256 (ridgesPart shelf s)) ≡ numbersKept (rowsIn n m rows) kept
   numbers-same = ap (allNumbered (rowsIn 32 m rows) (noKeys Pair)) (g .made .ridges .lists-are) ∙ numbers-are n m rows (g .rows-fit) most kept (g .small)

@@ -14,6 +14,7 @@ use Rattle.laws.specs.Segments.{le-or-lt}
 use Rattle.pool.specs.Pool.{count, closed, Sound, closed-length}
 use Rattle.shapes.specs.Kept.{Kept, numbersKept, keptShare, keptShares, keptTable}
 use Rattle.shelf.specs.Keeps.{facetsIn, facetsOf, ownersOf, placesOf, ridgeCode, ridgeCodes}
+use Rattle.ridges.specs.Areas.{none-behind}
 use Rattle.ridges.specs.Codes.{shareCode}
 use Rattle.ridges.specs.Shares.{Sources, countOf, ownerOf, ridgesIn, numbersIn, placesIn, codeAt, facetCodes, SourcesFit}
 use Rattle.ridges.specs.Facets.{At, item-at, at-map, zip-at, zip-long, facetsFrom, table-facets, kept-facets, facets-long, stand}
@@ -113,14 +114,9 @@ module _ (n most : ℕ) (n-fits : n ≤ 20) (rows : List Row) (kept : List Kept)
 
   number-small : (o a : ℕ) → a < length (numbersIn src o) → getD (numbersIn src o) a 0 < length (numbersKept rows kept .1 .counts)
   number-small o a h = ⊎-elim
-      (λ k. absurd (let e = ap length (number-list o ∙ getD-behind (numbersKept rows kept .0) o k) in omega arith))
+      (λ k. absurd (let e = ap length (number-list o ∙ none-behind (numbersKept rows kept .0) o [] k) in omega arith))
       (λ k. rw (number-list o) (numbers-below rows kept (getD (numbersKept rows kept .0) o []) (member-at (numbersKept rows kept .0) o [] k) (getD (getD (numbersKept rows kept .0) o []) a 0) (member-at (getD (numbersKept rows kept .0) o []) a 0 (omega (arith, ap length (number-list o))))))
       (le-or-lt (length (numbersKept rows kept .0)) o)
-    where
-      getD-behind : (l : List (List ℕ)) (o : ℕ) → length l ≤ o → getD l o [] ≡ []
-      getD-behind [] o h = refl
-      getD-behind (x ∷ l) zero h = absurd (omega arith)
-      getD-behind (x ∷ l) (suc o) h = getD-behind l o (omega arith)
 
   place-list : (x : ℕ) (r : KeptAt kept x) → placesIn src x ≡ getD (r .at .item .places) (r .number) []
   place-list x r = ap (λ (l : List (List ℕ)). getD l x []) (hold .places) ∙ r .places-are
@@ -136,18 +132,13 @@ module _ (n most : ℕ) (n-fits : n ≤ 20) (rows : List Row) (kept : List Kept)
 
   inner-fits : (o a : ℕ) → a < length (ridgesIn src o) → getD (ridgesIn src o) a 0 / 65536 ≤ 120
   inner-fits o a h = ⊎-elim
-      (λ k. absurd (let e = ap length (ap (λ (l : List (List ℕ)). getD l o []) (hold .ridges) ∙ behind (map ridgeCodes kept) o (omega (arith, length-map kept ridgeCodes))) in omega arith))
+      (λ k. absurd (let e = ap length (ap (λ (l : List (List ℕ)). getD l o []) (hold .ridges) ∙ none-behind (map ridgeCodes kept) o [] (omega (arith, length-map kept ridgeCodes))) in omega arith))
       (λ k.
       let r = item-at kept o k in
       let l = small .long (r .item) (r .member) in
       let s : a < length (r .item .ends) = omega (arith, codes-long o k r) in
       omega (arith, inner-is o k r a s, small .counts (r .item) (r .member) (getD (r .item .counts) a 0) (member-at (r .item .counts) a 0 (omega arith))))
       (le-or-lt (length kept) o)
-    where
-      behind : (l : List (List ℕ)) (o : ℕ) → length l ≤ o → getD l o [] ≡ []
-      behind [] o h = refl
-      behind (x ∷ l) zero h = absurd (omega arith)
-      behind (x ∷ l) (suc o) h = behind l o (omega arith)
 
   pub sources-fit : (counts : List ℕ) (facets : ℕ) → facets ≡ length (facetsOf kept) → length (numbersKept rows kept .1 .counts) ≤ length counts → SourcesFit src counts facets
   sources-fit counts facets f few = record {

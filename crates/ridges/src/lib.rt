@@ -164,6 +164,7 @@ fn number_ridges(
 // ---- shares
 
 // The code of the share of a place with inner orbit a, of a facet of orbit o: its ridge orbit + 65,536 × floor(orbit count × inner count / ridge orbit count).
+// The orbits stand in the first 2,048 bytes, eight bytes each, the count in the last four. A count of 0 gives a share of 0, as the definition's division does.
 fn share_code(ws: &[u8], shelf: Shelf, desk: Desk, counts: &[u32], o: usize, a: usize) -> u32
     requires { ⌜ Orders shelf desk (length (now ws)) × SourcesFit (sourcesOf shelf desk (now ws)) (now counts) (shelf .facets) × (o < count (ridgesPart shelf (now ws))) × (a < length (ridgesIn (sourcesOf shelf desk (now ws)) o)) ⌝ }
     ensures { λ r. ⌜ r ≡ codeAt (sourcesOf shelf desk (now (ws .entry))) (now (counts .entry)) o a ⌝ }
@@ -263,7 +264,7 @@ fn touch_facet(ws: &mut [u8], desk: Desk, facets: usize, ridges: usize, x: usize
     pool::end_list(&mut ws[touched..ones]);
 }
 
-// What each facet adds.
+// What each facet adds. A facet's places are looked at once for each ridge orbit.
 fn touch_facets(ws: &mut [u8], desk: Desk, facets: usize, ridges: usize)
     requires { ⌜ (desk .shares ≤ desk .touched) × Sound 4 1024 (area (desk .shares) (desk .touched) (now ws)) × (facets ≡ count (area (desk .shares) (desk .touched) (now ws))) × (ridges ≤ 190) × Space (desk .touched) (desk .ones) 2 facets (length (now ws)) (facets * ridges) facets ⌝ }
     ensures { λ _. ⌜ Made (desk .touched) (desk .ones) 2 facets (now (ws .entry)) (now (ws .exit)) (listsTo (touchedOf ridges (closed 4 1024 (area (desk .shares) (desk .touched) (now (ws .entry))))) facets) ⌝ }
