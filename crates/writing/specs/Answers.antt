@@ -1,6 +1,6 @@
 -- The words of an answer from what stands in the workspace: counts, possible facets, entries and summaries. Leans on Facets and Marks.
 use mathlib.Core.List.{List, [], _∷_, _++_, map, flatMap}
-use Prim.Native.Nat.{_*_, ℕ, zero, suc, _+_, _<_}
+use Prim.Native.Nat.{_*_, ℕ, zero, suc, _+_}
 use lib.ListN.{length, getD, take, drop}
 use Rattle.definitions.specs.Lists.{Pair}
 use Rattle.definitions.specs.Job.{numberAt, figureWords}
@@ -13,10 +13,6 @@ use Rattle.writing.specs.Facets.{leading}
 -- how many orbits, and the count of each
 unfoldable pub countWords : List Pair → List ℕ
 countWords orbits = length orbits ∷ map (λ (p : Pair). p .1) orbits
-
--- every list has an item
-pub record NoneEmpty (lists : List (List ℕ)) : Type 0 where
-  pub some : (x : ℕ) → x < length lists → 0 < length (getD lists x [])
 
 -- the figure of a facet of rank 2
 unfoldable pub edgeFigureWords : List ℕ → List ℕ

@@ -1,53 +1,49 @@
 -- The words of an answer of rank 4 are document 01's: the figure of an entry is the polyhedron of its edges and its facets' images in order. Leans on Written, Solids and Arranged.
 use mathlib.Core.Path.{_≡_, refl, sym, ap, _∙_, subst}
-use mathlib.Core.Bool.{Bool, true, false, cond, _||_, not, _&&_}
+use mathlib.Core.Bool.{Bool, true, false, cond, not, _&&_}
 use mathlib.Core.List.{List, [], _∷_, _++_, map, flatMap, map-map, map-append, List·Memᴰ}
 use mathlib.Core.Logic.{⊎-elim}
 use Prim.Native.Nat.{ℕ, zero, suc, _+_, _*_, _-_, _/_, _%_, _≤_, _<_, compare}
 use native.Mathlib.Numerals.{add-one}
 use native.Mathlib.Omega.{arith}
 use lib.Dec.{T, eqb, eqb→eq, eqb-refl, leb}
-use lib.ListN.{length, getD, take, drop, replicate, length-map, length-replicate, length-drop, length-append, getD-replicate}
-use lib.Seq.{getD-drop, getD-append-seam, take-at, drop-at}
-use Rattle.definitions.specs.Lists.{Pair, keep, countFrom, comparePair, anyOf, memberNat}
-use Rattle.definitions.specs.Figures.{Figure}
+use lib.ListN.{length, getD, drop, replicate, length-map, length-replicate, length-drop, length-append, getD-replicate}
+use lib.Seq.{getD-drop, getD-append-seam}
+use Rattle.definitions.specs.Lists.{Pair, keep, countFrom, comparePair, memberNat}
 use Rattle.definitions.specs.Orbits.{Row, Orbit, pairImage}
 use Rattle.definitions.specs.Search.{Facet}
-use Rattle.definitions.specs.Recursion.{Entry, Answer}
+use Rattle.definitions.specs.Recursion.{Entry}
 use Rattle.definitions.specs.Job.{numberAt, counted, figureWords, entryWords, compoundWords, summaryWords, answerWords}
 use Rattle.laws.specs.Bools.{either, left-of, true→holds, holds→true}
-use Rattle.laws.specs.Lists.{Mem, here, there, in-map, of-map, in-flatMap, of-flatMap, flatMap-same, member-at, at-member, map-at, any-of, any-witness, in-keep, kept, in-count, of-count}
+use Rattle.laws.specs.Lists.{Mem, here, there, in-map, of-map, in-flatMap, of-flatMap, flatMap-same, member-at, at-member, any-of, any-witness, kept, of-count}
 use Rattle.laws.specs.Orders.{nats, pairs}
-use Rattle.laws.specs.Pairs.{pairs-keep}
-use Rattle.laws.specs.Ascending.{Ascends, ascends-distinct, in-in-order, of-in-order}
+use Rattle.laws.specs.Ascending.{ascends-distinct, in-in-order, of-in-order}
 use Rattle.laws.specs.Parts.{rows, getD-rows, length-rows}
 use Rattle.laws.specs.Places.{placeIn, place-at, place-map, flat-singles, flatMap-map, map-same, map-self}
-use Rattle.laws.specs.Ranges.{count-ascending}
+use Rattle.laws.specs.Sets.{verticesOf}
+use Rattle.words.specs.Words.{words}
+use Rattle.pool.specs.Pool.{count}
+use Rattle.orbits.specs.Workspace.{orbitsIn}
+use Rattle.orbits.specs.Numbers.{orbitOf}
 use Rattle.openers.specs.Marks.{marked, marked-at}
 use Rattle.openers.specs.Meaning.{codeOf, pairOf}
-use Rattle.openers.specs.Rows.{rowsIn, RowsFit, ImagesBelow}
-use Rattle.compounds.specs.Areas.{listAt}
+use Rattle.openers.specs.Rows.{rowsIn, RowsFit}
 use Rattle.compounds.specs.Labels.{labelsIn}
 use Rattle.compounds.specs.Numbers.{compoundsFrom}
-use Rattle.shapes.specs.EdgeSets.{polyhedron, edgesInOrder, polygonsInOrder, edgeNumber, polygon, Proper}
+use Rattle.shapes.specs.EdgeSets.{edgesInOrder, polygonsInOrder, edgeNumber, polygon, Proper}
 use Rattle.shapes.specs.FigureWords.{pointWords, edgeWords, bodyWords, polyhedron-words, polyhedron-summary}
 use Rattle.shapes.specs.Kept.{Kept, keptAt, keptPossible, keptEdgeImages, keptPolygons, keptFigure}
-use Rattle.shelf.specs.Keeps.{facetsIn, edgesOf, edgesPart}
+use Rattle.shelf.specs.Keeps.{edgesOf, edgesPart}
 use Rattle.shelf.specs.Leaves.{facetAt, listsLeft, entryLeft, answerLeft, Leaves}
 use Rattle.shelf.specs.declared.Level.{Level}
 use Rattle.writing.specs.Wrote.{Wrote}
-use Rattle.writing.specs.Facets.{listWords, edges-at}
-use Rattle.writing.specs.Marks.{keep-append, codes-up, Ends, imageCodes, marksOf, codesMarked, edgesMarked, edge-images, image-ends, marked-in-order, pair-code}
+use Rattle.writing.specs.Facets.{edges-at}
+use Rattle.writing.specs.Marks.{keep-append, codes-up, Ends, imageCodes, codesMarked, edgesMarked, edge-images, image-ends, marked-in-order, pair-code}
 use Rattle.writing.specs.Images.{imageMarks, nextChoice, chosenFrom}
-use Rattle.writing.specs.Arranged.{Arranged, Runs, chosen-in-order}
+use Rattle.writing.specs.Arranged.{Arranged, chosen-in-order}
 use Rattle.writing.specs.Standing.{ownersIn, edgesIn}
-use Rattle.pool.specs.Pool.{count}
-use Rattle.words.specs.Words.{words}
 use Rattle.writing.specs.Solids.{ImagesStand, facetFrom, imageOf, polyhedronFrom, linesOf, insideOf, solidFrom, solidEntryFrom, solidSummaryFrom, solidAnswerFrom}
 use Rattle.writing.specs.Written.{EdgesKept, all-each, all-ends, many-facets, many-lists, list-is, list-words, edges-written, Figured, possible-of, counts-are, owners-are, edges-are}
-use Rattle.laws.specs.Sets.{verticesOf}
-use Rattle.orbits.specs.Workspace.{orbitsIn}
-use Rattle.orbits.specs.Numbers.{orbitOf}
 use Rattle.writing.specs.Answers.{polygonWords, sizeIn, possibleFrom}
 
 -- ---- an edge's number is how many marks lie below it
@@ -210,7 +206,7 @@ polygons-figured : (n o : ℕ) (s : List ℕ) (kept-all : List Kept) → n ≤ 2
 unfolding countFrom keptPossible
 polygons-figured n o s [] b h e = tt
 polygons-figured n o s (k ∷ kept-all) b h e =
-    let later : EdgesKept n kept-all = record { each = λ j i. h .each j (there i); some = λ j i. h .some j (there i); proper = λ j i. h .proper j (there i) } in
+    let later : EdgesKept n kept-all = record { each = λ j i. h .each j (there i); proper = λ j i. h .proper j (there i) } in
     let size : sizeIn n s o ≡ length (k .orbit .vertices) = ap (λ (l : List ℕ). getD l 0 0) e in
     let z = length (k .orbit .vertices) in
     let tail-same = ap (λ (l : List ℕ). drop 1 l) e in (

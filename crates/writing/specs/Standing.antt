@@ -17,7 +17,7 @@ use Rattle.shelf.specs.Leaves.{listsLeft}
 use Rattle.shelf.specs.declared.Level.{Level}
 use Rattle.writing.specs.Facets.{OwnersBelow, listWords}
 use Rattle.writing.specs.Marks.{EdgesFit, marksOf, codesMarked, edgesMarked}
-use Rattle.writing.specs.Answers.{countWords, NoneEmpty, edgeFigureWords, possibleFrom}
+use Rattle.writing.specs.Answers.{countWords, edgeFigureWords, possibleFrom}
 
 -- the orbit of each facet, and the codes of each facet's edges
 abbrev pub ownersIn : Level → List ℕ → List ℕ
@@ -36,14 +36,13 @@ pub record Listed (level : Level) (s : List ℕ) : Type 0 where
   pub room : level .lists + (level .bytes + 2048 + 4 * level .count) ≤ length s
   pub numbers : AllBelow (level .shelf .facets) (listsLeft level s)
 
--- and the edges of the facets, each with an edge, and what the rows do to them
+-- and the edges of the facets, and what the rows do to them
 pub record Standing (m : ℕ) (rows : List ℕ) (level : Level) (s : List ℕ) : Type 0 where
   pub listed : Listed level s
   pub fewOrbits : level .shelf .orbits ≤ 256
   pub rowsFit : 32 * m ≤ length rows
   pub edges : EdgesFit m rows (edgesPart (level .shelf) s)
   pub each : level .shelf .facets ≤ count (edgesPart (level .shelf) s)
-  pub some : NoneEmpty (edgesIn level s)
 
 -- ---- the words of an answer of rank 3
 

@@ -31,22 +31,17 @@ use Rattle.shelf.specs.declared.Level.{Level}
 use Rattle.writing.specs.Wrote.{Wrote}
 use Rattle.writing.specs.Facets.{OwnersBelow, itemOf, itemWords, listWords, ownersFrom, owners-all, item-is, owners-below, Each, edges-at, many-edges, leading-is}
 use Rattle.writing.specs.Marks.{Ends, EdgesFit, marksOf, codesMarked, edgesMarked, pair-code, marked-edges}
-use Rattle.writing.specs.Answers.{countWords, NoneEmpty, edgeFigureWords, possibleFrom}
+use Rattle.writing.specs.Answers.{countWords, edgeFigureWords, possibleFrom}
 use Rattle.writing.specs.Standing.{ownersIn, edgesIn, Standing, entryFrom, summaryFrom, answerFrom}
 
--- What is kept of a call's facets: edges for each, one at least, and each edge with its smaller vertex first.
+-- What is kept of a call's facets: edges for each, and each edge with its smaller vertex first.
 pub record EdgesKept (n : ℕ) (kept : List Kept) : Type 0 where
   pub each : (k : Kept) → Mem k kept → length (k .edges) ≡ facetsIn k
-  pub some : (k : Kept) → Mem k kept → (l : List Pair) → Mem l (k .edges) → 0 < length l
   pub proper : (k : Kept) → Mem k kept → (l : List Pair) → Mem l (k .edges) → (e : Pair) → Mem e l → Proper n e
 
 module _ {n : ℕ} {kept : List Kept} (h : EdgesKept n kept) where
   pub all-each : Each kept
   all-each = record { each = h .each }
-
-  all-some : (l : List Pair) → Mem l (edgesOf kept) → 0 < length l
-  unfolding edgesOf
-  all-some l i = let r = of-flatMap (λ (k : Kept). k .edges) l kept i in h .some (r .0) (r .1) l (r .2)
 
   pub all-ends : (l : List Pair) → Mem l (edgesOf kept) → (e : Pair) → Mem e l → Ends n e
   unfolding edgesOf
@@ -113,7 +108,7 @@ possible-of figure says o (k ∷ kept) each h =
 edges-figured : (n o : ℕ) (kept : List Kept) → n ≤ 20 → EdgesKept n kept → Figured (λ (orbit : ℕ). edgeFigureWords) (keptPossible 0) o kept
 edges-figured n o [] b h = tt
 edges-figured n o (k ∷ kept) b h =
-    let later : EdgesKept n kept = record { each = λ j i. h .each j (there i); some = λ j i. h .some j (there i); proper = λ j i. h .proper j (there i) } in
+    let later : EdgesKept n kept = record { each = λ j i. h .each j (there i); proper = λ j i. h .proper j (there i) } in
     ((figures-of n k b (h .proper k (here refl)), possible-length k), edges-figured n (suc o) kept b later)
 
 -- ---- what a call leaves is what is asked for
@@ -174,15 +169,6 @@ module _ {more n m : ℕ} {bytes : List ℕ} {kept : List Kept} {level : Level} 
         subst (λ (v : ℕ). ImagesBelow 20 v m bytes) (sym e) (below-20 (r .edge .1) (r .ends .second));
   }
 
-  none-empty : NoneEmpty (edgesIn level s)
-  unfolding listAt
-  none-empty = record {
-    some = λ x l.
-        let es = getD (edgesOf kept) x [] in
-        let e = list-is x (omega (arith, closed-length 2 1024 pool)) in
-        omega (arith, ap length e, length-map es codeOf, all-some h es (member-at (edgesOf kept) x [] (omega (arith, many-lists, closed-length 2 1024 pool))));
-  }
-
   pub standing : Standing m bytes level s
   standing = record {
     listed = record {
@@ -198,7 +184,6 @@ module _ {more n m : ℕ} {bytes : List ℕ} {kept : List Kept} {level : Level} 
     rowsFit = fits .m-fits;
     edges = edges-fit;
     each = omega (arith, many-facets, many-lists);
-    some = none-empty;
   }
 
   -- ---- counts

@@ -34,7 +34,7 @@ ghost use Rattle.writing.specs.Solids.{polyhedronFrom, ImagesStand, soli
 ghost use Rattle.writing.specs.SolidWritten.{WroteSolidAnswer};
 ghost use Rattle.writing.specs.Standing.{Listed, Standing, ownersIn, edgesIn, entryFrom, summaryFrom};
 ghost use Rattle.writing.specs.Written.{WroteAnswer};
-ghost use Rattle.writing.specs.Answers.{countWords, NoneEmpty, edgeFigureWords, polygonWords, sizeIn, possibleFrom};
+ghost use Rattle.writing.specs.Answers.{countWords, edgeFigureWords, polygonWords, sizeIn, possibleFrom};
 
 // ---- words
 
@@ -374,16 +374,26 @@ fn end_of_orbit(owners: &[u8], facets: usize, x: usize, orbit: usize) -> usize
     i
 }
 
+// The code of a facet's first edge, or 0.
+fn first_code(edges: &[u8], x: usize) -> usize
+    requires { ⌜ Sound 2 1024 (now edges) × (x < count (now edges)) ⌝ }
+    ensures { λ r. ⌜ (r ≡ getD (listAt 1024 (now (edges .entry)) x) 0 0) × (r < 65536) ⌝ }
+{
+    if compounds::length_of(edges, 1024, x) == 0 {
+        return 0;
+    }
+    compounds::item_of(edges, 1024, x, 0) as usize
+}
+
 // The figures of the facets from one number to another, each an edge.
 fn write_edge_facets(answer: &mut [u8], at: usize, edges: &[u8], from: usize, to: usize) -> usize
-    requires { ⌜ Sound 2 1024 (now edges) × (from ≤ to) × (to ≤ count (now edges)) × NoneEmpty (closed 2 1024 (now edges)) ⌝ }
+    requires { ⌜ Sound 2 1024 (now edges) × (from ≤ to) × (to ≤ count (now edges)) ⌝ }
     ensures { λ r. ⌜ Wrote (now (answer .entry)) at (now (answer .exit)) r (flatMap edgeFigureWords (part from (to - from) (closed 2 1024 (now (edges .entry))))) ⌝ }
 {
     let mut cursor = at;
     let mut x = from;
     while x < to {
-        let code = compounds::item_of(edges, 1024, x, 0) as usize;
-        cursor = write_edge_figure(answer, cursor, code);
+        cursor = write_edge_figure(answer, cursor, first_code(edges, x));
         x += 1;
     }
     cursor
@@ -398,7 +408,7 @@ fn write_possible(
     orbits: usize,
     edges: &[u8],
 ) -> usize
-    requires { ⌜ (2 * facets ≤ length (now owners)) × (facets < 4294967296) × Sound 2 1024 (now edges) × (facets ≤ count (now edges)) × NoneEmpty (closed 2 1024 (now edges)) ⌝ }
+    requires { ⌜ (2 * facets ≤ length (now owners)) × (facets < 4294967296) × Sound 2 1024 (now edges) × (facets ≤ count (now edges)) ⌝ }
     ensures { λ r. ⌜ Wrote (now (answer .entry)) at (now (answer .exit)) r (possibleFrom (λ (orbit : ℕ). edgeFigureWords) orbits 0 (words 2 (now (owners .entry)) facets) (closed 2 1024 (now (edges .entry)))) ⌝ }
 {
     let mut cursor = at;

@@ -40,7 +40,7 @@ part-write-possible-end-2 : tie.Need-part-write-possible-end-2
 part-write-possible-end-2 c = search needs
 
 write-possible-requires : tie.Need-write-possible-requires
-write-possible-requires c κs = let h = c .before .before .before .before .before .before .before .before .before .before .before .before .before .before .before .before .before .before .pre .0 in (owners-asked (h .listed), omega (arith, h .listed .fewFacets), h .edges .sound, h .each, h .some)
+write-possible-requires c κs = let h = c .before .before .before .before .before .before .before .before .before .before .before .before .before .before .before .before .before .before .pre .0 in (owners-asked (h .listed), omega (arith, h .listed .fewFacets), h .edges .sound, h .each)
 
 sub-write-compounds : tie.Need-sub-write-compounds
 sub-write-compounds c = search needs

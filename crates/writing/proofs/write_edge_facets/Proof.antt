@@ -1,12 +1,12 @@
 -- `writing::write_edge_facets` meets its contract.
-use mathlib.Core.List.{_++_, flatMap}
 use mathlib.Core.Path.{_≡_, ap, _∙_}
-use Prim.Native.Nat.{ℕ, _+_, _-_, _≤_}
+use mathlib.Core.List.{_++_, flatMap}
+use Prim.Native.Nat.{ℕ, _-_, _≤_}
 use native.Mathlib.Omega.{arith}
 use borrow.Author.Needs.{needs}
 use lib.ListN.{take, drop}
 use Rattle.definitions.specs.Job.{figureWords}
-use Rattle.pool.specs.Pool.{closed-length, closed}
+use Rattle.pool.specs.Pool.{closed, closed-length}
 use Rattle.openers.specs.Meaning.{pairOf}
 use Rattle.compounds.specs.Areas.{listAt}
 use Rattle.shapes.specs.Edges.{edgeFigure}
@@ -25,17 +25,11 @@ abbrev μ-loop : tie.MeasureT-loop
 loop-holds : tie.Need-loop-holds Inv-loop μ-loop
 loop-holds c = let s = c .before .before in (omega arith, omega arith, wrote-as (wrote-none _ _) (stretch-none edgeFigureWords (closed 2 1024 (s .args .edges .now)) (s .args .from)))
 
-item-of-requires : tie.Need-item-of-requires Inv-loop μ-loop
-unfolding listAt
-item-of-requires c κs = let l = c .before .loop in let s = c .before .before .before .before in
-    let n = closed-length 2 1024 (s .args .edges .now) in
-    (s .pre .0, omega (arith, s .pre .2), s .pre .3 .some (l .x) (omega (arith, s .pre .2)))
-
-cast-code : tie.Need-cast-code Inv-loop μ-loop
-cast-code c = search needs
+first-code-requires : tie.Need-first-code-requires Inv-loop μ-loop
+first-code-requires c κs = let s = c .before .before .before .before .before in (s .pre .0, omega (arith, s .pre .2))
 
 write-edge-figure-requires : tie.Need-write-edge-figure-requires Inv-loop μ-loop
-write-edge-figure-requires c κs = search needs
+write-edge-figure-requires c κs = c .first-code .ensures .1
 
 add-x : tie.Need-add-x Inv-loop μ-loop
 add-x c = search needs
@@ -48,10 +42,10 @@ unfolding listAt edgeFigureWords
 loop-again c = let l = c .before .before .before .before .before .before .loop in let s = c .before .before .before .before .before .before .before .before .before in
     let edges = closed 2 1024 (s .args .edges .now) in
     let n = closed-length 2 1024 (s .args .edges .now) in
-    (omega arith, omega arith, wrote-as (wrote-then (l .inv .2) (c .before .before .write-edge-figure .ensures)) (ap (λ (v : ℕ). flatMap edgeFigureWords (take (l .x - s .args .from) (drop (s .args .from) edges)) ++ figureWords (edgeFigure (pairOf v))) (c .before .before .before .before .item-of .ensures) ∙ stretch-more edgeFigureWords edges (s .args .from) (l .x) (l .inv .0) (omega (arith, s .pre .2))))
+    (omega arith, omega arith, wrote-as (wrote-then (l .inv .2) (c .before .before .write-edge-figure .ensures)) (ap (λ (v : ℕ). flatMap edgeFigureWords (take (l .x - s .args .from) (drop (s .args .from) edges)) ++ figureWords (edgeFigure (pairOf v))) (c .before .before .before .first-code .ensures .0) ∙ stretch-more edgeFigureWords edges (s .args .from) (l .x) (l .inv .0) (omega (arith, s .pre .2))))
 
 same-length : tie.Need-same-length Inv-loop μ-loop
-same-length c = search needs
+same-length c = c .before .loop .inv .2 .long
 
 returns : tie.Need-returns Inv-loop μ-loop
 returns c = let l = c .before .loop in let s = c .before .before .before .before in let e : l .x ≡ s .args .to = omega arith in
@@ -64,8 +58,7 @@ write-edge-facets-spec =
     Inv-loop
     μ-loop
     loop-holds
-    item-of-requires
-    cast-code
+    first-code-requires
     write-edge-figure-requires
     add-x
     loop-less

@@ -31,7 +31,7 @@ push-requires : tie.Need-push-requires Inv-loop μ-loop
 push-requires c κs = search needs
 
 write-edge-facets-requires : tie.Need-write-edge-facets-requires Inv-loop μ-loop
-write-edge-facets-requires c κs = let s = c .before .before .before .before .before .before .before .before .before .before .before in (s .pre .2, omega (arith, c .before .before .before .before .before .end-of-orbit .ensures .0), omega (arith, c .before .before .before .before .before .end-of-orbit .ensures .1, s .pre .3), s .pre .4)
+write-edge-facets-requires c κs = let s = c .before .before .before .before .before .before .before .before .before .before .before in (s .pre .2, omega (arith, c .before .before .before .before .before .end-of-orbit .ensures .0), omega (arith, c .before .before .before .before .before .end-of-orbit .ensures .1, s .pre .3))
 
 add-orbit : tie.Need-add-orbit Inv-loop μ-loop
 add-orbit c = search needs

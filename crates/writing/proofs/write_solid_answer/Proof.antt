@@ -1,8 +1,8 @@
-use Rattle.writing.specs.SolidWritten.{answer-words}
 -- `writing::write_solid_answer` meets its contract.
 use mathlib.Core.Path.{_∙_}
 use native.Mathlib.Omega.{arith}
 use borrow.Author.Needs.{needs}
+use Rattle.writing.specs.SolidWritten.{answer-words}
 use Rattle.writing.specs.Wrote.{wrote-then, wrote-as}
 use Rattle.writing.specs.Solids.{solidAnswerFrom}
 use Rattle.writing.proofs.Asked.{owners-asked, labels-asked, labels-are}
