@@ -45,8 +45,5 @@ module _ {level : Level} {s : List ℕ} (h : Listed level s) where
       let e = part-length (level .shelf .owners) (level .shelf .ridges - level .shelf .owners) s (omega (arith, f .ownerRoom, f .ridgeRoom, f .placeRoom, f .ends)) in
       omega (arith, e, f .ownerRoom, h .fewFacets)
 
-  pub labels-asked : level .bytes + 2048 + 4 * level .count ≤ length rest
-  labels-asked = omega (arith, ap length (rest-is (level .lists) s), length-drop (level .lists) s, h .room)
-
   pub labels-are : counted compoundWords (compoundsFrom 0 (labelsIn (level .bytes + 2048) (level .count) rest)) ≡ counted compoundWords (compoundsFrom 0 (labelsIn (level .bytes + 2048) (level .count) (drop (level .lists) s)))
   labels-are = ap (λ (r : List ℕ). counted compoundWords (compoundsFrom 0 (labelsIn (level .bytes + 2048) (level .count) r))) (rest-is (level .lists) s)

@@ -532,6 +532,31 @@ fn write_summaries(
     cursor
 }
 
+// What was examined of the budget, and the counts of the orbits.
+fn write_front(
+    answer: &mut [u8],
+    at: usize,
+    ws: &[u8],
+    orbits: usize,
+    budget: u32,
+    left: u32,
+) -> usize
+    requires { ⌜ (8 * orbits ≤ length (now ws)) × (orbits < 4294967296) × (left ≤ budget) ⌝ }
+    ensures { λ r. ⌜ Wrote (now (answer .entry)) at (now (answer .exit)) r ((budget - left) ∷ countWords (orbitsIn (now (ws .entry)) orbits)) ⌝ }
+{
+    let examined = push(answer, at, budget - left);
+    write_counts(answer, examined, ws, orbits)
+}
+
+// The compounds among the entries.
+fn write_labels(answer: &mut [u8], at: usize, ws: &[u8], level: Level) -> usize
+    requires { ⌜ Listed level (now ws) ⌝ }
+    ensures { λ r. ⌜ Wrote (now (answer .entry)) at (now (answer .exit)) r (counted compoundWords (compoundsFrom 0 (labelsIn (level .bytes + 2048) (level .count) (drop (level .lists) (now (ws .entry)))))) ⌝ }
+{
+    let lists = level.lists;
+    write_compounds(answer, at, &ws[lists..], level.bytes + 2048, level.count)
+}
+
 // The answer of a call of rank 3 from what it leaves. `standing` (specs/Written) says that what it leaves is what is asked for here.
 pub fn write_answer(
     answer: &mut [u8],
@@ -551,11 +576,9 @@ pub fn write_answer(
     let ridges = level.shelf.ridges;
     let edges = level.shelf.edges;
     let labels = level.shelf.labels;
-    let lists = level.lists;
     let facets = level.shelf.facets;
     let orbits = level.shelf.orbits;
-    let examined = push(answer, at, budget - left);
-    let counts = write_counts(answer, examined, ws, orbits);
+    let counts = write_front(answer, at, ws, orbits, budget, left);
     let entries = write_entries(answer, counts, ws, level, rows, m, n);
     let possible = write_possible(
         answer,
@@ -565,13 +588,7 @@ pub fn write_answer(
         orbits,
         &ws[edges..labels],
     );
-    let compounds = write_compounds(
-        answer,
-        possible,
-        &ws[lists..],
-        level.bytes + 2048,
-        level.count,
-    );
+    let compounds = write_labels(answer, possible, ws, level);
     write_summaries(answer, compounds, ws, level, rows, m, n)
 }
 
@@ -1018,11 +1035,9 @@ pub fn write_solid_answer(
     let ridges = level.shelf.ridges;
     let edges = level.shelf.edges;
     let labels = level.shelf.labels;
-    let lists = level.lists;
     let facets = level.shelf.facets;
     let orbits = level.shelf.orbits;
-    let examined = push(answer, at, budget - left);
-    let counts = write_counts(answer, examined, ws, orbits);
+    let counts = write_front(answer, at, ws, orbits, budget, left);
     let entries = write_solids(answer, counts, ws, level, rows, m, n, ids, many);
     let possible = write_possible_polygons(
         answer,
@@ -1034,12 +1049,6 @@ pub fn write_solid_answer(
         orbits,
         &ws[edges..labels],
     );
-    let compounds = write_compounds(
-        answer,
-        possible,
-        &ws[lists..],
-        level.bytes + 2048,
-        level.count,
-    );
+    let compounds = write_labels(answer, possible, ws, level);
     write_solid_summaries(answer, compounds, ws, level, rows, m, n, ids, many)
 }
