@@ -1,5 +1,7 @@
--- Images of edge sets, and their order.
+-- Images of edge sets, their order, and that it is the order which an answer of rank 4 is written from.
 pub mod Images
 pub mod Merging
 pub mod Runs
 pub mod Orders
+pub mod Drawn
+pub mod Marked
