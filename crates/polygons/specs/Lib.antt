@@ -5,3 +5,5 @@ pub mod Runs
 pub mod Orders
 pub mod Drawn
 pub mod Marked
+pub mod Behind
+pub mod Arranges

@@ -1,0 +1,62 @@
+-- What a call leaves stands before a place: what is written from there on changes nothing of it. Leans on what a call leaves.
+use mathlib.Core.Path.{_≡_, sym, ap, _∙_, subst}
+use mathlib.Core.List.{List, map}
+use Prim.Native.Nat.{ℕ, _+_, _*_, _≤_}
+use native.Mathlib.Omega.{arith}
+use lib.ListN.{length, take, drop, length-drop}
+use Rattle.definitions.specs.Orbits.{Row}
+use Rattle.laws.specs.Segments.{part, part-take}
+use Rattle.words.specs.Words.{words, words-take}
+use Rattle.compounds.specs.Areas.{lists-kept, holds-kept}
+use Rattle.compounds.specs.Labels.{labelsIn, labelOf}
+use Rattle.compounds.specs.Numbers.{AllBelow, compoundsFrom}
+use Rattle.shapes.specs.Kept.{Kept, keptPossible}
+use Rattle.shelf.specs.Front.{keeps-front}
+use Rattle.shelf.specs.Leaves.{Leaves, listsLeft, entryLeft, answerLeft}
+use Rattle.shelf.specs.declared.Level.{Level}
+
+module _ {more n : ℕ} {rows : List Row} {kept : List Kept} {level : Level} {s : List ℕ} (t : List ℕ) (at : ℕ) (left : Leaves more n rows kept level s) (before : level .lists + (level .bytes + 2048 + 4 * level .count) ≤ at)
+    (front : take at t ≡ take at s) (long : length t ≡ length s) where
+  -- a part before the place
+  same-part : (a k : ℕ) → a + k ≤ at → part a k t ≡ part a k s
+  same-part a k l = sym (part-take at t a k l) ∙ (ap (part a k) front ∙ part-take at s a k l)
+
+  area-same : (k : ℕ) → k ≤ level .bytes + 2048 + 4 * level .count → take k (drop (level .lists) t) ≡ take k (drop (level .lists) s)
+  area-same k l = same-part (level .lists) k (omega (arith, before))
+
+  pub lists-after : listsLeft level t ≡ listsLeft level s
+  lists-after =
+      lists-kept 1024 (level .bytes) (level .count) (drop (level .lists) s) (drop (level .lists) t) (area-same (level .bytes + 2 * level .count) (omega arith))
+      (omega (arith, long, length-drop (level .lists) s, length-drop (level .lists) t))
+
+  labels-after : labelsIn (level .bytes + 2048) (level .count) (drop (level .lists) t) ≡ labelsIn (level .bytes + 2048) (level .count) (drop (level .lists) s)
+  unfolding labelsIn
+  labels-after = ap (map labelOf) (sym (own t) ∙ (ap (λ (l : List ℕ). words 4 (part (level .bytes + 2048) (4 * level .count) l) (level .count)) (area-same whole (omega arith)) ∙ own s))
+    where
+      whole : ℕ
+      whole = level .bytes + 2048 + 4 * level .count
+
+      own : (l : List ℕ) → words 4 (part (level .bytes + 2048) (4 * level .count) (take whole (drop (level .lists) l))) (level .count) ≡ words 4 (drop (level .bytes + 2048) (drop (level .lists) l)) (level .count)
+      own l =
+          ap (λ (k : List ℕ). words 4 k (level .count)) (part-take whole (drop (level .lists) l) (level .bytes + 2048) (4 * level .count) (omega arith))
+          ∙ words-take 4 (drop (level .bytes + 2048) (drop (level .lists) l)) (4 * level .count) (level .count) (omega arith)
+
+  pub leaves-after : Leaves more n rows kept level t
+  leaves-after = record {
+    keeps = keeps-front n (level .shelf) kept s t (same-part 0 (level .shelf .owners + 2048) (omega (arith, before, left .behind))) long (left .keeps);
+    behind = left .behind;
+    area = holds-kept 1024 (level .bytes) (level .count) (drop (level .lists) s) (drop (level .lists) t) (area-same (level .bytes + 2 * level .count) (omega arith)) (omega (arith, long, length-drop (level .lists) s, length-drop (level .lists) t)) (left .area);
+    fewEntries = left .fewEntries;
+    room = omega (arith, long, left .room);
+    numbers = subst (AllBelow (level .shelf .facets)) (sym lists-after) (left .numbers);
+  }
+
+  pub answer-after : (rest : ℕ) → answerLeft more n rows kept level t rest ≡ answerLeft more n rows kept level s rest
+  unfolding answerLeft
+  answer-after rest = λ i. record {
+    counts = map (λ (k : Kept). k .orbit .count) kept;
+    entries = map (entryLeft more n rows kept) (lists-after i);
+    possible = map (keptPossible more) kept;
+    compounds = compoundsFrom 0 (labels-after i);
+    left = rest;
+  }
