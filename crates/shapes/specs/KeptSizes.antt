@@ -111,7 +111,7 @@ two-counted rules plane points rows budget a given e =
 two-counts : (budget : ℕ) (a : Answer) (r : RankTwo budget a) → length (a .counts) ≡ r .ends
 two-counts budget a r = ap length (r .counts) ∙ length-replicate (r .ends) (2 / r .ends)
 
-two-few : (budget : ℕ) (a : Answer) → RankTwo budget a → (1 ≤ length (a .counts)) × (length (a .counts) ≤ 2)
+pub two-few : (budget : ℕ) (a : Answer) → RankTwo budget a → (1 ≤ length (a .counts)) × (length (a .counts) ≤ 2)
 two-few budget a r = go (r .one-or-two)
   where
     go : (r .ends ≡ 1) ⊎ (r .ends ≡ 2) → (1 ≤ length (a .counts)) × (length (a .counts) ≤ 2)
@@ -173,7 +173,7 @@ answer-sized (suc zero) rules plane points rows budget a few given e = three-siz
 answer-sized (suc (suc more)) rules plane points rows budget a few given e = absurd (omega arith)
 
 -- the orbits of an answer of rank 2 or 3 on 20 points at most
-few-counts : (more : ℕ) (rules : Rules) (plane : Subspace) (points : List Vec) (rows : List Row) (budget : ℕ) (a : Answer) → more ≤ 1 → length points ≤ 20
+pub few-counts : (more : ℕ) (rules : Rules) (plane : Subspace) (points : List Vec) (rows : List Row) (budget : ℕ) (a : Answer) → more ≤ 1 → length points ≤ 20
     → faceting more rules plane points rows budget ≡ answered a → length (a .counts) ≤ 190
 few-counts zero rules plane points rows budget a few small e = let k = two-few budget a (rank-two rules plane points rows budget a e) .1 in omega arith
 few-counts (suc zero) rules plane points rows budget a few small e =

@@ -1,0 +1,3 @@
+-- The call: what it answers, and how far its inner calls have come.
+pub mod Amounts
+pub mod InnerAmounts
