@@ -1,3 +1,4 @@
 -- The call: what it answers, and how far its inner calls have come.
 pub mod Amounts
 pub mod InnerAmounts
+pub mod State
