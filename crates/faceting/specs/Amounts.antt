@@ -2,15 +2,15 @@
 -- rank 4 no more than there are pairs of 20 points. From an orbit's inner answer alone. Leans on the shelf and on the sizes of answers.
 use mathlib.Core.Path.{_≡_, refl, sym, ap, _∙_, subst}
 use mathlib.Core.List.{List, [], _∷_, _++_, map, flatMap, map-append, append-nil}
-use Prim.Native.Nat.{ℕ, zero, suc, _+_, _*_, _≤_, _<_, min}
-use native.Mathlib.Nat.{mul-le-mul-left}
+use Prim.Native.Nat.{ℕ, _+_, _*_, _≤_}
 use native.Mathlib.Omega.{arith}
 use lib.ListN.{length, length-append, length-map}
 use Rattle.definitions.specs.Lists.{Pair}
-use Rattle.laws.specs.Lists.{Mem, here, there, flatMap-append}
+use Rattle.laws.specs.Lists.{Mem, flatMap-append}
 use Rattle.openers.specs.Meaning.{codeOf}
 use Rattle.shapes.specs.Kept.{Kept}
-use Rattle.shelf.specs.Keeps.{joined, ridgeCodes, placesOf, edgesOf, facetsOf}
+use Rattle.shelf.specs.Keeps.{joined, ridgeCodes, placesOf, edgesOf}
+use Rattle.keep.specs.Totals.{joined-few}
 
 -- one orbit: at most a ridges, and for each facet at most b places and c edges
 pub record OrbitAmounts (a b c : ℕ) (k : Kept) : Type 0 where
@@ -25,18 +25,8 @@ pub record Amounts (a b c : ℕ) (kept : List Kept) : Type 0 where
   pub places : length (joined (placesOf kept)) ≤ b * length (placesOf kept)
   pub edges : length (joined (map (map codeOf) (edgesOf kept))) ≤ c * length (placesOf kept)
 
--- short lists joined
+-- lists joined
 module _ {A : Type 0} where
-  joined-few : (b : ℕ) (ls : List (List A)) → ((l : List A) → Mem l ls → length l ≤ b) → length (joined ls) ≤ b * length ls
-  unfolding flatMap
-  joined-few b [] h = omega arith
-  joined-few b (l ∷ ls) h =
-      let e = length-append l (joined ls) in
-      let f = joined-few b ls (λ m i. h m (there i)) in
-      let g = h l (here refl) in
-      let k : b * suc (length ls) ≡ b + b * length ls = omega arith in
-      omega arith
-
   joined-append : (ls ms : List (List A)) → joined (ls ++ ms) ≡ joined ls ++ joined ms
   joined-append ls ms = flatMap-append (λ (l : List A). l) ls ms
 

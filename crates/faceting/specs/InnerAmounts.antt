@@ -24,6 +24,7 @@ use Rattle.shapes.specs.EntryFigures.{entry-polygon}
 use Rattle.shapes.specs.KeptSizes.{answer-sized, few-counts, two-few}
 use Rattle.shapes.specs.Kept.{Kept, keptOf}
 use Rattle.shelf.specs.Keeps.{ridgeCode, ridgeCodes}
+use Rattle.keep.specs.Rooms.{kept-evenly}
 use Rattle.faceting.specs.Amounts.{OrbitAmounts}
 
 zip-few : {A B C : Type 0} (f : A → B → C) (l : List A) (m : List B) → length (zipWith f l m) ≤ length m
@@ -32,18 +33,11 @@ zip-few f [] m = omega arith
 zip-few f (x ∷ l) [] = omega arith
 zip-few f (x ∷ l) (y ∷ m) = let e = zip-few f l m in omega arith
 
--- the ridges are no more than the counts; the facets' edges are as many as their places
+-- the ridges are no more than the counts
 module _ (i : Inner) where
   codes-few : length (ridgeCodes (keptOf i)) ≤ length (i .answer .counts)
   unfolding ridgeCodes keptOf
   codes-few = zip-few ridgeCode (keptOf i .ends) (i .answer .counts)
-
-  as-many : length (keptOf i .edges) ≡ length (keptOf i .places)
-  unfolding keptOf possibleFacets
-  as-many =
-      length-map (possibleFacets i) edgePairs
-      ∙ (length-map (i .answer .entries) (λ (e : Entry). moveEnds (λ (v : ℕ). getD (i .orbit .vertices) v 0) (e .figure))
-      ∙ sym (length-map (i .answer .entries) (λ (e : Entry). map (λ (place : Pair). place .0) (e .list))))
 
   -- a facet's places and edges, from its entry
   places-of : (b : ℕ) → ((e : Entry) → Mem e (i .answer .entries) → length (e .list) ≤ b) → (l : List ℕ) → Mem l (keptOf i .places) → length l ≤ b
@@ -75,7 +69,7 @@ two-amounts rules plane points rows budget i e =
       ridges = let k = codes-few i in omega arith;
       places = places-of i 2 (λ x m. list-few r few n x (subst (λ (es : List Entry). Mem x es) (r .entries) m));
       edges = edges-of i 1 (λ x m. edge-one x (subst (λ (es : List Entry). Mem x es) (r .entries) m));
-      edges-many = as-many i;
+      edges-many = kept-evenly i;
     }
   where
     list-few : (r : RankTwo budget (i .answer)) → length (i .answer .counts) ≤ 2 → length (i .answer .counts) ≡ r .ends → (x : Entry) → Mem x (record { list = map (λ (v : ℕ). (v, 0)) (countFrom 0 (r .ends)); figure = dyad } ∷ []) → length (x .list) ≤ 2
@@ -107,5 +101,5 @@ three-amounts rules plane points rows budget i given small e =
           let n = ap (λ (f : Figure). length (edgePairs f)) figure ∙ (ap length (polygon-edges (length points) (map (endsVia to) (p .0))) ∙ length-map (p .0) (endsVia to)) in
           let k = pairs-few (length points) (length (p .0)) small (edges-few (length points) (p .0) (p .2)) in
           omega arith);
-      edges-many = as-many i;
+      edges-many = kept-evenly i;
     }

@@ -2,3 +2,4 @@
 pub mod Amounts
 pub mod InnerAmounts
 pub mod State
+pub mod InnerLeft
