@@ -3,3 +3,4 @@ pub mod Amounts
 pub mod InnerAmounts
 pub mod State
 pub mod InnerLeft
+pub mod Turns
