@@ -19,13 +19,13 @@ use Rattle.shapes.specs.EdgeSets.{EdgeSet, polygon}
 use Rattle.shapes.specs.Polygons.{endsVia, edgePairs, polygon-raised, polygon-edges}
 use Rattle.shapes.specs.Sizes.{edges-few}
 use Rattle.shapes.specs.FewOrbits.{pairs-few}
-use Rattle.shapes.specs.LowRanks.{RankTwo, rank-two}
+use Rattle.shapes.specs.LowRanks.{RankTwo, rank-two, few-entries}
 use Rattle.shapes.specs.EntryFigures.{entry-polygon}
 use Rattle.shapes.specs.KeptSizes.{answer-sized, few-counts, two-few}
 use Rattle.shapes.specs.Kept.{Kept, keptOf}
 use Rattle.shelf.specs.Keeps.{ridgeCode, ridgeCodes}
 use Rattle.keep.specs.Rooms.{kept-evenly}
-use Rattle.faceting.specs.Amounts.{OrbitAmounts}
+use Rattle.faceting.specs.Amounts.{OrbitAmounts, mostAt}
 
 zip-few : {A B C : Type 0} (f : A → B → C) (l : List A) (m : List B) → length (zipWith f l m) ≤ length m
 unfolding zipWith
@@ -59,14 +59,15 @@ module _ (i : Inner) where
       omega arith
 
 -- an inner call of rank 2
-pub two-amounts : (rules : Rules) (plane : Subspace) (points : List Vec) (rows : List Row) (budget : ℕ) (i : Inner) → faceting 0 rules plane points rows budget ≡ answered (i .answer) → OrbitAmounts 2 2 1 (keptOf i)
-unfolding edgePairs rankOf moveEnds dyad
+pub two-amounts : (rules : Rules) (plane : Subspace) (points : List Vec) (rows : List Row) (budget : ℕ) (i : Inner) → faceting 0 rules plane points rows budget ≡ answered (i .answer) → OrbitAmounts (mostAt 0) (keptOf i)
+unfolding edgePairs rankOf moveEnds dyad mostAt keptOf
 two-amounts rules plane points rows budget i e =
     let r = rank-two rules plane points rows budget (i .answer) e in
     let few = two-few budget (i .answer) r .1 in
     let n : length (i .answer .counts) ≡ r .ends = ap length (r .counts) ∙ length-replicate (r .ends) (2 / r .ends) in
     record {
       ridges = let k = codes-few i in omega arith;
+      facets = let k = length-map (i .answer .entries) (λ (x : Entry). map (λ (place : Pair). place .0) (x .list)) in let q = ap length (r .entries) in omega arith;
       places = places-of i 2 (λ x m. list-few r few n x (subst (λ (es : List Entry). Mem x es) (r .entries) m));
       edges = edges-of i 1 (λ x m. edge-one x (subst (λ (es : List Entry). Mem x es) (r .entries) m));
       edges-many = kept-evenly i;
@@ -86,14 +87,16 @@ two-amounts rules plane points rows budget i e =
 
 -- an inner call of rank 3 on 20 points at most
 pub three-amounts : (rules : Rules) (plane : Subspace) (points : List Vec) (rows : List Row) (budget : ℕ) (i : Inner) → Given points rows → length points ≤ 20
-    → faceting 1 rules plane points rows budget ≡ answered (i .answer) → OrbitAmounts 190 190 190 (keptOf i)
-three-amounts rules plane points rows budget i given small e =
+    → faceting 1 rules plane points rows budget ≡ answered (i .answer) → rules .bounds .entries ≤ 1024 → OrbitAmounts (mostAt 1) (keptOf i)
+unfolding mostAt keptOf
+three-amounts rules plane points rows budget i given small e bound =
     let few = few-counts 1 rules plane points rows budget (i .answer) (omega arith) small e in
     let sized = answer-sized 1 rules plane points rows budget (i .answer) (omega arith) given e in
     let c = answered-call 0 rules plane points rows budget (i .answer) e in
     let to : ℕ → ℕ = λ v. getD (i .orbit .vertices) v 0 in
     record {
       ridges = let k = codes-few i in omega arith;
+      facets = let k = length-map (i .answer .entries) (λ (x : Entry). map (λ (place : Pair). place .0) (x .list)) in let q = few-entries 0 rules plane points rows (i .answer) c in omega arith;
       places = places-of i 190 (λ x m. let k = sized .few x m in omega arith);
       edges = edges-of i 190 (λ x m.
           let p = entry-polygon rules plane points rows (i .answer) given c x m in

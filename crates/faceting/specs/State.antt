@@ -24,7 +24,7 @@ use Rattle.shelf.specs.Keeps.{Keeps, Ridges}
 use Rattle.shelf.specs.declared.Shelf.{Shelf}
 use Rattle.calls.specs.Steps.{innerOf, Reached, reached-first, reached-next}
 use Rattle.keep.specs.Adding.{orbitAt, withFacets}
-use Rattle.faceting.specs.Amounts.{Amounts, OrbitAmounts, amounts-none, amounts-more}
+use Rattle.faceting.specs.Amounts.{Amounts, OrbitAmounts, mostAt, amounts-none, amounts-more}
 
 -- the orbit at a place of the orbits' area
 pub orbit-at : (s : List ℕ) (k o : ℕ) → o < k → getD (orbitsIn s k) o (0, 0) ≡ orbitAt s o
@@ -39,7 +39,7 @@ orbit-at s (suc k) o h = ⊎-elim
     (λ l. let n = orbits-length s k in List·getD-append (orbitsIn s k) (orbitAt s k ∷ []) (0, 0) o (omega arith) ∙ orbit-at s k o l)
     (le-or-lt k o)
 
-module _ (more : ℕ) (rules : Rules) (plane : Subspace) (points : List Vec) (rows : List Row) (budget n : ℕ) (a b c : ℕ) where
+module _ (more : ℕ) (rules : Rules) (plane : Subspace) (points : List Vec) (rows : List Row) (budget n : ℕ) where
   abbrev pub orbitsOf : List Orbit
   orbitsOf = hyperplaneOrbits (rules .tolerance) (rules .lengths) more points (map (flatten plane) points) rows
 
@@ -54,7 +54,7 @@ module _ (more : ℕ) (rules : Rules) (plane : Subspace) (points : List Vec) (ro
     pub keeps : Keeps n shelf (map keptOf done) s
     pub ridges : Ridges shelf (map keptOf done) s
     pub found : map (orbitOf n) (orbitsIn s (length orbitsOf)) ≡ orbitsOf
-    pub amounts : Amounts a b c (map keptOf done)
+    pub amounts : Amounts (mostAt more) (map keptOf done)
 
   -- before the first inner call
   pub state-first : (shelf : Shelf) (s : List ℕ) → Keeps n shelf [] s → Ridges shelf [] s → map (orbitOf n) (orbitsIn s (length orbitsOf)) ≡ orbitsOf → State shelf budget 0 s
@@ -66,7 +66,7 @@ module _ (more : ℕ) (rules : Rules) (plane : Subspace) (points : List Vec) (ro
     keeps = keeps;
     ridges = ridges;
     found = found;
-    amounts = amounts-none a b c;
+    amounts = amounts-none (mostAt more);
   }
 
   module _ (shelf : Shelf) (left i : ℕ) (s : List ℕ) (state : State shelf left i s) (h : i < length orbitsOf) where
@@ -85,7 +85,7 @@ module _ (more : ℕ) (rules : Rules) (plane : Subspace) (points : List Vec) (ro
     -- one inner call more is made and kept
     pub state-next : (made : Inner) → inner next left ≡ answered made → facetSum (state .done) + facetNumber made ≤ rules .bounds .facets → (r : Shelf) (t : List ℕ)
         → Keeps n r (map keptOf (state .done) ++ (keptOf made ∷ [])) t → Ridges r (map keptOf (state .done) ++ (keptOf made ∷ [])) t → take 2048 t ≡ take 2048 s → length orbitsOf ≤ 256
-        → OrbitAmounts a b c (keptOf made) → State r (made .answer .left) (i + 1) t
+        → OrbitAmounts (mostAt more) (keptOf made) → State r (made .answer .left) (i + 1) t
     state-next made is room r t keeps ridges front small amounts =
         let kept : map keptOf (state .done ++ (made ∷ [])) ≡ map keptOf (state .done) ++ (keptOf made ∷ []) = map-append keptOf (state .done) (made ∷ []) in
         record {
@@ -96,5 +96,5 @@ module _ (more : ℕ) (rules : Rules) (plane : Subspace) (points : List Vec) (ro
           keeps = subst (λ (k : List Kept). Keeps n r k t) (sym kept) keeps;
           ridges = subst (λ (k : List Kept). Ridges r k t) (sym kept) ridges;
           found = ap (map (orbitOf n)) (sym (orbits-front t 2048 (length orbitsOf) (omega arith)) ∙ (ap (λ (l : List ℕ). orbitsIn l (length orbitsOf)) front ∙ orbits-front s 2048 (length orbitsOf) (omega arith))) ∙ state .found;
-          amounts = subst (Amounts a b c) (sym kept) (amounts-more a b c (map keptOf (state .done)) (keptOf made) (state .amounts) amounts);
+          amounts = subst (Amounts (mostAt more)) (sym kept) (amounts-more (mostAt more) (map keptOf (state .done)) (keptOf made) (state .amounts) amounts);
         }
