@@ -4,3 +4,4 @@ pub mod InnerAmounts
 pub mod State
 pub mod InnerLeft
 pub mod Turns
+pub mod Spaces
