@@ -79,6 +79,11 @@ areasOf shelf desk known = record {
   end = desk .end - shelf .owners;
 }
 
+-- areas made so say themselves for how many ridge orbits they are
+pub areas-laid : (shelf : Shelf) (desk : Desk) (known : ℕ) (r : Areas) → r ≡ areasOf shelf desk known → r ≡ areasOf shelf desk (r .ridges)
+unfolding areasOf
+areas-laid shelf desk known r e = e ∙ ap (areasOf shelf desk) (sym (ap (λ (a : Areas). a .ridges) e))
+
 -- an area, counted from a place before it
 part-shift : (o a b : ℕ) (l : List ℕ) → o ≤ a → a ≤ b → part (a - o) (b - o - (a - o)) (drop o l) ≡ area a b l
 part-shift o a b l h k =

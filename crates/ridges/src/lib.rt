@@ -356,7 +356,7 @@ fn areas_from(shelf: Shelf, desk: Desk, known: usize) -> Areas
 // The tables of the search, from what is kept, and where they lie: the search is called on the workspace from the owners on. The shelf stays as it is.
 pub fn lay_tables(rows: &[u8], m: usize, shelf: Shelf, desk: Desk, ws: &mut [u8]) -> Areas
     requires { ⌜ ((n : ℕ) × (most : ℕ) × (ridges : ℕ) × (kept : List Kept) × Given n most ridges m (now rows) kept shelf desk (now ws)) ⌝ }
-    ensures { λ r. ⌜ ((n : ℕ) (most : ℕ) (ridges : ℕ) (kept : List Kept) → Given n most ridges m (now (rows .entry)) kept shelf desk (now (ws .entry)) → Inputs (keptTable (rowsIn n m (now (rows .entry))) kept) r (drop (shelf .owners) (now (ws .exit))) × (take (shelf .end) (now (ws .exit)) ≡ take (shelf .end) (now (ws .entry)))) ⌝ }
+    ensures { λ r. ⌜ (r ≡ areasOf shelf desk (r .ridges)) × ((n : ℕ) (most : ℕ) (ridges : ℕ) (kept : List Kept) → Given n most ridges m (now (rows .entry)) kept shelf desk (now (ws .entry)) → Inputs (keptTable (rowsIn n m (now (rows .entry))) kept) r (drop (shelf .owners) (now (ws .exit))) × (take (shelf .end) (now (ws .exit)) ≡ take (shelf .end) (now (ws .entry)))) ⌝ }
 {
     let mut counts: [u32; 190] = [0; 190];
     let known = number_ridges(rows, m, shelf, desk, &mut counts, ws);

@@ -1,7 +1,7 @@
 -- `lay_tables` meets its contract: each step leaves what the next one asks (specs/Desks).
 use mathlib.Core.Path.{refl}
 use native.Mathlib.Omega.{arith}
-use Rattle.ridges.specs.Desks.{desk-order, numbering-asks, orders, shares-fit, sharing-space, known-few, facets-count, touching-space, ones-asks, inputs-are, shelf-kept}
+use Rattle.ridges.specs.Desks.{areas-laid, desk-order, numbering-asks, orders, shares-fit, sharing-space, known-few, facets-count, touching-space, ones-asks, inputs-are, shelf-kept}
 use borrow.Author.Needs.{needs}
 use Rattle.ridges.proofs.lay_tables.Statement.{statement}
 use Rattle.ridges.proofs.lay_tables.Tie as tie
@@ -30,8 +30,11 @@ same-length : tie.Need-same-length
 same-length c = search needs
 
 returns : tie.Need-returns
-returns c = λ n most ridges kept g. let s = c .before .before .before .before .before .before .before .before .before .before .before .before .before .before .before .before .before .before .before .before .before in let a = c .before .before .before .before .before .before .before .before .before .before .before .before .before .before .before .before .number-ridges .ensures in let b = c .before .before .before .before .before .before .before .before .before .before .before .share-facets .ensures in let t = c .before .before .before .before .before .before .before .touch-facets .ensures in let d = c .before .before .before .lay-ones .ensures in
-    (rw (c .areas-from .ensures) (inputs-are n most ridges (s .args .m) (s .args .rows .now) kept (s .args .shelf) (s .args .desk) (s .args .ws .now) g _ _ _ a _ b _ t _ d), shelf-kept n most ridges (s .args .m) (s .args .rows .now) kept (s .args .shelf) (s .args .desk) (s .args .ws .now) g _ _ _ a _ b _ t _ d)
+returns c = (
+  areas-laid _ _ _ _ (c .areas-from .ensures),
+  λ n most ridges kept g. let s = c .before .before .before .before .before .before .before .before .before .before .before .before .before .before .before .before .before .before .before .before .before in let a = c .before .before .before .before .before .before .before .before .before .before .before .before .before .before .before .before .number-ridges .ensures in let b = c .before .before .before .before .before .before .before .before .before .before .before .share-facets .ensures in let t = c .before .before .before .before .before .before .before .touch-facets .ensures in let d = c .before .before .before .lay-ones .ensures in
+      (rw (c .areas-from .ensures) (inputs-are n most ridges (s .args .m) (s .args .rows .now) kept (s .args .shelf) (s .args .desk) (s .args .ws .now) g _ _ _ a _ b _ t _ d), shelf-kept n most ridges (s .args .m) (s .args .rows .now) kept (s .args .shelf) (s .args .desk) (s .args .ws .now) g _ _ _ a _ b _ t _ d),
+)
 
 pub lay-tables-spec : {M : Type 1} → statement M
 lay-tables-spec =
