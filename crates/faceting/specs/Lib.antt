@@ -5,3 +5,5 @@ pub mod State
 pub mod InnerLeft
 pub mod Turns
 pub mod Spaces
+pub mod Desks
+pub mod Stocks
