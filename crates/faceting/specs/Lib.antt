@@ -7,3 +7,4 @@ pub mod Turns
 pub mod Spaces
 pub mod Desks
 pub mod Stocks
+pub mod Searched

@@ -1,11 +1,10 @@
 -- What a call has when its search begins: all inner calls are made and kept in the workspace. Its tables can be laid, at rank 3 and at rank 4. Leans on the desks, on what is kept of inner calls
 -- and how much that can be.
-use mathlib.Core.Path.{_≡_, refl, sym, ap, _∙_, subst}
+use mathlib.Core.Path.{_≡_, sym, ap, _∙_, subst}
 use mathlib.Core.List.{List, map}
-use Prim.Native.Nat.{ℕ, zero, suc, _+_, _-_, _≤_, _<_}
+use Prim.Native.Nat.{ℕ, zero, suc, _+_, _-_, _≤_}
 use native.Mathlib.Omega.{arith}
 use lib.ListN.{length}
-use Rattle.definitions.specs.Lists.{Pair}
 use Rattle.definitions.specs.Vectors.{Vec}
 use Rattle.definitions.specs.Subspace.{Subspace}
 use Rattle.definitions.specs.Orbits.{Row}
@@ -75,11 +74,11 @@ pub record Stocked (k : Stock) (shelf : Shelf) (rank : ℕ) (rows : List ℕ) (m
   pub room-four : rank ≡ 4 → 4194304 ≤ length s
 
 -- where the shelf of each rank has its owners and its end
-shelf-three : (shelf : Shelf) (rank : ℕ) → rank ≡ 3 → shelf .owners ≡ shelfFor rank .owners → shelf .end ≡ shelfFor rank .end → (shelf .owners ≡ 10764) × (shelf .end ≡ 20236)
+pub shelf-three : (shelf : Shelf) (rank : ℕ) → rank ≡ 3 → shelf .owners ≡ shelfFor rank .owners → shelf .end ≡ shelfFor rank .end → (shelf .owners ≡ 10764) × (shelf .end ≡ 20236)
 unfolding shelfThree
 shelf-three shelf rank e o h = let q = sym (at-three rank e) in (o ∙ ap (λ (x : Shelf). x .owners) q, h ∙ ap (λ (x : Shelf). x .end) q)
 
-shelf-four : (shelf : Shelf) (rank : ℕ) → (rank ≡ 3 → ⊥) → shelf .owners ≡ shelfFor rank .owners → shelf .end ≡ shelfFor rank .end → (shelf .owners ≡ 399372) × (shelf .end ≡ 990244)
+pub shelf-four : (shelf : Shelf) (rank : ℕ) → (rank ≡ 3 → ⊥) → shelf .owners ≡ shelfFor rank .owners → shelf .end ≡ shelfFor rank .end → (shelf .owners ≡ 399372) × (shelf .end ≡ 990244)
 unfolding shelfFour
 shelf-four shelf rank n o h = let q = sym (at-four rank n) in (o ∙ ap (λ (x : Shelf). x .owners) q, h ∙ ap (λ (x : Shelf). x .end) q)
 
