@@ -8,3 +8,4 @@ pub mod Spaces
 pub mod Desks
 pub mod Stocks
 pub mod Searched
+pub mod Says
