@@ -7,5 +7,6 @@ pub mod Turns
 pub mod Spaces
 pub mod Desks
 pub mod Stocks
+pub mod Answers
 pub mod Searched
 pub mod Says

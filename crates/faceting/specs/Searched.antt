@@ -1,5 +1,5 @@
 -- From what a call keeps to its answer in the workspace: the tables are laid, the search runs in the workspace from the owners on, and the lists that it emitted are made the call's entries, at
--- rank 3 as they are, at rank 4 split. Leans on Stocks, on the search's outcome and on the laws of emitted lists.
+-- rank 3 as they are, at rank 4 split. Leans on Stocks and Answers, on the search's outcome and on the laws of emitted lists.
 use mathlib.Core.Path.{_≡_, refl, sym, ap, _∙_, subst}
 use mathlib.Core.List.{List, [], _++_, map}
 use Prim.Native.Nat.{ℕ, zero, suc, _+_, _-_, _≤_}
@@ -41,30 +41,14 @@ use Rattle.entries.specs.Emitted.{found-lists, numbers-below, sort-ready, split
 use Rattle.entries.specs.Calls.{three-plain, four-splittable}
 use Rattle.entries.specs.Answer.{left-whole, left-split}
 use Rattle.calls.specs.declared.Rules.{Rules}
-use Rattle.calls.specs.declared.Called.{Called}
-use Rattle.calls.specs.declared.Called.the-variants.{Refused, Ends, Left}
+use Rattle.calls.specs.declared.Called.the-variants.{Refused, Left}
 use Rattle.ridges.specs.declared.Desk.{Desk}
 use Rattle.ridges.specs.Desks.{Given, areasOf}
 use Rattle.ridges.specs.Ranks.{desk3, desk4}
 use Rattle.ridges.specs.Shared.{facets-same}
 use Rattle.faceting.specs.Desks.{deskFor, desk-three, desk-four}
+use Rattle.faceting.specs.Answers.{Answers, Searched}
 use Rattle.faceting.specs.Stocks.{Stock, Stocked, pointsIn, keptIn, rulesOf, shelf-three, shelf-four, tables-asked}
-
--- ---- what is answered
-
--- the answer stands in the workspace, with what is left of the budget
-pub record Answers (k : Stock) (rules : Rules) (level : Level) (rest : ℕ) (s : List ℕ) : Type 0 where
-  pub found : Found
-  pub is-found : searchFrom (rulesOf rules) (k .prepared) ≡ result.answered found
-  pub rest-is : rest ≡ found .left
-  pub leaves : Leaves (k .more) (pointsIn k) (k .rows) (keptIn k) level s
-  pub answer : finish (k .prepared) found ≡ answerLeft (k .more) (pointsIn k) (k .rows) (keptIn k) level s rest
-
--- what the search of a call says, by what was answered: never ends alone, which are an answer of rank 2
-unfoldable pub Searched : Stock → Rules → Called → List ℕ → Type 0
-Searched k rules (Refused number) s = searchFrom (rulesOf rules) (k .prepared) ≡ result.refused number
-Searched k rules (Ends swaps rest) s = ⊥
-Searched k rules (Left level rest) s = Answers k rules level rest s
 
 -- ---- entries from emitted lists
 

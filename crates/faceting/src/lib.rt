@@ -2,7 +2,8 @@
 ghost use mathlib.Core.Path.{_≡_};
 ghost use Rattle.faceting.specs.Desks.{deskFor};
 ghost use Rattle.faceting.specs.Stocks.{Stock, Stocked};
-ghost use Rattle.faceting.specs.Searched.{Searched, ListsReady, EntriesListed};
+ghost use Rattle.faceting.specs.Answers.{Searched};
+ghost use Rattle.faceting.specs.Searched.{ListsReady, EntriesListed};
 use calls::Called;
 use calls::Rules;
 use facets::Areas;
