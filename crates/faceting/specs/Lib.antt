@@ -10,3 +10,4 @@ pub mod Stocks
 pub mod Answers
 pub mod Searched
 pub mod Says
+pub mod Keeping
