@@ -11,3 +11,4 @@ pub mod Answers
 pub mod Searched
 pub mod Says
 pub mod Keeping
+pub mod Stored
