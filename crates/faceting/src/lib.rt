@@ -1,4 +1,4 @@
-// The call of document 01, from what it keeps of its inner calls to its answer in the workspace.
+// The call of document 01 above rank 2: what an inner call answers is kept, and from what is kept comes the answer. All in the workspace.
 ghost use mathlib.Core.Path.{_≡_};
 ghost use Prim.Native.Nat.{ℕ};
 ghost use lib.ListN.{length};
