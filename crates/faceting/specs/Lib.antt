@@ -12,3 +12,4 @@ pub mod Searched
 pub mod Says
 pub mod Keeping
 pub mod Stored
+pub mod Begins
