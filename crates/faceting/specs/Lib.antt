@@ -13,3 +13,4 @@ pub mod Says
 pub mod Keeping
 pub mod Stored
 pub mod Begins
+pub mod Finishes

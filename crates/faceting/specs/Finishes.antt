@@ -1,0 +1,99 @@
+-- How the loop of a call ends: at a refusal, which is the call's, or with every orbit's inner call made and kept, which is what its search begins with. What the search says is what the call says.
+-- Leans on State, Stocks, Answers and the steps of a call.
+use mathlib.Core.Path.{_≡_, refl, ap, _∙_, subst}
+use mathlib.Core.List.{List, [], map}
+use Prim.Native.Nat.{ℕ, suc, _+_, _≤_, _<_}
+use native.Mathlib.Omega.{arith}
+use lib.ListN.{length, drop}
+use lib.Seq.{drop-length}
+use Rattle.definitions.specs.Outcome as result
+use Rattle.definitions.specs.Vectors.{Vec}
+use Rattle.definitions.specs.Subspace.{Subspace}
+use Rattle.definitions.specs.Orbits.{Row, Orbit}
+use Rattle.definitions.specs.Recursion.{InnerCalls}
+use Rattle.definitions.specs.Faceting.{Prepared, prepare, faceting}
+use Rattle.openers.specs.Rows.{rowsIn, RowsFit}
+use Rattle.shapes.specs.Answered.{preparation}
+use Rattle.shapes.specs.Calls.{Given}
+use Rattle.shelf.specs.declared.Shelf.{Shelf}
+use Rattle.calls.specs.Layouts.{shelfFor}
+use Rattle.calls.specs.Steps.{Reached, reached-all, call-thirteen, call-inner-refused, call-prepared}
+use Rattle.calls.specs.declared.Rules.{Rules}
+use Rattle.calls.specs.declared.Called.{Called}
+use Rattle.calls.specs.declared.Called.the-variants.{Refused, Ends, Left}
+use Rattle.faceting.specs.Spaces.{Laid}
+use Rattle.faceting.specs.State as state
+use Rattle.faceting.specs.Stocks.{Stock, Stocked, rulesOf}
+use Rattle.faceting.specs.Answers.{Searched, searched-refused, searched-answered}
+use Rattle.faceting.specs.Says.{Site, Says, SiteState, siteOrbits, siteWhole}
+
+module _ (more : ℕ) (rules : Rules) (plane : Subspace) (points : List Vec) (rows : List Row) (budget : ℕ) where
+  abbrev pub site : Site
+  site = record { more = more; rules = rulesOf rules; plane = plane; points = points; rows = rows; budget = budget }
+
+  abbrev SaysCall : Called → List ℕ → Type 0
+  SaysCall = Says (suc more) (rulesOf rules) plane points rows budget
+
+  -- "13"
+  pub says-thirteen : (s : List ℕ) → rulesOf rules .bounds .orbits < length (siteOrbits site) → SaysCall (Refused 13) s
+  unfolding Says
+  says-thirteen s h = call-thirteen more (rulesOf rules) plane points rows budget h
+
+  module _ (few : length (siteOrbits site) ≤ rulesOf rules .bounds .orbits) where
+    -- a refusal on the way
+    pub says-refused : (number : ℕ) (s : List ℕ) → siteWhole site ≡ result.refused number → SaysCall (Refused number) s
+    unfolding Says
+    says-refused number s e = call-inner-refused more (rulesOf rules) plane points rows budget few number e
+
+    module _ (shelf : Shelf) (left i : ℕ) (s : List ℕ) (st : SiteState site shelf left i s) (all : length (siteOrbits site) ≤ i) where
+      none-left : drop i (siteOrbits site) ≡ []
+      none-left = let e : i ≡ length (siteOrbits site) = omega (arith, st .few) in ap (λ (k : ℕ). drop k (siteOrbits site)) e ∙ drop-length (siteOrbits site)
+
+      made-all : siteWhole site ≡ result.answered (record { calls = st .done; left = left })
+      made-all =
+          let inner = state.inner more (rulesOf rules) plane points rows budget (length points) in
+          reached-all inner (rulesOf rules .bounds .facets)
+          (subst (λ (os : List Orbit). Reached inner (rulesOf rules .bounds .facets) (siteOrbits site) budget (st .done) os left) none-left (st .reached))
+
+      abbrev before : Prepared
+      before = record { more = more; points = length points; rows = rows; inner = st .done; left = left }
+
+      prepared-is : prepare more (rulesOf rules) (faceting more (rulesOf rules)) plane points rows budget ≡ result.answered before
+      prepared-is = call-prepared more (rulesOf rules) plane points rows budget few (record { calls = st .done; left = left }) made-all
+
+      abbrev pub stock : Stock
+      stock = record { more = more; plane = plane; points = points; rows = rows; prepared = before }
+
+      -- what the search begins with
+      pub stocked : (rank : ℕ) (bytes : List ℕ) (m : ℕ) → more ≤ 1 → rank ≡ 3 + more → Given points rows → length points ≤ 20 → rules .entries ≡ 1024 → rows ≡ rowsIn (length points) m bytes
+          → RowsFit (length points) m bytes → m ≤ 120 → Laid shelf (shelfFor rank) → (rank ≡ 3 → 524288 ≤ length s) → (rank ≡ 4 → 4194304 ≤ length s) → Stocked stock shelf rank bytes m rules left s
+      stocked rank bytes m few-more rank-is given few-points entries rows-are rows-fit rows-few laid three four = record {
+        few-more = few-more;
+        rank-is = rank-is;
+        given = given;
+        few-points = few-points;
+        made = preparation more (rulesOf rules) (faceting more (rulesOf rules)) plane points rows budget before prepared-is;
+        left-is = refl;
+        few-entries = entries;
+        rows-are = rows-are;
+        rows-fit = rows-fit;
+        rows-few = rows-few;
+        keeps = st .keeps;
+        ridges = st .ridges;
+        owners-at = laid .owners;
+        end-at = laid .end;
+        room-three = three;
+        room-four = four;
+      }
+
+      -- what the search says
+      pub says-searched : (r : Called) (u : List ℕ) → Searched stock rules r u → SaysCall r u
+      unfolding Says Searched
+      says-searched (Refused number) u a = searched-refused stock rules budget prepared-is number u a
+      says-searched (Ends swapped rest) u a = a
+      says-searched (Left level rest) u a = record {
+        before = before;
+        prepared = prepared-is;
+        leaves = a .leaves;
+        is = searched-answered stock rules budget prepared-is level rest u a;
+      }
