@@ -14,3 +14,4 @@ pub mod Keeping
 pub mod Stored
 pub mod Begins
 pub mod Finishes
+pub mod Starts

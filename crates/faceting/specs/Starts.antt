@@ -1,0 +1,65 @@
+-- How the loop of a call starts: from what `find_orbits` answers, 13 or every orbit in the front of the workspace, and from a cleared shelf. Leans on State, Says and the orbits' answer.
+use mathlib.Core.Path.{_≡_, refl, sym, ap, _∙_, subst}
+use mathlib.Core.Bool.{Bool, true, false}
+use mathlib.Core.Logic.{⊎-elim}
+use mathlib.Core.List.{List, [], map}
+use Prim.Native.Nat.{ℕ, _+_, _*_, _≤_, _<_}
+use native.Mathlib.Omega.{arith}
+use borrow.Author.Tests.{ltb-false, le-ltb}
+use lib.Dec.{T, ltb}
+use lib.ListN.{length, take, length-map}
+use Rattle.definitions.specs.Outcome.{Outcome, refused, answered, refuseIf}
+use Rattle.definitions.specs.Orbits.{Orbit}
+use Rattle.laws.specs.Segments.{le-or-lt}
+use Rattle.completeness.specs.Jobs.{not-refused-if}
+use Rattle.orbits.specs.Numbers.{orbitOf}
+use Rattle.orbits.specs.Workspace.{orbitsIn, orbits-length, orbits-front}
+use Rattle.orbits.specs.Answers.{answerIn, orbitsOrRefusal}
+use Rattle.orbits.specs.declared.Answer.the-variants.{Orbits, Refused as RefusedAnswer}
+use Rattle.shapes.specs.Answered.{answers-equal}
+use Rattle.shelf.specs.Keeps.{Keeps, Ridges}
+use Rattle.shelf.specs.declared.Shelf.{Shelf}
+use Rattle.faceting.specs.State as state
+use Rattle.faceting.specs.Says.{Site, SiteState, siteOrbits}
+
+module _ (bound : ℕ) (orbits : List Orbit) (n : ℕ) (s : List ℕ) where
+  -- "13": there are more orbits than the bound
+  pub found-too-many : answerIn n RefusedAnswer s ≡ orbitsOrRefusal bound orbits → bound < length orbits
+  unfolding answerIn orbitsOrRefusal refuseIf
+  found-too-many e = ⊎-elim
+      (λ h.
+      let q : refused 13 ≡ answered orbits = e ∙ ap (λ (b : Bool). refuseIf b 13 (λ u. answered orbits)) (le-ltb bound (length orbits) h) in
+      absurd (subst T (not-refused-if true 13 (λ u. answered orbits) orbits q .0) tt))
+      (λ h. h)
+      (le-or-lt (length orbits) bound)
+
+  module _ (count : ℕ) (e : answerIn n (Orbits count) s ≡ orbitsOrRefusal bound orbits) where
+    found-whole : refuseIf (ltb bound (length orbits)) 13 (λ u. answered orbits) ≡ answered (map (orbitOf n) (orbitsIn s count))
+    unfolding answerIn orbitsOrRefusal
+    found-whole = sym e
+
+    all : (ltb bound (length orbits) ≡ false) × (answered orbits ≡ answered (map (orbitOf n) (orbitsIn s count)))
+    all = not-refused-if (ltb bound (length orbits)) 13 (λ u. answered orbits) (map (orbitOf n) (orbitsIn s count)) found-whole
+
+    -- and else no more
+    pub found-few : length orbits ≤ bound
+    found-few = ltb-false bound (length orbits) (all .0)
+
+    found-are : orbits ≡ map (orbitOf n) (orbitsIn s count)
+    found-are = answers-equal orbits (map (orbitOf n) (orbitsIn s count)) (all .1)
+
+    pub found-count : count ≡ length orbits
+    found-count = sym (ap length found-are ∙ (length-map (orbitsIn s count) (orbitOf n) ∙ orbits-length s count))
+
+    pub found-all : map (orbitOf n) (orbitsIn s (length orbits)) ≡ orbits
+    found-all = ap (λ (k : ℕ). map (orbitOf n) (orbitsIn s k)) (sym found-count) ∙ sym found-are
+
+-- before the first inner call: the orbits are found and the shelf is cleared behind them
+pub loop-starts : (g : Site) (shelf : Shelf) (n count : ℕ) (s u : List ℕ) → n ≡ length (g .points) → answerIn n (Orbits count) s ≡ orbitsOrRefusal (g .rules .bounds .orbits) (siteOrbits g) → g .rules .bounds .orbits ≤ 256
+    → take 2048 u ≡ take 2048 s → Keeps (length (g .points)) shelf [] u → Ridges shelf [] u → SiteState g shelf (g .budget) 0 u
+loop-starts g shelf n count s u n-is e few front keeps ridges =
+    let os = siteOrbits g in
+    let h : 8 * length os ≤ 2048 = omega (arith, found-few (g .rules .bounds .orbits) os n s count e) in
+    state.state-first (g .more) (g .rules) (g .plane) (g .points) (g .rows) (g .budget) (length (g .points)) shelf u keeps ridges
+    (ap (map (orbitOf (length (g .points)))) (sym (orbits-front u 2048 (length os) h) ∙ (ap (λ (l : List ℕ). orbitsIn l (length os)) front ∙ orbits-front s 2048 (length os) h))
+    ∙ subst (λ (k : ℕ). map (orbitOf k) (orbitsIn s (length os)) ≡ os) n-is (found-all (g .rules .bounds .orbits) os n s count e))
