@@ -1,10 +1,19 @@
 // The call of document 01 above rank 2: what an inner call answers is kept, and from what is kept comes the answer. All in the workspace.
 ghost use mathlib.Core.Path.{_≡_};
-ghost use Prim.Native.Nat.{ℕ};
+ghost use Prim.Native.Nat.{ℕ, _*_, _^_, _≤_, _<_};
 ghost use lib.ListN.{length};
 ghost use Rattle.faceting.specs.Says.{Site, Turn};
 ghost use Rattle.faceting.specs.Stored.{Storing};
-ghost use mathlib.Core.List.{List};
+ghost use mathlib.Core.List.{List, map};
+ghost use Rattle.definitions.specs.Subspace.{fromPoints};
+ghost use Rattle.definitions.specs.Orbits.{pointAt};
+ghost use Rattle.definitions.specs.Recursion.{rowsWithin};
+ghost use Rattle.laws.specs.Sets.{verticesOf};
+ghost use Rattle.openers.specs.Rows.{rowsIn};
+ghost use Rattle.space.specs.Meaning.{PointsFit, pointsOf, HoldsPoints};
+ghost use Rattle.sets.specs.Refitting.{Refitted};
+ghost use Rattle.stabilizers.specs.Permutations.{Permutations};
+ghost use Rattle.stabilizers.specs.Places.{writtenRows};
 ghost use Rattle.calls.specs.declared.Called.the-variants.{Ends, Left};
 ghost use Rattle.faceting.specs.Desks.{deskFor};
 ghost use Rattle.faceting.specs.Stocks.{Stock, Stocked};
@@ -15,8 +24,10 @@ use calls::Rules;
 use facets::Areas;
 use ridges::Desk;
 use search::Outcome;
+use sets::SetPlane;
 use shelf::Level;
 use shelf::Shelf;
+use space::Points;
 
 // Where the tables and the search lie behind a shelf of rank 3, or of rank 4. At rank 3 an orbit has at most two ridges, and there are at most 20 ridge orbits and 190 orbits; at rank 4 at most
 // 190 ridges of an orbit, 190 ridge orbits and 256 orbits. The emitted lists have room for 1,024.
@@ -88,6 +99,40 @@ pub fn search_call(
 }
 
 // ---- the inner calls
+
+// What an inner call is given: the plane of its set, refused or not, its points, and how many rows keep the set.
+pub struct Next {
+    pub refitted: SetPlane,
+    pub points: Points,
+    pub m: usize,
+}
+
+// The inner call on a set: its points from the flattened ones, its plane fitted anew, and the rows that keep it, written.
+pub fn next_call(
+    flat: Points,
+    set: u32,
+    rows: &[u8],
+    m: usize,
+    tolerance: f64,
+    wanted: usize,
+    inner: &mut [u8],
+) -> Next
+    requires { ⌜ PointsFit flat × Permutations (flat .n) m (now rows) × (set < 2 ^ flat .n) × (32 * m ≤ length (now inner)) ⌝ }
+    ensures points { λ r. ⌜ HoldsPoints (r .points) (flat .d) (map (pointAt (pointsOf flat)) (verticesOf (flat .n) set)) ⌝ }
+    ensures plane { λ r. ⌜ Refitted (r .refitted) (r .points) (fromPoints tolerance (map (pointAt (pointsOf flat)) (verticesOf (flat .n) set))) wanted ⌝ }
+    ensures count { λ r. ⌜ r .m ≡ length (rowsWithin (verticesOf (flat .n) set) (rowsIn (flat .n) m (now (rows .entry)))) ⌝ }
+    ensures rows { λ r. ⌜ now (inner .exit) ≡ writtenRows (rowsWithin (verticesOf (flat .n) set) (rowsIn (flat .n) m (now (rows .entry)))) 0 (now (inner .entry)) ⌝ }
+{
+    let n = flat.n;
+    let points = sets::chosen_points(flat, set);
+    let refitted = sets::refit(points, tolerance, wanted);
+    let count = stabilizers::rows_within(rows, m, n, set, inner);
+    Next {
+        refitted: refitted,
+        points: points,
+        m: count,
+    }
+}
 
 // What became of an inner call: a refusal, or the shelf with one orbit more and what is left of the budget.
 pub enum Stored {
