@@ -1,13 +1,14 @@
 -- How the loop of a call starts: from what `find_orbits` answers, 13 or every orbit in the front of the workspace, and from a cleared shelf. Leans on State, Says and the orbits' answer.
 use mathlib.Core.Path.{_≡_, refl, sym, ap, _∙_, subst}
-use mathlib.Core.Bool.{Bool, true, false}
+use mathlib.Core.Bool.{Bool, true, false, cond}
 use mathlib.Core.Logic.{⊎-elim}
 use mathlib.Core.List.{List, [], map}
 use Prim.Native.Nat.{ℕ, _+_, _*_, _≤_, _<_}
 use native.Mathlib.Omega.{arith}
 use borrow.Author.Tests.{ltb-false, le-ltb}
-use lib.Dec.{T, ltb}
+use lib.Dec.{T, eqb, ltb}
 use lib.ListN.{length, take, length-map}
+use Rattle.definitions.specs.Lists.{Pair}
 use Rattle.definitions.specs.Outcome.{Outcome, refused, answered, refuseIf}
 use Rattle.definitions.specs.Orbits.{Orbit}
 use Rattle.laws.specs.Segments.{le-or-lt}
@@ -15,10 +16,14 @@ use Rattle.completeness.specs.Jobs.{not-refused-if}
 use Rattle.orbits.specs.Numbers.{orbitOf}
 use Rattle.orbits.specs.Workspace.{orbitsIn, orbits-length, orbits-front}
 use Rattle.orbits.specs.Answers.{answerIn, orbitsOrRefusal}
+use Rattle.orbits.specs.declared.Answer.{Answer}
 use Rattle.orbits.specs.declared.Answer.the-variants.{Orbits, Refused as RefusedAnswer}
 use Rattle.shapes.specs.Answered.{answers-equal}
-use Rattle.shelf.specs.Keeps.{Keeps, Ridges}
+use Rattle.shelf.specs.Keeps.{Fits, Keeps, Ridges}
 use Rattle.shelf.specs.declared.Shelf.{Shelf}
+use Rattle.calls.specs.Layouts.{shelfThree, shelfFour, shelfFor}
+use Rattle.keep.specs.Storing.{beside-take}
+use Rattle.keep.specs.Stocked.{Within}
 use Rattle.faceting.specs.State as state
 use Rattle.faceting.specs.Says.{Site, SiteState, siteOrbits}
 
@@ -53,6 +58,33 @@ module _ (bound : ℕ) (orbits : List Orbit) (n : ℕ) (s : List ℕ) where
 
     pub found-all : map (orbitOf n) (orbitsIn s (length orbits)) ≡ orbits
     found-all = ap (λ (k : ℕ). map (orbitOf n) (orbitsIn s k)) (sym found-count) ∙ sym found-are
+
+-- the answer still holds where the front of the workspace is as it was
+pub answer-kept : (bound : ℕ) (orbits : List Orbit) (n : ℕ) (r : Answer) (s u : List ℕ) → bound ≤ 256 → take 2048 u ≡ take 2048 s → answerIn n r s ≡ orbitsOrRefusal bound orbits → answerIn n r u ≡ orbitsOrRefusal bound orbits
+unfolding answerIn
+answer-kept bound orbits n RefusedAnswer s u few front e = e
+answer-kept bound orbits n (Orbits count) s u few front e =
+    let h : 8 * count ≤ 2048 = omega (arith, found-few bound orbits n s count e, found-count bound orbits n s count e) in
+    ap (λ (l : List Pair). answered (map (orbitOf n) l)) (sym (orbits-front u 2048 count h) ∙ (ap (λ (l : List ℕ). orbitsIn l count) front ∙ orbits-front s 2048 count h)) ∙ e
+
+-- a shelf of any rank begins with nothing on it
+pub shelf-empty : (rank : ℕ) → (shelfFor rank .orbits ≡ 0) × (shelfFor rank .facets ≡ 0)
+unfolding shelfFor shelfThree shelfFour
+shelf-empty rank = go (eqb rank 3)
+  where
+    go : (b : Bool) → (cond b shelfThree shelfFour .orbits ≡ 0) × (cond b shelfThree shelfFour .facets ≡ 0)
+    go true = (refl, refl)
+    go false = (refl, refl)
+
+-- what a cleared shelf behind the orbits says of them
+pub start-kept : (bound : ℕ) (orbits : List Orbit) (n : ℕ) (r : Answer) (rank : ℕ) (shelf : Shelf) (s u : List ℕ) → shelf ≡ shelfFor rank → Fits (shelfFor rank) (length s) → bound ≤ 256 → Within shelf s u
+    → ((k : ℕ) → shelf .orbits ≡ 0 → shelf .facets ≡ 0 → Keeps k shelf [] u × Ridges shelf [] u) → answerIn n r s ≡ orbitsOrRefusal bound orbits
+    → (answerIn n r u ≡ orbitsOrRefusal bound orbits) × ((k : ℕ) → Keeps k (shelfFor rank) [] u × Ridges (shelfFor rank) [] u)
+start-kept bound orbits n r rank shelf s u is fits few within keeps e =
+    let w : Within (shelfFor rank) s u = subst (λ (x : Shelf). Within x s u) is within in
+    let cleared : (k : ℕ) → shelfFor rank .orbits ≡ 0 → shelfFor rank .facets ≡ 0 → Keeps k (shelfFor rank) [] u × Ridges (shelfFor rank) [] u =
+    subst (λ (x : Shelf). (k : ℕ) → x .orbits ≡ 0 → x .facets ≡ 0 → Keeps k x [] u × Ridges x [] u) is keeps in
+    (answer-kept bound orbits n r s u few (beside-take w 2048 (fits .orbitRoom)) e, λ k. cleared k (shelf-empty rank .0) (shelf-empty rank .1))
 
 -- before the first inner call: the orbits are found and the shelf is cleared behind them
 pub loop-starts : (g : Site) (shelf : Shelf) (n count : ℕ) (s u : List ℕ) → n ≡ length (g .points) → answerIn n (Orbits count) s ≡ orbitsOrRefusal (g .rules .bounds .orbits) (siteOrbits g) → g .rules .bounds .orbits ≤ 256

@@ -1,16 +1,19 @@
 // The call of document 01 above rank 2: what an inner call answers is kept, and from what is kept comes the answer. All in the workspace.
 ghost use mathlib.Core.Path.{_≡_};
-ghost use Prim.Native.Nat.{ℕ, _*_, _^_, _≤_, _<_};
+ghost use Prim.Native.Nat.{ℕ, _*_, _-_, _^_, _≤_, _<_};
 ghost use lib.ListN.{length};
 ghost use Rattle.faceting.specs.Says.{Site, Turn};
 ghost use Rattle.faceting.specs.Stored.{Storing};
-ghost use mathlib.Core.List.{List, map};
+ghost use mathlib.Core.List.{List, [], map};
 ghost use Rattle.definitions.specs.Subspace.{fromPoints};
-ghost use Rattle.definitions.specs.Orbits.{pointAt};
+ghost use Rattle.definitions.specs.Orbits.{pointAt, hyperplaneOrbits};
 ghost use Rattle.definitions.specs.Recursion.{rowsWithin};
 ghost use Rattle.laws.specs.Sets.{verticesOf};
 ghost use Rattle.openers.specs.Rows.{rowsIn};
-ghost use Rattle.space.specs.Meaning.{PointsFit, pointsOf, HoldsPoints};
+ghost use Rattle.space.specs.Meaning.{PointsFit, pointsOf, HoldsPoints, limitsOf};
+ghost use Rattle.orbits.specs.Answers.{CallFits, answerIn, orbitsOrRefusal};
+ghost use Rattle.shelf.specs.Keeps.{Fits, Keeps, Ridges};
+ghost use Rattle.calls.specs.Layouts.{shelfFor};
 ghost use Rattle.sets.specs.Refitting.{Refitted};
 ghost use Rattle.stabilizers.specs.Permutations.{Permutations};
 ghost use Rattle.stabilizers.specs.Places.{writtenRows};
@@ -22,6 +25,7 @@ ghost use Rattle.faceting.specs.Searched.{ListsReady, EntriesListed};
 use calls::Called;
 use calls::Rules;
 use facets::Areas;
+use orbits::Answer;
 use ridges::Desk;
 use search::Outcome;
 use sets::SetPlane;
@@ -99,6 +103,40 @@ pub fn search_call(
 }
 
 // ---- the inner calls
+
+// A call's hyperplane orbits are found, or refused, and the shelf of its rank is cleared behind them.
+pub fn start_call(
+    ws: &mut [u8],
+    rank: usize,
+    points: Points,
+    flat: Points,
+    rows: &[u8],
+    m: usize,
+    rules: Rules,
+) -> Answer
+    requires { ⌜ CallFits points flat m (now rows) × (rules .orbits ≤ 256) × (124928 ≤ length (now ws)) × Fits (shelfFor rank) (length (now ws)) × (3 ≤ rank) ⌝ }
+    ensures { λ r. ⌜ (answerIn (flat .n) r (now (ws .exit)) ≡ orbitsOrRefusal (rules .orbits) (hyperplaneOrbits (rules .tolerance) (limitsOf (rules .min) (rules .max)) (rank - 3) (pointsOf points) (pointsOf flat) (rowsIn (flat .n) m (now (rows .entry))))) × ((k : ℕ) → Keeps k (shelfFor rank) [] (now (ws .exit)) × Ridges (shelfFor rank) [] (now (ws .exit))) ⌝ }
+{
+    let min = rules.min;
+    let max = rules.max;
+    let tolerance = rules.tolerance;
+    let bound = rules.orbits;
+    let answer = orbits::find_orbits(
+        points,
+        flat,
+        rank - 3,
+        rows,
+        m,
+        min,
+        max,
+        tolerance,
+        bound,
+        ws,
+    );
+    let shelf = calls::shelf_for(rank);
+    keep::clear_shelf(ws, shelf);
+    answer
+}
 
 // What an inner call is given: the plane of its set, refused or not, its points, and how many rows keep the set.
 pub struct Next {
