@@ -15,3 +15,4 @@ pub mod Stored
 pub mod Begins
 pub mod Finishes
 pub mod Starts
+pub mod Asked

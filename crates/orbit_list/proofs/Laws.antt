@@ -1,14 +1,12 @@
--- Why the orbits of a job that passes can be listed: its rows are permutations, its orbits are not too many, and a set's number is made to fit.
+-- Why the orbits of a job that passes can be listed: its rows are permutations, and its orbits are not too many.
 use mathlib.Core.Path.{_≡_, refl, ap, _∙_, sym, subst}
 use mathlib.Core.Bool.{Bool, true, false}
 use mathlib.Core.List.{List, map}
-use Prim.Native.Nat.{ℕ, _*_, _%_, _^_, _≤_, _<_}
-use native.Mathlib.Nat.{mod-eq-of-lt, mod-lt, pow-le-pow-right}
+use Prim.Native.Nat.{ℕ, _*_, _≤_}
 use native.Mathlib.Omega.{arith}
 use borrow.Author.Tests.{ltb-false}
 use lib.Dec.{ltb}
 use lib.ListN.{length, length-map}
-use lib.Pow.{pow-pos}
 use Rattle.definitions.specs.Outcome.{answered, refuseIf}
 use Rattle.definitions.specs.Orbits.{Orbit}
 use Rattle.definitions.specs.Recursion.{rowsWithin}
@@ -31,21 +29,6 @@ use Rattle.orbits.specs.declared.Answer.the-variants.{Orbits}
 use Rattle.orbits.specs.Numbers.{orbitOf}
 use Rattle.orbits.specs.Workspace.{orbitsIn, orbits-length}
 use Rattle.orbits.specs.Answers.{answerIn, orbitsOrRefusal, CallFits}
-
--- ---- numbers
-
--- 2 ^ n, shifted in 32 bits
-pub shifted : (n : ℕ) → n ≤ 20 → (1 * 2 ^ n) % 4294967296 ≡ 2 ^ n
-shifted n h =
-    let small : 2 ^ n ≤ 1048576 = pow-le-pow-right {n = 2} (omega arith) {i = n} {j = 20} h in
-    let e : 1 * 2 ^ n ≡ 2 ^ n = omega arith in
-    ap (λ (k : ℕ). k % 4294967296) e ∙ mod-eq-of-lt (omega arith)
-
-pub divisor : (n : ℕ) → n ≤ 20 → 0 < (1 * 2 ^ n) % 4294967296
-divisor n h = rw (shifted n h) (pow-pos n)
-
-pub rest-small : (x y n : ℕ) → n ≤ 20 → x ≡ y → (x % ((1 * 2 ^ n) % 4294967296) ≡ y % 2 ^ n) × (x % ((1 * 2 ^ n) % 4294967296) < 2 ^ n)
-rest-small x y n h e = rw (shifted n h) (ap (λ (k : ℕ). k % 2 ^ n) e, mod-lt x (pow-pos n))
 
 -- ---- a job that passes
 

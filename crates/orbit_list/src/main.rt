@@ -7,9 +7,8 @@ use orbits::Answer;
 use sets::Fit;
 use space::Points;
 ghost use mathlib.Core.Path.{_≡_};
-ghost use Prim.Native.Nat.{_+_, _*_, _%_, _^_, _≤_, _<_};
+ghost use Prim.Native.Nat.{_+_, _*_, _^_, _≤_, _<_};
 ghost use lib.ListN.{length};
-ghost use Rattle.definitions.specs.Job.{numberAt};
 ghost use Rattle.job.specs.Refusal.{checkedOf};
 ghost use Rattle.job.specs.declared.Checked.the-variants.{Passed};
 ghost use Rattle.space.specs.Meaning.{PointsFit};
@@ -67,15 +66,6 @@ fn put_rows(rows: &[u8], count: usize, size: usize)
 
 // ---- orbits
 
-// An orbit's first set as it is stored. Its vertices are its bits below n: the orbits promise no more of its number, so what lies above is cut off.
-fn set_at(ws: &[u8], k: usize, n: usize) -> u32
-    requires { ⌜ (8 * k + 4 ≤ length (now ws)) × (n ≤ 20) ⌝ }
-    ensures { λ r. ⌜ (r ≡ numberAt (now (ws .entry)) (8 * k) 4 % 2 ^ n) × (r < 2 ^ n) ⌝ }
-{
-    let one: u32 = 1;
-    words::get_u32(ws, 8 * k) % (one << n)
-}
-
 fn list_orbits(ws: &[u8], count: usize, n: usize)
     requires { ⌜ (8 * count ≤ length (now ws)) × (n ≤ 20) ⌝ }
 {
@@ -83,7 +73,7 @@ fn list_orbits(ws: &[u8], count: usize, n: usize)
     while k < count {
         put_number(words::get_u32(ws, 8 * k + 4) as usize);
         put(b":");
-        put_vertices(n, set_at(ws, k, n));
+        put_vertices(n, orbits::set_at(ws, k, n));
         put(b"\n");
         k += 1;
     }
@@ -130,7 +120,7 @@ fn list_inners(flat: Points, rank: usize, rows: &[u8], m: usize, ws: &[u8], coun
         put(b"inner ");
         put_number(k);
         put(b":");
-        if !list_inner(flat, rank, rows, m, set_at(ws, k, n)) {
+        if !list_inner(flat, rank, rows, m, orbits::set_at(ws, k, n)) {
             return;
         }
         k += 1;

@@ -3,3 +3,4 @@ pub mod Laws
 pub mod Extending
 pub mod PairSteps
 pub mod Answering
+pub mod Reading

@@ -10,9 +10,10 @@ use space::Points;
 use space::Subspace;
 ghost use mathlib.Core.Path.{_≡_};
 ghost use mathlib.Core.List.{_∷_, [], _++_, map};
-ghost use Prim.Native.Nat.{ℕ, _+_, _*_, _-_, _≤_, _<_};
+ghost use Prim.Native.Nat.{ℕ, _+_, _*_, _-_, _%_, _^_, _≤_, _<_};
 ghost use lib.ListN.{length, getD, take, drop};
 ghost use Rattle.definitions.specs.Lists.{memberNat};
+ghost use Rattle.definitions.specs.Job.{numberAt};
 ghost use Rattle.definitions.specs.Orbits.{pointAt, hyperplaneOrbits};
 ghost use Rattle.space.specs.Meaning.{PointsFit, pointsOf, HoldsPoints, limitsOf};
 ghost use Rattle.words.specs.Words.{words};
@@ -333,4 +334,15 @@ pub fn find_orbits(
         Verdict::Refused => Answer::Refused,
         Verdict::Going => Answer::Orbits(done.count),
     }
+}
+
+// ---- reading an orbit
+
+// An orbit's first set as it is stored. Its vertices are its bits below n: nothing more is promised of its number, so what lies above is cut off.
+pub fn set_at(ws: &[u8], k: usize, n: usize) -> u32
+    requires { ⌜ (8 * k + 4 ≤ length (now ws)) × (n ≤ 20) ⌝ }
+    ensures { λ r. ⌜ (r ≡ numberAt (now (ws .entry)) (8 * k) 4 % 2 ^ n) × (r < 2 ^ n) ⌝ }
+{
+    let one: u32 = 1;
+    words::get_u32(ws, 8 * k) % (one << n)
 }

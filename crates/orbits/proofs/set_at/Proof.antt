@@ -1,8 +1,8 @@
 -- `set_at` meets its contract: what is left of a division by 2 ^ n is below it.
 use borrow.Author.Needs.{needs}
-use Rattle.orbit_list.proofs.Laws.{divisor, rest-small}
-use Rattle.orbit_list.proofs.set_at.Statement.{statement}
-use Rattle.orbit_list.proofs.set_at.Tie as tie
+use Rattle.orbits.proofs.Reading.{divisor, rest-small}
+use Rattle.orbits.proofs.set_at.Statement.{statement}
+use Rattle.orbits.proofs.set_at.Tie as tie
 
 mul-get-u32 : tie.Need-mul-get-u32
 mul-get-u32 c = search needs
