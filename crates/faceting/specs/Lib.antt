@@ -15,4 +15,5 @@ pub mod Stored
 pub mod Begins
 pub mod Finishes
 pub mod Starts
+pub mod Loops
 pub mod Asked

@@ -24,6 +24,12 @@ pub record Laid (shelf other : Shelf) : Type 0 where
   pub places : shelf .places ≡ other .places
   pub end : shelf .end ≡ other .end
 
+pub laid-same : {shelf : Shelf} → Laid shelf shelf
+laid-same = record { edges = refl; labels = refl; owners = refl; ridges = refl; places = refl; end = refl }
+
+pub laid-as : {a b c : Shelf} → Laid a b → Laid b c → Laid a c
+laid-as x y = record { edges = x .edges ∙ y .edges; labels = x .labels ∙ y .labels; owners = x .owners ∙ y .owners; ridges = x .ridges ∙ y .ridges; places = x .places ∙ y .places; end = x .end ∙ y .end }
+
 module _ (n : ℕ) (shelf : Shelf) (done : List Inner) (s : List ℕ) (keeps : Keeps n shelf (map keptOf done) s) where
   abbrev kept : List Kept
   kept = map keptOf done

@@ -2,7 +2,8 @@
 ghost use mathlib.Core.Path.{_≡_};
 ghost use Prim.Native.Nat.{ℕ, _*_, _-_, _^_, _≤_, _<_};
 ghost use lib.ListN.{length};
-ghost use Rattle.faceting.specs.Says.{Site, Turn};
+ghost use Rattle.faceting.specs.Says.{Site, Turn, Says};
+ghost use Rattle.faceting.specs.Asked.{Asked};
 ghost use Rattle.faceting.specs.Stored.{Storing};
 ghost use mathlib.Core.List.{List, [], map};
 ghost use Rattle.definitions.specs.Subspace.{fromPoints};
@@ -10,7 +11,7 @@ ghost use Rattle.definitions.specs.Orbits.{pointAt, hyperplaneOrbits};
 ghost use Rattle.definitions.specs.Recursion.{rowsWithin};
 ghost use Rattle.laws.specs.Sets.{verticesOf};
 ghost use Rattle.openers.specs.Rows.{rowsIn};
-ghost use Rattle.space.specs.Meaning.{PointsFit, pointsOf, HoldsPoints, limitsOf};
+ghost use Rattle.space.specs.Meaning.{PointsFit, pointsOf, subspaceOf, HoldsPoints, limitsOf};
 ghost use Rattle.orbits.specs.Answers.{CallFits, answerIn, orbitsOrRefusal};
 ghost use Rattle.shelf.specs.Keeps.{Fits, Keeps, Ridges};
 ghost use Rattle.calls.specs.Layouts.{shelfFor};
@@ -19,7 +20,7 @@ ghost use Rattle.stabilizers.specs.Permutations.{Permutations};
 ghost use Rattle.stabilizers.specs.Places.{writtenRows};
 ghost use Rattle.calls.specs.declared.Called.the-variants.{Ends, Left};
 ghost use Rattle.faceting.specs.Desks.{deskFor};
-ghost use Rattle.faceting.specs.Stocks.{Stock, Stocked};
+ghost use Rattle.faceting.specs.Stocks.{Stock, Stocked, rulesOf};
 ghost use Rattle.faceting.specs.Answers.{Searched};
 ghost use Rattle.faceting.specs.Searched.{ListsReady, EntriesListed};
 use calls::Called;
@@ -28,10 +29,12 @@ use facets::Areas;
 use orbits::Answer;
 use ridges::Desk;
 use search::Outcome;
+use sets::Fit;
 use sets::SetPlane;
 use shelf::Level;
 use shelf::Shelf;
 use space::Points;
+use space::Subspace;
 
 // Where the tables and the search lie behind a shelf of rank 3, or of rank 4. At rank 3 an orbit has at most two ridges, and there are at most 20 ridge orbits and 190 orbits; at rank 4 at most
 // 190 ridges of an orbit, 190 ridge orbits and 256 orbits. The emitted lists have room for 1,024.
@@ -240,4 +243,63 @@ pub fn keep_inner(
         Called::Ends(swapped, rest) => keep_ends(ws, shelf, n, swapped, rest, bound),
         Called::Left(level, rest) => keep_left(ws, shelf, n, level, rest, rows, m, bound),
     }
+}
+
+// ---- the call
+
+// Document 01's call. At rank 2 the rows alone answer. Above, the hyperplane orbits are found, each orbit's set is faceted in its own plane by the call itself at the rank below, behind the shelf,
+// and what that answers is kept; then the search. The first refusal met is the call's.
+pub fn faceting(
+    rank: usize,
+    plane: Subspace,
+    points: Points,
+    rows: &[u8],
+    m: usize,
+    rules: Rules,
+    budget: u32,
+    ws: &mut [u8],
+) -> Called
+    requires { ⌜ Asked rank plane points (now rows) m rules (now ws) ⌝ }
+    ensures { λ r. ⌜ Says (rank - 2) (rulesOf rules) (subspaceOf plane) (pointsOf points) (rowsIn (points .n) m (now (rows .entry))) budget r (now (ws .exit)) ⌝ }
+{
+    if rank == 2 {
+        return Called::Ends(calls::swaps_ends(rows, m), budget);
+    }
+    let flat = points.flatten_all(plane);
+    let found = start_call(ws, rank, points, flat, rows, m, rules);
+    let Answer::Orbits(count) = found else {
+        return Called::Refused(13);
+    };
+    let mut shelf = calls::shelf_for(rank);
+    let mut left = budget;
+    while shelf.orbits < count {
+        let mut kept = [0; 3840];
+        let set = orbits::set_at(ws, shelf.orbits, flat.n);
+        let next = next_call(flat, set, rows, m, rules.tolerance, rank - 2, &mut kept);
+        let inner = next.refitted;
+        let fit = inner.fit;
+        if let Fit::Refused = fit {
+            return Called::Refused(14);
+        }
+        let end = shelf.end;
+        let called = faceting(
+            rank - 1,
+            inner.plane,
+            next.points,
+            &kept,
+            next.m,
+            rules,
+            left,
+            &mut ws[end..],
+        );
+        let stored = keep_inner(ws, shelf, flat.n, called, &kept, next.m, rules.facets);
+        match stored {
+            Stored::Refused(number) => return Called::Refused(number),
+            Stored::Kept(more, rest) => {
+                shelf = more;
+                left = rest;
+            }
+        }
+    }
+    search_call(ws, shelf, rank, rows, m, rules, left)
 }
