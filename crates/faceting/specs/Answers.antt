@@ -2,7 +2,7 @@
 -- steps of a call.
 use mathlib.Core.Path.{_≡_, ap, _∙_}
 use mathlib.Core.List.{List}
-use Prim.Native.Nat.{ℕ, suc}
+use Prim.Native.Nat.{ℕ, suc, _+_, _≤_}
 use Rattle.definitions.specs.Outcome as result
 use Rattle.definitions.specs.Search.{Found}
 use Rattle.definitions.specs.Recursion.{Answer}
@@ -15,13 +15,14 @@ use Rattle.calls.specs.declared.Called.the-variants.{Refused, Ends, Left}
 use Rattle.calls.specs.Steps.{call-searched}
 use Rattle.faceting.specs.Stocks.{Stock, pointsIn, keptIn, rulesOf}
 
--- the answer stands in the workspace, with what is left of the budget
+-- the answer stands in the workspace, with what is left of the budget; behind its entries a call of rank 4 has room for the images of its facets
 pub record Answers (k : Stock) (rules : Rules) (level : Level) (rest : ℕ) (s : List ℕ) : Type 0 where
   pub found : Found
   pub is-found : searchFrom (rulesOf rules) (k .prepared) ≡ result.answered found
   pub rest-is : rest ≡ found .left
   pub leaves : Leaves (k .more) (pointsIn k) (k .rows) (keptIn k) level s
   pub answer : finish (k .prepared) found ≡ answerLeft (k .more) (pointsIn k) (k .rows) (keptIn k) level s rest
+  pub ends : level .lists + (level .bytes + 6144) ≤ 3211264
 
 -- what the search of a call says, by what was answered: never ends alone, which are an answer of rank 2
 unfoldable pub Searched : Stock → Rules → Called → List ℕ → Type 0

@@ -96,4 +96,5 @@ module _ (more : ℕ) (rules : Rules) (plane : Subspace) (points : List Vec) (ro
         prepared = prepared-is;
         leaves = a .leaves;
         is = searched-answered stock rules budget prepared-is level rest u a;
+        ends = a .ends;
       }

@@ -31,12 +31,14 @@ use Rattle.faceting.specs.State.{State}
 use Rattle.faceting.specs.Turns as turns
 use Rattle.faceting.specs.Spaces.{Laid}
 
--- a call of rank 3 + more is answered, and its answer stands in the workspace
+-- A call of rank 3 + more is answered, and its answer stands in the workspace. Wherever its entries lie, they end before the byte 3,211,264: at rank 4 the images of all facets, at most 1,024 under
+-- 120 rows, have room behind them.
 pub record Stands (more : ℕ) (rules : Rules) (plane : Subspace) (points : List Vec) (rows : List Row) (budget : ℕ) (level : Level) (rest : ℕ) (s : List ℕ) : Type 0 where
   pub before : Prepared
   pub prepared : prepare more rules (faceting more rules) plane points rows budget ≡ answered before
   pub leaves : Leaves more (length points) rows (map keptOf (before .inner)) level s
   pub is : faceting (suc more) rules plane points rows budget ≡ answered (answerLeft more (length points) rows (map keptOf (before .inner)) level s rest)
+  pub ends : level .lists + (level .bytes + 6144) ≤ 3211264
 
 -- what a call of rank 2 + more says: only rank 2 answers with ends alone
 unfoldable pub Says : ℕ → Rules → Subspace → List Vec → List Row → ℕ → Called → List ℕ → Type 0

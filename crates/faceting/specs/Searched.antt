@@ -83,6 +83,8 @@ pub record Placed (shelf : Shelf) (rank : ℕ) (a : Areas) (size : ℕ) : Type 0
   pub order : a .lists ≤ a .end
   pub inside : shelf .owners + a .end + 6144 ≤ size
   pub parts : (rank ≡ 3 → ⊥) → shelf .owners + (listBytes a + 2109452) ≤ size
+  pub ends : shelf .owners + a .end + 6144 ≤ 3211264
+  pub parts-end : (rank ≡ 3 → ⊥) → shelf .owners + (listBytes a + 2109452) ≤ 3211264
 
 placed-three : (shelf : Shelf) (rank : ℕ) (a : Areas) (size known : ℕ) → rank ≡ 3 → shelf .owners ≡ 10764 → shelf .end ≡ 20236 → 524288 ≤ size → a ≡ areasOf shelf desk3 known → Placed shelf rank a size
 unfolding areasOf desk3
@@ -100,6 +102,8 @@ placed-three shelf rank a size known e o h room is =
       order = omega arith;
       inside = omega arith;
       parts = λ n. absurd (n e);
+      ends = omega arith;
+      parts-end = λ n. absurd (n e);
     }
 
 placed-four : (shelf : Shelf) (rank : ℕ) (a : Areas) (size known : ℕ) → shelf .owners ≡ 399372 → shelf .end ≡ 990244 → 4194304 ≤ size → a ≡ areasOf shelf desk4 known → Placed shelf rank a size
@@ -118,6 +122,8 @@ placed-four shelf rank a size known o h room is =
       order = omega arith;
       inside = omega arith;
       parts = λ n. omega arith;
+      ends = omega arith;
+      parts-end = λ n. omega arith;
     }
 
 -- what `lay_tables` says of the areas and the workspace that it leaves
@@ -230,20 +236,20 @@ module _ (k : Stock) (shelf : Shelf) (rank : ℕ) (rows : List ℕ) (m : ℕ) (r
           finished : finish (k .prepared) found ≡ keptAnswer (k .more) (pointsIn k) (k .rows) (keptIn k) found
           finished = kept-finish (k .more) (rulesOf rules) (k .plane) (k .points) (k .rows) (st .few-more) (st .given) (k .prepared) (st .made) found (sym is-found)
 
-          answers : answerLeft (k .more) (pointsIn k) (k .rows) (keptIn k) level u rest ≡ keptAnswer (k .more) (pointsIn k) (k .rows) (keptIn k) found → Leaves (k .more) (pointsIn k) (k .rows) (keptIn k) level u → Answers k rules level rest u
-          answers e leaves = record { found = found; is-found = sym is-found; rest-is = refl; leaves = leaves; answer = finished ∙ sym e }
+          answers : answerLeft (k .more) (pointsIn k) (k .rows) (keptIn k) level u rest ≡ keptAnswer (k .more) (pointsIn k) (k .rows) (keptIn k) found → Leaves (k .more) (pointsIn k) (k .rows) (keptIn k) level u → level .lists + (level .bytes + 6144) ≤ 3211264 → Answers k rules level rest u
+          answers e leaves ends = record { found = found; is-found = sym is-found; rest-is = refl; leaves = leaves; answer = finished ∙ sym e; ends = ends }
 
           at-rank : (more : ℕ) → more ≤ 1 → rank ≡ 3 + more → Answers k rules level rest u
           at-rank zero few e =
               let three : rank ≡ 3 = omega arith in
               let g = l .whole three in
               answers (left-whole (pointsIn k) shelf (keptIn k) t keeps-still numbered below (k .more) (k .rows) found lists-are (listsAt shelf a) (listsAt shelf a) (listBytes a) level u (plain three) g)
-              (g .leaves (k .more) (pointsIn k) (k .rows) (keptIn k) keeps-still)
+              (g .leaves (k .more) (pointsIn k) (k .rows) (keptIn k) keeps-still) (omega (arith, g .at-is, g .bytes-are, p .order, p .ends))
           at-rank (suc zero) few e =
               let other : rank ≡ 3 → ⊥ = λ q. omega arith in
               let g = l .parts other in
               answers (left-split (pointsIn k) shelf (keptIn k) t keeps-still numbered below (k .more) (k .rows) found lists-are (shelf .owners + 2048) (shelf .owners + 2048 + listBytes a) 2101260 level u (splittable other) g)
-              (g .leaves (k .more) (pointsIn k) (k .rows) (keptIn k) keeps-still)
+              (g .leaves (k .more) (pointsIn k) (k .rows) (keptIn k) keeps-still) (omega (arith, g .at-is, g .bytes-are, p .parts-end other))
           at-rank (suc (suc more)) few e = absurd (omega arith)
 
   -- ---- the search on the lent rest
