@@ -1,4 +1,9 @@
 // The exported function: a job's bytes in, its answer's bytes out. A job is checked, loaded and called, and what the call leaves is written, whatever the lengths of the three slices are.
+use calls::Called;
+use calls::Rules;
+use load::EntryLimit;
+use load::Fields;
+use search::Limit;
 use shelf::Level;
 ghost use mathlib.Core.Path.{_≡_};
 ghost use mathlib.Core.List.{List};
@@ -10,6 +15,24 @@ ghost use Rattle.shelf.specs.Leaves.{answerLeft};
 ghost use Rattle.keep.specs.Edges.{edgeAnswer};
 ghost use Rattle.writing.specs.Wrote.{Wrote};
 ghost use Rattle.register.specs.Writable.{Writable};
+ghost use Rattle.register.specs.Closed.{WroteAll};
+ghost use lib.IntN.{pos, negℤ};
+ghost use lib.ListN.{length};
+ghost use Rattle.definitions.specs.Job.{fitting, codeOf, bufferOf};
+ghost use Rattle.words.specs.Writer.{encoded};
+ghost use Rattle.definitions.specs.Outcome.{andThen};
+ghost use Rattle.definitions.specs.Recursion as def;
+ghost use Rattle.definitions.specs.Recursion.{Answer};
+ghost use Rattle.definitions.specs.Subspace.{Subspace};
+ghost use Rattle.definitions.specs.Vectors.{Vec};
+ghost use Rattle.definitions.specs.Faceting.{faceting};
+ghost use Rattle.definitions.specs.Job.{answerBytes};
+ghost use lib.ListN.{replicate};
+ghost use Rattle.load.specs.Meaning.{limitNumber};
+ghost use Rattle.search.specs.Outcomes.{limitOf};
+ghost use Rattle.faceting.specs.Stocks.{rulesOf};
+ghost use Rattle.register.specs.Loaded.{jobRules};
+ghost use Rattle.register.specs.Called.{Said};
 
 // ---- writing what a call leaves
 
@@ -79,4 +102,83 @@ fn write_left(
         return writing::write_answer(answer, 0, ws, level, rows, m, n, budget, rest);
     }
     write_polyhedra(answer, ws, level, rows, m, n, budget, rest)
+}
+
+// ---- the return code
+
+// "minus the refusal number"
+fn refusal(number: u8) -> i64
+    ensures { λ r. ⌜ r ≡ negℤ (pos number) ⌝ }
+{
+    -(number as i64)
+}
+
+// The cursor behind the last word is the answer's length, or past the buffer: then the buffer is cleared again, and the refusal is 17.
+fn close(answer: &mut [u8], at: usize) -> i64
+    requires { ⌜ ((words : List ℕ) × WroteAll words (now answer) at) ⌝ }
+    ensures { λ r. ⌜ ((words : List ℕ) → WroteAll words (now (answer .entry)) at → (r ≡ codeOf (fitting (length (now (answer .entry))) (encoded words))) × (now (answer .exit) ≡ bufferOf (length (now (answer .entry))) (fitting (length (now (answer .entry))) (encoded words)))) ⌝ }
+{
+    if answer.len() < at {
+        words::clear(answer);
+        return -17;
+    }
+    at as i64
+}
+
+// ---- the call
+
+// The entry limit as the search takes it.
+fn limit_of(entries: EntryLimit) -> Limit
+    ensures { λ r. ⌜ limitOf r ≡ limitNumber entries ⌝ }
+{
+    match entries {
+        EntryLimit::Unlimited => Limit::Absent,
+        EntryLimit::Number(m) => Limit::Entries(m),
+    }
+}
+
+// What is alike at every depth of a job's call: document 01's tolerance and bounds, and the job's own limits.
+fn rules_of(fields: Fields) -> Rules
+    ensures { λ r. ⌜ rulesOf r ≡ jobRules fields ⌝ }
+{
+    let min = fields.min;
+    let max = fields.max;
+    let entries = fields.entries;
+    Rules {
+        tolerance: 0.0000001,
+        min: min,
+        max: max,
+        limit: limit_of(entries),
+        orbits: 256,
+        facets: 1024,
+        entries: 1024,
+    }
+}
+
+// What a call says, as return code and answer: its refusal, or its answer's bytes where they fit the buffer, which was cleared before.
+fn write_called(
+    called: Called,
+    rank: usize,
+    ws: &mut [u8],
+    rows: &[u8],
+    m: usize,
+    n: usize,
+    budget: u32,
+    answer: &mut [u8],
+) -> i64
+    requires { ⌜ ((rules : def.Rules) × (plane : Subspace) × (points : List Vec) × Said rank rules plane points n m (now rows) budget called (now ws)) × (now answer ≡ replicate (length (now answer)) 0) ⌝ }
+    ensures code { λ r. ⌜ ((rules : def.Rules) (plane : Subspace) (points : List Vec) → Said rank rules plane points n m (now (rows .entry)) budget called (now (ws .entry)) → r ≡ codeOf (andThen (faceting (rank - 2) rules plane points (rowsIn n m (now (rows .entry))) budget) (λ (a : Answer). fitting (length (now (answer .entry))) (answerBytes budget a)))) ⌝ }
+    ensures buffer { λ r. ⌜ ((rules : def.Rules) (plane : Subspace) (points : List Vec) → Said rank rules plane points n m (now (rows .entry)) budget called (now (ws .entry)) → now (answer .exit) ≡ bufferOf (length (now (answer .entry))) (andThen (faceting (rank - 2) rules plane points (rowsIn n m (now (rows .entry))) budget) (λ (a : Answer). fitting (length (now (answer .entry))) (answerBytes budget a)))) ⌝ }
+{
+    match called {
+        Called::Refused(number) => refusal(number),
+        Called::Ends(swapped, rest) => {
+            let end = write_ends(answer, swapped, budget, rest);
+            close(answer, end)
+        }
+        Called::Left(level, rest) => {
+            let end = write_left(answer, ws, rank, level, rows, m, n, budget, rest);
+            close(answer, end)
+        }
+    }
 }

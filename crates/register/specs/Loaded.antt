@@ -1,0 +1,118 @@
+-- A job that passes refusals 1 to 12, loaded: its plane, points, rows and rules are what a call asks, and the definition's call on them is the job's. Leans on the check, on the loaded fields
+-- and on what a call asks.
+use mathlib.Core.Path.{_≡_, refl, sym, ap, _∙_, subst}
+use mathlib.Core.Bool.{Bool, cond}
+use mathlib.Core.List.{List}
+use mathlib.Core.Option.{none}
+use Prim.Native.Nat.{ℕ, _-_, _*_, _≤_}
+use native.Mathlib.Omega.{arith}
+use lib.Dec.{T, leb, leb→le}
+use lib.ListN.{length}
+use Rattle.definitions.specs.Outcome.{Outcome, answered}
+use Rattle.definitions.specs.Vectors.{Vec}
+use Rattle.definitions.specs.Subspace as def
+use Rattle.definitions.specs.Orbits.{Row}
+use Rattle.definitions.specs.Recursion as recursion
+use Rattle.definitions.specs.Recursion.{Answer}
+use Rattle.definitions.specs.Faceting.{faceting}
+use Rattle.definitions.specs.Job as job
+use Rattle.definitions.specs.Job.{Bytes, readJob, planeOf, tolerance1, bounds1, tests, workspaceFor, callOf}
+use Rattle.laws.specs.Lists.{here, there}
+use Rattle.openers.specs.Rows.{rowsIn}
+use Rattle.stabilizers.specs.Permutations.{Permutations, permutations-of}
+use Rattle.shapes.specs.Calls.{Given}
+use Rattle.shapes.specs.Jobs.{passed-test, rows-passed, job-given}
+use Rattle.space.specs.declared.Subspace.{Subspace}
+use Rattle.space.specs.declared.Points.{Points}
+use Rattle.space.specs.Meaning.{HoldsSubspace, HoldsPoints, subspaceOf, pointsOf, limitsOf}
+use Rattle.load.specs.declared.Fields.{Fields}
+use Rattle.load.specs.Places.{Exact}
+use Rattle.load.specs.Meaning.{fieldsOf, limitNumber, Loadable, loadable}
+use Rattle.job.specs.declared.Checked.the-variants.{Passed}
+use Rattle.job.specs.Refusal.{checkedOf, firstRefused, pass-all-passed}
+use Rattle.job.specs.Passed.{passed-means, passed-exact, passed-rows}
+use Rattle.calls.specs.declared.Rules.{Rules}
+use Rattle.faceting.specs.Stocks.{rulesOf}
+use Rattle.faceting.specs.Asked.{Asked}
+
+-- the definition's rules, from the fields of a job: the tolerance and the bounds of version 1
+unfoldable pub jobRules : Fields → recursion.Rules
+jobRules f = record { tolerance = tolerance1; lengths = limitsOf (f .min) (f .max); entryLimit = limitNumber (f .entries); bounds = bounds1 }
+
+-- a job as a call takes it
+pub record Loaded (bytes : Bytes) (f : Fields) (plane : Subspace) (points : Points) (rows : List ℕ) (rules : Rules) : Type 0 where
+  pub plane-held : HoldsSubspace plane (planeOf (readJob bytes))
+  pub plane-d : plane .d ≡ f .d
+  pub points-held : HoldsPoints points (f .d) (readJob bytes .points)
+  pub points-n : points .n ≡ f .n
+  pub rows-held : rowsIn (f .n) (f .count) rows ≡ readJob bytes .rows
+  pub rows-room : 32 * f .count ≤ length rows
+  pub rules-are : rulesOf rules ≡ jobRules f
+
+module _ (bytes : Bytes) (workspace : ℕ) (f : Fields) (passed : Passed f ≡ checkedOf bytes workspace) where
+  none-refused : firstRefused (tests bytes workspace) ≡ none
+  none-refused = passed-means bytes workspace f passed .0
+
+  pub exact : Exact bytes
+  exact = passed-exact bytes workspace none-refused
+
+  pub own-fields : f ≡ fieldsOf bytes
+  own-fields = passed-means bytes workspace f passed .1
+
+  pub counts : Loadable bytes f
+  counts = loadable bytes f exact own-fields
+
+  -- every test is passed
+  abbrev all-passed : Type 0
+  all-passed = job.passAll (tests bytes workspace) (λ u. answered (tt {0})) ≡ answered (tt {0})
+
+  go-on : all-passed
+  go-on = pass-all-passed (tests bytes workspace) (λ u. answered (tt {0})) none-refused
+
+  -- two points at least, and rows that permute them, the identity first
+  given : Given (readJob bytes .points) (readJob bytes .rows)
+  given = job-given bytes (rows-passed bytes workspace (λ u. answered (tt {0})) (tt {0}) go-on)
+
+  -- document 01's workspace
+  room : workspaceFor (readJob bytes .rank) ≤ workspace
+  unfolding tests
+  room = leb→le (workspaceFor (readJob bytes .rank)) workspace (passed-test (tests bytes workspace) (λ u. answered (tt {0})) (tt {0}) go-on _ (there (there (there (there (there (there (there (there (there (there (there (here refl)))))))))))))
+
+  room-at : (rank : ℕ) → f .rank ≡ rank → workspaceFor rank ≤ workspace
+  room-at rank e = subst (λ (k : ℕ). workspaceFor k ≤ workspace) (sym (counts .rank-is) ∙ e) room
+
+  module _ (plane : Subspace) (points : Points) (rows : List ℕ) (rules : Rules) (l : Loaded bytes f plane points rows rules) where
+    rows-are : rowsIn (points .n) (f .count) rows ≡ readJob bytes .rows
+    rows-are = ap (λ (n : ℕ). rowsIn n (f .count) rows) (l .points-n) ∙ l .rows-held
+
+    permute : Permutations (f .n) (f .count) rows
+    permute = permutations-of (f .n) (f .count) rows (counts .n-most) (l .rows-room) (rw (l .rows-held, counts .n-is) (passed-rows bytes workspace none-refused))
+
+    -- what the call is asked
+    pub call-asked : (ws : List ℕ) → length ws ≡ workspace → Asked (f .rank) plane points rows (f .count) rules ws
+    unfolding jobRules bounds1 rulesOf workspaceFor
+    call-asked ws long = record {
+      rank-least = counts .rank-least;
+      rank-most = counts .rank-most;
+      points-fit = l .points-held .fits;
+      plane-fits = l .plane-held .fits;
+      same-d = l .points-held .d-is ∙ sym (l .plane-d);
+      permute = subst (λ (n : ℕ). Permutations n (f .count) rows) (sym (l .points-n)) permute;
+      rows-few = counts .count-most;
+      given = rw (l .points-held .means, rows-are) given;
+      few-orbits = let e = ap (λ (r : recursion.Rules). r .bounds .orbits) (l .rules-are) in omega arith;
+      few-facets = let e = ap (λ (r : recursion.Rules). r .bounds .facets) (l .rules-are) in omega arith;
+      entries-are = ap (λ (r : recursion.Rules). r .bounds .entries) (l .rules-are);
+      room-three = λ e. let k = room-at 3 e in omega arith;
+      room-four = λ e. let k = room-at 4 e in omega arith;
+    }
+
+    -- the rules are the job's
+    rules-job : rulesOf rules ≡ job.rulesOf bounds1 (readJob bytes)
+    unfolding jobRules job.rulesOf limitsOf
+    rules-job = l .rules-are ∙ (λ i. record { tolerance = tolerance1; lengths = record { shortest = counts .min-is i; longest = counts .max-is i }; entryLimit = counts .entries-is i; bounds = bounds1 })
+
+    -- the call on what is loaded is the job's call
+    pub call-is : faceting (f .rank - 2) (rulesOf rules) (subspaceOf plane) (pointsOf points) (rowsIn (points .n) (f .count) rows) (f .budget) ≡ callOf bounds1 (readJob bytes)
+    unfolding callOf
+    call-is = λ i. faceting (counts .rank-is i - 2) (rules-job i) (l .plane-held .means i) (l .points-held .means i) (rows-are i) (counts .budget-is i)
