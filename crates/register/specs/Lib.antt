@@ -2,5 +2,5 @@
 pub mod Spent
 pub mod Writable
 pub mod Closed
-pub mod Loaded
 pub mod Called
+pub mod Loaded

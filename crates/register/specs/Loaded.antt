@@ -8,7 +8,7 @@ use Prim.Native.Nat.{ℕ, _-_, _*_, _≤_}
 use native.Mathlib.Omega.{arith}
 use lib.Dec.{T, leb, leb→le}
 use lib.ListN.{length}
-use Rattle.definitions.specs.Outcome.{Outcome, answered}
+use Rattle.definitions.specs.Outcome.{refused, answered}
 use Rattle.definitions.specs.Vectors.{Vec}
 use Rattle.definitions.specs.Subspace as def
 use Rattle.definitions.specs.Orbits.{Row}
@@ -16,10 +16,10 @@ use Rattle.definitions.specs.Recursion as recursion
 use Rattle.definitions.specs.Recursion.{Answer}
 use Rattle.definitions.specs.Faceting.{faceting}
 use Rattle.definitions.specs.Job as job
-use Rattle.definitions.specs.Job.{Bytes, readJob, planeOf, tolerance1, bounds1, tests, workspaceFor, callOf}
+use Rattle.definitions.specs.Job.{Bytes, readJob, planeOf, tolerance1, bounds1, tests, workspaceFor, callOf, outcome}
 use Rattle.laws.specs.Lists.{here, there}
 use Rattle.openers.specs.Rows.{rowsIn}
-use Rattle.stabilizers.specs.Permutations.{Permutations, permutations-of}
+use Rattle.stabilizers.specs.Permutations.{Permutations, permutations-of, rows-fit}
 use Rattle.shapes.specs.Calls.{Given}
 use Rattle.shapes.specs.Jobs.{passed-test, rows-passed, job-given}
 use Rattle.space.specs.declared.Subspace.{Subspace}
@@ -28,12 +28,15 @@ use Rattle.space.specs.Meaning.{HoldsSubspace, HoldsPoints, subspaceOf, pointsO
 use Rattle.load.specs.declared.Fields.{Fields}
 use Rattle.load.specs.Places.{Exact}
 use Rattle.load.specs.Meaning.{fieldsOf, limitNumber, Loadable, loadable}
-use Rattle.job.specs.declared.Checked.the-variants.{Passed}
+use Rattle.job.specs.declared.Checked.the-variants.{Refused, Passed}
 use Rattle.job.specs.Refusal.{checkedOf, firstRefused, pass-all-passed}
-use Rattle.job.specs.Passed.{passed-means, passed-exact, passed-rows}
+use Rattle.job.specs.Passed.{refused-means, passed-means, passed-exact, passed-rows, outcome-refused, outcome-passed}
 use Rattle.calls.specs.declared.Rules.{Rules}
 use Rattle.faceting.specs.Stocks.{rulesOf}
+use Rattle.calls.specs.declared.Called.{Called}
 use Rattle.faceting.specs.Asked.{Asked}
+use Rattle.faceting.specs.Says.{Says}
+use Rattle.register.specs.Called.{Said, rest}
 
 -- the definition's rules, from the fields of a job: the tolerance and the bounds of version 1
 unfoldable pub jobRules : Fields → recursion.Rules
@@ -116,3 +119,33 @@ module _ (bytes : Bytes) (workspace : ℕ) (f : Fields) (passed : Passed f ≡ c
     pub call-is : faceting (f .rank - 2) (rulesOf rules) (subspaceOf plane) (pointsOf points) (rowsIn (points .n) (f .count) rows) (f .budget) ≡ callOf bounds1 (readJob bytes)
     unfolding callOf
     call-is = λ i. faceting (counts .rank-is i - 2) (rules-job i) (l .plane-held .means i) (l .points-held .means i) (rows-are i) (counts .budget-is i)
+
+    -- and so is what it says
+    pub call-said : (called : Called) (s : List ℕ) → length s ≡ workspace
+        → Says (f .rank - 2) (rulesOf rules) (subspaceOf plane) (pointsOf points) (rowsIn (points .n) (f .count) rows) (f .budget) called s
+        → Said (f .rank) (rulesOf rules) (subspaceOf plane) (pointsOf points) (f .n) (f .count) rows (f .budget) called s
+    call-said called s long h =
+        let asked = call-asked s long in
+        subst (λ (n : ℕ). Said (f .rank) (rulesOf rules) (subspaceOf plane) (pointsOf points) n (f .count) rows (f .budget) called s) (l .points-n) (record {
+          rank-least = asked .rank-least;
+          rank-most = asked .rank-most;
+          says = h;
+          n-is = l .points-held .n-is ∙ ap length (sym (l .points-held .means));
+          given = asked .given;
+          rows-fit = rows-fit (asked .permute);
+          few-rows = asked .rows-few;
+          room = asked .room-four;
+        })
+
+    -- the outcome of the job, from the call's
+    pub outcome-is : (space : ℕ) → rest space (f .budget) (faceting (f .rank - 2) (rulesOf rules) (subspaceOf plane) (pointsOf points) (rowsIn (f .n) (f .count) rows) (f .budget)) ≡ outcome bytes workspace space
+    unfolding outcome
+    outcome-is space =
+        let same = ap (λ (n : ℕ). faceting (f .rank - 2) (rulesOf rules) (subspaceOf plane) (pointsOf points) (rowsIn n (f .count) rows) (f .budget)) (sym (l .points-n)) ∙ call-is in
+        (λ i. rest space (counts .budget-is i) (same i)) ∙ sym (outcome-passed bounds1 bytes workspace space none-refused)
+
+-- ---- a job that is refused
+
+pub refused-outcome : (bytes : Bytes) (workspace space number : ℕ) → Refused number ≡ checkedOf bytes workspace → outcome bytes workspace space ≡ refused number
+unfolding outcome
+refused-outcome bytes workspace space number e = outcome-refused bounds1 bytes workspace space number (refused-means bytes workspace number e)

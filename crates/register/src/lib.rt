@@ -1,6 +1,7 @@
 // The exported function: a job's bytes in, its answer's bytes out. A job is checked, loaded and called, and what the call leaves is written, whatever the lengths of the three slices are.
 use calls::Called;
 use calls::Rules;
+use job::Checked;
 use load::EntryLimit;
 use load::Fields;
 use search::Limit;
@@ -33,6 +34,9 @@ ghost use Rattle.search.specs.Outcomes.{limitOf};
 ghost use Rattle.faceting.specs.Stocks.{rulesOf};
 ghost use Rattle.register.specs.Loaded.{jobRules};
 ghost use Rattle.register.specs.Called.{Said};
+ghost use Rattle.definitions.specs.Job.{outcome};
+ghost use Rattle.job.specs.Refusal.{checkedOf};
+ghost use Rattle.job.specs.declared.Checked.the-variants.{Passed};
 
 // ---- writing what a call leaves
 
@@ -180,5 +184,37 @@ fn write_called(
             let end = write_left(answer, ws, rank, level, rows, m, n, budget, rest);
             close(answer, end)
         }
+    }
+}
+
+// A job that passed refusals 1 to 12: it is loaded, called, and what the call says is written into the cleared buffer.
+fn answer_job(job: &[u8], fields: Fields, ws: &mut [u8], answer: &mut [u8]) -> i64
+    requires { ⌜ (Passed fields ≡ checkedOf (now job) (length (now ws))) × (now answer ≡ replicate (length (now answer)) 0) ⌝ }
+    ensures code { λ r. ⌜ r ≡ codeOf (outcome (now (job .entry)) (length (now (ws .entry))) (length (now (answer .entry)))) ⌝ }
+    ensures buffer { λ _. ⌜ now (answer .exit) ≡ bufferOf (length (now (answer .entry))) (outcome (now (job .entry)) (length (now (ws .entry))) (length (now (answer .entry)))) ⌝ }
+{
+    let rank = fields.rank;
+    let n = fields.n;
+    let m = fields.count;
+    let budget = fields.budget;
+    let plane = load::plane_of(job, fields);
+    let points = load::points_of(job, fields);
+    let rules = rules_of(fields);
+    let mut rows = [0; 3840];
+    load::load_rows(job, fields, &mut rows);
+    let called = faceting::faceting(rank, plane, points, &rows, m, rules, budget, ws);
+    write_called(called, rank, ws, &rows, m, n, budget, answer)
+}
+
+// The answer of a job: its length in bytes, or minus the number of its refusal. The answer stands at the front of the buffer, which is zero behind it, and zero throughout after a refusal.
+#[no_mangle]
+pub extern "C" fn register_answer(job: &[u8], workspace: &mut [u8], answer: &mut [u8]) -> i64
+    ensures code { λ r. ⌜ r ≡ codeOf (outcome (now (job .entry)) (length (now (workspace .entry))) (length (now (answer .entry)))) ⌝ }
+    ensures buffer { λ _. ⌜ now (answer .exit) ≡ bufferOf (length (now (answer .entry))) (outcome (now (job .entry)) (length (now (workspace .entry))) (length (now (answer .entry)))) ⌝ }
+{
+    words::clear(answer);
+    match job::check(job, workspace.len()) {
+        Checked::Refused(number) => refusal(number),
+        Checked::Passed(fields) => answer_job(job, fields, workspace, answer),
     }
 }
