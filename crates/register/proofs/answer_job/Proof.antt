@@ -1,70 +1,51 @@
+-- `register::answer_job` meets its contract: what is loaded is what the call asks, and the call on it is the job's. Assumes nothing.
 use mathlib.Core.Path.{_≡_, sym, ap, _∙_}
 use native.Mathlib.Omega.{arith}
+use borrow.Author.Needs.{needs}
 use lib.ListN.{length}
+use mir.Facts.{toZ-ofZ}
 use mir.Syntax.{w64}
 use mir.Val.{SFits}
-use mir.Facts.{toZ-ofZ}
 use Rattle.definitions.specs.Job.{codeOf, bufferOf}
 use Rattle.register.specs.Loaded.{Loaded, exact, own-fields, counts, call-asked, call-said, outcome-is}
-use borrow.Author.Needs.{needs}
 use Rattle.register.proofs.answer_job.Statement.{statement}
 use Rattle.register.proofs.answer_job.Tie as tie
-use Rattle.register.proofs.answer_job.Reads as reads
-use Rattle.register.proofs.answer_job.Lts as lts
-use Rattle.load.proofs.load_rows.Reads as load-rows-reads
-use Rattle.load.proofs.plane_of.Reads as plane-of-reads
-use Rattle.load.proofs.points_of.Reads as points-of-reads
-use Rattle.register.proofs.faceting.Reads as faceting-reads
-use Rattle.register.proofs.rules_of.Reads as rules-of-reads
-use Rattle.register.proofs.write_called.Reads as write-called-reads
 
--- src/lib.rt:212:9
 plane-of-requires : tie.Need-plane-of-requires
 plane-of-requires c κs = let s = c .before .before .before in (exact (s .args .job .now) _ (s .args .fields) (s .pre .0), own-fields (s .args .job .now) _ (s .args .fields) (s .pre .0))
 
--- src/lib.rt:213:9
 points-of-requires : tie.Need-points-of-requires
 points-of-requires c κs = let s = c .before .before .before .before in (exact (s .args .job .now) _ (s .args .fields) (s .pre .0), own-fields (s .args .job .now) _ (s .args .fields) (s .pre .0))
 
--- src/lib.rt:214:9
 rules-of-requires : tie.Need-rules-of-requires
 rules-of-requires c κs = search needs
 
--- src/lib.rt:216:34
 slice-aggregate-load-rows : tie.Need-slice-aggregate-load-rows
 slice-aggregate-load-rows c = search needs
 
--- src/lib.rt:216:5
 load-rows-requires : tie.Need-load-rows-requires
 load-rows-requires c κs = let s = c .before .before .before .before .before .before .before in (exact (s .args .job .now) _ (s .args .fields) (s .pre .0), own-fields (s .args .job .now) _ (s .args .fields) (s .pre .0), omega (arith, counts (s .args .job .now) _ (s .args .fields) (s .pre .0) .count-most))
 
--- src/lib.rt:217:48
 slice-aggregate-faceting : tie.Need-slice-aggregate-faceting
 slice-aggregate-faceting c = search needs
 
--- src/lib.rt:217:9
 faceting-requires : tie.Need-faceting-requires
 faceting-requires c κs = let s = c .before .before .before .before .before .before .before .before .before .before .before in let job = s .args .job .now in let f = s .args .fields in let size = length (s .args .ws .now) in let p = c .before .before .before .before .before .before .before .plane-of in let q = c .before .before .before .before .before .before .points-of in let u = c .before .before .before .before .before .rules-of in let v = c .before .before .before .load-rows in let loaded : Loaded job f (p .result) (q .result) (v .last .1 .1 .0) (u .result) = record { plane-held = p .ensures .0; plane-d = p .ensures .1; points-held = q .ensures .0; points-n = q .ensures .1; rows-held = v .ensures .0; rows-room = omega (arith, v .ensures .1, counts job size f (s .pre .0) .count-most); rules-are = u .ensures } in
     call-asked job size f (s .pre .0) (p .result) (q .result) (v .last .1 .1 .0) (u .result) loaded _ (search needs)
 
--- src/lib.rt:218:36
 slice-aggregate-write-called : tie.Need-slice-aggregate-write-called
 slice-aggregate-write-called c = search needs
 
--- src/lib.rt:218:5
 write-called-requires : tie.Need-write-called-requires
 write-called-requires c κs = let s = c .before .before .before .before .before .before .before .before .before .before .before .before .before .before .before .before .before in let job = s .args .job .now in let f = s .args .fields in let size = length (s .args .ws .now) in let p = c .before .before .before .before .before .before .before .before .before .before .before .before .before .plane-of in let q = c .before .before .before .before .before .before .before .before .before .before .before .before .points-of in let u = c .before .before .before .before .before .before .before .before .before .before .before .rules-of in let v = c .before .before .before .before .before .before .before .before .before .load-rows in let loaded : Loaded job f (p .result) (q .result) (v .last .1 .1 .0) (u .result) = record { plane-held = p .ensures .0; plane-d = p .ensures .1; points-held = q .ensures .0; points-n = q .ensures .1; rows-held = v .ensures .0; rows-room = omega (arith, v .ensures .1, counts job size f (s .pre .0) .count-most); rules-are = u .ensures } in
     ((_, _, _, call-said job size f (s .pre .0) (p .result) (q .result) (v .last .1 .1 .0) (u .result) loaded _ _ (search needs) (c .before .before .before .before .before .faceting .ensures)), s .pre .1)
 
--- src/lib.rt:203:1
 same-length : tie.Need-same-length
 same-length c = search needs
 
--- src/lib.rt:203:1
 same-length-2 : tie.Need-same-length-2
 same-length-2 c = search needs
 
--- src/lib.rt:203:1
 returns : tie.Need-returns
 returns c = let s = c .before .before .before .before .before .before .before .before .before .before .before .before .before .before .before .before .before .before .before .before .before .before in let job = s .args .job .now in let f = s .args .fields in let size = length (s .args .ws .now) in let p = c .before .before .before .before .before .before .before .before .before .before .before .before .before .before .before .before .before .before .plane-of in let q = c .before .before .before .before .before .before .before .before .before .before .before .before .before .before .before .before .before .points-of in let u = c .before .before .before .before .before .before .before .before .before .before .before .before .before .before .before .before .rules-of in let v = c .before .before .before .before .before .before .before .before .before .before .before .before .before .before .load-rows in let loaded : Loaded job f (p .result) (q .result) (v .last .1 .1 .0) (u .result) = record { plane-held = p .ensures .0; plane-d = p .ensures .1; points-held = q .ensures .0; points-n = q .ensures .1; rows-held = v .ensures .0; rows-room = omega (arith, v .ensures .1, counts job size f (s .pre .0) .count-most); rules-are = u .ensures } in
     let k = c .before .before .before .before .write-called in

@@ -1,39 +1,32 @@
-use lib.IntN.{pos}
+-- `register::close` meets its contract: the cursor tells whether every word had room. Assumes nothing.
 use mathlib.Core.Path.{_≡_, refl, sym, ap, _∙_}
 use native.Mathlib.Omega.{arith}
-use lib.ListN.{length}
-use mir.Syntax.{w64}
-use mir.Facts.{toZ-pos}
-use Rattle.definitions.specs.Outcome.{Outcome}
-use Rattle.definitions.specs.Job.{Bytes, codeOf, bufferOf}
-use Rattle.register.specs.Closed.{fits, too-long}
 use borrow.Author.Needs.{needs}
+use lib.IntN.{pos}
+use lib.ListN.{length}
+use mir.Facts.{toZ-pos}
+use mir.Syntax.{w64}
+use Rattle.definitions.specs.Job.{Bytes, codeOf, bufferOf}
+use Rattle.definitions.specs.Outcome.{Outcome}
+use Rattle.register.specs.Closed.{fits, too-long}
 use Rattle.register.proofs.close.Statement.{statement}
 use Rattle.register.proofs.close.Tie as tie
-use Rattle.register.proofs.close.Reads as reads
-use Rattle.register.proofs.close.Lts as lts
-use Rattle.words.proofs.clear.Reads as clear-reads
 
--- src/lib.rt:104:9
 clear-requires : tie.Need-clear-requires
 clear-requires c κs = search needs
 
--- src/lib.rt:105:9
 same-length : tie.Need-same-length
 same-length c = search needs
 
--- src/lib.rt:105:9
 returns : tie.Need-returns
 unfolding codeOf bufferOf
 returns c = let s = c .before .before .before .before .before .before in λ words w.
     let e = too-long words (s .args .answer .now) (s .args .at) w (omega arith) (omega arith) in
     (sym (ap codeOf e), c .before .before .clear .ensures ∙ sym (ap (bufferOf (length (s .args .answer .now))) e))
 
--- src/lib.rt:107:5
 cast-result : tie.Need-cast-result
 cast-result c = search needs
 
--- src/lib.rt:99:1
 returns-2 : tie.Need-returns-2
 unfolding codeOf
 returns-2 c = let s = c .before .before in λ words w.

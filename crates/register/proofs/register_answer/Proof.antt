@@ -1,66 +1,49 @@
-use Prim.Native.Nat.{ℕ}
-use Rattle.definitions.specs.Job.{outcome}
+-- `register::register_answer` meets its contract: a refusal or a call, whatever the bytes and lengths; the demands follow from code and buffer. Assumes nothing.
 use mathlib.Core.Path.{_≡_, sym, ap, _∙_}
+use Prim.Native.Nat.{ℕ}
 use native.Mathlib.Omega.{arith}
+use borrow.Author.Needs.{needs}
 use lib.ListN.{length, replicate}
+use mir.Facts.{toZ-ofZ}
 use mir.Syntax.{w64}
 use mir.Val.{SFits}
-use mir.Facts.{toZ-ofZ}
-use Rattle.definitions.specs.Job.{codeOf, bufferOf}
+use Rattle.definitions.specs.Job.{outcome, codeOf, bufferOf}
 use Rattle.register.specs.Loaded.{refused-outcome}
-use borrow.Author.Needs.{needs}
 use Rattle.register.proofs.register_answer.Statement.{statement}
 use Rattle.register.proofs.register_answer.Tie as tie
-use Rattle.register.proofs.register_answer.Reads as reads
-use Rattle.register.proofs.register_answer.Lts as lts
-use Rattle.job.proofs.check.Reads as check-reads
-use Rattle.register.proofs.answer_job.Reads as answer-job-reads
-use Rattle.register.proofs.refusal.Reads as refusal-reads
-use Rattle.words.proofs.clear.Reads as clear-reads
 
--- src/lib.rt:227:5
 clear-requires : tie.Need-clear-requires
 clear-requires c κs = search needs
 
--- src/lib.rt:228:11
 check-requires : tie.Need-check-requires
 check-requires c κs = search needs
 
--- src/lib.rt:229:26
 enum-known-number : tie.Need-enum-known-number
 enum-known-number c = search needs
 
--- src/lib.rt:229:37
 refusal-requires : tie.Need-refusal-requires
 refusal-requires c κs = search needs
 
--- src/lib.rt:230:25
 enum-known-fields : tie.Need-enum-known-fields
 enum-known-fields c = search needs
 
--- src/lib.rt:230:36
 answer-job-requires : tie.Need-answer-job-requires
 answer-job-requires c κs = let s = c .before .before .before .before .before .before .before .before .before .before .before .before .before in (sym (c .before .before .before .fields .given .1) ∙ c .before .before .before .before .before .check .ensures, c .before .before .before .before .before .before .before .before .clear .ensures ∙ ap (λ (k : ℕ). replicate k 0) (sym (c .before .before .before .before .before .before .before .answer .given)))
 
--- src/lib.rt:222:1
 same-length : tie.Need-same-length
 same-length c = search needs
 
--- src/lib.rt:222:1
 returns : tie.Need-returns
 unfolding codeOf bufferOf
 returns c = let s = c .before .before .before .before .before .before .before .before .before .before .before .before in let room = length (s .args .answer .now) in let fits : SFits w64 (c .refusal .result) = search needs in let o = refused-outcome (s .args .job .now) (length (s .args .workspace .now)) room _ (sym (c .before .before .number .given .1) ∙ c .before .before .before .before .check .ensures) in
     (toZ-ofZ fits ∙ (c .refusal .ensures ∙ sym (ap codeOf o)), c .before .before .before .before .before .before .before .clear .ensures ∙ sym (ap (bufferOf room) o))
 
--- src/lib.rt:222:1
 same-length-2 : tie.Need-same-length-2
 same-length-2 c = search needs
 
--- src/lib.rt:222:1
 same-length-3 : tie.Need-same-length-3
 same-length-3 c = search needs
 
--- src/lib.rt:222:1
 returns-2 : tie.Need-returns-2
 returns-2 c = let s = c .before .before .before .before .before .before .before .before .before .before .before .before .before .before .before .before .before .before in let size = length (s .args .workspace .now) in let k = c .before .before .before .before .answer-job in let fits : SFits w64 (k .result) = search needs in let same = c .before .before .before .before .before .before .before .before .before .before .before .before .answer .given in
     (toZ-ofZ fits ∙ (k .ensures .0 ∙ ap (λ (room : ℕ). codeOf (outcome (s .args .job .now) size room)) same), k .ensures .1 ∙ ap (λ (room : ℕ). bufferOf room (outcome (s .args .job .now) size room)) same)
