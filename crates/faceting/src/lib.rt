@@ -281,7 +281,7 @@ pub fn faceting(
         if let Fit::Refused = fit {
             return Called::Refused(14);
         }
-        let end = shelf.end;
+        let behind = shelf.end;
         let called = faceting(
             rank - 1,
             inner.plane,
@@ -290,7 +290,7 @@ pub fn faceting(
             next.m,
             rules,
             left,
-            &mut ws[end..],
+            &mut ws[behind..],
         );
         let stored = keep_inner(ws, shelf, flat.n, called, &kept, next.m, rules.facets);
         match stored {
