@@ -150,7 +150,7 @@ const FACETING_PATCHES: &[Patch] = &[
 ];
 
 /// Proved libraries by name, and what is set where they are linked.
-const PROVED: &[(&str, &str)] = &[("root", "has_root")];
+const PROVED: &[(&str, &str)] = &[("root", "has_root"), ("register", "has_register")];
 
 fn main() {
     link_proved();

@@ -86,7 +86,7 @@ fn names() -> String {
 }
 
 fn print_overview() -> Result<(), Failure> {
-    let line = |command: &Command| format!("  {:<12} {}\n", command.name, command.about);
+    let line = |command: &Command| format!("  {:<16} {}\n", command.name, command.about);
     let lines: String = COMMANDS.iter().map(line).collect();
     commands::print(&format!("{ABOUT}{lines}{STATUSES}"))
 }

@@ -57,7 +57,7 @@ impl Drop for Folder {
     }
 }
 
-const NAMES: [&str; 11] = [
+const NAMES: &[&str] = &[
     "answer",
     "orbits",
     "show",
@@ -69,6 +69,7 @@ const NAMES: [&str; 11] = [
     "pick",
     "definitions",
     "roots",
+    "compare-register",
 ];
 
 #[test]
@@ -86,16 +87,23 @@ fn every_command_has_help() {
 #[test]
 fn bad_usage_is_told_in_one_line_with_status_2() {
     let folder = Folder::new("usage");
-    let cases = [
-        ("", "no command; one of: answer, orbits, show, encode, decode, generate, run, compare, pick, definitions, roots"),
-        ("sing", "'sing' is no command; one of: answer, orbits, show, encode, decode, generate, run, compare, pick, definitions, roots"),
+    let names = NAMES.join(", ");
+    let cases: [(&str, &str); 10] = [
+        ("", &format!("no command; one of: {names}")),
+        ("sing", &format!("'sing' is no command; one of: {names}")),
         ("show", "expected ANSWER, got 0 words; see --help"),
         ("compare a", "expected A and B, got 1 words; see --help"),
         ("generate --seed 1 -o f", "'--count' is missing; see --help"),
-        ("generate --seed x --count 1 -o f", "'--seed' takes a whole number, not 'x'"),
+        (
+            "generate --seed x --count 1 -o f",
+            "'--seed' takes a whole number, not 'x'",
+        ),
         ("generate --seed 1 --seed 1", "'--seed' was given before"),
         ("generate --seed", "'--seed' needs a value"),
-        ("generate --seed 1 --count 1 --kind odd -o f", "'odd' is no kind; see generate --help"),
+        (
+            "generate --seed 1 --count 1 --kind odd -o f",
+            "'odd' is no kind; see generate --help",
+        ),
         ("show --loud", "'--loud' is no option here; see --help"),
     ];
     for (words, error) in cases {

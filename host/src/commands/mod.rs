@@ -2,6 +2,7 @@
 
 mod definitions;
 mod jobs;
+mod register;
 mod roots;
 mod streams;
 
@@ -33,6 +34,7 @@ pub const COMMANDS: &[Command] = &[
     streams::PICK,
     definitions::DEFINITIONS,
     roots::ROOTS,
+    register::COMPARE_REGISTER,
 ];
 
 /// The original, or the failure of a command that needs it.

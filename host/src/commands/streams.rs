@@ -91,7 +91,7 @@ fn kind_lines() -> String {
 }
 
 /// The kind that an option names, if it is given.
-fn chosen_kind(arguments: &Arguments) -> Result<Option<&'static Kind>, Failure> {
+pub fn chosen_kind(arguments: &Arguments) -> Result<Option<&'static Kind>, Failure> {
     let Some(name) = arguments.text("--kind") else {
         return Ok(None);
     };

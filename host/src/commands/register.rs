@@ -1,0 +1,124 @@
+//! The exported function beside the Rust.
+
+use std::time::Instant;
+
+use facetings_host::cases::{Case, Room};
+use facetings_host::generate::case;
+use facetings_host::job::workspace_length;
+use facetings_host::known::KNOWN;
+use facetings_host::register::Register;
+use facetings_host::trials::Trials;
+
+use super::streams::chosen_kind;
+use super::{open_original, print, Command};
+use crate::arguments::Arguments;
+use crate::{Failure, DIFFERENT, NO_SOURCE};
+
+pub const COMPARE_REGISTER: Command = Command {
+    name: "compare-register",
+    about: "Compares the register with the Rust on generated cases.",
+    usage: "[--seed S] [--count N] [--first I] [--kind K] [--stop D] [--library FILE]",
+    details: || {
+        "\
+Puts document 01's known jobs and N generated cases (default: 10000; as generate
+makes them) to the Rust once each, and to the register in several calls: as
+generated, with the workspace of the rank's length and one byte less, with the
+answer buffer exactly full and one byte short, with the job one byte shorter and
+longer, and as a copy with one altered byte. Buffers are poisoned, the workspace is
+as the call before left it, and marked bytes around all three slices are looked at.
+Prints the first difference of each call, until D cases have one (default: 10), how
+often each result and rare event was reached, and the rate. Exit status 1 if any
+call differs. The register is linked where 'rt staticlib register' has left it
+before the build; --library takes the function from a shared library instead.
+"
+        .into()
+    },
+    options: &[
+        "--seed",
+        "--count",
+        "--first",
+        "--kind",
+        "--stop",
+        "--library",
+    ],
+    run: compare_register,
+};
+
+/// The register, linked or loaded, or the failure of a command that needs it.
+fn open_register(arguments: &Arguments) -> Result<Register, Failure> {
+    match arguments.text("--library") {
+        Some(library) => Ok(Register::load(library)?),
+        None => Register::open().map_err(|words| Failure {
+            status: NO_SOURCE,
+            words: words.into(),
+        }),
+    }
+}
+
+/// The known jobs as cases, with room for every answer.
+fn known_cases() -> Result<Vec<Case>, Failure> {
+    let case = |(number, known): (usize, &facetings_host::known::Known)| {
+        Ok(Case {
+            number,
+            seed: number as u64,
+            kind: known.name.into(),
+            workspace: workspace_length(4),
+            room: Room::Bytes(1 << 20),
+            job: known.job()?,
+        })
+    };
+    KNOWN.iter().enumerate().map(case).collect()
+}
+
+fn compare_register(arguments: Arguments) -> Result<(), Failure> {
+    arguments.plain([])?;
+    let seed = arguments.number("--seed")?.unwrap_or(1);
+    let count: usize = arguments.number("--count")?.unwrap_or(10_000);
+    let first: usize = arguments.number("--first")?.unwrap_or(0);
+    let stop: usize = arguments.number("--stop")?.unwrap_or(10);
+    let kind = chosen_kind(&arguments)?;
+    let mut register = open_register(&arguments)?;
+    let oracle = open_original()?;
+    let mut trials = Trials::new(&oracle, &mut register);
+    let start = Instant::now();
+    let generated = (first..first.saturating_add(count)).map(|number| case(seed, number, kind));
+    let mut differing = 0;
+    let mut cases = 0;
+    for case in known_cases()?.into_iter().chain(generated) {
+        let lines = trials.case(&case);
+        cases += 1;
+        differing += usize::from(!lines.is_empty());
+        for line in &lines {
+            print(&format!("{line}\n"))?;
+        }
+        if differing >= stop.max(1) {
+            break;
+        }
+    }
+    print(&told(&trials, cases, start.elapsed().as_secs_f64()))?;
+    match differing {
+        0 => print("no difference\n"),
+        _ => Err(Failure {
+            status: DIFFERENT,
+            words: format!("{differing} of {cases} cases differ"),
+        }),
+    }
+}
+
+/// The tables, and what the run took.
+fn told(trials: &Trials, cases: usize, seconds: f64) -> String {
+    let mut text = trials.tally.to_string();
+    for (name, calls) in &trials.calls {
+        text += &format!(
+            "{:>8}  calls: {name}, {} answered\n",
+            calls.all, calls.answered
+        );
+    }
+    text + &format!(
+        "{cases} cases, {} calls in {seconds:.1} s, {:.0} cases a second; the Rust took {:.2} s, the register {:.2} s\n",
+        trials.call_count(),
+        cases as f64 / seconds,
+        trials.original_time.as_secs_f64(),
+        trials.engine_time.as_secs_f64()
+    )
+}
