@@ -76,13 +76,12 @@ pub struct Trial {
     pub room: usize,
 }
 
-/// The calls that share a verdict with the case, the case itself first, and those
-/// that no verdict is needed for.
+/// The calls that share the case's verdict, the case itself first.
 fn trials(case: &Case, verdict: &Verdict) -> Vec<Trial> {
     let length = verdict.bytes.len();
-    let trial = |name, job: &[u8], workspace, room| Trial {
+    let trial = |name, workspace, room| Trial {
         name,
-        job: job.to_vec(),
+        job: case.job.clone(),
         workspace,
         room,
     };
@@ -90,34 +89,43 @@ fn trials(case: &Case, verdict: &Verdict) -> Vec<Trial> {
         Room::Bytes(room) => room,
         Room::Fit(more) => length.saturating_add_signed(more),
     };
-    let job = &case.job[..];
-    let mut list = vec![trial("as generated", job, case.workspace, room)];
-    let rank = job.get(5).copied().unwrap_or(0);
+    let mut list = vec![trial("as generated", case.workspace, room)];
+    let rank = case.job.get(5).copied().unwrap_or(0);
     let asked = job::workspace_length(rank);
     match length {
-        0 => list.push(trial(
-            "refused, exact workspace",
-            job,
-            asked,
-            case.number % 9,
-        )),
+        0 => list.push(trial("refused, exact workspace", asked, case.number % 9)),
         _ => {
-            list.push(trial("buffer exactly full", job, asked, length));
-            list.push(trial("buffer one byte short", job, asked, length - 1));
+            list.push(trial("buffer exactly full", asked, length));
+            list.push(trial("buffer one byte short", asked, length - 1));
         }
     }
     if asked > 0 {
-        list.push(trial("workspace one byte short", job, asked - 1, length));
+        list.push(trial("workspace one byte short", asked - 1, length));
     }
-    let shorter = &job[..job.len().saturating_sub(1)];
-    list.push(trial("job one byte short", shorter, asked, length));
-    let longer = [job, &[0]].concat();
-    list.push(trial("job one byte long", &longer, asked, length));
     list
 }
 
+/// Copies of the job that need verdicts of their own; a job that was cut may be
+/// whole again with one byte more.
+fn copies(case: &Case) -> impl Iterator<Item = Trial> {
+    let copy = |name, job| Trial {
+        name,
+        job,
+        workspace: job::workspace_length(4),
+        room: 1 << 16,
+    };
+    let shorter = case.job[..case.job.len().saturating_sub(1)].to_vec();
+    let longer = [&case.job[..], &[0]].concat();
+    let cut = [
+        copy("job one byte short", shorter),
+        copy("job one byte long", longer),
+    ];
+    let damaged = damaged(case).map(|job| copy("damaged copy", job));
+    cut.into_iter().chain(damaged)
+}
+
 /// A copy of the job with one byte altered, in the header as often as behind it.
-fn damaged(case: &Case) -> Option<Trial> {
+fn damaged(case: &Case) -> Option<Vec<u8>> {
     let mut rng = Rng::new(mix(case.seed ^ 0xda));
     let mut job = case.job.clone();
     let end = match rng.once_in(2) {
@@ -130,12 +138,7 @@ fn damaged(case: &Case) -> Option<Trial> {
         read.budget = read.budget.min(DAMAGED_BUDGET);
         job = read.write();
     }
-    Some(Trial {
-        name: "damaged copy",
-        job,
-        workspace: job::workspace_length(4),
-        room: 1 << 20,
-    })
+    Some(job)
 }
 
 /// How often something was called, and how many of the calls were answered.
@@ -187,7 +190,7 @@ impl<'a> Trials<'a> {
             .iter()
             .filter_map(|trial| self.put(case, trial, &verdict))
             .collect();
-        if let Some(trial) = damaged(case) {
+        for trial in copies(case) {
             let verdict = self.verdict(&trial.job);
             lines.extend(self.put(case, &trial, &verdict));
         }
