@@ -14,6 +14,7 @@ pub mod job;
 pub mod judged;
 pub mod known;
 pub mod listing;
+pub mod measured;
 pub mod oracle;
 #[cfg(has_miratope)]
 pub mod original;
@@ -25,6 +26,7 @@ pub mod roots;
 pub mod rows;
 pub mod run;
 pub mod show;
+pub mod speed;
 pub mod tally;
 pub mod text;
 pub mod trials;

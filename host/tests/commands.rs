@@ -70,6 +70,7 @@ const NAMES: &[&str] = &[
     "definitions",
     "roots",
     "compare-register",
+    "speed",
 ];
 
 #[test]

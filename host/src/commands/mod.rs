@@ -4,6 +4,7 @@ mod definitions;
 mod jobs;
 mod register;
 mod roots;
+mod speed;
 mod streams;
 
 use std::io::Write;
@@ -35,6 +36,7 @@ pub const COMMANDS: &[Command] = &[
     definitions::DEFINITIONS,
     roots::ROOTS,
     register::COMPARE_REGISTER,
+    speed::SPEED,
 ];
 
 /// The original, or the failure of a command that needs it.

@@ -45,7 +45,7 @@ before the build; --library takes the function from a shared library instead.
 };
 
 /// The register, linked or loaded, or the failure of a command that needs it.
-fn open_register(arguments: &Arguments) -> Result<Register, Failure> {
+pub fn open_register(arguments: &Arguments) -> Result<Register, Failure> {
     match arguments.text("--library") {
         Some(library) => Ok(Register::load(library)?),
         None => Register::open().map_err(|words| Failure {

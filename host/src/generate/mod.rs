@@ -3,11 +3,11 @@
 
 mod damage;
 mod edges;
-mod found;
+pub(crate) mod found;
 mod kinds;
 pub mod rng;
-mod shapes;
-mod symmetry;
+pub(crate) mod shapes;
+pub(crate) mod symmetry;
 
 pub use kinds::{Kind, KINDS};
 

@@ -1,0 +1,157 @@
+//! How long the register takes beside the Rust.
+
+use std::time::Duration;
+
+use facetings_host::compare::result;
+use facetings_host::measured::{self, Measured};
+use facetings_host::speed::{generated, Effort, Stopwatch, Timed};
+
+use super::register::open_register;
+use super::{open_original, print, Command};
+use crate::arguments::Arguments;
+use crate::{Failure, DIFFERENT};
+
+pub const SPEED: Command = Command {
+    name: "speed",
+    about: "Measures the register beside the Rust.",
+    usage: "[--seed S] [--cases N] [--lists B] [--seconds T] [--library FILE]",
+    details: || {
+        "\
+For each job of a table: the best time of several runs of the register and of the
+Rust, taken in turn, and how many times as fast the register is. T seconds (default:
+1) are spent on a job, at least three runs. Buffers are cleared on both sides; the
+answer buffer is as long as the answer. Then how the time grows: parabolas of 5 to 20
+points with a budget of B lists (default: 20000), one parabola with growing budgets,
+one job with growing numbers of rows, and points of space with growing numbers of
+orbits. Last, of N generated cases (default: 3000) those that take either side a
+millisecond: how many, and where the register does worst. Exit status 1 if it is
+slower than the Rust on a job of the table or on such a case.
+"
+        .into()
+    },
+    options: &["--seed", "--cases", "--lists", "--seconds", "--library"],
+    run,
+};
+
+const HEAD: &str = "    register        Rust   ratio      lists   lists/s  job\n";
+
+fn run(arguments: Arguments) -> Result<(), Failure> {
+    arguments.plain([])?;
+    let seed = arguments.number("--seed")?.unwrap_or(1);
+    let cases = arguments.number("--cases")?.unwrap_or(3_000);
+    let lists = arguments.number("--lists")?.unwrap_or(20_000);
+    let seconds = arguments.number("--seconds")?.unwrap_or(1);
+    let mut register = open_register(&arguments)?;
+    let mut watch = Stopwatch {
+        oracle: &mut open_original()?,
+        register: &mut register,
+    };
+    let effort = Effort {
+        least: 3,
+        most: 2_000,
+        time: Duration::from_secs(seconds),
+    };
+    let slower = table(&mut watch, "jobs", &measured::table(), effort)?;
+    let growing = [
+        ("points: parabolas", measured::parabolas(lists)),
+        (
+            "lists examined: a parabola of 14 points",
+            measured::budgets(),
+        ),
+        (
+            "rows: a cube, limit 1, its row again and again",
+            measured::rows(),
+        ),
+        (
+            "orbits: moment curves of rank 4, limit 1",
+            measured::planes(),
+        ),
+    ];
+    for (title, jobs) in growing {
+        table(&mut watch, title, &jobs, effort)?;
+    }
+    let slower = slower + slow_cases(&mut watch, seed, cases)?;
+    match slower {
+        0 => Ok(()),
+        _ => Err(Failure {
+            status: DIFFERENT,
+            words: format!("slower than the Rust on {slower} jobs or cases"),
+        }),
+    }
+}
+
+fn different(name: &str, words: &str) -> Failure {
+    Failure {
+        status: DIFFERENT,
+        words: format!("{name}: {words}"),
+    }
+}
+
+/// Prints a table; gives how many of its rows are slower than the Rust.
+fn table(
+    watch: &mut Stopwatch,
+    title: &str,
+    jobs: &[Measured],
+    effort: Effort,
+) -> Result<usize, Failure> {
+    print(&format!("\n{title}\n{HEAD}"))?;
+    let mut slower = 0;
+    for Measured { name, job } in jobs {
+        let timed = watch.time(&job.write(), effort);
+        let timed = timed.map_err(|words| different(name, &words))?;
+        slower += usize::from(timed.ratio() < 1.0);
+        print(&line(name, &timed))?;
+    }
+    Ok(slower)
+}
+
+fn line(name: &str, timed: &Timed) -> String {
+    let told = match timed.code {
+        0.. => String::new(),
+        code => format!(" ({})", result(code)),
+    };
+    format!(
+        "{} {} {:>7.1} {:>10} {:>9.0}  {name}{told}\n",
+        clock(timed.register),
+        clock(timed.original),
+        timed.ratio(),
+        timed.examined,
+        timed.lists_a_second()
+    )
+}
+
+fn clock(time: Duration) -> String {
+    match time.as_nanos() {
+        0..10_000 => format!("{:>9} ns", time.as_nanos()),
+        10_000..10_000_000 => format!("{:>9} us", time.as_micros()),
+        _ => format!("{:>9} ms", time.as_millis()),
+    }
+}
+
+/// Looks for the cases that take a millisecond; gives how many are slower.
+fn slow_cases(watch: &mut Stopwatch, seed: u64, count: usize) -> Result<usize, Failure> {
+    let effort = Effort {
+        least: 3,
+        most: 5,
+        time: Duration::from_millis(50),
+    };
+    let mut found: Vec<(String, Timed)> = Vec::new();
+    for case in generated(seed, count) {
+        let name = format!("case {} ({})", case.number, case.kind);
+        let timed = watch.slow(&case, effort);
+        let timed = timed.map_err(|words| different(&name, &words))?;
+        found.extend(timed.map(|timed| (name, timed)));
+    }
+    found.sort_by(|a, b| a.1.ratio().total_cmp(&b.1.ratio()));
+    let middle = found
+        .get(found.len() / 2)
+        .map_or(0.0, |case| case.1.ratio());
+    print(&format!(
+        "\n{} of {count} generated cases take a millisecond; the middle ratio is {middle:.1}; the worst:\n{HEAD}",
+        found.len()
+    ))?;
+    for (name, timed) in found.iter().take(10) {
+        print(&line(name, timed))?;
+    }
+    Ok(found.iter().filter(|case| case.1.ratio() < 1.0).count())
+}
