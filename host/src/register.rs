@@ -75,6 +75,11 @@ impl Register {
     pub fn load(library: &str) -> Result<Register, String> {
         load(library).map(Register::over)
     }
+
+    /// The function itself, for those who lend it memory of their own.
+    pub fn function(&self) -> Exported {
+        self.function
+    }
 }
 
 impl Engine for Register {

@@ -74,8 +74,8 @@ fn quarters() -> impl Iterator<Item = f64> {
 /// squares, near the squares of midpoints, whole numbers.
 pub fn drawn(kind: u64, rng: &mut Rng) -> f64 {
     let near = rng.below(5) as i64 - 2;
-    let bits = rng.next();
-    let middling = |rng: &mut Rng| f64::from_bits((513 + bits % 1020) << 52 | rng.next() >> 12);
+    let bits = rng.bits();
+    let middling = |rng: &mut Rng| f64::from_bits((513 + bits % 1020) << 52 | rng.bits() >> 12);
     match kind % 6 {
         0 => f64::from_bits(bits),
         1 => f64::from_bits(bits % (2047 << 52)),

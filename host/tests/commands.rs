@@ -71,6 +71,8 @@ const NAMES: &[&str] = &[
     "roots",
     "compare-register",
     "speed",
+    "load",
+    "record",
 ];
 
 #[test]

@@ -19,7 +19,8 @@ fn the_proved_root_is_the_processors() {
 /// Each fault is one that a porter may make.
 #[test]
 fn wrong_roots_are_noticed() {
-    let faults: [(&str, fn(f64) -> f64); 5] = [
+    type Root = fn(f64) -> f64;
+    let faults: [(&str, Root); 5] = [
         ("+0 for -0", |x| expected(x) + 0.0),
         ("a root of the infinity", f64::sqrt),
         ("single precision", |x| f64::from((x as f32).sqrt())),

@@ -2,6 +2,7 @@
 
 mod definitions;
 mod jobs;
+mod load;
 mod register;
 mod roots;
 mod speed;
@@ -37,6 +38,8 @@ pub const COMMANDS: &[Command] = &[
     roots::ROOTS,
     register::COMPARE_REGISTER,
     speed::SPEED,
+    load::LOAD,
+    register::RECORD,
 ];
 
 /// The original, or the failure of a command that needs it.

@@ -6,11 +6,12 @@ use facetings_host::cases::{Case, Room};
 use facetings_host::generate::case;
 use facetings_host::job::workspace_length;
 use facetings_host::known::KNOWN;
+use facetings_host::record::record;
 use facetings_host::register::Register;
 use facetings_host::trials::Trials;
 
 use super::streams::chosen_kind;
-use super::{open_original, print, Command};
+use super::{open_original, print, write_to, Command};
 use crate::arguments::Arguments;
 use crate::{Failure, DIFFERENT, NO_SOURCE};
 
@@ -121,4 +122,43 @@ fn told(trials: &Trials, cases: usize, seconds: f64) -> String {
         trials.original_time.as_secs_f64(),
         trials.engine_time.as_secs_f64()
     )
+}
+
+pub const RECORD: Command = Command {
+    name: "record",
+    about: "Records results of the Rust for a program that replays them.",
+    usage: "[--seed S] [--tries T] -o FILE",
+    details: || {
+        "\
+Writes the known jobs and those of T generated cases (default: 6000) that a list with
+some of every kind, every refusal and every rare event needs, with the Rust's results.
+All numbers are u32, little-endian: the count of records; then for each the length of
+the job, the job, lengths of workspace and answer buffer, the refusal number or 0, the
+length of the answer or 0, and a hash of the whole answer buffer: from 0, each byte
+takes it to (hash * 16777619 + byte + 1) modulo 4294967291. No job is longer than 4096
+bytes, no workspace than 4194305, no buffer than 1048576. Prints how many there are of
+each sort.
+"
+        .into()
+    },
+    options: &["--seed", "--tries", "-o"],
+    run: record_results,
+};
+
+fn record_results(arguments: Arguments) -> Result<(), Failure> {
+    arguments.plain([])?;
+    let seed = arguments.number("--seed")?.unwrap_or(1);
+    let tries = arguments.number("--tries")?.unwrap_or(6_000);
+    let file = arguments.needed("-o")?;
+    let list = record(&mut open_original()?, seed, tries)?;
+    let bytes = list.bytes();
+    write_to(Some(file), &bytes)?;
+    for (sort, times) in &list.sorts {
+        print(&format!("{times:>8}  {sort}\n"))?;
+    }
+    print(&format!(
+        "{} records, {} bytes\n",
+        list.count(),
+        bytes.len()
+    ))
 }

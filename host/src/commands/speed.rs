@@ -2,7 +2,6 @@
 
 use std::time::Duration;
 
-use facetings_host::compare::result;
 use facetings_host::measured::{self, Measured};
 use facetings_host::speed::{generated, Effort, Stopwatch, Timed};
 
@@ -108,7 +107,7 @@ fn table(
 fn line(name: &str, timed: &Timed) -> String {
     let told = match timed.code {
         0.. => String::new(),
-        code => format!(" ({})", result(code)),
+        code => format!(", refused {}", -code),
     };
     format!(
         "{} {} {:>7.1} {:>10} {:>9.0}  {name}{told}\n",

@@ -16,15 +16,15 @@ impl Rng {
         Self(seed)
     }
 
-    pub fn next(&mut self) -> u64 {
-        let next = mix(self.0);
+    pub fn bits(&mut self) -> u64 {
+        let bits = mix(self.0);
         self.0 = self.0.wrapping_add(0x9e37_79b9_7f4a_7c15);
-        next
+        bits
     }
 
     /// From 0 to count - 1; the count is not 0.
     pub fn below(&mut self, count: usize) -> usize {
-        (self.next() % count as u64) as usize
+        (self.bits() % count as u64) as usize
     }
 
     /// From the first to the last, both included.
@@ -39,7 +39,7 @@ impl Rng {
 
     /// From 0 up to 1.
     pub fn unit(&mut self) -> f64 {
-        (self.next() >> 11) as f64 / (1u64 << 53) as f64
+        (self.bits() >> 11) as f64 / (1u64 << 53) as f64
     }
 
     /// From -1 up to 1.

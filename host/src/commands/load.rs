@@ -1,0 +1,90 @@
+//! Many calls of the register, and the stack of one.
+
+use facetings_host::job::workspace_length;
+use facetings_host::load::{large_jobs, run as run_calls, small_jobs, Run};
+use facetings_host::measured;
+use facetings_host::stack;
+
+use super::register::open_register;
+use super::{print, Command};
+use crate::arguments::Arguments;
+use crate::{Failure, DIFFERENT};
+
+pub const LOAD: Command = Command {
+    name: "load",
+    about: "Calls the register many times; measures memory and stack.",
+    usage: "[--count N] [--large M] [--library FILE]",
+    details: || {
+        "\
+Makes N calls on small jobs and refusals (default: 10000000) and M calls on the
+largest accepted jobs (default: 600), and prints the memory that the process holds
+before and after each run. Then runs each measured job on a painted stack and prints
+how much of it the call takes. Exit status 1 if the memory grows by more than 64 kB
+or a call takes a megabyte of stack.
+"
+        .into()
+    },
+    options: &["--count", "--large", "--library"],
+    run,
+};
+
+/// What a run may add to the process's memory, in kilobytes: the counters' own noise.
+const MOST_GROWTH: u64 = 64;
+
+const MOST_STACK: usize = 1 << 20;
+
+fn run(arguments: Arguments) -> Result<(), Failure> {
+    arguments.plain([])?;
+    let count = arguments.number("--count")?.unwrap_or(10_000_000);
+    let large = arguments.number("--large")?.unwrap_or(600);
+    let mut register = open_register(&arguments)?;
+    let small = run_calls(&mut register, &small_jobs()?, count, 4_096)?;
+    print(&told("small", &small))?;
+    let large = run_calls(&mut register, &large_jobs(), large, 1 << 20)?;
+    print(&told("large", &large))?;
+    let deepest = deepest(register.function())?;
+    let grown = [&small, &large].map(|run| run.after.saturating_sub(run.before));
+    if grown.iter().any(|&more| more > MOST_GROWTH) {
+        return Err(wrong(format!("the memory grows: {grown:?} kB")));
+    }
+    match deepest {
+        0..MOST_STACK => Ok(()),
+        _ => Err(wrong(format!("a call takes {deepest} bytes of stack"))),
+    }
+}
+
+fn wrong(words: String) -> Failure {
+    Failure {
+        status: DIFFERENT,
+        words,
+    }
+}
+
+fn told(name: &str, run: &Run) -> String {
+    format!(
+        "{} {name} calls, {} answered, in {:.1} s, {:.0} a second; memory {} kB before, {} kB after\n",
+        run.calls,
+        run.answered,
+        run.seconds,
+        run.calls as f64 / run.seconds,
+        run.before,
+        run.after
+    )
+}
+
+/// Prints the stack of each measured job, and gives the largest.
+fn deepest(function: facetings_host::register::Exported) -> Result<usize, Failure> {
+    let mut deepest = 0;
+    let mut workspace = vec![0; workspace_length(4)];
+    let mut answer = vec![0; 1 << 20];
+    for one in measured::table() {
+        let job = one.job.write();
+        let (bytes, code) = stack::used(function, &job, &mut workspace, &mut answer)?;
+        print(&format!(
+            "{bytes:>9} bytes of stack: {} (rank {}, returns {code})\n",
+            one.name, one.job.rank
+        ))?;
+        deepest = deepest.max(bytes);
+    }
+    Ok(deepest)
+}

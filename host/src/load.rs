@@ -1,0 +1,77 @@
+//! Many calls in one process: small jobs and refusals in turn, and the largest
+//! accepted jobs, with the memory that the process holds before and after.
+
+use std::time::Instant;
+
+use crate::engine::Engine;
+use crate::job::workspace_length;
+use crate::known::KNOWN;
+use crate::measured;
+
+/// The memory that the process holds, in kilobytes.
+pub fn resident() -> Result<u64, String> {
+    let status = std::fs::read_to_string("/proc/self/status");
+    let status = status.map_err(|error| format!("cannot read /proc/self/status: {error}"))?;
+    let line = status.lines().find_map(|line| line.strip_prefix("VmRSS:"));
+    let number = line.and_then(|line| line.split_whitespace().next()?.parse().ok());
+    number.ok_or_else(|| "/proc/self/status does not tell VmRSS".into())
+}
+
+/// Jobs that are answered or refused in microseconds.
+pub fn small_jobs() -> Result<Vec<Vec<u8>>, String> {
+    let small = ["rank 2", "square", "three points", "1 point", "10 bytes"];
+    let chosen = KNOWN
+        .iter()
+        .filter(|known| small.iter().any(|word| known.name.contains(word)));
+    chosen.map(|known| known.job()).collect()
+}
+
+/// The largest of the measured jobs.
+pub fn large_jobs() -> Vec<Vec<u8>> {
+    let large = ["1,024", "256", "dodecahedron", "20 points"];
+    measured::table()
+        .into_iter()
+        .filter(|one| large.iter().any(|word| one.name.contains(word)))
+        .map(|one| one.job.write())
+        .collect()
+}
+
+/// A run of calls: how many, how long they took, and the memory around them.
+pub struct Run {
+    pub calls: u64,
+    pub answered: u64,
+    pub seconds: f64,
+    pub before: u64,
+    pub after: u64,
+}
+
+/// Puts the jobs to the engine in turn, `count` calls in all. The first turn is
+/// not counted, so that memory that is taken once is there before.
+pub fn run(
+    engine: &mut dyn Engine,
+    jobs: &[Vec<u8>],
+    count: u64,
+    room: usize,
+) -> Result<Run, String> {
+    let mut answer = vec![0xa5; room];
+    let mut call = |job: &Vec<u8>| {
+        let rank = job.get(5).copied().unwrap_or(0);
+        engine.answer(job, workspace_length(rank), &mut answer)
+    };
+    for job in jobs {
+        call(job);
+    }
+    let before = resident()?;
+    let start = Instant::now();
+    let mut answered = 0;
+    for (_, job) in (0..count).zip(jobs.iter().cycle()) {
+        answered += u64::from(call(job) >= 0);
+    }
+    Ok(Run {
+        calls: count,
+        answered,
+        seconds: start.elapsed().as_secs_f64(),
+        before,
+        after: resident()?,
+    })
+}
