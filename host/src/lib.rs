@@ -16,6 +16,7 @@ pub mod known;
 pub mod listing;
 pub mod load;
 pub mod measured;
+pub mod mutants;
 pub mod oracle;
 #[cfg(has_miratope)]
 pub mod original;

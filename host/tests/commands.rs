@@ -73,6 +73,7 @@ const NAMES: &[&str] = &[
     "speed",
     "load",
     "record",
+    "mutants",
 ];
 
 #[test]

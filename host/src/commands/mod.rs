@@ -3,6 +3,7 @@
 mod definitions;
 mod jobs;
 mod load;
+mod mutants;
 mod register;
 mod roots;
 mod speed;
@@ -40,6 +41,7 @@ pub const COMMANDS: &[Command] = &[
     speed::SPEED,
     load::LOAD,
     register::RECORD,
+    mutants::MUTANTS,
 ];
 
 /// The original, or the failure of a command that needs it.
