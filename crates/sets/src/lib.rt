@@ -13,6 +13,7 @@ ghost use lib.Ieee.{lt};
 ghost use Rattle.definitions.specs.Subspace.{distance, fromPoints};
 ghost use Rattle.definitions.specs.Orbits.{pointAt, pointsNear, setImage};
 ghost use Rattle.laws.specs.Sets.{setNumber, verticesFrom, verticesOf};
+ghost use Rattle.vectors.specs.Meaning.{vectorOf};
 ghost use Rattle.space.specs.Meaning.{PointsFit, pointsOf, HoldsPoints, SubspaceFits, subspaceOf};
 ghost use Rattle.openers.specs.Rows.{rowAt};
 ghost use Rattle.sets.specs.Refitting.{Refitted};
@@ -59,11 +60,11 @@ pub fn set_image(rows: &[u8], i: usize, n: usize, set: u32) -> u32
 // ---- points near a plane
 
 // What point v adds to the set of points near a plane.
-fn near_bit(flat: Points, plane: Subspace, tolerance: f64, v: usize) -> u32
-    requires { ⌜ PointsFit flat × SubspaceFits plane × (flat .d ≡ plane .d) × (v < flat .n) ⌝ }
-    ensures { λ r. ⌜ r ≡ cond (lt (distance (subspaceOf plane) (pointAt (pointsOf flat) v)) tolerance) (2 ^ v) 0 ⌝ }
+fn near_bit(points: &[f64], plane: Subspace, tolerance: f64, v: usize) -> u32
+    requires { ⌜ SubspaceFits plane × (5 * v + 5 ≤ length (now points)) × (v < 20) ⌝ }
+    ensures { λ r. ⌜ r ≡ cond (lt (distance (subspaceOf plane) (vectorOf (plane .d) (drop (5 * v) (now (points .entry))))) tolerance) (2 ^ v) 0 ⌝ }
 {
-    if plane.distance(flat.point(v)) < tolerance {
+    if space::is_near(plane, points, 5 * v, tolerance) {
         power(v)
     } else {
         0
@@ -79,7 +80,7 @@ pub fn points_near(flat: Points, plane: Subspace, tolerance: f64) -> u32
     let mut sum = 0;
     let mut v = 0;
     while v < n {
-        sum += near_bit(flat, plane, tolerance, v);
+        sum += near_bit(&flat.at, plane, tolerance, v);
         v += 1;
     }
     sum

@@ -3,9 +3,10 @@
 ghost use mathlib.Core.Path.{_≡_};
 ghost use mathlib.Core.List.{_∷_, [], _++_, map};
 ghost use Prim.Native.Nat.{_+_, _≤_, _<_};
-ghost use lib.ListN.{getD};
+ghost use lib.ListN.{length, drop};
+ghost use lib.Ieee.{lt};
 ghost use Rattle.definitions.specs.Vectors.{minus};
-ghost use Rattle.definitions.specs.Subspace.{project, residual, distance, addPoint, fromPoints, isHyperplane, flatten};
+ghost use Rattle.definitions.specs.Subspace.{residual, distance, addPoint, fromPoints, isHyperplane, flatten};
 ghost use Rattle.definitions.specs.Orbits.{pointAt, tooShort, tooLong, breaksLimit};
 ghost use Rattle.vectors.specs.Meaning.{vectorOf};
 ghost use Rattle.space.specs.Meaning.{subspaceOf, SubspaceFits, HoldsSubspace, pointAlone, withVector, isFullRank, pointsOf, PointsFit, HoldsPoints, lengthOf, limitsOf};
@@ -32,20 +33,6 @@ impl Subspace {
             d: d,
             rank: 0,
         }
-    }
-
-    pub fn basis_vector(self, j: usize) -> [f64; 5]
-        requires { ⌜ SubspaceFits self × (j < self .rank) ⌝ }
-        ensures { λ r. ⌜ vectorOf (self .d) r ≡ getD (subspaceOf self .basis) j [] ⌝ }
-    {
-        let at = 5 * j;
-        [
-            self.basis[at],
-            self.basis[at + 1],
-            self.basis[at + 2],
-            self.basis[at + 3],
-            self.basis[at + 4],
-        ]
     }
 
     // A vector joins the basis as it is.
@@ -75,40 +62,14 @@ impl Subspace {
         vectors::minus(p, offset, d)
     }
 
-    // From the offset, each basis vector b in order adds b × ((p − offset) · b).
-    pub fn project(self, p: [f64; 5]) -> [f64; 5]
-        requires { ⌜ SubspaceFits self ⌝ }
-        ensures { λ r. ⌜ vectorOf (self .d) r ≡ project (subspaceOf self) (vectorOf (self .d) p) ⌝ }
-    {
-        let d = self.d;
-        let rank = self.rank;
-        let away = self.away(p);
-        let mut q = self.offset;
-        let mut j = 0;
-        while j < rank {
-            let b = self.basis_vector(j);
-            let gained = vectors::plus_times(q, b, vectors::dot(away, b, d), d);
-            q = gained;
-            j += 1;
-        }
-        q
-    }
-
     // p − project(p)
     pub fn residual(self, p: [f64; 5]) -> [f64; 5]
         requires { ⌜ SubspaceFits self ⌝ }
         ensures { λ r. ⌜ vectorOf (self .d) r ≡ residual (subspaceOf self) (vectorOf (self .d) p) ⌝ }
     {
-        let d = self.d;
-        vectors::minus(p, self.project(p), d)
-    }
-
-    pub fn distance(self, p: [f64; 5]) -> f64
-        requires { ⌜ SubspaceFits self ⌝ }
-        ensures { λ r. ⌜ r ≡ distance (subspaceOf self) (vectorOf (self .d) p) ⌝ }
-    {
-        let d = self.d;
-        vectors::norm(self.residual(p), d)
+        let mut r = [0.0; 5];
+        put_residual(self, &p, 0, &mut r);
+        r
     }
 
     // The residual, normalised, joins the basis exactly when its norm exceeds the tolerance.
@@ -160,7 +121,7 @@ impl Subspace {
         let mut r = [0.0; 5];
         let mut j = 0;
         while j < rank {
-            r[j] = vectors::dot(away, self.basis_vector(j), d);
+            r[j] = vectors::dot_at(&away, &self.basis, 5 * j, d);
             j += 1;
         }
         r
@@ -181,6 +142,36 @@ impl Subspace {
     {
         self.d <= self.rank
     }
+}
+
+// p − project(p), written, for the point that begins at a place. To project is to start from the offset and to gain, for each basis vector b in order, b × ((p − offset) · b).
+pub fn put_residual(plane: Subspace, points: &[f64], at: usize, out: &mut [f64])
+    requires { ⌜ SubspaceFits plane × (at + plane .d ≤ length (now points)) × (plane .d ≤ length (now out)) ⌝ }
+    ensures { λ _. ⌜ vectorOf (plane .d) (now (out .exit)) ≡ residual (subspaceOf plane) (vectorOf (plane .d) (drop at (now (points .entry)))) ⌝ }
+{
+    let d = plane.d;
+    let rank = plane.rank;
+    let mut away = [0.0; 5];
+    vectors::take_from(points, at, &plane.offset, d, &mut away);
+    let mut q = plane.offset;
+    let mut j = 0;
+    while j < rank {
+        let s = vectors::dot_at(&away, &plane.basis, 5 * j, d);
+        vectors::gain(&mut q, &plane.basis, 5 * j, s, d);
+        j += 1;
+    }
+    vectors::take_from(points, at, &q, d, out);
+}
+
+// Whether the point that begins at a place is at a distance below the tolerance.
+pub fn is_near(plane: Subspace, points: &[f64], at: usize, tolerance: f64) -> bool
+    requires { ⌜ SubspaceFits plane × (at + plane .d ≤ length (now points)) ⌝ }
+    ensures { λ r. ⌜ r ≡ lt (distance (subspaceOf plane) (vectorOf (plane .d) (drop at (now (points .entry))))) tolerance ⌝ }
+{
+    let d = plane.d;
+    let mut r = [0.0; 5];
+    put_residual(plane, points, at, &mut r);
+    vectors::norm(r, d) < tolerance
 }
 
 // ---- points

@@ -1,21 +1,31 @@
 // Vectors of up to five numbers. Each function equals the definition of its name in document 01's "Square root and vectors": all floats are f64, rounded once per operation.
 ghost use mathlib.Core.Path.{_≡_};
-ghost use Prim.Native.Nat.{_≤_};
+ghost use Prim.Native.Nat.{_+_, _≤_};
+ghost use lib.ListN.{length, drop};
 ghost use Rattle.definitions.specs.Vectors.{dot, norm, normalised, minus, plusTimes};
 ghost use Rattle.vectors.specs.Meaning.{vectorOf};
 
-// The dot product: from +0, the products are added in index order.
-pub fn dot(a: [f64; 5], b: [f64; 5], d: usize) -> f64
-    requires { ⌜ d ≤ 5 ⌝ }
-    ensures { λ r. ⌜ r ≡ dot (vectorOf d a) (vectorOf d b) ⌝ }
+// The vectors of a call lie in arrays, one behind the other. The loops borrow such an array and are told where a vector begins: to copy it out would cost more than its arithmetic.
+
+// The dot product: from +0, the products are added in index order. The second vector begins at a place.
+pub fn dot_at(a: &[f64], b: &[f64], at: usize, d: usize) -> f64
+    requires { ⌜ (d ≤ length (now a)) × (at + d ≤ length (now b)) ⌝ }
+    ensures { λ r. ⌜ r ≡ dot (vectorOf d (now (a .entry))) (vectorOf d (drop at (now (b .entry)))) ⌝ }
 {
     let mut sum = 0.0;
     let mut i = 0;
     while i < d {
-        sum = sum + a[i] * b[i];
+        sum = sum + a[i] * b[at + i];
         i += 1;
     }
     sum
+}
+
+pub fn dot(a: [f64; 5], b: [f64; 5], d: usize) -> f64
+    requires { ⌜ d ≤ 5 ⌝ }
+    ensures { λ r. ⌜ r ≡ dot (vectorOf d a) (vectorOf d b) ⌝ }
+{
+    dot_at(&a, &b, 0, d)
 }
 
 // The square root of the dot product with itself.
@@ -50,30 +60,36 @@ pub fn normalise(v: [f64; 5], d: usize) -> Normalised
     }
 }
 
+// p − q, written. The first vector begins at a place.
+pub fn take_from(p: &[f64], at: usize, q: &[f64], d: usize, out: &mut [f64])
+    requires { ⌜ (at + d ≤ length (now p)) × (d ≤ length (now q)) × (d ≤ length (now out)) ⌝ }
+    ensures { λ _. ⌜ vectorOf d (now (out .exit)) ≡ minus (vectorOf d (drop at (now (p .entry)))) (vectorOf d (now (q .entry))) ⌝ }
+{
+    let mut i = 0;
+    while i < d {
+        out[i] = p[at + i] - q[i];
+        i += 1;
+    }
+}
+
 // p − q
 pub fn minus(p: [f64; 5], q: [f64; 5], d: usize) -> [f64; 5]
     requires { ⌜ d ≤ 5 ⌝ }
     ensures { λ r. ⌜ vectorOf d r ≡ minus (vectorOf d p) (vectorOf d q) ⌝ }
 {
     let mut r = [0.0; 5];
-    let mut i = 0;
-    while i < d {
-        r[i] = p[i] - q[i];
-        i += 1;
-    }
+    take_from(&p, 0, &q, d, &mut r);
     r
 }
 
-// q + b × s
-pub fn plus_times(q: [f64; 5], b: [f64; 5], s: f64, d: usize) -> [f64; 5]
-    requires { ⌜ d ≤ 5 ⌝ }
-    ensures { λ r. ⌜ vectorOf d r ≡ plusTimes (vectorOf d q) (vectorOf d b) s ⌝ }
+// q gains b × s. The vector b begins at a place.
+pub fn gain(q: &mut [f64], b: &[f64], at: usize, s: f64, d: usize)
+    requires { ⌜ (d ≤ length (now q)) × (at + d ≤ length (now b)) ⌝ }
+    ensures { λ _. ⌜ vectorOf d (now (q .exit)) ≡ plusTimes (vectorOf d (now (q .entry))) (vectorOf d (drop at (now (b .entry)))) s ⌝ }
 {
-    let mut r = [0.0; 5];
     let mut i = 0;
     while i < d {
-        r[i] = q[i] + b[i] * s;
+        q[i] = q[i] + b[at + i] * s;
         i += 1;
     }
-    r
 }

@@ -1,31 +1,32 @@
 -- `near_bit` meets its contract.
-use mathlib.Core.Path.{_≡_, refl, _∙_}
+use mathlib.Core.Path.{refl, _∙_}
 use borrow.Author.Needs.{needs}
-use Rattle.definitions.specs.Subspace.{distance}
-use Rattle.definitions.specs.Orbits.{pointAt}
-use Rattle.space.specs.Meaning.{pointsOf, subspaceOf}
 use Rattle.sets.proofs.near_bit.Statement.{statement}
 use Rattle.sets.proofs.near_bit.Tie as tie
+use Rattle.sets.proofs.near_bit.Reads as reads
+use Rattle.sets.proofs.near_bit.Lts as lts
+use Rattle.sets.proofs.power.Reads as power-reads
+use Rattle.space.proofs.is_near.Reads as is-near-reads
 
-point-requires : tie.Need-point-requires
-point-requires c κs = search needs
+-- src/lib.rt:67:38
+mul-is-near : tie.Need-mul-is-near
+mul-is-near c = search needs
 
-distance-requires : tie.Need-distance-requires
-distance-requires c κs = search needs
+-- src/lib.rt:67:8
+is-near-requires : tie.Need-is-near-requires
+is-near-requires c κs = search needs
 
+-- src/lib.rt:68:9
 power-requires : tie.Need-power-requires
 power-requires c κs = search needs
 
+-- src/lib.rt:63:1
 returns : tie.Need-returns
-returns c = let s = c .before .before .before .before in
-    let is : c .before .before .distance .result ≡ distance (subspaceOf (s .args .plane)) (pointAt (pointsOf (s .args .flat)) (s .args .v)) = c .before .before .distance .ensures ∙ (rw (← (s .pre .2), c .before .before .before .point .ensures) refl) in
-    c .power .ensures ∙ (rw (← is, c .before .if1 .taken) refl)
+returns c = c .power .ensures ∙ rw (← (c .before .before .is-near .ensures), c .before .if1 .taken) refl
 
+-- src/lib.rt:63:1
 returns-2 : tie.Need-returns-2
-returns-2 c = let s = c .before .before .before in
-    let is : c .before .distance .result ≡ distance (subspaceOf (s .args .plane)) (pointAt (pointsOf (s .args .flat)) (s .args .v)) = c .before .distance .ensures ∙ (rw (← (s .pre .2), c .before .before .point .ensures) refl) in
-    rw (← is, c .if1 .left) refl
+returns-2 c = rw (← (c .before .is-near .ensures), c .if1 .left) refl
 
 pub near-bit-spec : {M : Type 1} → statement M
-near-bit-spec =
-    tie.close (tie.spec point-requires distance-requires power-requires returns returns-2)
+near-bit-spec = tie.close (tie.spec mul-is-near is-near-requires power-requires returns returns-2)

@@ -3,15 +3,18 @@ use mathlib.Core.Path.{_≡_, refl, sym, _∙_}
 use mathlib.Core.List.{map}
 use Prim.Native.Nat.{_*_, _-_, _≤_}
 use native.Mathlib.Omega.{arith}
-use borrow.Author.Needs.{needs}
 use lib.ListN.{length, take, drop, length-set}
 use Rattle.definitions.specs.Vectors.{dot}
 use Rattle.definitions.specs.Subspace.{flatten}
 use Rattle.laws.specs.Parts.{rows, map-rows-more, take-more-set}
 use Rattle.space.specs.Meaning.{subspaceOf}
-use Rattle.space.specs.Counts.{basis-row}
+use borrow.Author.Needs.{needs}
 use Rattle.space.proofs.Subspace.flatten.Statement.{statement}
 use Rattle.space.proofs.Subspace.flatten.Tie as tie
+use Rattle.space.proofs.Subspace.flatten.Reads as reads
+use Rattle.space.proofs.Subspace.flatten.Lts as lts
+use Rattle.space.proofs.Subspace.away.Reads as away-reads
+use Rattle.vectors.proofs.dot_at.Reads as dot-at-reads
 
 abbrev Inv-loop : tie.InvT-loop
 Inv-loop self d rank away r₀ j₀ r j = (j ≤ rank) × (length r ≡ 5) × (take j r ≡ map (dot (take d away)) (rows 5 d j (self .basis)))
@@ -19,46 +22,59 @@ Inv-loop self d rank away r₀ j₀ r j = (j ≤ rank) × (length r ≡ 5) × (t
 abbrev μ-loop : tie.MeasureT-loop
 μ-loop self d rank away r₀ j₀ r j = rank - j
 
+-- src/lib.rt:120:20
 away-requires : tie.Need-away-requires Inv-loop μ-loop
 away-requires c κs = search needs
 
+-- src/lib.rt:123:9
 loop-holds : tie.Need-loop-holds Inv-loop μ-loop
 unfolding rows
 loop-holds c = (omega arith, refl, refl)
 
-basis-vector-requires : tie.Need-basis-vector-requires Inv-loop μ-loop
-basis-vector-requires c κs = search needs
+-- src/lib.rt:124:36
+slice-aggregate-dot-at : tie.Need-slice-aggregate-dot-at Inv-loop μ-loop
+slice-aggregate-dot-at c = search needs
 
-dot-requires : tie.Need-dot-requires Inv-loop μ-loop
-dot-requires c κs = search needs
+-- src/lib.rt:124:56
+mul-dot-at : tie.Need-mul-dot-at Inv-loop μ-loop
+mul-dot-at c = search needs
 
+-- src/lib.rt:124:20
+dot-at-requires : tie.Need-dot-at-requires Inv-loop μ-loop
+dot-at-requires c κs = search needs
+
+-- src/lib.rt:124:13
 mul-r : tie.Need-mul-r Inv-loop μ-loop
 mul-r c = search needs
 
+-- src/lib.rt:124:13
 array-write-r : tie.Need-array-write-r Inv-loop μ-loop
 array-write-r c = search needs
 
+-- src/lib.rt:125:13
 add-j : tie.Need-add-j Inv-loop μ-loop
 add-j c = search needs
 
+-- src/lib.rt:123:9
 loop-less : tie.Need-loop-less Inv-loop μ-loop
 loop-less c = search needs
 
+-- src/lib.rt:123:9
 loop-again : tie.Need-loop-again Inv-loop μ-loop
 loop-again c =
-    let l = c .before .before .before .loop in
-    let s = c .before .before .before .before .before .args .self in
-    let row : take (s .d) (c .before .basis-vector .result) ≡ take (s .d) (drop (5 * l .j) (s .basis)) = c .before .basis-vector .ensures ∙ basis-row s (l .j) (omega arith) in (
+    let l = c .before .before .before .before .before .before .loop in
+    let s = c .before .before .before .before .before .before .before .before .args .t1 in (
       omega arith,
       length-set (l .r) (l .j) _ ∙ l .inv .1,
-      take-more-set (l .r) (l .j) _ (omega arith) ∙ rw (l .inv .2, c .dot .ensures, row) (sym (map-rows-more _ 5 (s .d) (l .j) (s .basis))),
+      take-more-set (l .r) (l .j) _ (omega arith) ∙ rw (l .inv .2, c .dot-at .ensures) (sym (map-rows-more _ 5 (s .d) (l .j) (s .basis))),
     )
 
+-- src/lib.rt:114:5
 returns : tie.Need-returns Inv-loop μ-loop
 unfolding flatten subspaceOf
 returns c =
     let l = c .before .loop in
-    let end : l .j ≡ c .before .before .before .args .self .rank = omega arith in
+    let end : l .j ≡ c .before .before .before .args .t1 .rank = omega arith in
     rw (← end, ← (c .before .before .away .ensures)) (l .inv .2)
 
 pub flatten-spec : {M : Type 1} → statement M
@@ -69,8 +85,9 @@ flatten-spec =
     μ-loop
     away-requires
     loop-holds
-    basis-vector-requires
-    dot-requires
+    slice-aggregate-dot-at
+    mul-dot-at
+    dot-at-requires
     mul-r
     array-write-r
     add-j
