@@ -10,3 +10,4 @@ pub mod Doubles
 pub mod RootLaw
 pub mod Special
 pub mod Ieee
+pub mod Below

@@ -4,7 +4,7 @@
 ghost use mathlib.Core.Path.{_≡_};
 ghost use mathlib.Core.Option.{some};
 ghost use Prim.Native.Nat.{_+_, _*_, _/_, _%_, _^_, _≤_, _<_};
-ghost use lib.Ieee.{binary64, ofBits};
+ghost use lib.Ieee.{binary64, ofBits, lt};
 ghost use Rattle.definitions.specs.Vectors.{squareRoot, valueOf};
 ghost use Rattle.laws.specs.Squares.{WholeRoot};
 ghost use Rattle.root.specs.Answer.{meaning};
@@ -22,6 +22,11 @@ const FIELD: u64 = 0x0010_0000_0000_0000;
 const SIGN: u64 = 0x8000_0000_0000_0000;
 
 const INFINITY: u64 = 0x7ff0_0000_0000_0000;
+
+// 2^-24 and 2^-50. What is below the second has a root of at most 2^-25, the half of the first.
+const LEAST: f64 = 0.000000059604644775390625;
+
+const TINY: f64 = 0.00000000000000088817841970012523233890533447265625;
 
 // A double above zero, as q × 2^w / 2^1126.
 struct Scaled {
@@ -128,4 +133,24 @@ pub extern "C" fn root_or_nan(x: f64) -> f64
         Root::Value(r) => r,
         Root::Refused => 0.0 / 0.0,
     }
+}
+
+// Whether the root lies below a tolerance. Mostly the square alone tells, and no root is worked out: the root of what exceeds a tolerance of at most 1 does not lie below it,
+// and that of what is below 2^-50 lies below every tolerance from 2^-24 on.
+pub fn root_below(x: f64, tolerance: f64) -> bool
+    ensures { λ r. ⌜ r ≡ lt (valueOf (squareRoot x)) tolerance ⌝ }
+{
+    if tolerance <= 1.0 {
+        if tolerance < x {
+            return false;
+        }
+    }
+    if LEAST <= tolerance {
+        if 0.0 <= x {
+            if x < TINY {
+                return true;
+            }
+        }
+    }
+    root_or_nan(x) < tolerance
 }
