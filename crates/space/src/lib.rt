@@ -171,7 +171,7 @@ pub fn is_near(plane: Subspace, points: &[f64], at: usize, tolerance: f64) -> bo
     let d = plane.d;
     let mut r = [0.0; 5];
     put_residual(plane, points, at, &mut r);
-    vectors::norm(r, d) < tolerance
+    root::root_below(vectors::dot_at(&r, &r, 0, d), tolerance)
 }
 
 // ---- points
