@@ -6,7 +6,7 @@ use std::time::Instant;
 use crate::engine::Engine;
 use crate::job::workspace_length;
 use crate::known::KNOWN;
-use crate::measured;
+use crate::measured::{self, Measured};
 
 /// The memory that the process holds, in kilobytes.
 pub fn resident() -> Result<u64, String> {
@@ -26,14 +26,10 @@ pub fn small_jobs() -> Result<Vec<Vec<u8>>, String> {
     chosen.map(|known| known.job()).collect()
 }
 
-/// The largest of the measured jobs.
-pub fn large_jobs() -> Vec<Vec<u8>> {
-    let large = ["1,024", "256", "dodecahedron", "20 points"];
-    measured::table()
-        .into_iter()
-        .filter(|one| large.iter().any(|word| one.name.contains(word)))
-        .map(|one| one.job.write())
-        .collect()
+/// The measured jobs whose names hold one of the words.
+pub fn measured_jobs(words: &[&str]) -> Vec<Measured> {
+    let named = |one: &Measured| words.iter().any(|word| one.name.contains(word));
+    measured::table().into_iter().filter(named).collect()
 }
 
 /// A run of calls: how many, how long they took, and the memory around them.

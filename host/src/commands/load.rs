@@ -1,8 +1,9 @@
 //! Many calls of the register, and the stack of one.
 
 use facetings_host::job::workspace_length;
-use facetings_host::load::{large_jobs, run as run_calls, small_jobs, Run};
-use facetings_host::measured;
+use facetings_host::load::{measured_jobs, run as run_calls, small_jobs, Run};
+use facetings_host::measured::Measured;
+use facetings_host::register::Exported;
 use facetings_host::stack;
 
 use super::register::open_register;
@@ -13,23 +14,27 @@ use crate::{Failure, DIFFERENT};
 pub const LOAD: Command = Command {
     name: "load",
     about: "Calls the register many times; measures memory and stack.",
-    usage: "[--count N] [--large M] [--library FILE]",
+    usage: "[--count N] [--large M] [--only WORD] [--library FILE]",
     details: || {
         "\
 Makes N calls on small jobs and refusals (default: 10000000) and M calls on the
 largest accepted jobs (default: 600), and prints the memory that the process holds
 before and after each run. Then runs each measured job on a painted stack and prints
 how much of it the call takes. Exit status 1 if the memory grows by more than 64 kB
-or a call takes a megabyte of stack.
+or a call takes a megabyte of stack. --only takes the measured jobs whose names hold
+the word instead of the largest, as for a profile.
 "
         .into()
     },
-    options: &["--count", "--large", "--library"],
+    options: &["--count", "--large", "--only", "--library"],
     run,
 };
 
 /// What a run may add to the process's memory, in kilobytes: the counters' own noise.
 const MOST_GROWTH: u64 = 64;
+
+/// Words in the names of the largest measured jobs.
+const LARGEST: &[&str] = &["1,024", "256", "dodecahedron", "20 points"];
 
 const MOST_STACK: usize = 1 << 20;
 
@@ -40,9 +45,14 @@ fn run(arguments: Arguments) -> Result<(), Failure> {
     let mut register = open_register(&arguments)?;
     let small = run_calls(&mut register, &small_jobs()?, count, 4_096)?;
     print(&told("small", &small))?;
-    let large = run_calls(&mut register, &large_jobs(), large, 1 << 20)?;
+    let (chosen, deep) = match arguments.text("--only") {
+        Some(word) => (measured_jobs(&[word]), measured_jobs(&[word])),
+        None => (measured_jobs(LARGEST), measured_jobs(&[""])),
+    };
+    let jobs: Vec<Vec<u8>> = chosen.iter().map(|one| one.job.write()).collect();
+    let large = run_calls(&mut register, &jobs, large, 1 << 20)?;
     print(&told("large", &large))?;
-    let deepest = deepest(register.function())?;
+    let deepest = deepest(register.function(), &deep)?;
     let grown = [&small, &large].map(|run| run.after.saturating_sub(run.before));
     if grown.iter().any(|&more| more > MOST_GROWTH) {
         return Err(wrong(format!("the memory grows: {grown:?} kB")));
@@ -73,11 +83,11 @@ fn told(name: &str, run: &Run) -> String {
 }
 
 /// Prints the stack of each measured job, and gives the largest.
-fn deepest(function: facetings_host::register::Exported) -> Result<usize, Failure> {
+fn deepest(function: Exported, jobs: &[Measured]) -> Result<usize, Failure> {
     let mut deepest = 0;
     let mut workspace = vec![0; workspace_length(4)];
     let mut answer = vec![0; 1 << 20];
-    for one in measured::table() {
+    for one in jobs {
         let job = one.job.write();
         let (bytes, code) = stack::used(function, &job, &mut workspace, &mut answer)?;
         print(&format!(

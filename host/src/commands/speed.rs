@@ -13,7 +13,7 @@ use crate::{Failure, DIFFERENT};
 pub const SPEED: Command = Command {
     name: "speed",
     about: "Measures the register beside the Rust.",
-    usage: "[--seed S] [--cases N] [--lists B] [--seconds T] [--library FILE]",
+    usage: "[--only WORD] [--seed S] [--cases N] [--lists B] [--seconds T] [--library FILE]",
     details: || {
         "\
 For each job of a table: the best time of several runs of the register and of the
@@ -24,11 +24,19 @@ points with a budget of B lists (default: 20000), one parabola with growing budg
 one job with growing numbers of rows, and points of space with growing numbers of
 orbits. Last, of N generated cases (default: 3000) those that take either side a
 millisecond: how many, and where the register does worst. Exit status 1 if it is
-slower than the Rust on a job of the table or on such a case.
+slower than the Rust on a job of the table or on such a case. --only takes the jobs
+whose names hold the word, as for a profile.
 "
         .into()
     },
-    options: &["--seed", "--cases", "--lists", "--seconds", "--library"],
+    options: &[
+        "--only",
+        "--seed",
+        "--cases",
+        "--lists",
+        "--seconds",
+        "--library",
+    ],
     run,
 };
 
@@ -50,7 +58,12 @@ fn run(arguments: Arguments) -> Result<(), Failure> {
         most: 2_000,
         time: Duration::from_secs(seconds),
     };
-    let slower = table(&mut watch, "jobs", &measured::table(), effort)?;
+    let word = arguments.text("--only").unwrap_or("");
+    let only = |jobs: Vec<Measured>| {
+        let chosen = jobs.into_iter().filter(|one| one.name.contains(word));
+        chosen.collect::<Vec<_>>()
+    };
+    let slower = table(&mut watch, "jobs", &only(measured::table()), effort)?;
     let growing = [
         ("points: parabolas", measured::parabolas(lists)),
         (
@@ -67,7 +80,7 @@ fn run(arguments: Arguments) -> Result<(), Failure> {
         ),
     ];
     for (title, jobs) in growing {
-        table(&mut watch, title, &jobs, effort)?;
+        table(&mut watch, title, &only(jobs), effort)?;
     }
     let slower = slower + slow_cases(&mut watch, seed, cases)?;
     match slower {
