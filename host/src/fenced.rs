@@ -1,5 +1,7 @@
 //! A slice of any length with marked bytes on both sides, so that a write past
 //! its ends is seen. The memory is kept from one use to the next, as it was left.
+//! Or a piece of memory for each use that has nothing beside the slice, so that a
+//! memory checker sees what is read there too.
 
 /// Bytes marked on each side of the slice.
 const FENCE: usize = 64;
@@ -12,6 +14,7 @@ pub struct Fenced {
     memory: Vec<u8>,
     start: usize,
     length: usize,
+    bare: bool,
 }
 
 /// A byte of the fence: no two neighbours are the same.
@@ -25,16 +28,30 @@ impl Default for Fenced {
             memory: vec![0; 2 * FENCE + SHIFTS],
             start: FENCE,
             length: 0,
+            bare: false,
         }
     }
 }
 
 impl Fenced {
+    /// Without fences, and anew for each use.
+    pub fn bare() -> Self {
+        Self {
+            bare: true,
+            ..Self::default()
+        }
+    }
+
     /// A slice of that length with fresh fences. What it holds is what earlier uses
     /// left there; memory that was never used holds zeros.
     pub fn take(&mut self, length: usize, shift: usize) -> &mut [u8] {
-        self.start = FENCE + shift % SHIFTS;
         self.length = length;
+        if self.bare {
+            self.start = 0;
+            self.memory = vec![0; length];
+            return self.slice();
+        }
+        self.start = FENCE + shift % SHIFTS;
         let needed = self.start + length + FENCE;
         if self.memory.len() < needed {
             self.memory.resize(needed, 0);
@@ -60,8 +77,9 @@ impl Fenced {
     }
 
     fn fences(&self) -> impl Iterator<Item = usize> {
+        let width = if self.bare { 0 } else { FENCE };
         let end = self.start + self.length;
-        (self.start - FENCE..self.start).chain(end..end + FENCE)
+        (self.start - width..self.start).chain(end..end + width)
     }
 }
 

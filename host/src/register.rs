@@ -1,8 +1,9 @@
 //! The exported function as an engine: its workspace stays dirty from the call
 //! before, has exactly the length that is asked for, and stands between marked
-//! bytes.
+//! bytes; or it is new memory for each call.
 
 use std::ffi::c_void;
+use std::mem::MaybeUninit;
 
 use crate::engine::Engine;
 use crate::fenced::Fenced;
@@ -47,9 +48,18 @@ fn exported() -> Result<Exported, &'static str> {
     Err(NOT_LINKED)
 }
 
+/// Where the workspace of a call lies.
+enum Memory {
+    /// In memory that is kept, between marked bytes.
+    Kept(Fenced),
+    /// In memory of its own that was never written, so that a memory checker sees
+    /// each access beside it and each use of what it holds.
+    Fresh,
+}
+
 pub struct Register {
     function: Exported,
-    workspace: Fenced,
+    memory: Memory,
     calls: usize,
     outside: bool,
 }
@@ -64,7 +74,7 @@ impl Register {
     pub fn over(function: Exported) -> Register {
         Register {
             function,
-            workspace: Fenced::default(),
+            memory: Memory::Kept(Fenced::default()),
             calls: 0,
             outside: false,
         }
@@ -76,30 +86,53 @@ impl Register {
         load(library).map(Register::over)
     }
 
+    /// With a new workspace for each call, to be run under a memory checker.
+    pub fn with_fresh_memory(self) -> Register {
+        Register {
+            memory: Memory::Fresh,
+            ..self
+        }
+    }
+
     /// The function itself, for those who lend it memory of their own.
     pub fn function(&self) -> Exported {
         self.function
     }
 }
 
+/// The function may read the job and write workspace and answer, each over its own
+/// length; they do not overlap, and it keeps none of them.
+fn call(function: Exported, job: &[u8], workspace: (*mut u8, usize), answer: &mut [u8]) -> i64 {
+    let (start, length) = workspace;
+    unsafe {
+        function(
+            job.as_ptr(),
+            job.len(),
+            start,
+            length,
+            answer.as_mut_ptr(),
+            answer.len(),
+        )
+    }
+}
+
 impl Engine for Register {
     fn answer(&mut self, job: &[u8], workspace: usize, answer: &mut [u8]) -> i64 {
         self.calls += 1;
-        let workspace = self.workspace.take(workspace, self.calls);
-        // The function may read the first slice and write the other two, each over
-        // its own length; they do not overlap, and it keeps none of them.
-        let code = unsafe {
-            (self.function)(
-                job.as_ptr(),
-                job.len(),
-                workspace.as_mut_ptr(),
-                workspace.len(),
-                answer.as_mut_ptr(),
-                answer.len(),
-            )
-        };
-        self.outside |= !self.workspace.intact();
-        code
+        match &mut self.memory {
+            Memory::Kept(fenced) => {
+                let lent = fenced.take(workspace, self.calls);
+                let parts = (lent.as_mut_ptr(), lent.len());
+                let code = call(self.function, job, parts, answer);
+                self.outside |= !fenced.intact();
+                code
+            }
+            Memory::Fresh => {
+                let mut lent: Vec<MaybeUninit<u8>> = Vec::with_capacity(workspace);
+                let parts = (lent.as_mut_ptr().cast(), workspace);
+                call(self.function, job, parts, answer)
+            }
+        }
     }
 
     fn fault(&self) -> Option<&'static str> {
@@ -107,7 +140,9 @@ impl Engine for Register {
     }
 
     fn fill_workspace(&mut self, byte: u8) {
-        self.workspace.fill(byte);
+        if let Memory::Kept(fenced) = &mut self.memory {
+            fenced.fill(byte);
+        }
     }
 }
 

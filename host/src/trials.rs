@@ -176,6 +176,15 @@ impl<'a> Trials<'a> {
         }
     }
 
+    /// With new memory for each call, to be run under a memory checker.
+    pub fn with_fresh_memory(self) -> Self {
+        Self {
+            job: Fenced::bare(),
+            answer: Fenced::bare(),
+            ..self
+        }
+    }
+
     /// The first difference of each call that has one.
     pub fn case(&mut self, case: &Case) -> Vec<String> {
         // Most cases find the workspace as the call before left it.

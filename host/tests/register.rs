@@ -17,7 +17,7 @@ use facetings_host::register::{Exported, Register};
 use facetings_host::trials::Trials;
 
 /// Generated cases that every run of the tests compares.
-const COUNT: usize = 6_000;
+const COUNT: usize = 4_000;
 
 /// The linked register; where there is none, the test says that it was skipped.
 fn register() -> Option<Register> {
@@ -207,6 +207,17 @@ fn differences(oracle: &Oracle, function: Exported) -> usize {
 fn a_right_stand_in_has_no_difference() {
     let Some(oracle) = oracle() else { return };
     assert_eq!(differences(&oracle, right), 0);
+}
+
+#[test]
+fn new_memory_for_each_call_changes_nothing() {
+    let Some(oracle) = oracle() else { return };
+    let mut register = Register::over(right).with_fresh_memory();
+    let mut trials = Trials::new(&oracle, &mut register).with_fresh_memory();
+    for number in 0..20 {
+        let lines = trials.case(&case(4, number, kind_named("limits")));
+        assert!(lines.is_empty(), "{lines:?}");
+    }
 }
 
 #[test]

@@ -18,7 +18,7 @@ use crate::{Failure, DIFFERENT, NO_SOURCE};
 pub const COMPARE_REGISTER: Command = Command {
     name: "compare-register",
     about: "Compares the register with the Rust on generated cases.",
-    usage: "[--seed S] [--count N] [--first I] [--kind K] [--stop D] [--library FILE]",
+    usage: "[--seed S] [--count N] [--first I] [--kind K] [--stop D] [--memory M] [--library FILE]",
     details: || {
         "\
 Puts document 01's known jobs and N generated cases (default: 10000; as generate
@@ -31,6 +31,9 @@ Prints the first difference of each call, until D cases have one (default: 10), 
 often each result and rare event was reached, and the rate. Exit status 1 if any
 call differs. The register is linked where 'rt staticlib register' has left it
 before the build; --library takes the function from a shared library instead.
+With --memory fresh each slice is new memory of exactly its length and the workspace
+was never written, so that a memory checker such as valgrind sees every access beside
+them, and every choice that hangs on what the workspace held.
 "
         .into()
     },
@@ -56,6 +59,14 @@ pub fn open_register(arguments: &Arguments) -> Result<Register, Failure> {
     }
 }
 
+fn fresh_memory(arguments: &Arguments) -> Result<bool, Failure> {
+    match arguments.text("--memory") {
+        None | Some("kept") => Ok(false),
+        Some("fresh") => Ok(true),
+        Some(other) => Err(format!("'--memory' takes kept or fresh, not '{other}'").into()),
+    }
+}
+
 /// The known jobs as cases, with room for every answer.
 fn known_cases() -> Result<Vec<Case>, Failure> {
     let case = |(number, known): (usize, &facetings_host::known::Known)| {
@@ -78,9 +89,16 @@ fn compare_register(arguments: Arguments) -> Result<(), Failure> {
     let first: usize = arguments.number("--first")?.unwrap_or(0);
     let stop: usize = arguments.number("--stop")?.unwrap_or(10);
     let kind = chosen_kind(&arguments)?;
+    let fresh = fresh_memory(&arguments)?;
     let mut register = open_register(&arguments)?;
+    if fresh {
+        register = register.with_fresh_memory();
+    }
     let oracle = open_original()?;
     let mut trials = Trials::new(&oracle, &mut register);
+    if fresh {
+        trials = trials.with_fresh_memory();
+    }
     let start = Instant::now();
     let generated = (first..first.saturating_add(count)).map(|number| case(seed, number, kind));
     let mut differing = 0;
