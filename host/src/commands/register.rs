@@ -43,6 +43,7 @@ them, and every choice that hangs on what the workspace held.
         "--first",
         "--kind",
         "--stop",
+        "--memory",
         "--library",
     ],
     run: compare_register,
