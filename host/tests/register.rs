@@ -70,8 +70,9 @@ fn the_register_answers_generated_cases_as_the_original() {
         let lines = trials.case(&case(21, number, None));
         assert!(lines.is_empty(), "{lines:?}");
     }
-    for kind in KINDS {
-        let lines = trials.case(&case(22, 0, Some(kind)));
+    for (number, kind) in (0..500).zip(KINDS.iter().cycle()) {
+        let brink = kind_named("brink").filter(|_| number >= KINDS.len());
+        let lines = trials.case(&case(22, number, brink.or(Some(kind))));
         assert!(lines.is_empty(), "{lines:?}");
     }
     for number in 0..=17 {

@@ -3,7 +3,7 @@
 use std::time::Instant;
 
 use facetings_host::cases::{Case, Room};
-use facetings_host::generate::case;
+use facetings_host::generate::{case, kind_named, Kind};
 use facetings_host::job::workspace_length;
 use facetings_host::known::KNOWN;
 use facetings_host::record::record;
@@ -21,8 +21,8 @@ pub const COMPARE_REGISTER: Command = Command {
     usage: "[--seed S] [--count N] [--first I] [--kind K] [--stop D] [--memory M] [--library FILE]",
     details: || {
         "\
-Puts document 01's known jobs and N generated cases (default: 10000; as generate
-makes them) to the Rust once each, and to the register in several calls: as
+Puts document 01's known jobs and N generated cases (default: 10000; as generate makes
+them, every eighth of the kind brink) to the Rust once each, and to the register in several calls: as
 generated, with the workspace of the rank's length and one byte less, with the
 answer buffer exactly full and one byte short, with the job one byte shorter and
 longer, and as a copy with one altered byte. Buffers are poisoned, the workspace is
@@ -57,6 +57,15 @@ pub fn open_register(arguments: &Arguments) -> Result<Register, Failure> {
             status: NO_SOURCE,
             words: words.into(),
         }),
+    }
+}
+
+/// Every eighth case has a distance at the tolerance: hardly any drawn case shows
+/// in which order products are added.
+fn at_the_brink(number: usize) -> Option<&'static Kind> {
+    match number % 8 {
+        5 => kind_named("brink"),
+        _ => None,
     }
 }
 
@@ -101,7 +110,8 @@ fn compare_register(arguments: Arguments) -> Result<(), Failure> {
         trials = trials.with_fresh_memory();
     }
     let start = Instant::now();
-    let generated = (first..first.saturating_add(count)).map(|number| case(seed, number, kind));
+    let numbers = first..first.saturating_add(count);
+    let generated = numbers.map(|number| case(seed, number, kind.or(at_the_brink(number))));
     let mut differing = 0;
     let mut cases = 0;
     for case in known_cases()?.into_iter().chain(generated) {

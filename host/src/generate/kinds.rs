@@ -132,6 +132,12 @@ pub const KINDS: &[Kind] = &[
         room,
         "answer buffers exactly full, short and long",
     ),
+    kind(
+        "brink",
+        0,
+        brink,
+        "a distance at the tolerance to the last bit; never drawn, only named",
+    ),
 ];
 
 /// What most cases get: more than their answer takes.
@@ -252,6 +258,14 @@ fn near(rng: &mut Rng) -> Draft {
     let size = *rng.pick(&[1e-9, 3e-8, 1e-7, 1.5e-7, 3e-7, 1e-6]);
     let squeeze = *rng.pick(&[1.0, 1.0, 1e-3, 1e-6]);
     let points = shapes::nudged(rng, shapes::scaled(points, squeeze), size);
+    wide(with_rows(rng, points))
+}
+
+/// In space more often than in the plane, where two products can be added in
+/// either order.
+fn brink(rng: &mut Rng) -> Draft {
+    let dimension = if rng.once_in(4) { 2 } else { 3 };
+    let points = shapes::brink(rng, dimension, 1e-7);
     wide(with_rows(rng, points))
 }
 

@@ -129,6 +129,105 @@ pub fn at_tolerance(rng: &mut Rng, points: usize, dimension: usize, tolerance: f
     set
 }
 
+/// Document 01's plane through points, as it is made and measured with plain
+/// operations.
+struct Plane {
+    offset: Vec<f64>,
+    basis: Vec<Vec<f64>>,
+}
+
+fn dot(a: &[f64], b: &[f64]) -> f64 {
+    a.iter().zip(b).fold(0.0, |sum, (a, b)| sum + a * b)
+}
+
+impl Plane {
+    fn through(points: &[Vec<f64>], tolerance: f64) -> Self {
+        let mut plane = Self {
+            offset: points[0].clone(),
+            basis: Vec::new(),
+        };
+        for point in &points[1..] {
+            let residual = plane.residual(point);
+            let norm = dot(&residual, &residual).sqrt();
+            if norm > tolerance {
+                plane
+                    .basis
+                    .push(residual.iter().map(|x| x / norm).collect());
+            }
+        }
+        plane
+    }
+
+    fn residual(&self, point: &[f64]) -> Vec<f64> {
+        let minus = |a: &[f64], b: &[f64]| a.iter().zip(b).map(|(a, b)| a - b).collect::<Vec<_>>();
+        let from = minus(point, &self.offset);
+        let mut near = self.offset.clone();
+        for vector in &self.basis {
+            let along = dot(&from, vector);
+            near.iter_mut()
+                .zip(vector)
+                .for_each(|(x, b)| *x += b * along);
+        }
+        minus(point, &near)
+    }
+
+    fn distance(&self, point: &[f64]) -> f64 {
+        let residual = self.residual(point);
+        dot(&residual, &residual).sqrt()
+    }
+}
+
+/// Points askew, the last of them as far from the plane of the others as the
+/// tolerance, to the last bit of a coordinate: another order of additions, or
+/// another rounding, puts it on the other side as often as not.
+pub fn brink(rng: &mut Rng, dimension: usize, tolerance: f64) -> Points {
+    let size = *rng.pick(&[1.0, 1.0, 3.0, 100.0]);
+    let mut points: Points = (0..dimension)
+        .map(|_| (0..dimension).map(|_| size * rng.signed()).collect())
+        .collect();
+    let plane = Plane::through(&points, tolerance);
+    // A sum of the others with random parts, which add up to one, lies on the plane.
+    let parts: Vec<f64> = (1..dimension).map(|_| rng.signed()).collect();
+    let first = 1.0 - parts.iter().sum::<f64>();
+    let parts: Vec<f64> = std::iter::once(first).chain(parts).collect();
+    let on_plane = |axis: usize| {
+        let number = |(point, part): (&Vec<f64>, &f64)| point[axis] * part;
+        points.iter().zip(&parts).map(number).sum()
+    };
+    let mut last: Vec<f64> = (0..dimension).map(on_plane).collect();
+    let axis = rng.below(dimension);
+    last[axis] = at_flip(last[axis], |x| {
+        let mut moved = last.clone();
+        moved[axis] = x;
+        plane.distance(&moved) < tolerance
+    });
+    last[axis] = match rng.below(4) {
+        0 => last[axis].next_up(),
+        1 => last[axis].next_down(),
+        _ => last[axis],
+    };
+    points.push(last);
+    points
+}
+
+/// The last float from there on for which it holds.
+fn at_flip(from: f64, holds: impl Fn(f64) -> bool) -> f64 {
+    let (mut low, mut high) = (from, from + 1.0);
+    if !holds(low) || holds(high) {
+        return from;
+    }
+    loop {
+        let middle = low + (high - low) / 2.0;
+        if middle <= low || middle >= high {
+            return low;
+        }
+        match holds(middle) {
+            true => low = middle,
+            false => high = middle,
+        }
+    }
+}
+
 /// Moves coordinates by about the size, each with even chance.
 pub fn nudged(rng: &mut Rng, mut points: Points, size: f64) -> Points {
     for number in points.iter_mut().flatten() {
