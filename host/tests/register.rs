@@ -17,7 +17,7 @@ use facetings_host::register::{Exported, Register};
 use facetings_host::trials::Trials;
 
 /// Generated cases that every run of the tests compares.
-const COUNT: usize = 4_000;
+const COUNT: usize = 3_000;
 
 /// The linked register; where there is none, the test says that it was skipped.
 fn register() -> Option<Register> {
