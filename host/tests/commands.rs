@@ -6,6 +6,7 @@ use std::path::{Path, PathBuf};
 use std::process::{Command, Output};
 
 use common::{oracle, CORNER, SQUARE};
+use facetings_host::register::{LINKED, NOT_LINKED};
 
 /// A folder of its own for each test, removed at the end.
 struct Folder(PathBuf);
@@ -92,7 +93,7 @@ fn every_command_has_help() {
 fn bad_usage_is_told_in_one_line_with_status_2() {
     let folder = Folder::new("usage");
     let names = NAMES.join(", ");
-    let cases: [(&str, &str); 10] = [
+    let cases: [(&str, &str); 14] = [
         ("", &format!("no command; one of: {names}")),
         ("sing", &format!("'sing' is no command; one of: {names}")),
         ("show", "expected ANSWER, got 0 words; see --help"),
@@ -109,6 +110,16 @@ fn bad_usage_is_told_in_one_line_with_status_2() {
             "'odd' is no kind; see generate --help",
         ),
         ("show --loud", "'--loud' is no option here; see --help"),
+        ("record --seed 1", "'-o' is missing; see --help"),
+        ("mutants", "'--scratch' is missing; see --help"),
+        (
+            "compare-register --memory old",
+            "'--memory' takes kept or fresh, not 'old'",
+        ),
+        (
+            "compare-register --library ./none.so",
+            "cannot load ./none.so; its path needs a '/'",
+        ),
     ];
     for (words, error) in cases {
         let expected = (2, format!("facetings-host: {error}"));
@@ -280,4 +291,37 @@ fn orbits_are_printed_with_their_first_sets() {
     folder.succeeds("encode jobs.txt -o jobs");
     let both = folder.succeeds("orbits --jobs jobs");
     assert_eq!(both, lines + "job 1: refused 1\n");
+}
+
+/// Commands that need the register, each with a word that it then prints.
+const WITH_REGISTER: [(&str, &str); 4] = [
+    ("compare-register --count 30", "no difference"),
+    (
+        "compare-register --count 10 --memory fresh",
+        "no difference",
+    ),
+    (
+        "speed --only square --seconds 0 --cases 0",
+        "square, 8 rows",
+    ),
+    ("load --count 50 --large 2 --only square", "bytes of stack"),
+];
+
+#[test]
+fn commands_on_the_register_run_or_say_that_it_is_not_linked() {
+    let folder = Folder::new("register");
+    if oracle().is_none() {
+        return;
+    }
+    for (words, printed) in WITH_REGISTER {
+        if LINKED {
+            // Not the status: how long a run takes here is not this test's concern.
+            let output = folder.run(words).stdout;
+            let text = String::from_utf8_lossy(&output);
+            assert!(text.contains(printed), "{words}: {text}");
+        } else {
+            let expected = (3, format!("facetings-host: {NOT_LINKED}"));
+            assert_eq!(folder.fails(words), expected, "{words}");
+        }
+    }
 }

@@ -57,11 +57,11 @@ enum Fate {
 
 fn run(arguments: Arguments) -> Result<(), Failure> {
     arguments.plain([])?;
+    let scratch = PathBuf::from(arguments.needed("--scratch")?);
     let repository = PathBuf::from(arguments.text("--repository").unwrap_or("."));
     let list = arguments.text("--list").unwrap_or("host/mutants/list.txt");
     let mistakes = read(&read_text(list)?).map_err(|reason| format!("{list}: {reason}"))?;
     let only = arguments.text("--only").unwrap_or("");
-    let scratch = PathBuf::from(arguments.needed("--scratch")?);
     let place = Place {
         repository,
         copy: scratch.join("repository"),
