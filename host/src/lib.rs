@@ -1,7 +1,9 @@
 //! The original Rust faceting beside the register: job and answer bytes, the
 //! original as an engine, cases to run through engines, and their comparison.
 
+pub mod advice;
 pub mod answer;
+pub mod ask;
 pub mod cases;
 pub mod compare;
 pub mod engine;
@@ -11,6 +13,7 @@ pub mod generate;
 pub mod held;
 pub mod hex;
 pub mod job;
+pub mod json;
 pub mod judged;
 pub mod known;
 pub mod listing;
@@ -20,6 +23,7 @@ pub mod mutants;
 pub mod oracle;
 #[cfg(has_miratope)]
 pub mod original;
+pub mod page;
 pub mod pick;
 pub mod quote;
 pub mod record;
@@ -34,3 +38,4 @@ pub mod stack;
 pub mod tally;
 pub mod text;
 pub mod trials;
+pub mod vertex_set;

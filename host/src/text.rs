@@ -43,23 +43,45 @@ const MOST_ROWS: usize = u16::MAX as usize;
 /// A line's number, and what is left of it without comment and blanks.
 type Line<'a> = (usize, &'a str);
 
-/// The job bytes of a text, or those of all its jobs, each behind its length; or
-/// the line and the reason why there are none.
-pub fn encode(text: &str) -> Result<Vec<u8>, String> {
+/// Job bytes, or the line and the reason why there are none.
+pub type Encoded = Result<Vec<u8>, String>;
+
+/// The job bytes of a text, or those of all its jobs, each behind its length.
+pub fn encode(text: &str) -> Encoded {
+    let mut bytes = Vec::new();
+    for (name, job) in encode_each(text) {
+        match name {
+            None => return job,
+            Some(_) => bytes.extend(framed(&job?)?),
+        }
+    }
+    Ok(bytes)
+}
+
+/// The jobs of a text one by one: each with the name behind its keyword `job`, or
+/// without one where the text is a single job.
+pub fn encode_each(text: &str) -> Vec<(Option<&str>, Encoded)> {
     let lines: Vec<Line> = (1..)
         .zip(text.lines().map(content))
         .filter(|(_, line)| !line.is_empty())
         .collect();
     if !lines.first().is_some_and(begins_job) {
-        return encode_job(&lines);
+        return vec![(None, encode_job(&lines))];
     }
-    let mut bytes = Vec::new();
-    for lines in lines.chunk_by(|_, next| !begins_job(next)) {
-        let (number, name) = lines[0];
-        let job = encode_job(&lines[1..]).and_then(|job| framed(&job));
-        bytes.extend(job.map_err(|reason| format!("line {number}, {name}: {reason}"))?);
-    }
-    Ok(bytes)
+    let named = |lines: &[Line<'_>]| encode_job(&lines[1..]).and_then(fitting_frame);
+    lines
+        .chunk_by(|_, next| !begins_job(next))
+        .map(|lines| {
+            let (number, line) = lines[0];
+            let job = named(lines).map_err(|reason| format!("line {number}, {line}: {reason}"));
+            (line.strip_prefix("job").map(str::trim), job)
+        })
+        .collect()
+}
+
+/// A job in a file of jobs stands behind its length, which has 16 bits.
+fn fitting_frame(job: Vec<u8>) -> Encoded {
+    framed(&job).map(|_| job)
 }
 
 fn content(line: &str) -> &str {

@@ -1,0 +1,95 @@
+//! The words of the command line.
+
+use std::ffi::OsString;
+use std::path::PathBuf;
+
+use facetings_host::ask::LONGEST;
+
+/// What is written of an answer.
+#[derive(Clone, Copy, PartialEq, Eq)]
+pub enum Form {
+    Page,
+    Json,
+    Raw,
+}
+
+pub struct Options {
+    pub form: Form,
+    pub place: Option<PathBuf>,
+    pub room: usize,
+    pub original: bool,
+    pub help: bool,
+    pub inputs: Vec<PathBuf>,
+}
+
+impl Options {
+    /// The options, or what is wrong with them.
+    pub fn read(words: impl IntoIterator<Item = OsString>) -> Result<Options, String> {
+        let mut read = Options {
+            form: Form::Page,
+            place: None,
+            room: LONGEST,
+            original: false,
+            help: false,
+            inputs: Vec::new(),
+        };
+        let mut words = words.into_iter();
+        let mut plain = false;
+        while let Some(word) = words.next() {
+            let option = word.to_str().filter(|text| is_option(text) && !plain);
+            match option {
+                Some("--") => plain = true,
+                Some(option) => read.option(option, &mut words)?,
+                None => read.inputs.push(word.into()),
+            }
+        }
+        read.checked()
+    }
+
+    fn option(
+        &mut self,
+        option: &str,
+        words: &mut impl Iterator<Item = OsString>,
+    ) -> Result<(), String> {
+        let mut value = || words.next().ok_or(format!("'{option}' needs a value"));
+        match option {
+            "--json" => self.set_form(Form::Json)?,
+            "--raw" => self.set_form(Form::Raw)?,
+            "--original" => self.original = true,
+            "--help" | "-h" => self.help = true,
+            "-o" if self.place.is_some() => return Err("'-o' was given before".into()),
+            "-o" => self.place = Some(value()?.into()),
+            "--room" => self.room = bytes(&value()?)?,
+            _ => return Err(format!("'{option}' is no option; see --help")),
+        }
+        Ok(())
+    }
+
+    fn set_form(&mut self, form: Form) -> Result<(), String> {
+        if self.form != Form::Page && self.form != form {
+            return Err("'--json' and '--raw' exclude each other".into());
+        }
+        self.form = form;
+        Ok(())
+    }
+
+    fn checked(self) -> Result<Options, String> {
+        if self.inputs.is_empty() && !self.help {
+            return Err("no vertex set is named; see --help".into());
+        }
+        Ok(self)
+    }
+}
+
+/// A single hyphen names standard input.
+fn is_option(word: &str) -> bool {
+    word.starts_with('-') && word != "-"
+}
+
+fn bytes(value: &OsString) -> Result<usize, String> {
+    let read = value.to_str().and_then(|text| text.parse().ok());
+    read.ok_or_else(|| {
+        let value = value.to_string_lossy();
+        format!("'--room' takes a number of bytes, not '{value}'")
+    })
+}
