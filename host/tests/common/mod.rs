@@ -2,6 +2,10 @@
 
 #![allow(dead_code)] // Each file of tests uses its own part of this.
 
+pub mod json;
+pub mod place;
+pub mod ways;
+
 use std::io::Write;
 use std::sync::Once;
 

@@ -14,25 +14,18 @@ const ENDINGS: [&str; 2] = ["txt", "job"];
 const MOST: u64 = 1 << 26;
 
 /// The files behind the names; a folder stands for its vertex sets, in the order of
-/// their names.
-pub fn files(names: &[PathBuf]) -> Result<Vec<PathBuf>, String> {
-    let lists: Result<Vec<_>, _> = names.iter().map(|name| behind(name)).collect();
-    Ok(lists?.concat())
+/// their names, or for itself where it has none.
+pub fn files(names: &[PathBuf]) -> Vec<PathBuf> {
+    names.iter().flat_map(|name| behind(name)).collect()
 }
 
-fn behind(name: &Path) -> Result<Vec<PathBuf>, String> {
-    if !name.is_dir() {
-        return Ok(vec![name.into()]);
-    }
-    let mut files = listed(name).map_err(|error| cannot_read(name, &error))?;
+fn behind(name: &Path) -> Vec<PathBuf> {
+    let mut files = listed(name).unwrap_or_default();
     files.retain(|file| is_vertex_set(file));
     files.sort();
     match files.is_empty() {
-        true => Err(format!(
-            "{} holds no file that ends in .txt or .job",
-            name.display()
-        )),
-        false => Ok(files),
+        true => vec![name.into()],
+        false => files,
     }
 }
 
@@ -53,11 +46,14 @@ pub fn read(file: &Path) -> Vec<VertexSet> {
     let name = name(file);
     match contents(file) {
         Ok(bytes) => vertex_set::read(&name, &bytes),
-        Err(error) => vec![VertexSet::bad(&name, cannot_read(file, &error))],
+        Err(error) => vec![VertexSet::bad(&name, format!("cannot be read: {error}"))],
     }
 }
 
 fn contents(file: &Path) -> io::Result<Vec<u8>> {
+    if file.is_dir() {
+        return Err(io::Error::other("no file in it ends in .txt or .job"));
+    }
     let source: Box<dyn Read> = match is_standard_input(file) {
         true => Box::new(io::stdin()),
         false => Box::new(fs::File::open(file)?),
@@ -81,8 +77,4 @@ fn name(file: &Path) -> String {
     }
     let name = file.file_name().unwrap_or(file.as_os_str());
     name.to_string_lossy().into_owned()
-}
-
-fn cannot_read(file: &Path, error: &io::Error) -> String {
-    format!("cannot read {}: {error}", file.display())
 }

@@ -18,8 +18,8 @@ use facetings_host::{advice, json};
 use crate::options::{Form, Options};
 use crate::{complain, inputs, output};
 
-/// How it ended, worse ones higher; the exit status.
-#[derive(Clone, Copy, Debug, PartialEq, Eq, PartialOrd, Ord)]
+/// How it ended: the exit status.
+#[derive(Clone, Copy)]
 pub enum Status {
     Answered = 0,
     Refused = 1,
@@ -32,11 +32,8 @@ pub fn run(options: &Options) -> Status {
         Ok(engine) => engine,
         Err(words) => return complain(words, Status::Absent),
     };
-    let files = match inputs::files(&options.inputs) {
-        Ok(files) => files,
-        Err(words) => return complain(&words, Status::Bad),
-    };
-    let asks_for_many = files.len() != 1 || options.inputs.iter().any(|name| name.is_dir());
+    let files = inputs::files(&options.inputs);
+    let asks_for_many = files.len() != 1 || files != options.inputs;
     let sets: Vec<VertexSet> = files.iter().flat_map(|file| inputs::read(file)).collect();
     let done = match &sets[..] {
         [set] if !asks_for_many => alone(options, engine.as_mut(), set),
@@ -137,30 +134,34 @@ fn alone(options: &Options, engine: &mut dyn Engine, set: &VertexSet) -> Result<
 fn many(options: &Options, engine: &mut dyn Engine, sets: &[VertexSet]) -> Result<Status, String> {
     let places = places(options, sets)?;
     let mut sums = Sums::default();
-    let mut worst = Status::Answered;
+    let all = sets.len();
+    let width = all.to_string().len();
     for (i, set) in sets.iter().enumerate() {
-        let found = outcome(options, engine, set);
-        let mut status = found.status();
-        let mut line = found.line();
-        let stored = match (found.result(options.form, set), &places) {
-            (Some(bytes), Some(places)) => output::save(&places[i], &bytes),
-            (Some(bytes), None) if options.form == Form::Json => output::print(&bytes),
-            _ => Ok(()),
-        };
-        if let Err(words) = stored {
-            (status, line) = (Status::Bad, words);
-        }
-        sums.add(&found, status);
-        worst = worst.max(status);
-        let name = &set.subject.name;
-        let width = sets.len().to_string().len();
+        let place = places.as_ref().map(|places| places[i].as_path());
+        let found = stored(options.form, place, set, outcome(options, engine, set));
+        sums.add(&found);
+        let (number, name, line) = (i + 1, &set.subject.name, found.line());
         tell(
             options,
-            &format!("[{:>width$}/{}] {name}: {line}\n", i + 1, sets.len()),
+            &format!("[{number:>width$}/{all}] {name}: {line}\n"),
         )?;
     }
     tell(options, &sums.line())?;
-    Ok(worst)
+    Ok(sums.worst())
+}
+
+/// What came of a set after its result was put where it belongs: without a folder
+/// only JSON is written, and only the labels are told otherwise.
+fn stored(form: Form, place: Option<&Path>, set: &VertexSet, found: Outcome) -> Outcome {
+    let written = match (found.result(form, set), place) {
+        (Some(bytes), Some(place)) => output::save(place, &bytes),
+        (Some(bytes), None) if form == Form::Json => output::print(&bytes),
+        _ => Ok(()),
+    };
+    match written {
+        Ok(()) => found,
+        Err(words) => Outcome::Bad(words),
+    }
 }
 
 /// Progress goes to standard output, unless the results themselves do.
@@ -180,7 +181,6 @@ fn places(options: &Options, sets: &[VertexSet]) -> Result<Option<Vec<PathBuf>>,
             _ => Ok(None),
         };
     };
-    make_folder(folder)?;
     let mut taken = HashSet::new();
     let names = sets.iter().map(|set| {
         let name = file_name(&set.subject.name, options.form);
@@ -189,7 +189,9 @@ fn places(options: &Options, sets: &[VertexSet]) -> Result<Option<Vec<PathBuf>>,
             false => Err(format!("two sets would both be written to {name}")),
         }
     });
-    names.collect::<Result<_, _>>().map(Some)
+    let places = names.collect::<Result<_, String>>()?;
+    make_folder(folder)?;
+    Ok(Some(places))
 }
 
 fn make_folder(folder: &Path) -> Result<(), String> {
@@ -213,7 +215,6 @@ fn file_name(name: &str, form: Form) -> String {
 
 #[derive(Default)]
 struct Sums {
-    sets: usize,
     answered: usize,
     refused: usize,
     bad: usize,
@@ -222,31 +223,32 @@ struct Sums {
 }
 
 impl Sums {
-    fn add(&mut self, found: &Outcome, status: Status) {
-        self.sets += 1;
-        match status {
-            Status::Answered => self.answered += 1,
-            Status::Refused => self.refused += 1,
-            _ => self.bad += 1,
+    fn add(&mut self, found: &Outcome) {
+        match found {
+            Outcome::Answered(answer, _) => {
+                self.answered += 1;
+                self.figures += answer.entries.len();
+                self.compounds += answer.compounds.len();
+            }
+            Outcome::Refused(_) => self.refused += 1,
+            Outcome::Bad(_) => self.bad += 1,
         }
-        if let (Outcome::Answered(answer, _), Status::Answered) = (found, status) {
-            self.figures += answer.entries.len();
-            self.compounds += answer.compounds.len();
+    }
+
+    fn worst(&self) -> Status {
+        match (self.bad, self.refused) {
+            (0, 0) => Status::Answered,
+            (0, _) => Status::Refused,
+            _ => Status::Bad,
         }
     }
 
     fn line(&self) -> String {
-        let Sums {
-            sets,
-            answered,
-            refused,
-            bad,
-            figures,
-            compounds,
-        } = self;
+        let (answered, refused, bad) = (self.answered, self.refused, self.bad);
         format!(
-            "{sets} sets: {answered} answered, {refused} refused, {bad} bad; {}\n",
-            tally(*figures, *compounds)
+            "{} sets: {answered} answered, {refused} refused, {bad} bad; {}\n",
+            answered + refused + bad,
+            tally(self.figures, self.compounds)
         )
     }
 }

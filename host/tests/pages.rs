@@ -1,0 +1,97 @@
+//! The recorded pages of examples/: each engine that is there must give the same.
+//!
+//! With RECORD_PAGES=1 the original's pages are written instead of compared.
+
+mod common;
+
+use std::collections::BTreeSet;
+use std::path::{Path, PathBuf};
+
+use common::ways::ways;
+use facetings_host::advice;
+use facetings_host::answer::Answer;
+use facetings_host::ask::{ask, LONGEST};
+use facetings_host::engine::Engine;
+use facetings_host::judged::Stop;
+use facetings_host::page::page;
+use facetings_host::vertex_set::{self, VertexSet};
+
+fn folder() -> PathBuf {
+    Path::new(env!("CARGO_MANIFEST_DIR")).join("../examples")
+}
+
+/// The names, without the ending, of the texts in a folder.
+fn texts(folder: &Path) -> BTreeSet<String> {
+    let entries = std::fs::read_dir(folder).unwrap_or_else(|e| panic!("{folder:?}: {e}"));
+    let name = |entry: std::io::Result<std::fs::DirEntry>| {
+        let name = entry.expect("the folder can be read").file_name();
+        let name = name.to_string_lossy().into_owned();
+        name.strip_suffix(".txt").map(str::to_string)
+    };
+    entries.filter_map(name).collect()
+}
+
+fn read(place: &Path) -> String {
+    std::fs::read_to_string(place).unwrap_or_else(|error| panic!("{place:?}: {error}"))
+}
+
+fn example(name: &str) -> VertexSet {
+    let file = format!("{name}.txt");
+    let text = read(&folder().join(&file));
+    let mut sets = vertex_set::read(&file, text.as_bytes());
+    assert_eq!(sets.len(), 1, "{file} holds one set");
+    sets.remove(0)
+}
+
+/// The page, or the line that a refused set gets in its place.
+fn result(engine: &mut dyn Engine, set: &VertexSet) -> String {
+    let name = &set.subject.name;
+    let job = set.job.as_ref().unwrap_or_else(|e| panic!("{name}: {e}"));
+    match ask(engine, job, LONGEST) {
+        Ok(bytes) => {
+            let (answer, length) = Answer::read(&bytes).expect("the answer is laid out as one");
+            assert_eq!(length, bytes.len());
+            page(&set.subject, &answer)
+        }
+        Err(Stop::Refused(refusal)) => format!("{name}: {}\n", advice::line(refusal)),
+        Err(Stop::Broken(words)) => panic!("{name}: {words}"),
+    }
+}
+
+#[test]
+fn every_example_has_its_recorded_page() {
+    let pages = folder().join("pages");
+    let record = std::env::var_os("RECORD_PAGES").is_some();
+    for mut way in ways() {
+        for name in texts(&folder()) {
+            let found = result(way.engine.as_mut(), &example(&name));
+            let place = pages.join(format!("{name}.txt"));
+            if record && way.option == ["--original"] {
+                std::fs::write(&place, &found).expect("pages can be written");
+            }
+            assert_eq!(found, read(&place), "{name} by {}", way.name);
+        }
+    }
+}
+
+#[test]
+fn examples_and_pages_belong_together() {
+    let names = texts(&folder());
+    assert_eq!(names, texts(&folder().join("pages")));
+    assert!(names.len() >= 20);
+}
+
+#[test]
+fn an_example_says_what_it_shows_and_a_refused_one_says_so() {
+    for name in texts(&folder()) {
+        let about = example(&name).subject.about;
+        let about = about.unwrap_or_else(|| panic!("{name} begins with no comment"));
+        assert!(
+            about.ends_with('.') && !about.contains(". "),
+            "{name}: {about}"
+        );
+        let recorded = read(&folder().join(format!("pages/{name}.txt")));
+        let refused = recorded.starts_with(&format!("{name}.txt: refused "));
+        assert_eq!(refused, about.contains("refused"), "{name}: {about}");
+    }
+}

@@ -1,0 +1,426 @@
+//! The register's command as it is called: pages, JSON, bytes, several sets, and
+//! what it says about bad input.
+
+mod common;
+
+use common::json::Value;
+use common::place::{Done, Place};
+use common::ways::ways;
+use common::{job, CORNER, SQUARE, SQUARE_GROUP};
+use facetings_host::answer::{Answer, Entry, Figure};
+use facetings_host::ask::{ask, LONGEST};
+
+const COMMAND: &str = env!("CARGO_BIN_EXE_register");
+
+/// A test by itself for each engine that there is, in a folder of its own.
+fn on_each(name: &str, test: impl Fn(&Place, &dyn Fn(&[&str]) -> Done)) {
+    for way in ways() {
+        let place = Place::new(&format!("register-{name}"));
+        test(&place, &|words| {
+            place.run(COMMAND, &[way.option, words].concat())
+        });
+    }
+}
+
+#[test]
+fn help_tells_options_statuses_and_the_text_form() {
+    let place = Place::new("register-help");
+    for word in ["--help", "-h"] {
+        let help = place.run(COMMAND, &[word]).fine();
+        let needed = [
+            "usage: register ",
+            "--json",
+            "--raw",
+            "-o PLACE",
+            "--room N",
+            "exit status",
+            "generators",
+        ];
+        for part in needed {
+            assert!(help.contains(part), "{part} is missing");
+        }
+    }
+}
+
+#[test]
+fn bad_usage_is_told_in_one_line_with_status_2() {
+    let place = Place::new("register-usage");
+    let cases: [(&[&str], &str); 7] = [
+        (&[], "no vertex set is named; see --help"),
+        (&["--loud", "a"], "'--loud' is no option; see --help"),
+        (&["a", "-o"], "'-o' needs a value"),
+        (&["-o", "x", "-o", "y"], "'-o' was given before"),
+        (
+            &["--json", "--raw", "a"],
+            "'--json' and '--raw' exclude each other",
+        ),
+        (
+            &["--room", "x", "a"],
+            "'--room' takes a number of bytes, not 'x'",
+        ),
+        (&["--room"], "'--room' needs a value"),
+    ];
+    for (words, error) in cases {
+        let done = place.run(COMMAND, words);
+        assert_eq!(done.complaint(2), format!("register: {error}"), "{words:?}");
+    }
+}
+
+#[test]
+fn without_what_answers_the_status_is_3() {
+    let place = Place::new("register-absent");
+    place.write("square.txt", SQUARE);
+    if !cfg!(has_miratope) {
+        let done = place.run(COMMAND, &["--original", "square.txt"]);
+        assert!(done.complaint(3).contains("the Rust source is not there"));
+    }
+    if !facetings_host::register::LINKED {
+        let done = place.run(COMMAND, &["square.txt"]);
+        assert!(done.complaint(3).contains("the register is not linked"));
+    }
+}
+
+#[test]
+fn a_page_has_the_numbers_of_the_answer() {
+    on_each("page", |place, run| {
+        place.write(
+            "my square.txt",
+            format!("# Four corners.\n{SQUARE}{SQUARE_GROUP}"),
+        );
+        let expected = "\
+my square.txt
+Four corners.
+
+Label: 1 figure, no compounds
+
+Possible facets: 2 orbits of lines
+  orbit 0: 4 lines, 1 possible facet
+    0.0  edge 0-1
+  orbit 1: 2 lines, 1 possible facet
+    1.0  edge 0-2
+
+Figures: 1 entry
+  entry  points  edges  facets  parts (orbit.facet)
+      0       4      4       4  0.0
+
+Compounds: no entries
+
+3 lists were examined.
+";
+        assert_eq!(run(&["my square.txt"]).fine(), expected);
+        assert_eq!(run(&["--", "my square.txt"]).fine(), expected);
+    });
+}
+
+#[test]
+fn a_set_may_come_as_job_bytes_or_on_standard_input() {
+    for way in ways() {
+        let place = Place::new("register-input");
+        let bytes = job(SQUARE);
+        place.write("square.job", &bytes);
+        let run = |word, input: &[u8]| {
+            let words = [way.option, &[word]].concat();
+            let page = place.run_on(COMMAND, &words, input).fine();
+            page.split_once('\n').map(|(_, rest)| rest.to_string())
+        };
+        let from_file = run("square.job", b"");
+        assert!(from_file
+            .as_ref()
+            .is_some_and(|page| page.contains("7 figures")));
+        assert_eq!(run("-", SQUARE.as_bytes()), from_file);
+        assert_eq!(run("-", &bytes), from_file);
+    }
+}
+
+#[test]
+fn refusals_have_number_rule_and_change_in_one_line() {
+    on_each("refused", |place, run| {
+        place.write("corner.txt", format!("{CORNER}budget 26\n"));
+        place.write("point.txt", "points\n0 0\n");
+        place.write("short.job", "FCT");
+        let cases = [
+            ("corner.txt", "refused 16: a list is due when the budget is used up; the rule: "),
+            ("point.txt", "refused 5: the number of points is not 2 to 20; the rule: a set has 2 to 20 points; what to change: "),
+            ("short.job", "refused 1: "),
+        ];
+        for (file, words) in cases {
+            let done = run(&[file]);
+            let said = done.complaint(1);
+            assert!(
+                said.starts_with(&format!("register: {file}: {words}")),
+                "{said}"
+            );
+            assert!(said.contains("; what to change: "), "{said}");
+        }
+        // A refused set leaves no file, and what was there stays.
+        place.write("kept", "older");
+        run(&["corner.txt", "-o", "new"]).complaint(1);
+        run(&["corner.txt", "-o", "kept"]).complaint(1);
+        assert_eq!(place.read("kept"), b"older");
+        assert!(!place.names().contains(&"new".into()));
+    });
+}
+
+#[test]
+fn bad_files_are_told_in_one_line_with_status_2() {
+    on_each("bad", |place, run| {
+        place.write("binary.txt", [255, 254]);
+        place.write("wrong.txt", "points\n0 0\n1");
+        place.write("empty.txt", "");
+        place.write("folder/other", "");
+        place.write("square.txt", SQUARE);
+        let cases: [(&[&str], &str); 7] = [
+            (&["absent.txt"], "absent.txt: cannot be read: "),
+            (
+                &["binary.txt"],
+                "binary.txt: neither text nor the bytes of a job",
+            ),
+            (
+                &["wrong.txt"],
+                "wrong.txt: line 3: the point has 1 coordinates instead of 2",
+            ),
+            (&["empty.txt"], "empty.txt: "),
+            (
+                &["folder"],
+                "folder: cannot be read: no file in it ends in .txt or .job",
+            ),
+            (
+                &["square.txt", "-o", "absent/page"],
+                "cannot write absent/page: ",
+            ),
+            (&["square.txt", "-o", "folder"], "cannot write folder: "),
+        ];
+        let before = place.names();
+        for (words, error) in cases {
+            let done = run(words);
+            let said = done.complaint(2);
+            assert!(said.starts_with(&format!("register: {error}")), "{said}");
+        }
+        assert_eq!(place.names(), before);
+    });
+}
+
+#[test]
+fn raw_gives_the_bytes_and_room_bounds_them() {
+    for mut way in ways() {
+        let place = Place::new("register-raw");
+        place.write("square.txt", SQUARE);
+        let expected = ask(way.engine.as_mut(), &job(SQUARE), LONGEST).expect("an answer");
+        let run = |words: &[&str]| place.run(COMMAND, &[way.option, words].concat());
+        assert_eq!(run(&["--raw", "square.txt"]).bytes, expected);
+        run(&["--raw", "square.txt", "-o", "answer"]).fine();
+        assert_eq!(place.read("answer"), expected);
+        let exact = expected.len().to_string();
+        run(&["square.txt", "--room", &exact]).fine();
+        let short = (expected.len() - 1).to_string();
+        let done = run(&["square.txt", "--room", &short]);
+        assert!(done.complaint(1).contains("refused 17: "));
+    }
+}
+
+fn figure(value: &Value) -> Figure {
+    let rank = |rank: &Value| rank.list().iter().map(Value::words).collect();
+    Figure {
+        ranks: value.list().iter().map(rank).collect(),
+    }
+}
+
+fn entry(value: &Value) -> Entry {
+    let pair = |pair: &Value| match pair.words()[..] {
+        [orbit, facet] => (orbit, facet),
+        _ => panic!("{pair:?} is no pair"),
+    };
+    let names = ["edges", "facets", "figure", "parts", "points"];
+    assert_eq!(value.names(), names);
+    Entry {
+        list: value.field("parts").list().iter().map(pair).collect(),
+        figure: figure(value.field("figure")),
+    }
+}
+
+/// The answer that the JSON of a set tells; its names are the documented ones.
+fn answer(value: &Value) -> Answer {
+    let names = [
+        "about",
+        "code",
+        "compounds",
+        "entries",
+        "examined",
+        "file",
+        "label",
+        "orbits",
+        "rank",
+        "result",
+    ];
+    assert_eq!(value.names(), names);
+    let each = |name| value.field(name).list().iter();
+    for orbit in each("orbits") {
+        assert_eq!(orbit.names(), ["count", "facets"]);
+    }
+    let compound = |compound: &Value| {
+        assert_eq!(compound.names(), ["entry", "of"]);
+        match compound.field("of").words()[..] {
+            [first, second] => [compound.field("entry").word(), first, second],
+            _ => panic!("{compound:?} has not two parts"),
+        }
+    };
+    let summary = |e: &Value| ["points", "edges", "facets"].map(|name| e.field(name).word());
+    let facets = |orbit: &Value| orbit.field("facets").list().iter().map(figure).collect();
+    Answer {
+        examined: value.field("examined").word(),
+        counts: each("orbits").map(|o| o.field("count").word()).collect(),
+        entries: each("entries").map(entry).collect(),
+        facets: each("orbits").map(facets).collect(),
+        compounds: each("compounds").map(compound).collect(),
+        summaries: each("entries").map(summary).collect(),
+    }
+}
+
+#[test]
+fn json_tells_the_whole_answer() {
+    let cube: String = (0..8)
+        .map(|v| format!("{} {} {}\n", v & 1, v >> 1 & 1, v >> 2))
+        .collect();
+    let cube = format!("# A \"cube\",\\ \tlimited.\npoints\n{cube}limit 12\n");
+    let parabola = "points\n0 0\n1 1\n2 4\n3 9\n4 16\n5 25\n";
+    let rank_2 = "rank 2\npoints\n0\n1\n";
+    let nothing = &format!("{SQUARE}max 0.5\n");
+    on_each("json", |place, run| {
+        for text in [&cube, parabola, rank_2, nothing, SQUARE, CORNER] {
+            place.write("set.txt", text);
+            let line = run(&["--json", "set.txt"]).fine();
+            assert_eq!(line.matches('\n').count(), 1);
+            let value = Value::read(&line);
+            let bytes = run(&["--raw", "set.txt"]).bytes;
+            assert_eq!(answer(&value).bytes(), bytes);
+            assert_eq!(value.field("code").number(), bytes.len() as i64);
+            assert_eq!(value.field("file").text(), "set.txt");
+            assert_eq!(value.field("result").text(), "answer");
+            assert_eq!(value.field("rank").word(), u32::from(job(text)[5]));
+            let page = run(&["set.txt"]).fine();
+            let label = value.field("label").text();
+            assert!(page.contains(&format!("\nLabel: {label}\n")));
+        }
+        place.write("set.txt", &cube);
+        let value = Value::read(&run(&["--json", "set.txt"]).fine());
+        assert_eq!(value.field("about").text(), "A \"cube\",\\ ?limited.");
+    });
+}
+
+#[test]
+fn json_tells_refusals_and_bad_files() {
+    on_each("json-bad", |place, run| {
+        place.write("corner.txt", format!("{CORNER}budget 26\n"));
+        let done = run(&["--json", "corner.txt"]);
+        assert_eq!(done.status, 1);
+        let value = Value::read(&done.text());
+        let names = ["change", "code", "file", "met", "refusal", "result", "rule"];
+        assert_eq!(value.names(), names);
+        assert_eq!(value.field("code").number(), -16);
+        assert_eq!(value.field("refusal").number(), 16);
+        assert_eq!(value.field("result").text(), "refused");
+        let done = run(&["--json", "absent"]);
+        assert_eq!(done.status, 2);
+        let value = Value::read(&done.text());
+        assert_eq!(value.names(), ["error", "file", "result"]);
+        assert_eq!(value.field("result").text(), "bad");
+    });
+}
+
+/// A folder with an answered set, a refused one, one that is none, and others that
+/// are passed over.
+fn mixed(place: &Place) {
+    place.write("sets/a square.txt", SQUARE);
+    place.write("sets/b.job", job(&format!("{CORNER}budget 26\n")));
+    place.write("sets/c.txt", "points\n0 0\n1");
+    place.write("sets/d.txt", "points\n0 0\n1 1\n2 4\n3 9\n4 16\n5 25\n");
+    place.write("sets/notes.md", "passed over");
+    place.write("sets/more.txt/e.txt", SQUARE);
+}
+
+#[test]
+fn a_folder_gives_a_line_each_and_a_bad_file_holds_up_none() {
+    on_each("folder", |place, run| {
+        mixed(place);
+        let done = run(&["sets"]);
+        assert_eq!((done.status, done.error.as_str()), (2, ""));
+        let text = done.text();
+        let lines: Vec<&str> = text.lines().collect();
+        assert_eq!(lines.len(), 5, "{text}");
+        assert_eq!(lines[0], "[1/4] a square.txt: 7 figures, no compounds");
+        assert!(lines[1].starts_with("[2/4] b.job: refused 16: "));
+        assert!(lines[2].starts_with("[3/4] c.txt: line 3: "));
+        assert_eq!(lines[3], "[4/4] d.txt: 207 figures, 10 of them compounds");
+        assert_eq!(
+            lines[4],
+            "4 sets: 2 answered, 1 refused, 1 bad; 214 figures, 10 of them compounds"
+        );
+        let files = run(&["sets/a square.txt", "sets/b.job"]);
+        assert_eq!((files.status, files.text().lines().count()), (1, 3));
+    });
+}
+
+#[test]
+fn results_of_several_sets_go_to_a_folder() {
+    on_each("several", |place, run| {
+        mixed(place);
+        let forms: [(&[&str], &[&str]); 3] = [
+            (&[], &["a square.txt", "d.txt"]),
+            (&["--raw"], &["a square.answer", "d.answer"]),
+            (
+                &["--json"],
+                &["a square.json", "b.json", "c.json", "d.json"],
+            ),
+        ];
+        for (form, names) in forms {
+            let out = Place::new("register-several-out");
+            let folder = out.path("").to_string_lossy().into_owned();
+            let done = run(&[form, &["sets", "-o", &folder]].concat());
+            assert_eq!((done.status, done.text().lines().count()), (2, 5));
+            assert_eq!(out.names(), names);
+            let alone = run(&[form, &["sets/a square.txt"]].concat());
+            assert_eq!(out.read(names[0]), alone.bytes);
+        }
+        run(&["sets", "-o", "made/here"]);
+        assert!(place.path("made/here/d.txt").is_file());
+        let raw = run(&["--raw", "sets"]);
+        assert!(raw.complaint(2).contains("-o PLACE"));
+    });
+}
+
+#[test]
+fn json_of_several_sets_is_a_line_each() {
+    on_each("lines", |place, run| {
+        mixed(place);
+        let done = run(&["--json", "sets"]);
+        let results: Vec<String> = done
+            .text()
+            .lines()
+            .map(|line| Value::read(line).field("result").text().into())
+            .collect();
+        assert_eq!(results, ["answer", "refused", "bad", "answer"]);
+        assert_eq!(done.error.lines().count(), 5);
+    });
+}
+
+#[test]
+fn a_text_may_hold_several_sets() {
+    on_each("texts", |place, run| {
+        let text = format!("job square\n{SQUARE}\njob wrong\npoints\n1 x\njob corner\n{CORNER}");
+        place.write("sets.txt", text);
+        let done = run(&["sets.txt"]);
+        assert_eq!(done.status, 2);
+        let text = done.text();
+        let lines: Vec<&str> = text.lines().collect();
+        assert_eq!(lines[0], "[1/3] sets.txt, square: 7 figures, no compounds");
+        assert!(
+            lines[1].starts_with("[2/3] sets.txt, wrong: line 8, job wrong: line 10: "),
+            "{text}"
+        );
+        assert_eq!(lines[2], "[3/3] sets.txt, corner: 1 figure, no compounds");
+        place.write("twice.txt", format!("job a\n{SQUARE}\njob a\n{SQUARE}"));
+        let done = run(&["twice.txt", "-o", "out"]);
+        assert!(done.complaint(2).contains("two sets would both be written"));
+        assert!(!place.names().contains(&"out".into()));
+    });
+}
