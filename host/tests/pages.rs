@@ -7,6 +7,7 @@ mod common;
 use std::collections::BTreeSet;
 use std::path::{Path, PathBuf};
 
+use common::place::names;
 use common::ways::ways;
 use facetings_host::advice;
 use facetings_host::answer::Answer;
@@ -22,13 +23,8 @@ fn folder() -> PathBuf {
 
 /// The names, without the ending, of the texts in a folder.
 fn texts(folder: &Path) -> BTreeSet<String> {
-    let entries = std::fs::read_dir(folder).unwrap_or_else(|e| panic!("{folder:?}: {e}"));
-    let name = |entry: std::io::Result<std::fs::DirEntry>| {
-        let name = entry.expect("the folder can be read").file_name();
-        let name = name.to_string_lossy().into_owned();
-        name.strip_suffix(".txt").map(str::to_string)
-    };
-    entries.filter_map(name).collect()
+    let stem = |name: String| name.strip_suffix(".txt").map(str::to_string);
+    names(folder).into_iter().filter_map(stem).collect()
 }
 
 fn read(place: &Path) -> String {
@@ -76,9 +72,9 @@ fn every_example_has_its_recorded_page() {
 
 #[test]
 fn examples_and_pages_belong_together() {
-    let names = texts(&folder());
-    assert_eq!(names, texts(&folder().join("pages")));
-    assert!(names.len() >= 20);
+    let examples = texts(&folder());
+    assert_eq!(examples, texts(&folder().join("pages")));
+    assert!(examples.len() >= 20);
 }
 
 #[test]

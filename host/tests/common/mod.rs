@@ -2,6 +2,7 @@
 
 #![allow(dead_code)] // Each file of tests uses its own part of this.
 
+pub mod format;
 pub mod json;
 pub mod place;
 pub mod ways;

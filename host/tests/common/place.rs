@@ -33,14 +33,7 @@ impl Place {
 
     /// The names of everything in the folder, sorted.
     pub fn names(&self) -> Vec<String> {
-        let entries = std::fs::read_dir(&self.0).expect("the folder is there");
-        let name = |entry: std::io::Result<std::fs::DirEntry>| {
-            let name = entry.expect("the folder can be read").file_name();
-            name.to_string_lossy().into_owned()
-        };
-        let mut names: Vec<String> = entries.map(name).collect();
-        names.sort();
-        names
+        names(&self.0)
     }
 
     pub fn run(&self, program: impl AsRef<Path>, words: &[&str]) -> Done {
@@ -69,6 +62,18 @@ impl Drop for Place {
     fn drop(&mut self) {
         let _ = std::fs::remove_dir_all(&self.0);
     }
+}
+
+/// The names of everything in a folder, sorted.
+pub fn names(folder: &Path) -> Vec<String> {
+    let entries = std::fs::read_dir(folder).expect("the folder is there");
+    let name = |entry: std::io::Result<std::fs::DirEntry>| {
+        let name = entry.expect("the folder can be read").file_name();
+        name.to_string_lossy().into_owned()
+    };
+    let mut names: Vec<String> = entries.map(name).collect();
+    names.sort();
+    names
 }
 
 /// How a program ended and what it wrote.

@@ -1,0 +1,182 @@
+//! What programmers are given: the pages on bytes, the header, and a program each
+//! in C and Rust.
+
+mod common;
+
+use std::io::Write;
+use std::path::{Path, PathBuf};
+use std::process::Command;
+
+use common::format::{refusal_numbers, worked_example};
+use common::place::{Done, Place};
+use common::ways::ways;
+use facetings_host::ask::{ask, LONGEST};
+use facetings_host::refusal::Refusal;
+use facetings_host::register::{LINKED, NOT_LINKED};
+use facetings_host::text;
+
+const HEADER: &str = include_str!("../../include/register.h");
+const SQUARE: &str = include_str!("../../examples/square.txt");
+
+/// What both programs print.
+const PRINTED: &str = "figures: 1\n0: 0.0\n";
+
+fn repository() -> PathBuf {
+    Path::new(env!("CARGO_MANIFEST_DIR")).join("..")
+}
+
+#[test]
+fn the_worked_example_is_what_an_engine_answers() {
+    let (job, answer) = worked_example();
+    assert_eq!(text::encode(SQUARE).as_ref(), Ok(&job));
+    for mut way in ways() {
+        let found = ask(way.engine.as_mut(), &job, LONGEST);
+        assert_eq!(found.as_ref(), Ok(&answer), "{}", way.name);
+    }
+}
+
+fn refusals() -> impl Iterator<Item = Refusal> {
+    (1..).map_while(|number| Refusal::from_code(-number))
+}
+
+#[test]
+fn page_and_header_have_every_refusal() {
+    let numbers: Vec<u8> = refusals().map(Refusal::number).collect();
+    assert_eq!(numbers.len(), 17);
+    assert_eq!(refusal_numbers(), numbers);
+    let mut rest = HEADER;
+    for refusal in refusals() {
+        let constant = format!("    {} = {}", constant(refusal), refusal.number());
+        let (_, behind) = rest.split_once(&constant).expect(&constant);
+        assert!(behind.starts_with([',', ' ', '\n']), "{constant}");
+        rest = behind;
+    }
+    assert_eq!(rest.matches("\n    REGISTER_").count(), 0);
+}
+
+/// The header's name for it: PointCount is REGISTER_POINT_COUNT.
+fn constant(refusal: Refusal) -> String {
+    let mut name = String::from("REGISTER");
+    for letter in format!("{refusal:?}").chars() {
+        if letter.is_ascii_uppercase() {
+            name.push('_');
+        }
+        name.push(letter.to_ascii_uppercase());
+    }
+    name
+}
+
+/// A function in the register's place that knows the worked example alone.
+fn stand_in() -> String {
+    let (job, answer) = worked_example();
+    let list = |bytes: &[u8]| {
+        let numbers: Vec<String> = bytes.iter().map(u8::to_string).collect();
+        numbers.join(",")
+    };
+    format!(
+        "#include \"register.h\"
+        #include <string.h>
+        static const uint8_t known[] = {{{}}}, right[] = {{{}}};
+        int64_t register_answer(const uint8_t *job, size_t job_length,
+            uint8_t *workspace, size_t workspace_length,
+            uint8_t *answer, size_t answer_length)
+        {{
+            memset(answer, 0, answer_length);
+            if (job_length != sizeof known || memcmp(job, known, sizeof known)) return -REGISTER_MARK;
+            if (workspace_length < REGISTER_WORKSPACE_RANK_3) return -REGISTER_WORKSPACE;
+            memset(workspace, 165, workspace_length);
+            if (answer_length < sizeof right) return -REGISTER_ROOM;
+            memcpy(answer, right, sizeof right);
+            return sizeof right;
+        }}\n",
+        list(&job),
+        list(&answer)
+    )
+}
+
+/// The C program built with that in the library's place, and what it prints; none
+/// where there is no C compiler.
+fn run_c(place: &Place, library: &Path) -> Option<Done> {
+    let folder = repository();
+    let mut compiler = Command::new("cc");
+    compiler.args([
+        "-std=c99",
+        "-O2",
+        "-Wall",
+        "-Wextra",
+        "-Wpedantic",
+        "-Werror",
+        "-I",
+    ]);
+    compiler.args([
+        &folder.join("include"),
+        &folder.join("examples/figures.c"),
+        library,
+    ]);
+    match compiler.arg("-o").arg(place.path("figures")).output() {
+        Ok(output) => {
+            let error = String::from_utf8_lossy(&output.stderr);
+            assert!(output.status.success(), "{error}");
+            Some(place.run(place.path("figures"), &[]))
+        }
+        Err(error) => {
+            tell(&format!("skipped, the program in C: cc: {error}"));
+            None
+        }
+    }
+}
+
+/// A line that goes past the capture of what tests print.
+fn tell(line: &str) {
+    let _ = std::io::stderr().write_all(format!("{line}\n").as_bytes());
+}
+
+#[test]
+fn the_program_in_c_reads_the_worked_example() {
+    let place = Place::new("c-stand-in");
+    place.write("stand_in.c", stand_in());
+    if let Some(done) = run_c(&place, &place.path("stand_in.c")) {
+        assert_eq!(done.fine(), PRINTED);
+    }
+}
+
+#[test]
+fn the_program_in_c_tells_a_refusal() {
+    let place = Place::new("c-refused");
+    let refusing = stand_in().replace("job_length != sizeof known", "job_length > 0");
+    place.write("stand_in.c", refusing);
+    if let Some(done) = run_c(&place, &place.path("stand_in.c")) {
+        assert_eq!(done.complaint(1), "figures: refused 1");
+    }
+}
+
+#[test]
+fn the_program_in_c_runs_with_the_library() {
+    if !LINKED {
+        tell(&format!(
+            "skipped, the program in C with the library: {NOT_LINKED}"
+        ));
+        return;
+    }
+    let place = Place::new("c-library");
+    let library = repository().join("target/staticlib/libregister.a");
+    if let Some(done) = run_c(&place, &library) {
+        assert_eq!(done.fine(), PRINTED);
+    }
+}
+
+/// Cargo builds it, beside the command, when all tests are run.
+#[test]
+fn the_program_in_rust_runs() {
+    let command = Path::new(env!("CARGO_BIN_EXE_register"));
+    let program = command.with_file_name("examples").join("figures");
+    if !program.is_file() {
+        tell("skipped, the program in Rust: 'cargo test' without a choice of tests builds it");
+        return;
+    }
+    let done = Place::new("rust-program").run(program, &[]);
+    match LINKED {
+        true => assert_eq!(done.fine(), PRINTED),
+        false => assert_eq!(done.complaint(1), format!("figures: {NOT_LINKED}")),
+    }
+}

@@ -1,0 +1,98 @@
+/*
+ * The register of facetings: one function, every promise of which is proved
+ * (docs/READING.md). It lives in target/staticlib/libregister.a, which
+ * `rt staticlib register` proves and writes:
+ *
+ *     cc -I include program.c target/staticlib/libregister.a -o program
+ *
+ * docs/FORMAT.md has the job and the answer byte by byte; examples/figures.c is
+ * a program that uses this header.
+ */
+#ifndef REGISTER_H
+#define REGISTER_H
+
+#include <stddef.h>
+#include <stdint.h>
+
+#ifdef __cplusplus
+extern "C" {
+#endif
+
+/* The least workspace for a job of each rank, in bytes. The last serves them all. */
+#define REGISTER_WORKSPACE_RANK_2 ((size_t)0)
+#define REGISTER_WORKSPACE_RANK_3 ((size_t)524288)
+#define REGISTER_WORKSPACE_RANK_4 ((size_t)4194304)
+
+/*
+ * Why a job is refused; the function returns minus this number. They are looked
+ * for in this order, and the first that applies is returned. Of 13 to 16, which
+ * come up during the work, it is the one that is met first.
+ */
+enum register_refusal {
+    REGISTER_MARK = 1,         /* under 11 bytes, or does not begin with FCT */
+    REGISTER_VERSION = 2,      /* version other than 1 */
+    REGISTER_RANK = 3,         /* rank other than 2, 3, 4 */
+    REGISTER_DIMENSION = 4,    /* coordinates: fewer than rank - 1, more than 4 */
+    REGISTER_POINT_COUNT = 5,  /* fewer than 2 points, more than 20 */
+    REGISTER_ROW_COUNT = 6,    /* no row, more than 120 */
+    REGISTER_FLAGS = 7,        /* a flag bit above bit 2 */
+    REGISTER_LENGTH = 8,       /* longer or shorter than the fields say */
+    REGISTER_NUMBER = 9,       /* a number not finite: or a point's or the offset's
+                                  beyond 65,536 in size, the basis's beyond 1, min
+                                  or max below 0 or above 131,072 */
+    REGISTER_IDENTITY = 10,    /* the first row moves a point */
+    REGISTER_PERMUTATION = 11, /* a row that is no permutation */
+    REGISTER_WORKSPACE = 12,   /* workspace shorter than the rank's, see above */
+    REGISTER_ORBITS = 13,      /* a 257th orbit of planes (or lines) in some call */
+    REGISTER_REFIT = 14,       /* points found in one plane (line) that do not give
+                                  that plane (line) when it is fitted to them all */
+    REGISTER_FACETS = 15,      /* a 1,025th possible facet or entry in some call */
+    REGISTER_BUDGET = 16,      /* a list to examine, and the budget is used up */
+    REGISTER_ROOM = 17         /* answer buffer shorter than the answer: lend a
+                                  longer one and call again */
+};
+
+/*
+ * Lists every faceting of the job's points.
+ *
+ * Returns the length of the answer, which is 0 or more, or minus the number of a
+ * refusal, -1 to -17. Nothing else is returned, and every call ends.
+ *
+ * What is promised, for all bytes in the three slices:
+ *
+ *   - After an answer of length r, the first r bytes of the answer buffer are the
+ *     answer and all bytes behind them are zero.
+ *   - After a refusal, the whole answer buffer is zero.
+ *   - Which of the two it is, the refusal's number and each byte of the answer are
+ *     determined by the job and the lengths of the other two slices. What stands
+ *     in the workspace or in the answer buffer before the call makes no
+ *     difference.
+ *   - At ranks 3 and 4 the list is complete and sound. A choice takes at most one
+ *     possible facet from each orbit, and at least one; it is closed when it puts
+ *     0 or 2 facets at each ridge. Every entry is that of a closed choice. Without
+ *     an entry limit every closed choice has an entry, and just one wherever the
+ *     shares of one facet in one ridge orbit are equal. With an entry limit m
+ *     there are at most max(m, 1) entries.
+ *   - Entries stand in ascending order of their lists.
+ *   - Nothing outside the three slices is read or written, the job is not written,
+ *     and no memory is asked for. Nothing is kept between calls.
+ *
+ * What the caller owes:
+ *
+ *   - Each pointer is not null, even where its length is 0, and so many bytes may
+ *     be read there (job) or read and written (workspace, answer).
+ *   - The workspace and the answer buffer overlap neither each other nor the job,
+ *     and nobody else uses the three during the call.
+ *
+ * The workspace may be lent again for the next call as it is. Its contents after a
+ * call mean nothing.
+ */
+int64_t register_answer(const uint8_t *job, size_t job_length,
+                        uint8_t *workspace, size_t workspace_length,
+                        uint8_t *answer, size_t answer_length);
+
+#ifdef __cplusplus
+}
+#endif
+
+#endif
