@@ -12,11 +12,11 @@ use facetings_host::judged::Stop;
 use facetings_host::register::Register;
 use facetings_host::rows;
 
-/// A square with its eight symmetries, from a turn and a mirror.
+/// A square with its eight symmetries, from two mirrors; docs/FORMAT.md has its bytes.
 fn square() -> Job {
     let points = [[0.0, 0.0], [1.0, 0.0], [1.0, 1.0], [0.0, 1.0]];
     let mut job = Job::usual(3, points.map(Vec::from).to_vec());
-    job.rows = rows::closure(4, &[vec![1, 2, 3, 0], vec![0, 3, 2, 1]], 120);
+    job.rows = rows::closure(4, &[vec![0, 3, 2, 1], vec![1, 0, 3, 2]], 120);
     job
 }
 
