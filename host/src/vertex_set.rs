@@ -5,6 +5,9 @@ use crate::job;
 use crate::page::Subject;
 use crate::text::{self, Encoded};
 
+/// Some editors begin a text with this, though nothing in it needs it.
+const ORDER_MARK: &[u8] = "\u{feff}".as_bytes();
+
 /// What the answer will be about, and the job; or why there is none.
 pub struct VertexSet {
     pub subject: Subject,
@@ -23,7 +26,8 @@ pub fn read(name: &str, bytes: &[u8]) -> Vec<VertexSet> {
     if bytes.starts_with(job::MARK) {
         return vec![vertex_set(name.into(), None, Ok(bytes.to_vec()))];
     }
-    let Ok(words) = std::str::from_utf8(bytes) else {
+    let text = bytes.strip_prefix(ORDER_MARK).unwrap_or(bytes);
+    let Ok(words) = std::str::from_utf8(text) else {
         let error = "neither text nor the bytes of a job";
         return vec![VertexSet::bad(name, error.into())];
     };

@@ -129,6 +129,8 @@ fn a_set_may_come_as_job_bytes_or_on_standard_input() {
             .is_some_and(|page| page.contains("7 figures")));
         assert_eq!(run("-", SQUARE.as_bytes()), from_file);
         assert_eq!(run("-", &bytes), from_file);
+        let edited = format!("\u{feff}{}", SQUARE.replace('\n', "\r\n"));
+        assert_eq!(run("-", edited.as_bytes()), from_file);
     }
 }
 
@@ -385,6 +387,27 @@ fn results_of_several_sets_go_to_a_folder() {
         assert!(place.path("made/here/d.txt").is_file());
         let raw = run(&["--raw", "sets"]);
         assert!(raw.complaint(2).contains("-o PLACE"));
+    });
+}
+
+#[test]
+fn no_result_is_written_over_a_vertex_set() {
+    on_each("spared", |place, run| {
+        mixed(place);
+        let set = place.read("sets/d.txt");
+        let same = ["sets/d.txt", "sets/../sets/d.txt"];
+        for words in [
+            &["sets/d.txt", "-o", same[0]],
+            &["sets/d.txt", "-o", same[1]],
+        ] {
+            let done = run(words);
+            assert!(done.complaint(2).ends_with("d.txt is a vertex set itself"));
+        }
+        let done = run(&["sets", "-o", "sets"]);
+        assert!(done.complaint(2).ends_with(".txt is a vertex set itself"));
+        assert_eq!(place.read("sets/d.txt"), set);
+        assert_eq!(run(&["sets", "--raw", "-o", "sets"]).status, 2);
+        assert!(place.path("sets/d.answer").is_file());
     });
 }
 

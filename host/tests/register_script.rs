@@ -37,7 +37,7 @@ fn repository(name: &str, tools: &[(&str, &str)]) -> Place {
         place.write(&format!("my repository/{file}"), "");
     }
     executable(&place, "my repository/register", SCRIPT);
-    place.write("tools/none", "");
+    place.write("tools/a b.txt", "");
     for tool in TOOLS {
         symlink(found(tool), place.path("tools").join(tool)).expect("links can be made");
     }
@@ -115,17 +115,17 @@ fn builds_again_what_is_older_than_its_sources() {
     let place = repository("older", &[("rt", RT), ("cargo", CARGO)]);
     let after = |name: &str| {
         touch(&place, &format!("my repository/{name}"));
-        run(&place, &["x"]);
+        run(&place, &["a b.txt"]);
         built(&place)
     };
-    run(&place, &["x"]);
+    run(&place, &["a b.txt"]);
     assert_eq!(built(&place), BOTH);
     assert_eq!(after("crates/a/src/lib.rt"), BOTH);
     assert_eq!(after("crates.txt"), BOTH);
     assert_eq!(after("host/src/lib.rs"), "cargo build\n");
     assert_eq!(after("crates/a/must-fail/x.edit"), "");
     fs::remove_file(place.path("my repository/target/staticlib/libregister.a")).expect("built");
-    run(&place, &["x"]);
+    run(&place, &["a b.txt"]);
     assert_eq!(built(&place), BOTH);
 }
 
@@ -133,15 +133,28 @@ fn builds_again_what_is_older_than_its_sources() {
 fn help_and_the_original_do_without_the_library() {
     for word in ["--help", "-h", "--original"] {
         let place = repository("without", &[("cargo", CARGO)]);
-        assert_eq!(run(&place, &[word]).status, 7);
+        assert_eq!(run(&place, &[word, "a b.txt"]).status, 7);
         assert_eq!(built(&place), "cargo build\n");
+    }
+}
+
+#[test]
+fn nothing_is_built_where_no_word_names_a_file() {
+    let place = repository("unnamed", &[("rt", RT), ("cargo", CARGO)]);
+    for words in [&[][..], &["--json"], &["c.txt", "--raw"], &["--original"]] {
+        let done = run(&place, words);
+        assert!(done.complaint(2).contains("no file or folder is named"));
+    }
+    assert_eq!(built(&place), "");
+    for word in ["-", ".", "--help"] {
+        assert_eq!(run(&place, &[word]).status, 7);
     }
 }
 
 #[test]
 fn a_missing_tool_is_one_line_with_status_3() {
     let place = repository("no-rt", &[("cargo", CARGO)]);
-    let done = run(&place, &["x"]);
+    let done = run(&place, &["a b.txt"]);
     assert!(done
         .complaint(3)
         .starts_with("register: 'rt' is not on the path; "));
@@ -156,7 +169,7 @@ fn a_missing_tool_is_one_line_with_status_3() {
 fn a_build_that_fails_leaves_nothing_behind_and_is_begun_again() {
     let place = repository("fails", &[("rt", RT), ("cargo", CARGO)]);
     place.write("broken", "");
-    let done = run(&place, &["x"]);
+    let done = run(&place, &["a b.txt"]);
     assert_eq!((done.status, done.text().as_str()), (3, ""));
     assert!(done
         .error
@@ -164,7 +177,7 @@ fn a_build_that_fails_leaves_nothing_behind_and_is_begun_again() {
     assert_eq!(names(&place.path("my repository/target")), [""; 0]);
     fs::remove_file(place.path("broken")).expect("it was written");
     built(&place);
-    assert_eq!(run(&place, &["x"]).status, 7);
+    assert_eq!(run(&place, &["a b.txt"]).status, 7);
     assert_eq!(built(&place), BOTH);
     let left = names(&place.path("my repository/target"));
     assert_eq!(left, ["register.built", "staticlib"]);

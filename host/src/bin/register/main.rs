@@ -2,14 +2,16 @@
 
 mod inputs;
 mod options;
+mod outcome;
 mod output;
+mod places;
 mod work;
 
 use std::process::ExitCode;
 
 use facetings_host::text::RULES;
 use options::Options;
-use work::Status;
+use outcome::Status;
 
 const ABOUT: &str = "\
 register: lists every faceting of a vertex set, by a program that is proved complete
@@ -30,7 +32,8 @@ options:
                several sets the lines that tell of progress go to standard error
   --raw        the answer's bytes in place of the page
   -o PLACE     the result goes to the file PLACE; with several sets, to files of the
-               folder PLACE, named as the sets, ending in .txt, .json or .answer
+               folder PLACE, named as the sets, ending in .txt, .json or .answer.
+               A vertex set is never written over
   --room N     the longest answer that is asked for, in bytes  (default: 1073741824)
   --original   let the Rust that was ported answer, not the proved library
   --help       print this
@@ -61,6 +64,6 @@ fn help() -> Status {
 
 /// One line on standard error.
 fn complain(words: &str, status: Status) -> Status {
-    eprintln!("register: {words}");
+    output::tell(&format!("register: {words}\n"));
     status
 }

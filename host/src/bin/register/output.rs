@@ -16,6 +16,11 @@ pub fn print(bytes: &[u8]) -> Result<(), String> {
     }
 }
 
+/// To standard error, as far as somebody listens.
+pub fn tell(line: &str) {
+    let _ = io::stderr().write_all(line.as_bytes());
+}
+
 /// To a file: written beside it under another name and then renamed, so that
 /// neither half a result nor a lost older one stays behind.
 pub fn save(place: &Path, bytes: &[u8]) -> Result<(), String> {
