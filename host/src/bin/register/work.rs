@@ -18,18 +18,22 @@ pub fn run(options: &Options) -> Status {
         Ok(engine) => engine,
         Err(words) => return complain(words, Status::Absent),
     };
-    let files = inputs::files(&options.inputs);
-    let asks_for_many = files.len() != 1 || files != options.inputs;
-    let sets: Vec<VertexSet> = files.iter().flat_map(|file| inputs::read(file)).collect();
-    let done = match &sets[..] {
-        [set] if !asks_for_many => spared(&files, options.place.as_slice())
-            .and_then(|()| alone(options, engine.as_mut(), set)),
-        _ => places(options, &sets).and_then(|places| {
-            spared(&files, places.as_deref().unwrap_or_default())?;
-            many(options, engine.as_mut(), &sets, places)
-        }),
-    };
+    let done = answer(options, engine.as_mut());
     done.unwrap_or_else(|words| complain(&words, Status::Bad))
+}
+
+/// A single file with a single set by itself, anything else as several sets.
+fn answer(options: &Options, engine: &mut dyn Engine) -> Result<Status, String> {
+    let files = inputs::files(&options.inputs);
+    let single = files.len() == 1 && files == options.inputs;
+    let sets: Vec<VertexSet> = files.iter().flat_map(|file| inputs::read(file)).collect();
+    if let ([set], true) = (&sets[..], single) {
+        spared(&files, options.place.as_slice())?;
+        return alone(options, engine, set);
+    }
+    let places = places(options, &sets)?;
+    spared(&files, places.as_deref().unwrap_or_default())?;
+    many(options, engine, &sets, places)
 }
 
 /// What answers: the proved library, or the original in its place.
