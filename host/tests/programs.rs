@@ -165,16 +165,17 @@ fn the_program_in_c_runs_with_the_library() {
     }
 }
 
-/// Cargo builds it, beside the command, when all tests are run.
 #[test]
 fn the_program_in_rust_runs() {
-    let command = Path::new(env!("CARGO_BIN_EXE_register"));
-    let program = command.with_file_name("examples").join("figures");
-    if !program.is_file() {
-        tell("skipped, the program in Rust: 'cargo test' without a choice of tests builds it");
-        return;
-    }
-    let done = Place::new("rust-program").run(program, &[]);
+    let built = Command::new(env!("CARGO"))
+        .args(["build", "--offline", "--quiet", "--example", "figures"])
+        .current_dir(env!("CARGO_MANIFEST_DIR"))
+        .output()
+        .expect("cargo can be started");
+    let error = String::from_utf8_lossy(&built.stderr);
+    assert!(built.status.success(), "{error}");
+    let target = Path::new(env!("CARGO_TARGET_TMPDIR")).with_file_name("debug");
+    let done = Place::new("rust-program").run(target.join("examples/figures"), &[]);
     match LINKED {
         true => assert_eq!(done.fine(), PRINTED),
         false => assert_eq!(done.complaint(1), format!("figures: {NOT_LINKED}")),
