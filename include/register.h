@@ -68,14 +68,17 @@ enum register_refusal {
  *     in the workspace or in the answer buffer before the call makes no
  *     difference.
  *   - At ranks 3 and 4 the list is complete and sound. A choice takes at most one
- *     possible facet from each orbit, and at least one; it is closed when it puts
- *     0 or 2 facets at each ridge. Every entry is that of a closed choice. Without
- *     an entry limit every closed choice has an entry, and just one wherever the
- *     shares of one facet in one ridge orbit are equal. With an entry limit m
- *     there are at most max(m, 1) entries.
+ *     possible facet from each orbit, and at least one in all; it is closed when
+ *     its facets add up to 0 or 2 in every ridge orbit. Every entry is that of a
+ *     closed choice. Without an entry limit every closed choice has an entry, and
+ *     has just one if each facet's shares in any one ridge orbit are equal. With
+ *     an entry limit m there are at most max(m, 1) entries; under the same
+ *     condition they are of different choices, and are max(m, 1) or as many as
+ *     there are closed choices, whichever is less.
  *   - Entries stand in ascending order of their lists.
- *   - Nothing outside the three slices is read or written, the job is not written,
- *     and no memory is asked for. Nothing is kept between calls.
+ *   - Nothing outside the three slices is read or written, but for the stack, the
+ *     job is not written, and no memory is asked for. Nothing is kept between
+ *     calls, so calls may run at the same time, each on slices of its own.
  *
  * What the caller owes:
  *
