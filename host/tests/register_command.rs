@@ -28,7 +28,7 @@ fn help_tells_options_statuses_and_the_text_form() {
     for word in ["--help", "-h"] {
         let help = place.run(COMMAND, &[word]).fine();
         let needed = [
-            "usage: register ",
+            "usage: ./register ",
             "--json",
             "--raw",
             "-o PLACE",
@@ -40,6 +40,19 @@ fn help_tells_options_statuses_and_the_text_form() {
             assert!(help.contains(part), "{part} is missing");
         }
     }
+}
+
+/// The set in the help, as a reader would copy it.
+#[test]
+fn the_set_in_the_help_is_answered() {
+    on_each("copied", |place, run| {
+        let help = run(&["--help"]).fine();
+        let (_, set) = help.split_once("\n\n  # What").expect("the set is there");
+        let (set, _) = set.split_once("\n\n").expect("the set ends");
+        place.write("copied.txt", format!("  # What{set}\n"));
+        let page = run(&["copied.txt"]).fine();
+        assert!(page.starts_with("copied.txt\nWhat it shows, for the page.\n\nLabel: 1 figure"));
+    });
 }
 
 #[test]

@@ -16,7 +16,7 @@ use outcome::Status;
 const ABOUT: &str = "\
 register: lists every faceting of a vertex set, by a program that is proved complete
 
-usage: register [OPTIONS] FILE..
+usage: ./register [OPTIONS] FILE..
 
 FILE is a vertex set in the text form below, the bytes of a job (docs/FORMAT.md), a
 folder with such files (*.txt and *.job), or - for standard input. A text may hold
@@ -42,7 +42,21 @@ exit status: the highest that some set calls for
   0  answered
   1  refused: the line has the refusal's number, the rule and what to change
   2  bad usage, or a file that cannot be read, written or understood
-  3  the library (or with --original, the Rust source) is not there
+  3  the library, or with --original the Rust source, is not there or could not be built
+
+A square with its symmetry, a turn and a mirror (examples/ has many more sets):
+
+  # What it shows, for the page.
+  points
+  0 0
+  1 0
+  1 1
+  0 1
+  generators
+  1 2 3 0
+  0 3 2 1
+
+The text form:
 
 ";
 
@@ -56,7 +70,7 @@ fn main() -> ExitCode {
 }
 
 fn help() -> Status {
-    match output::print(format!("{ABOUT}The text form. {RULES}").as_bytes()) {
+    match output::print(format!("{ABOUT}{RULES}").as_bytes()) {
         Ok(()) => Status::Answered,
         Err(words) => complain(&words, Status::Bad),
     }
