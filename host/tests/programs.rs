@@ -167,15 +167,18 @@ fn the_program_in_c_runs_with_the_library() {
 
 #[test]
 fn the_program_in_rust_runs() {
+    let target = Path::new(env!("CARGO_TARGET_TMPDIR")).with_file_name("");
     let built = Command::new(env!("CARGO"))
         .args(["build", "--offline", "--quiet", "--example", "figures"])
+        .arg("--target-dir")
+        .arg(&target)
         .current_dir(env!("CARGO_MANIFEST_DIR"))
         .output()
         .expect("cargo can be started");
     let error = String::from_utf8_lossy(&built.stderr);
     assert!(built.status.success(), "{error}");
-    let target = Path::new(env!("CARGO_TARGET_TMPDIR")).with_file_name("debug");
-    let done = Place::new("rust-program").run(target.join("examples/figures"), &[]);
+    let program = target.join("debug/examples/figures");
+    let done = Place::new("rust-program").run(program, &[]);
     match LINKED {
         true => assert_eq!(done.fine(), PRINTED),
         false => assert_eq!(done.complaint(1), format!("figures: {NOT_LINKED}")),
