@@ -4,3 +4,6 @@ pub mod Writable
 pub mod Closed
 pub mod Called
 pub mod Loaded
+pub mod Reading
+pub mod Small
+pub mod Demands

@@ -1,0 +1,162 @@
+-- The entries of an answer, read back from its bytes as document 01 lays them down: "examined; orbit count, counts; entry count, each its split list's length, pairs, figure". What is written of an
+-- answer whose numbers are u32 is read back. Leans on the definition of the answer's bytes, and on numbers in bytes.
+use mathlib.Core.Path.{_≡_, refl, sym, ap, _∙_}
+use mathlib.Core.List.{List, [], _∷_, _++_, map, flatMap, append-assoc, map-append}
+use Prim.Native.Nat.{ℕ, zero, suc, _-_, _<_}
+use lib.ListN.{length, length-map}
+use Rattle.definitions.specs.Lists.{Pair}
+use Rattle.definitions.specs.Figures.{Figure}
+use Rattle.definitions.specs.Recursion.{Entry, Answer}
+use Rattle.definitions.specs.Job.{Bytes, little, counted, figureWords, entryWords, compoundWords, summaryWords, answerWords, wordBytes, answerBytes}
+use Rattle.laws.specs.Lists.{Mem}
+use Rattle.words.specs.Words.{wordBytes-is, little-bytesOf}
+use Rattle.laws.specs.Places.{flat-singles, map-self}
+
+-- ---- the definition
+
+-- "every number a u32", little-endian
+unfoldable pub wordsRead : Bytes → List ℕ
+wordsRead [] = []
+wordsRead (a ∷ []) = []
+wordsRead (a ∷ b ∷ []) = []
+wordsRead (a ∷ b ∷ c ∷ []) = []
+wordsRead (a ∷ b ∷ c ∷ d ∷ bytes) = little (a ∷ b ∷ c ∷ d ∷ []) ∷ wordsRead bytes
+
+-- something read from the front of a list of words, and what is left of the list
+abbrev pub Reader : Type 0 → Type 0
+Reader A = List ℕ → A × List ℕ
+
+unfoldable pub readWord : Reader ℕ
+readWord [] = (0, [])
+readWord (w ∷ words) = (w, words)
+
+-- so many, one behind another
+unfoldable pub readMany : {A : Type 0} → Reader A → ℕ → Reader (List A)
+readMany read zero words = ([], words)
+readMany read (suc n) words =
+    let first = read words in
+    let others = readMany read n (first .1) in
+    (first .0 ∷ others .0, others .1)
+
+-- how many, and then each
+unfoldable pub readCounted : {A : Type 0} → Reader A → Reader (List A)
+readCounted read words = let many = readWord words in readMany read (many .0) (many .1)
+
+unfoldable pub readPair : Reader Pair
+readPair words =
+    let first = readWord words in
+    let second = readWord (first .1) in
+    ((first .0, second .0), second .1)
+
+-- "number of ranks; per rank the number of elements; per element the number of subs, then the subs"
+unfoldable pub readFigure : Reader Figure
+readFigure = readCounted (readCounted (readCounted readWord))
+
+-- "its split list's length, pairs, figure"
+unfoldable pub readEntry : Reader Entry
+readEntry words =
+    let list = readCounted readPair words in
+    let figure = readFigure (list .1) in
+    (record { list = list .0; figure = figure .0 }, figure .1)
+
+-- the entries behind "examined" and the orbits' counts
+unfoldable pub entriesRead : Bytes → List Entry
+entriesRead bytes =
+    let counts = readCounted readWord (readWord (wordsRead bytes) .1) in
+    readCounted readEntry (counts .1) .0
+
+-- ---- words are read back
+
+-- what is read of a number that was written as a u32
+unfoldable low : ℕ → ℕ
+low w = little (wordBytes w)
+
+low-is : (w : ℕ) → w < 4294967296 → low w ≡ w
+unfolding low
+low-is w h = ap little (wordBytes-is w) ∙ little-bytesOf 4 w h
+
+words-read : (words : List ℕ) (tail : Bytes) → wordsRead (flatMap wordBytes words ++ tail) ≡ map low words ++ wordsRead tail
+unfolding flatMap wordBytes wordsRead low
+words-read [] tail = refl
+words-read (w ∷ words) tail = ap (λ (l : List ℕ). low w ∷ l) (words-read words tail)
+
+-- ---- what is written in words is read from them
+
+-- a reader of what these words say
+abbrev Reads : {A : Type 0} → Reader A → (A → List ℕ) → Type 0
+Reads {A} read words = (a : A) (rest : List ℕ) → read (words a ++ rest) ≡ (a, rest)
+
+many-read : {A : Type 0} (read : Reader A) (words : A → List ℕ) → Reads read words → (items : List A) (rest : List ℕ) → readMany read (length items) (flatMap words items ++ rest) ≡ (items, rest)
+unfolding readMany flatMap
+many-read read words h [] rest = refl
+many-read {A} read words h (a ∷ items) rest =
+    let after : A × List ℕ → List A × List ℕ = λ first. let others = readMany read (length items) (first .1) in (first .0 ∷ others .0, others .1) in
+    ap (λ (l : List ℕ). after (read l)) (append-assoc (words a) (flatMap words items) rest)
+    ∙ (ap after (h a (flatMap words items ++ rest)) ∙ ap (λ (others : List A × List ℕ). (a ∷ others .0, others .1)) (many-read read words h items rest))
+
+counted-read : {A : Type 0} (read : Reader A) (words : A → List ℕ) → Reads read words → Reads (readCounted read) (counted words)
+unfolding readCounted readWord counted
+counted-read read words h items rest = many-read read words h items rest
+
+word-reads : Reads readWord (λ (w : ℕ). w ∷ [])
+unfolding readWord
+word-reads w rest = refl
+
+pair-reads : Reads readPair (λ (p : Pair). p .0 ∷ p .1 ∷ [])
+unfolding readPair readWord
+pair-reads p rest = refl
+
+figure-reads : Reads readFigure figureWords
+unfolding readFigure figureWords
+figure-reads = counted-read (readCounted (readCounted readWord)) (counted (counted (λ (w : ℕ). w ∷ []))) (counted-read (readCounted readWord) (counted (λ (w : ℕ). w ∷ [])) (counted-read readWord (λ (w : ℕ). w ∷ []) word-reads))
+
+entry-reads : Reads readEntry entryWords
+unfolding readEntry entryWords
+entry-reads e rest =
+    let listWords = counted (λ (p : Pair). p .0 ∷ p .1 ∷ []) (e .list) in
+    let after : List Pair × List ℕ → Entry × List ℕ = λ list. let figure = readFigure (list .1) in (record { list = list .0; figure = figure .0 }, figure .1) in
+    ap (λ (l : List ℕ). after (readCounted readPair l)) (append-assoc listWords (figureWords (e .figure)) rest)
+    ∙ (ap after (counted-read readPair (λ (p : Pair). p .0 ∷ p .1 ∷ []) pair-reads (e .list) (figureWords (e .figure) ++ rest))
+    ∙ ap (λ (figure : Figure × List ℕ). (record { list = e .list; figure = figure .0 }, figure .1)) (figure-reads (e .figure) rest))
+
+-- ---- the entries of an answer
+
+-- every number is a u32
+pub record Small (words : List ℕ) : Type 0 where
+  pub word : (w : ℕ) → Mem w words → w < 4294967296
+
+low-small : (words : List ℕ) → Small words → map low words ≡ words
+low-small words s = map-self low words (λ w i. low-is w (s .word w i))
+
+-- the counts are passed over, whatever they are
+passed : (counts rest : List ℕ) → length counts < 4294967296 → readCounted readWord (map low (counted (λ (c : ℕ). c ∷ []) counts) ++ rest) ≡ (map low counts, rest)
+unfolding counted readCounted readWord
+passed counts rest h =
+    let number : low (length counts) ≡ length (map low counts) = low-is (length counts) h ∙ sym (length-map counts low) in
+    let singles : map low (flatMap (λ (c : ℕ). c ∷ []) counts) ≡ flatMap (λ (c : ℕ). c ∷ []) (map low counts) = ap (map low) (flat-singles counts) ∙ sym (flat-singles (map low counts)) in
+    (λ i. readMany readWord (number i) (singles i ++ rest)) ∙ many-read readWord (λ (c : ℕ). c ∷ []) word-reads (map low counts) rest
+
+-- a list of words in three parts, the middle one kept
+parts-low : (first middle last tail : List ℕ) → map low middle ≡ middle → map low (first ++ (middle ++ last)) ++ tail ≡ map low first ++ (middle ++ (map low last ++ tail))
+parts-low first middle last tail e =
+    ap (λ (l : List ℕ). l ++ tail) (map-append low first (middle ++ last) ∙ ap (λ (l : List ℕ). map low first ++ l) (map-append low middle last ∙ ap (λ (l : List ℕ). l ++ map low last) e))
+    ∙ (append-assoc (map low first) (middle ++ map low last) tail ∙ ap (λ (l : List ℕ). map low first ++ l) (append-assoc middle (map low last) tail))
+
+regroup : (a b c d e : List ℕ) → a ++ b ++ c ++ d ++ e ≡ a ++ (b ++ (c ++ (d ++ e)))
+regroup a b c d e = simp append-assoc
+
+pub entries-read : (budget : ℕ) (a : Answer) (tail : Bytes) → length (a .counts) < 4294967296 → Small (counted entryWords (a .entries)) → entriesRead (answerBytes budget a ++ tail) ≡ a .entries
+unfolding answerBytes answerWords entriesRead readWord
+entries-read budget a tail few small =
+    let counts = counted (λ (c : ℕ). c ∷ []) (a .counts) in
+    let entries = counted entryWords (a .entries) in
+    let possible = flatMap (counted figureWords) (a .possible) in
+    let compounds = counted compoundWords (a .compounds) in
+    let summaries = flatMap summaryWords (a .entries) in
+    let others = possible ++ (compounds ++ summaries) in
+    let behind : List ℕ = map low others ++ wordsRead tail in
+    let after : List ℕ → List Entry = λ words. readCounted readEntry (readCounted readWord words .1) .0 in
+    ap (λ (words : List ℕ). after (readWord words .1)) (words-read (answerWords budget a) tail ∙ ap (λ (l : List ℕ). map low l ++ wordsRead tail) (regroup ((budget - a .left) ∷ counts) entries possible compounds summaries))
+    ∙ (ap after (parts-low counts entries others (wordsRead tail) (low-small entries small))
+    ∙ (ap (λ (r : List ℕ × List ℕ). readCounted readEntry (r .1) .0) (passed (a .counts) (entries ++ behind) few)
+    ∙ ap (λ (r : List Entry × List ℕ). r .0) (counted-read readEntry entryWords entry-reads (a .entries) behind)))
