@@ -9,34 +9,32 @@ use shelf::Level;
 ghost use mathlib.Core.Path.{_≡_};
 ghost use mathlib.Core.List.{List};
 ghost use Prim.Native.Nat.{ℕ, _-_, _≤_};
-ghost use Rattle.definitions.specs.Job.{answerWords};
+ghost use lib.IntN.{pos, negℤ};
+ghost use lib.ListN.{length, replicate};
+ghost use Rattle.definitions.specs.Outcome.{answered, andThen};
+ghost use Rattle.definitions.specs.Vectors.{Vec};
+ghost use Rattle.definitions.specs.Subspace.{Subspace};
+ghost use Rattle.definitions.specs.Recursion as def;
+ghost use Rattle.definitions.specs.Recursion.{Answer};
+ghost use Rattle.definitions.specs.Faceting.{faceting};
+ghost use Rattle.definitions.specs.Job.{Bytes, answerWords, answerBytes, fitting, outcome, codeOf, bufferOf};
+ghost use Rattle.definitions.specs.Demands.{Demand1, Demand2, Demand3};
+ghost use Rattle.words.specs.Writer.{encoded};
 ghost use Rattle.openers.specs.Rows.{rowsIn};
 ghost use Rattle.shapes.specs.Kept.{Kept};
 ghost use Rattle.shelf.specs.Leaves.{answerLeft};
 ghost use Rattle.keep.specs.Edges.{edgeAnswer};
+ghost use Rattle.load.specs.Meaning.{limitNumber};
+ghost use Rattle.job.specs.Refusal.{checkedOf};
+ghost use Rattle.job.specs.declared.Checked.the-variants.{Passed};
+ghost use Rattle.search.specs.Outcomes.{limitOf};
+ghost use Rattle.faceting.specs.Stocks.{rulesOf};
 ghost use Rattle.writing.specs.Wrote.{Wrote};
 ghost use Rattle.register.specs.Writable.{Writable};
 ghost use Rattle.register.specs.Closed.{WroteAll};
-ghost use lib.IntN.{pos, negℤ};
-ghost use lib.ListN.{length};
-ghost use Rattle.definitions.specs.Job.{fitting, codeOf, bufferOf};
-ghost use Rattle.words.specs.Writer.{encoded};
-ghost use Rattle.definitions.specs.Outcome.{andThen};
-ghost use Rattle.definitions.specs.Recursion as def;
-ghost use Rattle.definitions.specs.Recursion.{Answer};
-ghost use Rattle.definitions.specs.Subspace.{Subspace};
-ghost use Rattle.definitions.specs.Vectors.{Vec};
-ghost use Rattle.definitions.specs.Faceting.{faceting};
-ghost use Rattle.definitions.specs.Job.{answerBytes};
-ghost use lib.ListN.{replicate};
-ghost use Rattle.load.specs.Meaning.{limitNumber};
-ghost use Rattle.search.specs.Outcomes.{limitOf};
-ghost use Rattle.faceting.specs.Stocks.{rulesOf};
-ghost use Rattle.register.specs.Loaded.{jobRules};
 ghost use Rattle.register.specs.Called.{Said};
-ghost use Rattle.definitions.specs.Job.{outcome};
-ghost use Rattle.job.specs.Refusal.{checkedOf};
-ghost use Rattle.job.specs.declared.Checked.the-variants.{Passed};
+ghost use Rattle.register.specs.Loaded.{jobRules};
+ghost use Rattle.register.specs.Reading.{entriesRead};
 
 // ---- writing what a call leaves
 
@@ -206,11 +204,15 @@ fn answer_job(job: &[u8], fields: Fields, ws: &mut [u8], answer: &mut [u8]) -> i
     write_called(called, rank, ws, &rows, m, n, budget, answer)
 }
 
-// The answer of a job: its length in bytes, or minus the number of its refusal. The answer stands at the front of the buffer, which is zero behind it, and zero throughout after a refusal.
+// The answer of a job: its length in bytes, or minus the number of its refusal. The answer stands at the front of the buffer, which is zero behind it, and zero throughout after a refusal. Code
+// and buffer are the definition's, whatever the three slices are; the customer's demands follow, the third of the entries read back from the buffer.
 #[no_mangle]
 pub extern "C" fn register_answer(job: &[u8], workspace: &mut [u8], answer: &mut [u8]) -> i64
     ensures code { λ r. ⌜ r ≡ codeOf (outcome (now (job .entry)) (length (now (workspace .entry))) (length (now (answer .entry)))) ⌝ }
     ensures buffer { λ _. ⌜ now (answer .exit) ≡ bufferOf (length (now (answer .entry))) (outcome (now (job .entry)) (length (now (workspace .entry))) (length (now (answer .entry)))) ⌝ }
+    ensures first { λ r. ⌜ Demand1 (now (job .entry)) (length (now (workspace .entry))) (length (now (answer .entry))) r (now (answer .exit)) ⌝ }
+    ensures second { λ r. ⌜ Demand2 (now (job .entry)) (length (now (workspace .entry))) (length (now (answer .entry))) r (now (answer .exit)) ⌝ }
+    ensures third { λ _. ⌜ ((bytes : Bytes) → outcome (now (job .entry)) (length (now (workspace .entry))) (length (now (answer .entry))) ≡ answered bytes → Demand3 (now (job .entry)) (entriesRead (now (answer .exit)))) ⌝ }
 {
     words::clear(answer);
     match job::check(job, workspace.len()) {

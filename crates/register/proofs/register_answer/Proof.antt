@@ -9,6 +9,7 @@ use mir.Syntax.{w64}
 use mir.Val.{SFits}
 use Rattle.definitions.specs.Job.{outcome, codeOf, bufferOf}
 use Rattle.register.specs.Loaded.{refused-outcome}
+use Rattle.register.specs.Demands.{meets-1, meets-2, meets-3}
 use Rattle.register.proofs.register_answer.Statement.{statement}
 use Rattle.register.proofs.register_answer.Tie as tie
 
@@ -35,8 +36,16 @@ same-length c = search needs
 
 returns : tie.Need-returns
 unfolding codeOf bufferOf
-returns c = let s = c .before .before .before .before .before .before .before .before .before .before .before .before in let room = length (s .args .answer .now) in let fits : SFits w64 (c .refusal .result) = search needs in let o = refused-outcome (s .args .job .now) (length (s .args .workspace .now)) room _ (sym (c .before .before .number .given .1) ∙ c .before .before .before .before .check .ensures) in
-    (toZ-ofZ fits ∙ (c .refusal .ensures ∙ sym (ap codeOf o)), c .before .before .before .before .before .before .before .clear .ensures ∙ sym (ap (bufferOf room) o))
+returns c =
+    let s = c .before .before .before .before .before .before .before .before .before .before .before .before in
+    let job = s .args .job .now in
+    let size = length (s .args .workspace .now) in
+    let room = length (s .args .answer .now) in
+    let fits : SFits w64 (c .refusal .result) = search needs in
+    let o = refused-outcome job size room _ (sym (c .before .before .number .given .1) ∙ c .before .before .before .before .check .ensures) in
+    let code = toZ-ofZ fits ∙ (c .refusal .ensures ∙ sym (ap codeOf o)) in
+    let buffer = c .before .before .before .before .before .before .before .clear .ensures ∙ sym (ap (bufferOf room) o) in
+    (code, (buffer, (meets-1 job size room code buffer, (meets-2 job size room code buffer, meets-3 job size room code buffer))))
 
 same-length-2 : tie.Need-same-length-2
 same-length-2 c = search needs
@@ -45,8 +54,17 @@ same-length-3 : tie.Need-same-length-3
 same-length-3 c = search needs
 
 returns-2 : tie.Need-returns-2
-returns-2 c = let s = c .before .before .before .before .before .before .before .before .before .before .before .before .before .before .before .before .before .before in let size = length (s .args .workspace .now) in let k = c .before .before .before .before .answer-job in let fits : SFits w64 (k .result) = search needs in let same = c .before .before .before .before .before .before .before .before .before .before .before .before .answer .given in
-    (toZ-ofZ fits ∙ (k .ensures .0 ∙ ap (λ (room : ℕ). codeOf (outcome (s .args .job .now) size room)) same), k .ensures .1 ∙ ap (λ (room : ℕ). bufferOf room (outcome (s .args .job .now) size room)) same)
+returns-2 c =
+    let s = c .before .before .before .before .before .before .before .before .before .before .before .before .before .before .before .before .before .before in
+    let job = s .args .job .now in
+    let size = length (s .args .workspace .now) in
+    let k = c .before .before .before .before .answer-job in
+    let fits : SFits w64 (k .result) = search needs in
+    let same = c .before .before .before .before .before .before .before .before .before .before .before .before .answer .given in
+    let code = toZ-ofZ fits ∙ (k .ensures .0 ∙ ap (λ (room : ℕ). codeOf (outcome job size room)) same) in
+    let buffer = k .ensures .1 ∙ ap (λ (room : ℕ). bufferOf room (outcome job size room)) same in
+    let room = length (s .args .answer .now) in
+    (code, (buffer, (meets-1 job size room code buffer, (meets-2 job size room code buffer, meets-3 job size room code buffer))))
 
 pub register-answer-spec : {M : Type 1} → statement M
 register-answer-spec =
