@@ -65,6 +65,20 @@ module _ (bytes : Bytes) (workspace : ℕ) (f : Fields) (passed : Passed f ≡ c
   pub counts : Loadable bytes f
   counts = loadable bytes f exact own-fields
 
+  -- what the functions of loading ensure, with room for 120 rows of 32 bytes
+  pub loads : {plane : Subspace} {points : Points} {rows : List ℕ} {rules : Rules} → HoldsSubspace plane (planeOf (readJob bytes)) × (plane .d ≡ f .d) × (plane .rank ≡ f .rank - 1)
+      → HoldsPoints points (f .d) (readJob bytes .points) × (points .n ≡ f .n) → (rowsIn (f .n) (f .count) rows ≡ readJob bytes .rows) × (length rows ≡ 3840) → rulesOf rules ≡ jobRules f
+      → Loaded bytes f plane points rows rules
+  loads p q r u = record {
+    plane-held = p .0;
+    plane-d = p .1;
+    points-held = q .0;
+    points-n = q .1;
+    rows-held = r .0;
+    rows-room = omega (arith, r .1, counts .count-most);
+    rules-are = u;
+  }
+
   -- every test is passed
   abbrev all-passed : Type 0
   all-passed = job.passAll (tests bytes workspace) (λ u. answered (tt {0})) ≡ answered (tt {0})
@@ -84,7 +98,7 @@ module _ (bytes : Bytes) (workspace : ℕ) (f : Fields) (passed : Passed f ≡ c
   room-at : (rank : ℕ) → f .rank ≡ rank → workspaceFor rank ≤ workspace
   room-at rank e = subst (λ (k : ℕ). workspaceFor k ≤ workspace) (sym (counts .rank-is) ∙ e) room
 
-  module _ (plane : Subspace) (points : Points) (rows : List ℕ) (rules : Rules) (l : Loaded bytes f plane points rows rules) where
+  module _ {plane : Subspace} {points : Points} {rows : List ℕ} {rules : Rules} (l : Loaded bytes f plane points rows rules) where
     rows-are : rowsIn (points .n) (f .count) rows ≡ readJob bytes .rows
     rows-are = ap (λ (n : ℕ). rowsIn n (f .count) rows) (l .points-n) ∙ l .rows-held
 

@@ -7,7 +7,7 @@ use mir.Facts.{toZ-ofZ}
 use mir.Syntax.{w64}
 use mir.Val.{SFits}
 use Rattle.definitions.specs.Job.{codeOf, bufferOf}
-use Rattle.register.specs.Loaded.{Loaded, exact, own-fields, counts, call-asked, call-said, outcome-is}
+use Rattle.register.specs.Loaded.{exact, own-fields, counts, loads, call-asked, call-said, outcome-is}
 use Rattle.register.proofs.answer_job.Statement.{statement}
 use Rattle.register.proofs.answer_job.Tie as tie
 
@@ -30,15 +30,23 @@ slice-aggregate-faceting : tie.Need-slice-aggregate-faceting
 slice-aggregate-faceting c = search needs
 
 faceting-requires : tie.Need-faceting-requires
-faceting-requires c κs = let s = c .before .before .before .before .before .before .before .before .before .before .before in let job = s .args .job .now in let f = s .args .fields in let size = length (s .args .ws .now) in let p = c .before .before .before .before .before .before .before .plane-of in let q = c .before .before .before .before .before .before .points-of in let u = c .before .before .before .before .before .rules-of in let v = c .before .before .before .load-rows in let loaded : Loaded job f (p .result) (q .result) (v .last .1 .1 .0) (u .result) = record { plane-held = p .ensures .0; plane-d = p .ensures .1; points-held = q .ensures .0; points-n = q .ensures .1; rows-held = v .ensures .0; rows-room = omega (arith, v .ensures .1, counts job size f (s .pre .0) .count-most); rules-are = u .ensures } in
-    call-asked job size f (s .pre .0) (p .result) (q .result) (v .last .1 .1 .0) (u .result) loaded _ (search needs)
+faceting-requires c κs =
+    let s = c .before .before .before .before .before .before .before .before .before .before .before in
+    let job = s .args .job .now in
+    let size = length (s .args .ws .now) in
+    let loaded = loads job size (s .args .fields) (s .pre .0) (c .before .before .before .before .before .before .before .plane-of .ensures) (c .before .before .before .before .before .before .points-of .ensures) (c .before .before .before .load-rows .ensures) (c .before .before .before .before .before .rules-of .ensures) in
+    call-asked job size (s .args .fields) (s .pre .0) loaded _ (search needs)
 
 slice-aggregate-write-called : tie.Need-slice-aggregate-write-called
 slice-aggregate-write-called c = search needs
 
 write-called-requires : tie.Need-write-called-requires
-write-called-requires c κs = let s = c .before .before .before .before .before .before .before .before .before .before .before .before .before .before .before .before .before in let job = s .args .job .now in let f = s .args .fields in let size = length (s .args .ws .now) in let p = c .before .before .before .before .before .before .before .before .before .before .before .before .before .plane-of in let q = c .before .before .before .before .before .before .before .before .before .before .before .before .points-of in let u = c .before .before .before .before .before .before .before .before .before .before .before .rules-of in let v = c .before .before .before .before .before .before .before .before .before .load-rows in let loaded : Loaded job f (p .result) (q .result) (v .last .1 .1 .0) (u .result) = record { plane-held = p .ensures .0; plane-d = p .ensures .1; points-held = q .ensures .0; points-n = q .ensures .1; rows-held = v .ensures .0; rows-room = omega (arith, v .ensures .1, counts job size f (s .pre .0) .count-most); rules-are = u .ensures } in
-    ((_, _, _, call-said job size f (s .pre .0) (p .result) (q .result) (v .last .1 .1 .0) (u .result) loaded _ _ (search needs) (c .before .before .before .before .before .faceting .ensures)), s .pre .1)
+write-called-requires c κs =
+    let s = c .before .before .before .before .before .before .before .before .before .before .before .before .before .before .before .before .before in
+    let job = s .args .job .now in
+    let size = length (s .args .ws .now) in
+    let loaded = loads job size (s .args .fields) (s .pre .0) (c .before .before .before .before .before .before .before .before .before .before .before .before .before .plane-of .ensures) (c .before .before .before .before .before .before .before .before .before .before .before .before .points-of .ensures) (c .before .before .before .before .before .before .before .before .before .load-rows .ensures) (c .before .before .before .before .before .before .before .before .before .before .before .rules-of .ensures) in
+    ((_, _, _, call-said job size (s .args .fields) (s .pre .0) loaded _ _ (search needs) (c .before .before .before .before .before .faceting .ensures)), s .pre .1)
 
 same-length : tie.Need-same-length
 same-length c = search needs
@@ -47,13 +55,17 @@ same-length-2 : tie.Need-same-length-2
 same-length-2 c = search needs
 
 returns : tie.Need-returns
-returns c = let s = c .before .before .before .before .before .before .before .before .before .before .before .before .before .before .before .before .before .before .before .before .before .before in let job = s .args .job .now in let f = s .args .fields in let size = length (s .args .ws .now) in let p = c .before .before .before .before .before .before .before .before .before .before .before .before .before .before .before .before .before .before .plane-of in let q = c .before .before .before .before .before .before .before .before .before .before .before .before .before .before .before .before .before .points-of in let u = c .before .before .before .before .before .before .before .before .before .before .before .before .before .before .before .before .rules-of in let v = c .before .before .before .before .before .before .before .before .before .before .before .before .before .before .load-rows in let loaded : Loaded job f (p .result) (q .result) (v .last .1 .1 .0) (u .result) = record { plane-held = p .ensures .0; plane-d = p .ensures .1; points-held = q .ensures .0; points-n = q .ensures .1; rows-held = v .ensures .0; rows-room = omega (arith, v .ensures .1, counts job size f (s .pre .0) .count-most); rules-are = u .ensures } in
+returns c =
+    let s = c .before .before .before .before .before .before .before .before .before .before .before .before .before .before .before .before .before .before .before .before .before .before in
+    let job = s .args .job .now in
+    let size = length (s .args .ws .now) in
+    let loaded = loads job size (s .args .fields) (s .pre .0) (c .before .before .before .before .before .before .before .before .before .before .before .before .before .before .before .before .before .before .plane-of .ensures) (c .before .before .before .before .before .before .before .before .before .before .before .before .before .before .before .before .before .points-of .ensures) (c .before .before .before .before .before .before .before .before .before .before .before .before .before .before .load-rows .ensures) (c .before .before .before .before .before .before .before .before .before .before .before .before .before .before .before .before .rules-of .ensures) in
     let k = c .before .before .before .before .write-called in
     let fits : SFits w64 (k .result) = search needs in
-    let o = outcome-is job size f (s .pre .0) (p .result) (q .result) (v .last .1 .1 .0) (u .result) loaded (length (s .args .answer .now)) in
+    let o = outcome-is job size (s .args .fields) (s .pre .0) loaded (length (s .args .answer .now)) in
     let t = c .before .before .before .before .before .before .before .before .before .before .faceting .last .1 .1 .1 .1 .1 .1 .1 .0 in
     let long : length t ≡ size = c .before .before .before .before .before .before .before .before .before .ws .given in
-    let said = call-said job size f (s .pre .0) (p .result) (q .result) (v .last .1 .1 .0) (u .result) loaded _ t long (c .before .before .before .before .before .before .before .before .before .before .faceting .ensures) in
+    let said = call-said job size (s .args .fields) (s .pre .0) loaded _ t long (c .before .before .before .before .before .before .before .before .before .before .faceting .ensures) in
     (toZ-ofZ fits ∙ (k .ensures .0 _ _ _ said ∙ ap codeOf o), k .ensures .1 _ _ _ said ∙ ap (bufferOf (length (s .args .answer .now))) o)
 
 pub answer-job-spec : {M : Type 1} → statement M
