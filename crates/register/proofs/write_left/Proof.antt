@@ -8,7 +8,7 @@ use Rattle.register.proofs.write_left.Statement.{statement}
 use Rattle.register.proofs.write_left.Tie as tie
 
 write-answer-requires : tie.Need-write-answer-requires
-write-answer-requires c κs = let s = c .before .before .before .before .before .before in let e : s .args .rank - 3 ≡ 0 = omega arith in polygons-asked (rw e at (s .pre .2 .1))
+write-answer-requires c κs = let s = c .before .before .before .before .before .before in let e : s .args .rank - 3 ≡ 0 = omega arith in let h = polygons-asked (rw e at (s .pre .2 .1)) in (h .0, h .1, omega (arith, h .2))
 
 same-length : tie.Need-same-length
 same-length c = search needs
