@@ -2,7 +2,7 @@
 use mathlib.Core.Path.{_≡_, refl, sym, ap, _∙_, subst}
 use mathlib.Core.Bool.{Bool, true, false}
 use mathlib.Core.List.{List}
-use Prim.Native.Nat.{ℕ, zero, suc, _+_, _-_, _≤_}
+use Prim.Native.Nat.{ℕ, zero, suc, _-_, _≤_}
 use native.Mathlib.Omega.{arith}
 use lib.IntN.{ℤ, pos, negℤ}
 use lib.ListN.{length, replicate}
@@ -21,7 +21,7 @@ use Rattle.shelf.specs.Leaves.{answerLeft}
 use Rattle.keep.specs.Edges.{edgeAnswer}
 use Rattle.calls.specs.declared.Called.{Called}
 use Rattle.calls.specs.declared.Called.the-variants.{Refused, Ends, Left}
-use Rattle.faceting.specs.Says.{Says, Stands}
+use Rattle.faceting.specs.Says.{Says}
 use Rattle.register.specs.Spent.{call-spends}
 use Rattle.register.specs.Writable.{Writable, keptBy, call-writable}
 

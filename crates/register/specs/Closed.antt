@@ -1,18 +1,15 @@
 -- The end of writing: every word has room and the cursor is the answer's length, or some word has none and the cursor is past the buffer. Leans on the writer's buffer and cursor.
 use mathlib.Core.Path.{_≡_, refl, sym, ap, _∙_}
-use mathlib.Core.Bool.{Bool, true, false}
 use mathlib.Core.List.{List, []}
 use mathlib.Core.Logic.{⊎-elim}
 use Prim.Native.Nat.{ℕ, _*_, _≤_, _<_}
 use native.Mathlib.Omega.{arith}
 use borrow.Author.Tests.{lt-ltb, le-ltb}
-use lib.Dec.{ltb}
-use lib.IntN.{ℤ, pos, negℤ}
 use lib.ListN.{length, replicate}
-use Rattle.definitions.specs.Outcome.{Outcome, refused, answered, refuseIf}
-use Rattle.definitions.specs.Job.{Bytes, fitting, codeOf, bufferOf}
+use Rattle.definitions.specs.Outcome.{refused, answered, refuseIf}
+use Rattle.definitions.specs.Job.{fitting, bufferOf}
 use Rattle.laws.specs.Segments.{le-or-lt}
-use Rattle.words.specs.Writer.{encoded, padded, full, written, cursorOf, encoded-length, written-none, cursor-none, written-fits, padded-answer, cursor-fits, cursor-full}
+use Rattle.words.specs.Writer.{encoded, full, written, cursorOf, encoded-length, written-none, cursor-none, written-fits, padded-answer, cursor-fits, cursor-full}
 use Rattle.writing.specs.Wrote.{Wrote}
 
 -- these words stand in the buffer, as many as there is room for, and the cursor is behind them

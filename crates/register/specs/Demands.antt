@@ -1,15 +1,15 @@
 -- The customer's demands, of the exported function's return code and answer buffer. They follow from its two equations: demands 1 and 2 for every job, demand 3 of the entries read back from the
 -- buffer, for every job that is answered at rank 3 or 4. Leans on Reading, Small and on what is proved of the definitions.
-use mathlib.Core.Path.{_≡_, refl, sym, ap, _∙_, subst}
-use mathlib.Core.List.{List, _++_}
-use Prim.Native.Nat.{ℕ, suc, _-_, _≤_}
+use mathlib.Core.Path.{_≡_, sym, ap, _∙_, subst}
+use mathlib.Core.List.{_++_}
+use Prim.Native.Nat.{ℕ, suc, _-_}
 use native.Mathlib.Omega.{arith}
 use lib.Dec.{T, leb, ltb, leb→le}
 use lib.IntN.{ℤ}
 use lib.ListN.{length, replicate, length-map}
 use Rattle.definitions.specs.Lists.{countFrom}
-use Rattle.definitions.specs.Outcome.{Outcome, answered, andThen, refuseIf}
-use Rattle.definitions.specs.Recursion.{Entry, Answer}
+use Rattle.definitions.specs.Outcome.{Outcome, answered, andThen}
+use Rattle.definitions.specs.Recursion.{Answer}
 use Rattle.definitions.specs.Faceting.{faceting}
 use Rattle.definitions.specs.Job.{Bytes, readJob, vectorsAt, tests, between, bounds1, rulesOf, planeOf, callOf, answerBytes, fitting, outcomeWithin, outcome, codeOf, bufferOf}
 use Rattle.definitions.specs.Demands.{Demand1, Demand2, Demand3, CallComplete}
@@ -17,9 +17,8 @@ use Rattle.laws.specs.Bools.{first, second}
 use Rattle.laws.specs.Lists.{count-length}
 use Rattle.completeness.specs.Jobs.{answered-before, not-refused-if, passed-all, demand-1, demand-2, demand-3}
 use Rattle.shapes.specs.Answered.{answers-equal}
-use Rattle.shapes.specs.Calls.{Given}
 use Rattle.shapes.specs.Jobs.{RowsPassed, rows-passed, job-given}
-use Rattle.register.specs.Reading.{Small, entriesRead, entries-read}
+use Rattle.register.specs.Reading.{entriesRead, entries-read}
 use Rattle.register.specs.Small.{few-counts, entries-small}
 
 -- ---- what an answered job says

@@ -1,19 +1,14 @@
 -- A job that passes refusals 1 to 12, loaded: its plane, points, rows and rules are what a call asks, and the definition's call on them is the job's. Leans on the check, on the loaded fields
 -- and on what a call asks.
 use mathlib.Core.Path.{_≡_, refl, sym, ap, _∙_, subst}
-use mathlib.Core.Bool.{Bool, cond}
 use mathlib.Core.List.{List}
 use mathlib.Core.Option.{none}
 use Prim.Native.Nat.{ℕ, _-_, _*_, _≤_}
 use native.Mathlib.Omega.{arith}
-use lib.Dec.{T, leb, leb→le}
+use lib.Dec.{leb, leb→le}
 use lib.ListN.{length}
 use Rattle.definitions.specs.Outcome.{refused, answered}
-use Rattle.definitions.specs.Vectors.{Vec}
-use Rattle.definitions.specs.Subspace as def
-use Rattle.definitions.specs.Orbits.{Row}
 use Rattle.definitions.specs.Recursion as recursion
-use Rattle.definitions.specs.Recursion.{Answer}
 use Rattle.definitions.specs.Faceting.{faceting}
 use Rattle.definitions.specs.Job as job
 use Rattle.definitions.specs.Job.{Bytes, readJob, planeOf, tolerance1, bounds1, tests, workspaceFor, callOf, outcome}

@@ -1,5 +1,5 @@
 -- `register::answer_job` meets its contract: what is loaded is what the call asks, and the call on it is the job's. Assumes nothing.
-use mathlib.Core.Path.{_≡_, sym, ap, _∙_}
+use mathlib.Core.Path.{_≡_, ap, _∙_}
 use native.Mathlib.Omega.{arith}
 use borrow.Author.Needs.{needs}
 use lib.ListN.{length}
@@ -12,10 +12,14 @@ use Rattle.register.proofs.answer_job.Statement.{statement}
 use Rattle.register.proofs.answer_job.Tie as tie
 
 plane-of-requires : tie.Need-plane-of-requires
-plane-of-requires c κs = let s = c .before .before .before in (exact (s .args .job .now) _ (s .args .fields) (s .pre .0), own-fields (s .args .job .now) _ (s .args .fields) (s .pre .0))
+plane-of-requires c κs =
+    let s = c .before .before .before in
+    (exact (s .args .job .now) _ (s .args .fields) (s .pre .0), own-fields (s .args .job .now) _ (s .args .fields) (s .pre .0))
 
 points-of-requires : tie.Need-points-of-requires
-points-of-requires c κs = let s = c .before .before .before .before in (exact (s .args .job .now) _ (s .args .fields) (s .pre .0), own-fields (s .args .job .now) _ (s .args .fields) (s .pre .0))
+points-of-requires c κs =
+    let s = c .before .before .before .before in
+    (exact (s .args .job .now) _ (s .args .fields) (s .pre .0), own-fields (s .args .job .now) _ (s .args .fields) (s .pre .0))
 
 rules-of-requires : tie.Need-rules-of-requires
 rules-of-requires c κs = search needs
@@ -24,7 +28,9 @@ slice-aggregate-load-rows : tie.Need-slice-aggregate-load-rows
 slice-aggregate-load-rows c = search needs
 
 load-rows-requires : tie.Need-load-rows-requires
-load-rows-requires c κs = let s = c .before .before .before .before .before .before .before in (exact (s .args .job .now) _ (s .args .fields) (s .pre .0), own-fields (s .args .job .now) _ (s .args .fields) (s .pre .0), omega (arith, counts (s .args .job .now) _ (s .args .fields) (s .pre .0) .count-most))
+load-rows-requires c κs =
+    let s = c .before .before .before .before .before .before .before in
+    (exact (s .args .job .now) _ (s .args .fields) (s .pre .0), own-fields (s .args .job .now) _ (s .args .fields) (s .pre .0), omega (arith, counts (s .args .job .now) _ (s .args .fields) (s .pre .0) .count-most))
 
 slice-aggregate-faceting : tie.Need-slice-aggregate-faceting
 slice-aggregate-faceting c = search needs

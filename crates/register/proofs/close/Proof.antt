@@ -1,13 +1,12 @@
 -- `register::close` meets its contract: the cursor tells whether every word had room. Assumes nothing.
-use mathlib.Core.Path.{_≡_, refl, sym, ap, _∙_}
+use mathlib.Core.Path.{sym, ap, _∙_}
 use native.Mathlib.Omega.{arith}
 use borrow.Author.Needs.{needs}
 use lib.IntN.{pos}
 use lib.ListN.{length}
 use mir.Facts.{toZ-pos}
 use mir.Syntax.{w64}
-use Rattle.definitions.specs.Job.{Bytes, codeOf, bufferOf}
-use Rattle.definitions.specs.Outcome.{Outcome}
+use Rattle.definitions.specs.Job.{codeOf, bufferOf}
 use Rattle.register.specs.Closed.{fits, too-long}
 use Rattle.register.proofs.close.Statement.{statement}
 use Rattle.register.proofs.close.Tie as tie
@@ -20,7 +19,9 @@ same-length c = search needs
 
 returns : tie.Need-returns
 unfolding codeOf bufferOf
-returns c = let s = c .before .before .before .before .before .before in λ words w.
+returns c =
+    let s = c .before .before .before .before .before .before in
+    λ words w.
     let e = too-long words (s .args .answer .now) (s .args .at) w (omega arith) (omega arith) in
     (sym (ap codeOf e), c .before .before .clear .ensures ∙ sym (ap (bufferOf (length (s .args .answer .now))) e))
 
@@ -29,7 +30,9 @@ cast-result c = search needs
 
 returns-2 : tie.Need-returns-2
 unfolding codeOf
-returns-2 c = let s = c .before .before in λ words w.
+returns-2 c =
+    let s = c .before .before in
+    λ words w.
     let e = fits words (s .args .answer .now) (s .args .at) w (omega arith) (omega arith) in
     (toZ-pos w64 {n = s .args .at} (omega arith) ∙ (ap pos (e .1) ∙ sym (ap codeOf (e .0))), e .2 ∙ sym (ap (bufferOf (length (s .args .answer .now))) (e .0)))
 

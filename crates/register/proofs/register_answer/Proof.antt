@@ -1,7 +1,6 @@
 -- `register::register_answer` meets its contract: a refusal or a call, whatever the bytes and lengths; the demands follow from code and buffer. Assumes nothing.
-use mathlib.Core.Path.{_≡_, sym, ap, _∙_}
+use mathlib.Core.Path.{sym, ap, _∙_}
 use Prim.Native.Nat.{ℕ}
-use native.Mathlib.Omega.{arith}
 use borrow.Author.Needs.{needs}
 use lib.ListN.{length, replicate}
 use mir.Facts.{toZ-ofZ}
@@ -29,7 +28,9 @@ enum-known-fields : tie.Need-enum-known-fields
 enum-known-fields c = search needs
 
 answer-job-requires : tie.Need-answer-job-requires
-answer-job-requires c κs = let s = c .before .before .before .before .before .before .before .before .before .before .before .before .before in (sym (c .before .before .before .fields .given .1) ∙ c .before .before .before .before .before .check .ensures, c .before .before .before .before .before .before .before .before .clear .ensures ∙ ap (λ (k : ℕ). replicate k 0) (sym (c .before .before .before .before .before .before .before .answer .given)))
+answer-job-requires c κs =
+    let s = c .before .before .before .before .before .before .before .before .before .before .before .before .before in
+    (sym (c .before .before .before .fields .given .1) ∙ c .before .before .before .before .before .check .ensures, c .before .before .before .before .before .before .before .before .clear .ensures ∙ ap (λ (k : ℕ). replicate k 0) (sym (c .before .before .before .before .before .before .before .answer .given)))
 
 same-length : tie.Need-same-length
 same-length c = search needs

@@ -4,7 +4,6 @@ use borrow.Author.Needs.{needs}
 use Rattle.definitions.specs.Job.{bounds1}
 use Rattle.faceting.specs.Stocks.{rulesOf}
 use Rattle.register.specs.Loaded.{jobRules}
-use Rattle.space.specs.Meaning.{limitsOf}
 use Rattle.register.proofs.rules_of.Statement.{statement}
 use Rattle.register.proofs.rules_of.Tie as tie
 

@@ -14,7 +14,9 @@ same-length c = search needs
 
 returns : tie.Need-returns
 unfolding edgeAnswer
-returns c = let e : c .before .before .before .before .before .before .args .swapped ≡ true = search needs in rw e (c .before .before .write-swapped .ensures)
+returns c =
+    let e : c .before .before .before .before .before .before .args .swapped ≡ true = search needs in
+    rw e (c .before .before .write-swapped .ensures)
 
 write-separate-requires : tie.Need-write-separate-requires
 write-separate-requires c κs = search needs
@@ -24,7 +26,9 @@ same-length-2 c = search needs
 
 returns-2 : tie.Need-returns-2
 unfolding edgeAnswer
-returns-2 c = let e : c .before .before .before .before .before .before .args .swapped ≡ false = search needs in rw e (c .before .before .write-separate .ensures)
+returns-2 c =
+    let e : c .before .before .before .before .before .before .args .swapped ≡ false = search needs in
+    rw e (c .before .before .write-separate .ensures)
 
 pub write-ends-spec : {M : Type 1} → statement M
 write-ends-spec =

@@ -1,5 +1,4 @@
 -- `register::write_polyhedra` meets its contract: the laws of Writable say what is asked, and that the words written are document 01's. Assumes nothing.
-use native.Mathlib.Omega.{arith}
 use borrow.Author.Needs.{needs}
 use Rattle.register.specs.Writable.{images-asked, images-inside, solid-asked, solid-wrote}
 use Rattle.register.proofs.write_polyhedra.Statement.{statement}
@@ -18,7 +17,9 @@ sub-write-solid-answer : tie.Need-sub-write-solid-answer
 sub-write-solid-answer c = images-inside (c .before .before .before .before .before .before .before .before .before .before .before .pre .1) (c .before .before .before .before .order-images .ensures)
 
 part-write-solid-answer-start : tie.Need-part-write-solid-answer-start
-part-write-solid-answer-start c = let h = images-inside (c .before .before .before .before .before .before .before .before .before .before .before .pre .1) (c .before .before .before .before .order-images .ensures) in search needs
+part-write-solid-answer-start c =
+    let h = images-inside (c .before .before .before .before .before .before .before .before .before .before .before .pre .1) (c .before .before .before .before .order-images .ensures) in
+    search needs
 
 part-write-solid-answer-end : tie.Need-part-write-solid-answer-end
 part-write-solid-answer-end c = search needs
