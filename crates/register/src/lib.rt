@@ -109,7 +109,7 @@ fn write_left(
 // ---- the return code
 
 // "minus the refusal number"
-fn refusal(number: u8) -> i64
+pub fn refusal(number: u8) -> i64
     ensures { λ r. ⌜ r ≡ negℤ (pos number) ⌝ }
 {
     -(number as i64)
