@@ -8,13 +8,16 @@ use crate::job::workspace_length;
 use crate::known::KNOWN;
 use crate::measured::{self, Measured};
 
-/// The memory that the process holds, in kilobytes.
+/// The memory that the process holds, in kilobytes, without its program's own pages,
+/// which come and go as they are needed.
 pub fn resident() -> Result<u64, String> {
     let status = std::fs::read_to_string("/proc/self/status");
     let status = status.map_err(|error| format!("cannot read /proc/self/status: {error}"))?;
-    let line = status.lines().find_map(|line| line.strip_prefix("VmRSS:"));
+    let line = status
+        .lines()
+        .find_map(|line| line.strip_prefix("RssAnon:"));
     let number = line.and_then(|line| line.split_whitespace().next()?.parse().ok());
-    number.ok_or_else(|| "/proc/self/status does not tell VmRSS".into())
+    number.ok_or_else(|| "/proc/self/status does not tell RssAnon".into())
 }
 
 /// Jobs that are answered or refused in microseconds.
