@@ -84,3 +84,34 @@ fn a_list_replays_and_notices_changes() {
         Err(words) => println!("skipped: {words}"),
     }
 }
+
+/// A file that one of the proved programs is run on or held to.
+fn of_program(name: &str) -> Vec<u8> {
+    let place = format!("{}/../crates/{name}", env!("CARGO_MANIFEST_DIR"));
+    std::fs::read(&place).unwrap_or_else(|error| panic!("{place}: {error}"))
+}
+
+#[test]
+fn the_program_that_replays_is_given_results_of_the_original() {
+    let records = records(&of_program("replay/stdin"));
+    assert!(records.len() >= 400);
+    let refused = |number| records.iter().any(|record| record.refusal == number);
+    assert!((0..=17).all(refused));
+    let said = format!("{0} of {0} results are the Rust's\n", records.len());
+    assert_eq!(of_program("replay/stdout"), said.into_bytes());
+    let Some(mut oracle) = oracle() else { return };
+    assert!(records.iter().all(|record| replays(&mut oracle, record)));
+}
+
+#[test]
+fn the_program_that_answers_is_held_to_the_original() {
+    let text = String::from_utf8(of_program("../examples/cube.txt")).expect("a set is text");
+    let job = common::job(&text);
+    assert_eq!(of_program("facetings/stdin"), job);
+    let Some(mut oracle) = oracle() else { return };
+    let answer = of_program("facetings/stdout");
+    let mut buffer = vec![0; answer.len()];
+    let code = oracle.answer(&job, common::WORKSPACE, &mut buffer);
+    assert_eq!(usize::try_from(code), Ok(answer.len()));
+    assert_eq!(buffer, answer);
+}
