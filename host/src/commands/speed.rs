@@ -2,6 +2,7 @@
 
 use std::time::Duration;
 
+use facetings_host::job::Job;
 use facetings_host::measured::{self, Measured};
 use facetings_host::speed::{generated, Effort, Stopwatch, Timed};
 
@@ -21,11 +22,12 @@ Rust, taken in turn, and how many times as fast the register is. T seconds (defa
 1) are spent on a job, at least three runs. Buffers are cleared on both sides; the
 answer buffer is as long as the answer. Then how the time grows: parabolas of 5 to 20
 points with a budget of B lists (default: 20000), one parabola with growing budgets,
-one job with growing numbers of rows, and points of space with growing numbers of
-orbits. Last, of N generated cases (default: 3000) those that take either side a
-millisecond: how many, and where the register does worst. Exit status 1 if it is
-slower than the Rust on a job of the table or on such a case. --only takes the jobs
-whose names hold the word, as for a profile.
+one job with growing numbers of rows, points of space with growing numbers of
+orbits, and what a list of these costs in the search alone. Last, of N generated
+cases (default: 3000) those that take either side a millisecond: how many, and where
+the register does worst. Exit status 1 if it is slower than the Rust on a job of the
+table or on such a case. --only takes the jobs whose names hold the word, as for a
+profile.
 "
         .into()
     },
@@ -82,6 +84,9 @@ fn run(arguments: Arguments) -> Result<(), Failure> {
     for (title, jobs) in growing {
         table(&mut watch, title, &only(jobs), effort)?;
     }
+    let searched = [measured::parabolas(lists), measured::planes()];
+    let searched = only(searched.into_iter().flatten().collect());
+    searches(&mut watch, &searched, lists, effort)?;
     let slower = slower + slow_cases(&mut watch, seed, cases)?;
     match slower {
         0 => Ok(()),
@@ -115,6 +120,47 @@ fn table(
         print(&line(name, &timed))?;
     }
     Ok(slower)
+}
+
+/// A job that ends at the start of its outermost search, and the same job that goes
+/// on to a budget of so many lists: all that comes before that search cancels out.
+fn before_and_after(job: &Job, lists: u32) -> (Job, Job) {
+    let (mut begun, mut all) = (job.clone(), job.clone());
+    if job.rank == 3 {
+        begun.budget = 1;
+    } else {
+        begun.limit = Some(1);
+    }
+    all.limit = None;
+    all.budget = lists;
+    (begun, all)
+}
+
+/// What a list costs in the search alone.
+fn searches(
+    watch: &mut Stopwatch,
+    jobs: &[Measured],
+    lists: u32,
+    effort: Effort,
+) -> Result<(), Failure> {
+    print("\nthe search alone\n    register        Rust  a list of the job\n")?;
+    for Measured { name, job } in jobs {
+        let (begun, all) = before_and_after(job, lists);
+        let mut timed = |job: &Job| {
+            let timed = watch.time(&job.write(), effort);
+            timed.map_err(|words| different(name, &words))
+        };
+        let (first, all) = (timed(&begun)?, timed(&all)?);
+        let lists = f64::from(all.examined.saturating_sub(first.examined).max(1));
+        let each = |all: Duration, first: Duration| all.saturating_sub(first).div_f64(lists);
+        print(&format!(
+            "{} {}  rank {}, {name}\n",
+            clock(each(all.register, first.register)),
+            clock(each(all.original, first.original)),
+            job.rank
+        ))?;
+    }
+    Ok(())
 }
 
 fn line(name: &str, timed: &Timed) -> String {
