@@ -86,6 +86,7 @@ enum register_refusal {
  *     be read there (job) or read and written (workspace, answer).
  *   - The workspace and the answer buffer overlap neither each other nor the job,
  *     and nobody else uses the three during the call.
+ *   - There is room on the stack: the measured jobs took less than 48,000 bytes.
  *
  * The workspace may be lent again for the next call as it is. Its contents after a
  * call mean nothing.
