@@ -1,5 +1,5 @@
 // Replays recorded results of the Rust. Standard input holds them, every number a u32: how many there are; then for each the length of the job, the job, the lengths of workspace and answer
-// buffer, the refusal number or 0, the answer's length or 0, and a hash of the whole buffer at exit. The buffers stay as the call before left them. No contract can say what the Rust answered:
+// buffer, the refusal number or 0, the answer's length or 0, and a hash of the whole buffer at exit. They were made by `facetings-host record --seed 3`. The buffers stay as the call before left them. No contract can say what the Rust answered:
 // that every result is the same is held to the file stdout.
 
 ghost use Prim.Native.Nat.{_≤_};
