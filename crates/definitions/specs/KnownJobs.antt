@@ -1,10 +1,12 @@
 -- Every starred job of document 01's "Known jobs", evaluated from job bytes to the return code and all answer bytes. What is expected are the Rust's answers, as numbers.
+use mathlib.Core.Bool.{false, _&&_}
 use mathlib.Core.List.{List, [], _∷_}
 use Prim.Native.Nat.{ℕ}
-use lib.Dec.{T}
+use lib.Dec.{T, eqb}
+use lib.Ieee.{binary64, round, toBits}
 use Rattle.definitions.specs.Lists.{allOf}
 use Rattle.definitions.specs.Open.{open-all}
-use Rattle.definitions.specs.Examples.{Case, open-examples, passes, answers, refusedWith, plain, withBudget, withMax, withEntryLimit, identity, wholePoints, half, onePointTwo, segmentJob, squareJob, symmetricJob, cornerJob, threePoints}
+use Rattle.definitions.specs.Examples.{Case, open-examples, passes, answers, refusedWith, plain, withBudget, withMax, withEntryLimit, identity, wholePoints, half, onePointTwo, fourE-8, twoE-7, whole, segmentJob, squareJob, symmetricJob, cornerJob, threePoints}
 
 unfoldable pub twoPoints-answer : List ℕ
 twoPoints-answer =
@@ -145,6 +147,23 @@ crowdedLine-answer =
     -- compounds
     0 ∷ []
 
+-- a triangle that is nearly a line: three edges, each an orbit of its own
+unfoldable pub flatTriangle-answer : List ℕ
+flatTriangle-answer =
+    -- examined; orbits and their counts
+    5 ∷ 3 ∷ 1 ∷ 1 ∷ 1 ∷
+    -- entries
+    1 ∷
+    3 ∷ 0 ∷ 0 ∷ 1 ∷ 0 ∷ 2 ∷ 0 ∷ 4 ∷ 1 ∷ 0 ∷ 3 ∷ 1 ∷ 0 ∷ 1 ∷ 0 ∷ 1 ∷ 0 ∷ 3 ∷ 2 ∷ 0 ∷ 1 ∷ 2 ∷ 0 ∷ 2 ∷ 2 ∷ 1 ∷ 2 ∷ 1 ∷ 3 ∷ 0 ∷ 1 ∷ 2 ∷
+    -- possible facets of each orbit
+    1 ∷ 3 ∷ 1 ∷ 0 ∷ 2 ∷ 1 ∷ 0 ∷ 1 ∷ 0 ∷ 1 ∷ 2 ∷ 0 ∷ 1 ∷
+    1 ∷ 3 ∷ 1 ∷ 0 ∷ 2 ∷ 1 ∷ 0 ∷ 1 ∷ 0 ∷ 1 ∷ 2 ∷ 0 ∷ 2 ∷
+    1 ∷ 3 ∷ 1 ∷ 0 ∷ 2 ∷ 1 ∷ 0 ∷ 1 ∷ 0 ∷ 1 ∷ 2 ∷ 1 ∷ 2 ∷
+    -- compounds
+    0 ∷
+    -- summaries
+    3 ∷ 3 ∷ 3 ∷ []
+
 unfoldable pub starred : List Case
 starred =
     -- "Rank 2, two points: counts 1, 1."
@@ -168,8 +187,17 @@ starred =
     ∷ refusedWith 16 4194304 (cornerJob (withBudget 4 26))
     -- "(0,0), (1,0), (2,0): one orbit, no entry."
     ∷ answers 524288 (threePoints (wholePoints ((0 ∷ 0 ∷ []) ∷ (1 ∷ 0 ∷ []) ∷ (2 ∷ 0 ∷ []) ∷ []))) crowdedLine-answer
+    -- (0,0), (1,0), (0.5, 0.00000004): the third point lies within the tolerance of the line through the others, so there is one orbit, and no entry
+    ∷ answers 524288 (threePoints ((0 ∷ 0 ∷ []) ∷ (whole 1 ∷ 0 ∷ []) ∷ (half ∷ fourE-8 ∷ []) ∷ [])) crowdedLine-answer
+    -- at 0.0000002 it lies off that line: three orbits, and the triangle
+    ∷ answers 524288 (threePoints ((0 ∷ 0 ∷ []) ∷ (whole 1 ∷ 0 ∷ []) ∷ (half ∷ twoE-7 ∷ []) ∷ [])) flatTriangle-answer
     ∷ []
 
+-- the two heights are the doubles nearest to 4 and 20 hundred-millionths
+pub heights-are : T (eqb (toBits binary64 (round binary64 false 4 100000000)) fourE-8 && eqb (toBits binary64 (round binary64 false 20 100000000)) twoE-7)
+unfolding open-all
+heights-are = tt
+
 pub starred-jobs : T (allOf passes starred)
-unfolding open-all open-examples starred twoPoints-answer twoPointsSwapped-answer symmetricSquare-answer symmetricSquareMax12-answer symmetricSquareMax05-answer plainSquare-answer squareLimit0-answer corner-answer crowdedLine-answer
+unfolding open-all open-examples starred twoPoints-answer twoPointsSwapped-answer symmetricSquare-answer symmetricSquareMax12-answer symmetricSquareMax05-answer plainSquare-answer squareLimit0-answer corner-answer crowdedLine-answer flatTriangle-answer
 starred-jobs = tt
