@@ -54,30 +54,36 @@ adding-one t ridge (g ∷ l) e = go (adds t ridge g) refl (λ q. adding-one t ri
     go zero a ih = let r = ih (omega arith) in (r .0, there (r .1), r .2)
     go (suc n) a ih = (g, here refl, omega arith)
 
--- ---- what is left of a choice: its facets may join, ascend by orbit, and close the list
+-- ---- what is taken of a choice, and what is left
 
+-- the two together have a total of 0 or 2 in every ridge orbit
+abbrev pub Closing : Table → List Facet → List Facet → Type 0
+Closing t taken left = (ridge : ℕ) → ridge < t .ridges → (total t taken ridge + total t left ridge ≡ 0) ⊎ (total t taken ridge + total t left ridge ≡ 2)
+
+-- and so they have when one facet more is taken
+pub closing-after : (t : Table) (taken left : List Facet) (f : Facet) → Pairs Lower left → Mem f left → Closing t taken left → Closing t (taken ++ (f ∷ [])) (without f left)
+unfolding total
+closing-after t taken left f up h closing ridge k =
+    let a = total-perm t ridge (without-perm f left up h) in
+    let b = total-joined t taken f ridge in
+    subst (λ (n : ℕ). (n ≡ 0) ⊎ (n ≡ 2)) (same a b) (closing ridge k)
+  where
+    same : total t left ridge ≡ adds t ridge f + total t (without f left) ridge → total t (taken ++ (f ∷ [])) ridge ≡ total t taken ridge + adds t ridge f
+        → total t taken ridge + total t left ridge ≡ total t (taken ++ (f ∷ [])) ridge + total t (without f left) ridge
+    same a b = omega arith
+
+-- What is left may join an item, ascends by orbit, and closes its list.
 pub record Remaining (t : Table) (item : Item) (left : List Facet) : Type 0 where
   pub joins : (f : Facet) → Mem f left → Joins t item f
   pub ascending : Pairs Lower left
-  pub closing : (ridge : ℕ) → ridge < t .ridges → (total t (item .list) ridge + total t left ridge ≡ 0) ⊎ (total t (item .list) ridge + total t left ridge ≡ 2)
+  pub closing : Closing t (item .list) left
 
 -- one facet taken, at a mark below all others that are left
 take-one : (t : Table) (item : Item) (left : List Facet) (f : Facet) (mark : ℕ) → Remaining t item left → Mem f left → ((g : Facet) → Mem g (without f left) → mark < g .0)
     → Remaining t (joined item mark f) (without f left)
-unfolding joined total
-take-one t item left f mark r h above = record {
-  joins = still-joins;
-  ascending = without-ascends f left (r .ascending);
-  closing = λ ridge k.
-      let a = total-perm t ridge (without-perm f left (r .ascending) h) in
-      let b = total-joined t (item .list) f ridge in
-      subst (λ (n : ℕ). (n ≡ 0) ⊎ (n ≡ 2)) (same ridge a b) (r .closing ridge k);
-}
+unfolding joined
+take-one t item left f mark r h above = record { joins = still-joins; ascending = without-ascends f left (r .ascending); closing = closing-after t (item .list) left f (r .ascending) h (r .closing) }
   where
-    same : (ridge : ℕ) → total t left ridge ≡ adds t ridge f + total t (without f left) ridge → total t (item .list ++ (f ∷ [])) ridge ≡ total t (item .list) ridge + adds t ridge f
-        → total t (item .list) ridge + total t left ridge ≡ total t (item .list ++ (f ∷ [])) ridge + total t (without f left) ridge
-    same ridge a b = omega arith
-
     still-joins : (g : Facet) → Mem g (without f left) → Joins t (joined item mark f) g
     still-joins g k =
         let w = of-without f g left k in
@@ -129,11 +135,11 @@ by-child t item left f mark h next child x = record {
 }
 
 -- a total that what is left must bring to 2
-rest-one : (n m : ℕ) → n ≡ 1 → (n + m ≡ 0) ⊎ (n + m ≡ 2) → m ≡ 1
+pub rest-one : (n m : ℕ) → n ≡ 1 → (n + m ≡ 0) ⊎ (n + m ≡ 2) → m ≡ 1
 rest-one n m e (inl k) = absurd (omega arith)
 rest-one n m e (inr k) = omega arith
 
-never-over : (n m : ℕ) → 2 < n → (n + m ≡ 0) ⊎ (n + m ≡ 2) → ⊥
+pub never-over : (n m : ℕ) → 2 < n → (n + m ≡ 0) ⊎ (n + m ≡ 2) → ⊥
 never-over n m h (inl k) = omega arith
 never-over n m h (inr k) = omega arith
 

@@ -22,6 +22,7 @@ use Rattle.completeness.specs.Walk.{closedLists, cut, search-emits}
 use Rattle.completeness.specs.Taken.{emitted-order, choice-perm, in-choice, of-choice}
 use Rattle.completeness.specs.Choices.{ClosedChoice, closed-choice-of, same-choice, order-members}
 use Rattle.completeness.specs.Complete.{every-choice}
+use Rattle.completeness.specs.OneOrder.{one-order}
 use Rattle.completeness.specs.Unique.{Other, lists-differ, choices-differ}
 
 -- two lists made from one, item by item
@@ -153,6 +154,7 @@ module _ (rules : Rules) (p : Prepared) (found : Found) (is-found : searchFrom r
     every-entry = every-entry;
     every-choice = has-entry;
     one-to-one = λ e equal. (map choiceOf sorted, pair-off, all-choices t equal sorted (all-emitted e));
+    one-order = one-order t;
     at-most = λ m e. let n = entries-number m e in omega arith;
     different-choices = λ m e equal. (map choiceOf sorted, pair-off, differ m e equal, λ c h. closed-of c (of-map choiceOf c sorted h));
     number = λ m e equal.

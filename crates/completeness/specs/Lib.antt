@@ -6,6 +6,7 @@ pub mod Taken
 pub mod Choices
 pub mod Complete
 pub mod Unique
+pub mod OneOrder
 pub mod Entries
 pub mod Jobs
 pub mod Example

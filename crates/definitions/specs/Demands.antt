@@ -110,6 +110,9 @@ pub record EntriesComplete (limit : Option ℕ) (p : Prepared) (emitted : List (
   -- "provided that the shares .. are equal, entries and closed choices pair off one to one, each entry being its choice's"
   pub one-to-one : limit ≡ none → T (equalShares (tableFor p))
       → (choices : List (List Facet)) × Forall₂ (EntryOfChoice p) entries choices × AllClosedChoices (tableFor p) choices
+  -- and under that proviso a closed choice has just one order, so that "its entry" is one
+  pub one-order : T (equalShares (tableFor p)) → (c : List Facet) → T (isClosedChoice (tableFor p) c)
+      → (d e : List Facet) → T (isOrderOf (tableFor p) [] c d) → T (isOrderOf (tableFor p) [] c e) → d ≡ e
   -- "With entry limit m there are at most max(m, 1) entries."
   pub at-most : (m : ℕ) → limit ≡ some m → length entries ≤ max m 1
   -- "Under the same proviso they then belong to different choices"
