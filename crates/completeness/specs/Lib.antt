@@ -8,5 +8,7 @@ pub mod Complete
 pub mod Unique
 pub mod OneOrder
 pub mod Entries
+pub mod Determined
 pub mod Jobs
+pub mod Sentences
 pub mod Example
