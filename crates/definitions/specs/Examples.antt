@@ -1,4 +1,5 @@
--- Jobs as bytes and what is expected of a call, for the tables of this crate. A job is written here from its fields, by words that share nothing with the definitions that read it.
+-- Jobs as bytes and what is expected of a call, for the tables of this crate. A job is written here from its
+-- fields, by words that share nothing with the definitions that read it.
 use mathlib.Core.Bool.{Bool, true, false, cond, _&&_}
 use mathlib.Core.List.{List, [], _∷_, _++_, map, flatMap}
 use Prim.Native.Nat.{ℕ, zero, suc, _+_, _-_, _*_, _/_, _%_}
@@ -37,14 +38,14 @@ pub record Terms : Type 0 where
   pub present : Bytes
   pub budget : ℕ
 
--- "Unless said: .. d the number of coordinates, offset zero, basis the first rank − 1 unit vectors"
+-- [10.2] a job whose offset is 0 and whose basis is the first rank − 1 unit vectors
 unfoldable pub jobWith : Terms → ℕ → List (List ℕ) → List (List ℕ) → Bytes
 jobWith terms d points rows =
     (70 ∷ 67 ∷ 84 ∷ []) ++ bytesOf 2 1 ++ (terms .rank ∷ d ∷ length points ∷ []) ++ bytesOf 2 (length rows) ++ (terms .flags ∷ [])
     ++ terms .present ++ bytesOf 4 (terms .budget)
     ++ vectorBytes (replicate d 0 ∷ []) ++ vectorBytes (unitVectors d (terms .rank - 1)) ++ vectorBytes points ++ flatMap (λ (row : List ℕ). row) rows
 
--- "no limits, budget 1,000,000"
+-- no limits, and a budget of a million
 unfoldable pub plain : ℕ → Terms
 plain rank = record { rank = rank; flags = 0; present = []; budget = 1000000 }
 
@@ -61,7 +62,7 @@ withMax rank longest = record { rank = rank; flags = 2; present = bytesOf 8 long
 unfoldable pub withEntryLimit : ℕ → ℕ → Terms
 withEntryLimit rank m = record { rank = rank; flags = 4; present = bytesOf 4 m; budget = 1000000 }
 
--- "the identity row only"
+-- the identity alone
 unfoldable pub identity : ℕ → List (List ℕ)
 identity n = countFrom 0 n ∷ []
 
@@ -88,11 +89,11 @@ twoE-7 = 0x3e8ad7f29abcaf48
 
 -- ---- jobs
 
--- "square" is (0,0), (1,0), (1,1), (0,1)
+-- [14.1] the square: (0,0), (1,0), (1,1), (0,1)
 unfoldable pub square : List (List ℕ)
 square = wholePoints ((0 ∷ 0 ∷ []) ∷ (1 ∷ 0 ∷ []) ∷ (1 ∷ 1 ∷ []) ∷ (0 ∷ 1 ∷ []) ∷ [])
 
--- its 8 symmetries
+-- [14.1] its eight symmetries
 unfoldable pub squareRows : List (List ℕ)
 squareRows =
     (0 ∷ 1 ∷ 2 ∷ 3 ∷ []) ∷ (1 ∷ 2 ∷ 3 ∷ 0 ∷ []) ∷ (2 ∷ 3 ∷ 0 ∷ 1 ∷ []) ∷ (3 ∷ 0 ∷ 1 ∷ 2 ∷ [])

@@ -1,4 +1,5 @@
--- The call: `faceting_subdim` as document 01 defines it, by recursion on the rank. It ties "Orbits", "Recursion on rank", "Search" and "Splitting, figures, compounds" together.
+-- The call, by recursion on the rank: docs/SPECIFICATION.md, chapter 9. In the Rust it is `faceting_subdim`. It
+-- ties Orbits, Recursion, Search and Figures together.
 use mathlib.Core.Bool.{Bool, true, false}
 use mathlib.Core.List.{List, [], _∷_, map, flatMap}
 use Prim.Native.Nat.{ℕ, zero, suc, Ordering}
@@ -13,7 +14,8 @@ use Rattle.definitions.specs.Figures.{Figure, moveEnds, figureOf, partsO
 use Rattle.definitions.specs.Search.{Facet, Table, EntryLimits, Found, search}
 use Rattle.definitions.specs.Recursion.{Rules, Bounds, Entry, Answer, Call, Inner, InnerCalls, edgeCall, innerCall, innerCalls, moveSorted, tableOf}
 
--- What a call above rank 2 has before its search: its rank − 3, its number of points and its rows, its inner calls, and what is left of the budget.
+-- [9.1] What a call above rank 2 has before its search: its rank − 3, its number of points and its rows, its inner
+-- calls, and what is left of the budget.
 pub record Prepared : Type 0 where
   pub more : ℕ
   pub points : ℕ
@@ -21,7 +23,8 @@ pub record Prepared : Type 0 where
   pub inner : List Inner
   pub left : ℕ
 
--- "each call finding all its orbits, then refitting and calling orbit by orbit, then searching": all but the search. More orbits than the bound are refused with 13.
+-- [9.1] A call up to its search: the points are flattened, all orbits found, or 13, and the inner calls made.
+-- `call` is the call of the rank below.
 unfoldable pub prepare : ℕ → Rules → Call → Subspace → List Vec → List Row → ℕ → Outcome Prepared
 prepare more rules call plane points rows budget =
     let flat = map (flatten plane) points in
@@ -30,55 +33,57 @@ prepare more rules call plane points rows budget =
     andThen (innerCalls (innerCall (suc more) rules call flat rows) (rules .bounds .facets) orbits 0 budget) (λ (done : InnerCalls).
     answered (record { more = more; points = length points; rows = rows; inner = done .calls; left = done .left })))
 
--- the table that the call searches
+-- [9.1] the table that the call searches
 unfoldable pub tableFor : Prepared → Table
 tableFor p = tableOf (p .rows) (p .inner)
 
 -- ---- entries
 
--- "A possible facet's edge ends are this call's vertex numbers, its other ranks being those of the inner entry."
+-- [9.2] the figures of an inner call's entries, their edge ends moved to this call's vertices
 unfoldable pub possibleFacets : Inner → List Figure
 possibleFacets i = map (λ (e : Entry). moveEnds (λ (v : ℕ). getD (i .orbit .vertices) v 0) (e .figure)) (i .answer .entries)
 
--- one facet split: each part with the facet's orbit
+-- [9.3] the parts of one facet, each with the facet's orbit
 unfoldable pub splitIn : Inner → Facet → List Facet
 splitIn i f =
     let items = length (getD (map (λ (e : Entry). e .list) (i .answer .entries)) (f .1) []) in
     map (λ (part : ℕ). (f .0, part)) (partsOf (i .answer .compounds) items (f .1))
 
--- what is said of the orbit with a number, or nothing where there is none
+-- [9.3] what is said of the orbit with a number, or nothing where there is none
 unfoldable pub atOrbit : {A : Type 0} → (Inner → List A) → List Inner → ℕ → List A
 atOrbit says inner orbit = getD (map says inner) orbit []
 
--- "A compound facet is replaced by its two components": each facet of a list at its own place
+-- [9.3] each facet of a list replaced by its parts, at its place
 unfoldable pub split : Prepared → List Facet → List Facet
 split p list = flatMap (λ (f : Facet). atOrbit (λ (i : Inner). splitIn i f) (p .inner) (f .0)) list
 
--- "Its facets are all row images of the split facets"
+-- [9.4] the images of a facet under all rows
 unfoldable pub facetImages : Prepared → Facet → List Figure
 facetImages p f =
     let figure = getD (atOrbit possibleFacets (p .inner) (f .0)) (f .1) [] in
     map (λ (row : Row). moveSorted (image row) figure) (p .rows)
 
--- the entry of an emitted list: the list split, and the figure of the split list
+-- [9.4] [9.5] the entry of a list: the list split, and the figure of the split list
 unfoldable pub entryOf : Prepared → List Facet → Entry
 entryOf p list =
     let parts = split p list in
     record { list = parts; figure = figureOf (p .more) (p .points) (flatMap (facetImages p) parts) }
 
+-- [9.5] by split list
 unfoldable pub compareEntries : Entry → Entry → Ordering
 compareEntries d e = comparePairs (d .list) (e .list)
 
--- "Entries are sorted by split list"
+-- [9.5] an entry for each list emitted, sorted
 unfoldable pub entriesOf : Prepared → List (List Facet) → List Entry
 entriesOf p lists = sortBy compareEntries (map (entryOf p) lists)
 
 -- ---- the call
 
+-- [9.1] the limits of the call's search
 unfoldable pub entryLimits : Rules → EntryLimits
 entryLimits rules = record { limit = rules .entryLimit; bound = rules .bounds .entries }
 
--- the answer, once the search has ended: "then `label_irc`"
+-- [9.6] the answer, once the search has ended
 unfoldable pub finish : Prepared → Found → Answer
 finish p found =
     let entries = entriesOf p (found .lists) in
@@ -90,10 +95,12 @@ finish p found =
       left = found .left;
     }
 
+-- [9.1] the search of a call, with the budget that its inner calls left
 unfoldable pub searchFrom : Rules → Prepared → Outcome Found
 searchFrom rules p = search (tableFor p) (entryLimits rules) (p .left)
 
--- The call at rank 2 + n. "the call is repeated on it with rank − 1"
+-- [9.1] [1.2] The call of rank 2 + n: rank 2 looks at its rows, and any other rank makes its inner calls one rank
+-- lower.
 unfoldable pub faceting : ℕ → Rules → Call
 faceting zero rules = edgeCall
 faceting (suc more) rules = λ plane points rows budget.

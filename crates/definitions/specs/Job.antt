@@ -1,4 +1,5 @@
--- Document 01, "Job and answer bytes": from the job's bytes and the two buffers' lengths to the return code and the whole answer buffer. Leans on Faceting.
+-- Job, refusals and answer: docs/SPECIFICATION.md, chapters 10 to 12. From the job's bytes and the two buffers'
+-- lengths to the return value and the whole answer buffer. Leans on Faceting.
 use mathlib.Core.Bool.{Bool, true, false, cond, not, _&&_, _||_}
 use mathlib.Core.List.{List, [], _∷_, _++_, map, flatMap}
 use mathlib.Core.Option.{Option, some, none}
@@ -16,33 +17,36 @@ use Rattle.definitions.specs.Figures.{Figure, Elements, Compound, rankOf
 use Rattle.definitions.specs.Recursion.{Bounds, Rules, Entry, Answer}
 use Rattle.definitions.specs.Faceting.{faceting}
 
+-- [10.1] bytes, each a number below 256
 abbrev pub Bytes : Type 0
 Bytes = List ℕ
 
--- ---- numbers in bytes: "Little-endian."
+-- ---- numbers in bytes
 
+-- [10.1] the lowest byte first
 unfoldable pub little : Bytes → ℕ
 little [] = 0
 little (b ∷ bs) = b + 256 * little bs
 
--- the number in so many bytes from a place on
+-- [10.1] the number in so many bytes from a place on
 unfoldable pub numberAt : Bytes → ℕ → ℕ → ℕ
 numberAt bytes at many = little (take many (drop at bytes))
 
+-- [10.1] the f64 at a place
 unfoldable pub floatAt : Bytes → ℕ → Float
 floatAt bytes at = ofBits binary64 (numberAt bytes at 8)
 
--- so many f64 from a place on
+-- [10.1] so many f64 from a place on
 unfoldable pub floatsAt : Bytes → ℕ → ℕ → Vec
 floatsAt bytes at many = map (λ (i : ℕ). floatAt bytes (at + 8 * i)) (countFrom 0 many)
 
--- so many vectors of d f64 from a place on
+-- [10.1] so many vectors of d f64 from a place on
 unfoldable pub vectorsAt : Bytes → ℕ → ℕ → ℕ → List Vec
 vectorsAt bytes at d many = map (λ (i : ℕ). floatsAt bytes (at + 8 * d * i) d) (countFrom 0 many)
 
 -- ---- the job
 
--- the job's fields, read where they would stand whether or not the job is long enough
+-- [10.2] the job's fields, read where they would stand whether or not the job is long enough
 pub record Job : Type 0 where
   pub rank : ℕ
   pub d : ℕ
@@ -59,16 +63,16 @@ pub record Job : Type 0 where
   pub rows : List Row
   pub size : ℕ
 
--- "u8 flags (bits 0, 1, 2: min, max, entry limit m present)": bit k, of weight 2 ^ k
+-- [10.2] the flag bit of this weight is set
 unfoldable pub flagSet : ℕ → ℕ → Bool
 flagSet flags weight = eqb 1 (flags / weight % 2)
 
+-- [10.2] a field that is flagged, or nothing
 unfoldable pub present : {A : Type 0} → Bool → A → Option A
 present true a = some a
 present false a = none
 
--- "Job: mark "FCT", u16 version 1, u8 rank, u8 d, u8 n, u16 row count, u8 flags ..; present ones in that order (f64, f64, u32); u32 budget; offset (d f64),
--- basis (rank − 1 vectors), n points, rows of n bytes."
+-- [10.2] each field behind the one before; `size` is where the last row ends
 unfoldable pub readJob : Bytes → Job
 readJob bytes =
     let rank = getD bytes 5 0 in
@@ -105,45 +109,49 @@ readJob bytes =
 
 -- ---- refusals
 
+-- [11.1] from the lowest to the highest, both included
 unfoldable pub between : ℕ → ℕ → ℕ → Bool
 between lowest highest x = leb lowest x && leb x highest
 
--- finite, and not beyond a whole number in size
+-- [11.2] finite, and not beyond a whole number in size
 unfoldable pub within : ℕ → Float → Bool
 within most nan = false
 within most (inf s) = false
 within most (fin s m e) = le (fin false m e) (fin false most (pos 0))
 
+-- [11.2] each component within
 unfoldable pub allWithin : ℕ → Vec → Bool
 allWithin most = allOf (within most)
 
--- a limit on lengths that is finite, not "below 0" nor "above 131,072"
+-- [11.2] a min or max that is not there, or is from 0 to 131,072; −0 is not below 0
 unfoldable pub limitGood : Option Float → Bool
 limitGood none = true
 limitGood (some x) = within 131072 x && le zero64 x
 
--- "A float not finite, a point or offset number beyond 65,536 in size, a basis number beyond 1, or a min or max below 0 or above 131,072"
+-- [11.2] every f64 of the job is within its bound
 unfoldable pub floatsGood : Job → Bool
 floatsGood job =
     limitGood (job .shortest) && limitGood (job .longest)
     && allWithin 65536 (job .offset) && allOf (allWithin 1) (job .basis) && allOf (allWithin 65536) (job .points)
 
+-- [11.1] two lists of numbers are equal
 unfoldable pub sameNats : List ℕ → List ℕ → Bool
 sameNats a b = isEq (compareNats a b)
 
+-- [11.1] a row that is a permutation of n vertices
 unfoldable pub isPermutation : ℕ → Row → Bool
 isPermutation n row = sameNats (sortNats row) (countFrom 0 n)
 
--- "Workspace under 0, 524,288 or 4,194,304 bytes for rank 2, 3, 4"
+-- [11.3] the least workspace of a rank
 unfoldable pub workspaceFor : ℕ → ℕ
 workspaceFor rank = cond (eqb rank 2) 0 (cond (eqb rank 3) 524288 4194304)
 
--- a refusal's number, and what a job must pass to escape it
+-- [11.1] a refusal's number, and whether the job passes it
 pub record Test : Type 0 where
   pub number : ℕ
   pub passes : Unit {0} → Bool
 
--- "Refused, in this order": 1 to 12. Each line is document 01's, the other way round.
+-- [11.1] the tests before the call, in their order
 unfoldable pub tests : Bytes → ℕ → List Test
 tests bytes workspace =
     let job = readJob bytes in
@@ -161,21 +169,22 @@ tests bytes workspace =
     ∷ record { number = 12; passes = λ u. leb (workspaceFor (job .rank)) workspace }
     ∷ []
 
--- the first test that is not passed refuses, and what follows is worked out only where all are passed
+-- [11.1] the first test that is not passed refuses, and what follows is worked out only where all are passed
 unfoldable pub passAll : {A : Type 0} → List Test → (Unit {0} → Outcome A) → Outcome A
 passAll [] next = next tt
 passAll (t ∷ ts) next = refuseIf (not (t .passes tt)) (t .number) (λ u. passAll ts next)
 
 -- ---- the call
 
--- 1e-7, the tolerance of version 1
+-- [12.2] 1e-7, the tolerance of version 1
 abbrev pub tolerance1 : Float
 tolerance1 = ofBits binary64 0x3e7ad7f29abcaf48
 
--- the bounds of document 01: "A 257th hyperplane orbit", "A 1,025th possible facet or entry"
+-- [12.2] [11.4] the bounds of version 1: one more is refused with 13, 15, 15
 unfoldable pub bounds1 : Bounds
 bounds1 = record { orbits = 256; facets = 1024; entries = 1024 }
 
+-- [12.1] [6.2] what is alike in all calls of this job
 unfoldable pub rulesOf : Bounds → Job → Rules
 rulesOf bounds job = record {
   tolerance = tolerance1;
@@ -184,38 +193,39 @@ rulesOf bounds job = record {
   bounds = bounds;
 }
 
+-- [12.1] the plane of the outermost call
 unfoldable pub planeOf : Job → Subspace
 planeOf job = record { offset = job .offset; basis = job .basis }
 
--- the outermost call: 13 to 16, or the answer
+-- [12.1] [11.4] the outermost call: an answer, or one of 13 to 16
 unfoldable pub callOf : Bounds → Job → Outcome Answer
 callOf bounds job = faceting (job .rank - 2) (rulesOf bounds job) (planeOf job) (job .points) (job .rows) (job .budget)
 
--- ---- the answer's numbers: "Answer, every number a u32"
+-- ---- the answer's numbers
 
--- how many, and then each
+-- [12.3] how many, and then each
 unfoldable pub counted : {A : Type 0} → (A → List ℕ) → List A → List ℕ
 counted words items = length items ∷ flatMap words items
 
--- "A figure: number of ranks; per rank the number of elements; per element the number of subs, then the subs."
+-- [12.4] ranks, elements and subs, each behind their number
 unfoldable pub figureWords : Figure → List ℕ
 figureWords = counted (counted (counted (λ (sub : ℕ). sub ∷ [])))
 
--- "each its split list's length, pairs, figure"
+-- [12.3] of an entry: its split list, behind its length, and its figure
 unfoldable pub entryWords : Entry → List ℕ
 entryWords e = counted (λ (item : Pair). item .0 ∷ item .1 ∷ []) (e .list) ++ figureWords (e .figure)
 
+-- [12.3] of a compound: the entry and its two components
 unfoldable pub compoundWords : Compound → List ℕ
 compoundWords c = c .whole ∷ c .first ∷ c .second ∷ []
 
--- "per entry a summary: points (elements in rank 1), edges (elements in rank 2), facets (elements in the second last rank)"
+-- [12.5] of an entry: points, edges, facets
 unfoldable pub summaryWords : Entry → List ℕ
 summaryWords e =
     let f = e .figure in
     length (rankOf 1 f) ∷ length (rankOf 2 f) ∷ length (rankOf (length f - 2) f) ∷ []
 
--- "examined; orbit count, counts; entry count, each its split list's length, pairs, figure; for each orbit the possible facets (number, figures ..);
--- map size, triples ascending; then per entry a summary". Examined is what was used of the budget, "over all depths".
+-- [12.3] All numbers of an answer. Lists examined, in all calls, are what was used of the budget.
 unfoldable pub answerWords : ℕ → Answer → List ℕ
 answerWords budget a =
     (budget - a .left)
@@ -225,35 +235,38 @@ answerWords budget a =
     ++ counted compoundWords (a .compounds)
     ++ flatMap summaryWords (a .entries)
 
--- a u32
+-- [12.6] a u32: the remainder by 2 ^ 32, the lowest byte first
 unfoldable pub wordBytes : ℕ → Bytes
 wordBytes w = w % 256 ∷ w / 256 % 256 ∷ w / 65536 % 256 ∷ w / 16777216 % 256 ∷ []
 
+-- [12.6] the bytes of an answer
 unfoldable pub answerBytes : ℕ → Answer → Bytes
 answerBytes budget a = flatMap wordBytes (answerWords budget a)
 
 -- ---- from bytes to bytes
 
--- "17. Answer buffer too short."
+-- [11.5] the answer, where there is room for it, or 17
 unfoldable pub fitting : ℕ → Bytes → Outcome Bytes
 fitting room bytes = refuseIf (ltb room (length bytes)) 17 (λ u. answered bytes)
 
--- The answer's bytes, or the refusal, for a job with so many bytes of workspace and room for so many bytes of answer; the bounds are passed in.
+-- [1.1] The answer's bytes, or the refusal, for a job with so many bytes of workspace and room for so many bytes of
+-- answer; the bounds are passed in.
 unfoldable pub outcomeWithin : Bounds → Bytes → ℕ → ℕ → Outcome Bytes
 outcomeWithin bounds bytes workspace room =
     let job = readJob bytes in
     passAll (tests bytes workspace) (λ u.
     andThen (callOf bounds job) (λ (a : Answer). fitting room (answerBytes (job .budget) a)))
 
+-- [1.1] the outcome of version 1: everything that the register promises is said of it
 unfoldable pub outcome : Bytes → ℕ → ℕ → Outcome Bytes
 outcome = outcomeWithin bounds1
 
--- "returns the answer length or minus the refusal number"
+-- [12.7] the return value
 unfoldable pub codeOf : Outcome Bytes → ℤ
 codeOf (refused number) = negℤ (pos number)
 codeOf (answered bytes) = pos (length bytes)
 
--- "After a refusal the answer buffer is zero throughout; after an answer, all bytes behind it are zero." (demand 1)
+-- [12.7] the whole answer buffer
 unfoldable pub bufferOf : ℕ → Outcome Bytes → Bytes
 bufferOf room (refused number) = replicate room 0
 bufferOf room (answered bytes) = bytes ++ replicate (room - length bytes) 0

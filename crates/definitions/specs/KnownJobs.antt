@@ -1,4 +1,5 @@
--- Every starred job of document 01's "Known jobs", evaluated from job bytes to the return code and all answer bytes. What is expected are the Rust's answers, as numbers.
+-- Known jobs [14.2], evaluated from job bytes to the return code and all answer bytes. What is expected are the
+-- Rust's answers, as numbers.
 use mathlib.Core.Bool.{false, _&&_}
 use mathlib.Core.List.{List, [], _∷_}
 use Prim.Native.Nat.{ℕ}
@@ -37,6 +38,7 @@ twoPointsSwapped-answer =
     -- summaries
     2 ∷ 1 ∷ 2 ∷ []
 
+-- [14.1] the square and its symmetries
 unfoldable pub symmetricSquare-answer : List ℕ
 symmetricSquare-answer =
     -- examined; orbits and their counts
@@ -164,30 +166,32 @@ flatTriangle-answer =
     -- summaries
     3 ∷ 3 ∷ 3 ∷ []
 
+-- [14.2] jobs with what is known of them
 unfoldable pub starred : List Case
 starred =
-    -- "Rank 2, two points: counts 1, 1."
+    -- rank 2: two ends, an orbit each
     answers 0 (segmentJob (identity 2)) twoPoints-answer
-    -- "With the swap: 2."
+    -- and swapped by a row: one orbit of two
     ∷ answers 0 (segmentJob ((0 ∷ 1 ∷ []) ∷ (1 ∷ 0 ∷ []) ∷ [])) twoPointsSwapped-answer
-    -- "Square, its 8 symmetries: counts 4, 2; entry (0,0); examined 3."
+    -- the square with its symmetries: four sides, two diagonals, and the sides close
     ∷ answers 524288 (symmetricJob (plain 3)) symmetricSquare-answer
-    -- "Max 1.2: counts 4, examined 1."
+    -- no diagonal is as short as 1.2
     ∷ answers 524288 (symmetricJob (withMax 3 onePointTwo)) symmetricSquareMax12-answer
-    -- "Max 0.5: no orbits, no entries."
+    -- and no side as short as 0.5
     ∷ answers 524288 (symmetricJob (withMax 3 half)) symmetricSquareMax05-answer
-    -- "Square: 7 entries; orbits 0,1,3 / 0,1,4,5 / 0,2,3,5 / 0,2,4 / 1,2,3,4 / 1,2,5 / 3,4,5, facet 0 each."
+    -- the square with the identity alone: four triangles and three quadrilaterals
     ∷ answers 524288 (squareJob (plain 3)) plainSquare-answer
-    -- "Limit 0 or 1: only 3,4,5; examined 5."
+    -- with an entry limit of 0 or 1: the first that is emitted
     ∷ answers 524288 (squareJob (withEntryLimit 3 0)) squareLimit0-answer
     ∷ answers 524288 (squareJob (withEntryLimit 3 1)) squareLimit0-answer
-    -- "(0,0,0), (1,0,0), (0,1,0), (0,0,1), rank 4: entry 0,1,2,3; examined 27"
+    -- the tetrahedron, in 27 lists
     ∷ answers 4194304 (cornerJob (plain 4)) corner-answer
-    -- "budget 26 is refused 16"
+    -- for which a budget of 26 is one too few
     ∷ refusedWith 16 4194304 (cornerJob (withBudget 4 26))
-    -- "(0,0), (1,0), (2,0): one orbit, no entry."
+    -- three points of a line: its edge joins the first two
     ∷ answers 524288 (threePoints (wholePoints ((0 ∷ 0 ∷ []) ∷ (1 ∷ 0 ∷ []) ∷ (2 ∷ 0 ∷ []) ∷ []))) crowdedLine-answer
-    -- (0,0), (1,0), (0.5, 0.00000004): the third point lies within the tolerance of the line through the others, so there is one orbit, and no entry
+    -- (0,0), (1,0), (0.5, 0.00000004): the third point lies within the tolerance of the line through the others,
+    -- so there is one orbit, and no entry
     ∷ answers 524288 (threePoints ((0 ∷ 0 ∷ []) ∷ (whole 1 ∷ 0 ∷ []) ∷ (half ∷ fourE-8 ∷ []) ∷ [])) crowdedLine-answer
     -- at 0.0000002 it lies off that line: three orbits, and the triangle
     ∷ answers 524288 (threePoints ((0 ∷ 0 ∷ []) ∷ (whole 1 ∷ 0 ∷ []) ∷ (half ∷ twoE-7 ∷ []) ∷ [])) flatTriangle-answer

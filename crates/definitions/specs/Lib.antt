@@ -1,4 +1,5 @@
--- Document 01 as definitions that evaluate, in the order of its sections; then the demands, and what is evaluated against both.
+-- docs/SPECIFICATION.md as definitions that evaluate, in the order of its chapters, the demands last; then what is
+-- evaluated against them.
 pub mod Lists
 pub mod Outcome
 pub mod Vectors

@@ -1,4 +1,5 @@
--- `open-all` on an `unfolding` line opens every definition of this crate, and the library's float operations and list words that they use: for tests that compute.
+-- `open-all` on an `unfolding` line opens every definition of this crate, and the library's float operations and
+-- list words that they use: for tests that compute.
 use mathlib.Core.List.{flatMap, zipWith}
 use lib.Ieee.{add, sub, mul, div, neg, lt, le, eq, ofBits, toBits, fits, round, size}
 use Rattle.definitions.specs.Lists.{isGt, thenBy, compareList, insertBy, sortBy, anyOf, allOf, keep, placeOf, fresh, choose, mapAt, mapWith, countFrom, comparePair, compareNats, comparePairs, sortNats, memberNat, memberPair}

@@ -1,4 +1,4 @@
--- Document 01, "Orbits". Vertices, pairs and hyperplanes of one call. Leans on Subspace.
+-- Orbits of vertices, pairs and hyperplanes in one call: docs/SPECIFICATION.md, chapter 5. Leans on Subspace.
 use mathlib.Core.Bool.{Bool, true, false, cond, not, _&&_, _||_}
 use mathlib.Core.List.{List, [], _∷_, _++_, map, flatMap}
 use mathlib.Core.Option.{Option, some, none}
@@ -10,25 +10,26 @@ use Rattle.definitions.specs.Lists.{Pair, memberNat, memberPair, sortNat
 use Rattle.definitions.specs.Vectors.{Vec, norm, minus}
 use Rattle.definitions.specs.Subspace.{Subspace, fromPoints, isHyperplane, distance}
 
--- A row is a permutation of the vertices: v goes to the number at place v.
+-- [5.1] A row is a permutation of the vertices: v goes to the number at place v.
 abbrev pub Row : Type 0
 Row = List ℕ
 
+-- [5.1] where a row carries a vertex
 unfoldable pub image : Row → ℕ → ℕ
 image row v = getD row v 0
 
--- the point with a vertex's number
+-- [5.1] the point with a vertex's number
 unfoldable pub pointAt : List Vec → ℕ → Vec
 pointAt points v = getD points v []
 
--- "Each limit is either absent or a length."
+-- [5.3] min and max, each there or not
 pub record Limits : Type 0 where
   pub shortest : Option Float
   pub longest : Option Float
 
 -- ---- vertices
 
--- "Walk vertices upward; an unseen one opens an orbit, its images under the rows (permutations) are marked."
+-- [5.2] a vertex that is not seen opens an orbit; its images under the rows are seen from then on
 unfoldable pub vertexOpeners : List Row → List ℕ → List ℕ → List ℕ
 vertexOpeners rows seen [] = []
 vertexOpeners rows seen (v ∷ vs) =
@@ -38,27 +39,28 @@ vertexOpeners rows seen (v ∷ vs) =
 
 -- ---- pairs
 
--- "< min − 1e-7"
+-- [5.3] below min less the tolerance
 unfoldable pub tooShort : Float → Option Float → Float → Bool
 tooShort tolerance none length = false
 tooShort tolerance (some shortest) length = lt length (sub binary64 shortest tolerance)
 
--- "> max + 1e-7"
+-- [5.3] above max and the tolerance
 unfoldable pub tooLong : Float → Option Float → Float → Bool
 tooLong tolerance none length = false
 tooLong tolerance (some longest) length = lt (add binary64 longest tolerance) length
 
--- "skip it if its length is < min − 1e-7 or > max + 1e-7"; "Lengths use the points as passed to this call, not the flattened ones."
+-- [5.3] the length between two vertices, of the points as passed, breaks a limit
 unfoldable pub breaksLimit : Float → Limits → List Vec → ℕ → ℕ → Bool
 breaksLimit tolerance limits points v w =
     let length = norm (minus (pointAt points w) (pointAt points v)) in
     tooShort tolerance (limits .shortest) length || tooLong tolerance (limits .longest) length
 
--- a pair's image, "smaller first"
+-- [5.4] a pair's image, the smaller vertex first
 unfoldable pub pairImage : Pair → Row → Pair
 pairImage p row = (min (image row (p .0)) (image row (p .1)), max (image row (p .0)) (image row (p .1)))
 
--- A pair that is marked or skipped opens nothing; any other "opens a pair orbit and its images (smaller first) are marked".
+-- [5.4] a pair that is marked or breaks a limit opens nothing and marks nothing; any other opens an orbit and marks
+-- its images
 unfoldable pub pairOpeners : (Pair → Bool) → List Row → List Pair → List Pair → List Pair
 pairOpeners skip rows marked [] = []
 pairOpeners skip rows marked (p ∷ ps) =
@@ -66,39 +68,40 @@ pairOpeners skip rows marked (p ∷ ps) =
     let new = p ∷ pairOpeners skip rows (map (pairImage p) rows ++ marked) ps in
     cond (memberPair p marked || skip p) old new
 
--- w, w + 1, .. for the vertices above v, of n
+-- [5.4] the vertices above v, of n
 unfoldable pub above : ℕ → ℕ → List ℕ
 above n v = countFrom (suc v) (n - suc v)
 
--- "For each orbit's opener v and each w > v"
+-- [5.4] the pairs of each opener with the vertices above it, in order
 unfoldable pub pairsFrom : ℕ → List ℕ → List Pair
 pairsFrom n openers = flatMap (λ (v : ℕ). map (λ (w : ℕ). (v, w)) (above n v)) openers
 
 -- ---- hyperplanes
 
--- "Each pair orbit's opener (v, w), in order, is extended by rank − 3 vertices, ascending and above w, all such tuples in lexicographic order.
--- An added vertex whose length from v breaks a limit drops the tuple." `more` is rank − 3.
+-- [5.5] a pair with `more` vertices above it, where none of those added breaks a limit with the first; `more` is
+-- rank − 3
 unfoldable pub tuples : (ℕ → ℕ → Bool) → ℕ → ℕ → Pair → List (List ℕ)
 tuples breaks n more p =
     map (λ (added : List ℕ). p .0 ∷ p .1 ∷ added) (keep (allOf (λ (u : ℕ). not (breaks (p .0) u))) (choose (above n (p .1)) more))
 
--- "its set is all points at distance < 1e-7", as ascending vertex numbers from v on
+-- [5.6] the vertices whose distance is below the tolerance, ascending from v on
 unfoldable pub pointsNear : Float → Subspace → List Vec → ℕ → List ℕ
 pointsNear tolerance s [] v = []
 pointsNear tolerance s (p ∷ ps) v =
     let rest = pointsNear tolerance s ps (suc v) in
     cond (lt (distance s p) tolerance) (v ∷ rest) rest
 
+-- [5.1] a set's image, ascending
 unfoldable pub setImage : List ℕ → Row → List ℕ
 setImage vertices row = sortNats (map (image row) vertices)
 
--- a hyperplane orbit: its first set, and how many sets it has
+-- [5.7] a hyperplane orbit: its first set, and how many sets it has
 pub record Orbit : Type 0 where
   pub vertices : List ℕ
   pub count : ℕ
 
--- "If the flattened tuple fits a hyperplane, its set is all points at distance < 1e-7. A set not seen before opens a hyperplane orbit;
--- the row images not yet seen join it and are counted."
+-- [5.6] [5.7] A tuple that makes no hyperplane, or whose set is seen, is passed over. Any other opens an orbit; its
+-- images that are new join it and are seen from then on.
 unfoldable pub hyperplanes : Float → List Vec → List Row → List (List ℕ) → List (List ℕ) → List Orbit
 hyperplanes tolerance flat rows seen [] = []
 hyperplanes tolerance flat rows seen (tuple ∷ ts) =
@@ -110,7 +113,7 @@ hyperplanes tolerance flat rows seen (tuple ∷ ts) =
     let new = orbit ∷ hyperplanes tolerance flat rows (joined ++ seen) ts in
     cond (isHyperplane s && not (anyOf (λ (q : List ℕ). isEq (compareNats set q)) seen)) new old
 
--- all hyperplane orbits of a call, from its points as passed and its flattened points
+-- [5.7] all hyperplane orbits of a call, from its points as passed and its flattened points
 unfoldable pub hyperplaneOrbits : Float → Limits → ℕ → List Vec → List Vec → List Row → List Orbit
 hyperplaneOrbits tolerance limits more points flat rows =
     let n = length points in

@@ -1,4 +1,5 @@
--- Jobs that show document 01's five "Errors a porter may make", beside the starred jobs, which show three of them already. What is expected are the Rust's answers, as numbers.
+-- Jobs that show the mistakes of [14.3], beside the known jobs, which show three of them already. What is expected
+-- are the Rust's answers, as numbers.
 use mathlib.Core.List.{List, [], _∷_}
 use Prim.Native.Nat.{ℕ}
 use lib.Dec.{T}
@@ -70,18 +71,21 @@ splitApart-answer =
     -- summaries
     4 ∷ 6 ∷ 4 ∷ 4 ∷ 6 ∷ 6 ∷ 4 ∷ 6 ∷ 5 ∷ []
 
+-- [14.3] jobs whose answers tell each mistake
 unfoldable pub telling : List Case
 telling =
-    -- "Measuring edges on flattened points": (0,0,0), (1,0,1), (0,1,0) at rank 3 with max 1.2. The edge from the first to the second is √2 long, and 1 when flattened.
+    -- lengths between flattened points: (0,0,0), (1,0,1), (0,1,0) at rank 3 with max 1.2; the edge from the first to
+    -- the second is √2 long, and 1 when flattened
     answers 524288 (jobWith (withMax 3 onePointTwo) 3 (wholePoints ((0 ∷ 0 ∷ 0 ∷ []) ∷ (1 ∷ 0 ∷ 1 ∷ []) ∷ (0 ∷ 1 ∷ 0 ∷ []) ∷ [])) (identity 3)) slanted-answer
-    -- "Adding shares per place instead of the last" and "Sorting the items inside a list": rows that are not closed under composition, with unequal shares
+    -- shares added up place by place, and split lists with their items sorted: rows that are not closed under
+    -- composition, with unequal shares
     ∷ answers 4194304 (jobWith (plain 4) 3 (wholePoints ((0 ∷ 1 ∷ 0 ∷ []) ∷ (1 ∷ 2 ∷ 0 ∷ []) ∷ (1 ∷ 0 ∷ 1 ∷ []) ∷ (0 ∷ 0 ∷ 0 ∷ []) ∷ (2 ∷ 1 ∷ 1 ∷ []) ∷ []))
     ((0 ∷ 1 ∷ 2 ∷ 3 ∷ 4 ∷ []) ∷ (0 ∷ 1 ∷ 4 ∷ 3 ∷ 2 ∷ []) ∷ (0 ∷ 1 ∷ 3 ∷ 4 ∷ 2 ∷ []) ∷ [])) unequalShares-answer
-    -- "Testing the limit before emitting, so 0 yields none"
+    -- the limit asked before emitting: a limit of 0 would then give nothing
     ∷ answers 524288 (squareJob (withEntryLimit 3 0)) squareLimit0-answer
-    -- "Taking the outer two points of a crowded line"
+    -- an edge between the outer points of a crowded line
     ∷ answers 524288 (threePoints (wholePoints ((0 ∷ 0 ∷ []) ∷ (1 ∷ 0 ∷ []) ∷ (2 ∷ 0 ∷ []) ∷ []))) crowdedLine-answer
-    -- not among the five: one queue for a whole list instead of one for each facet
+    -- one queue for a whole list instead of one for each facet
     ∷ answers 4194304 (jobWith (plain 4) 3 (wholePoints ((0 ∷ 0 ∷ 0 ∷ []) ∷ (0 ∷ 0 ∷ 1 ∷ []) ∷ (0 ∷ 1 ∷ 0 ∷ []) ∷ (1 ∷ 0 ∷ 0 ∷ []) ∷ []))
     ((0 ∷ 1 ∷ 2 ∷ 3 ∷ []) ∷ (3 ∷ 1 ∷ 2 ∷ 0 ∷ []) ∷ (1 ∷ 3 ∷ 2 ∷ 0 ∷ []) ∷ [])) splitApart-answer
     ∷ []

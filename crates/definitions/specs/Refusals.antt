@@ -1,4 +1,5 @@
--- A job for each refusal that a short evaluation can reach, the order of the refusals, and both sides of the bounds. 13 and both kinds of 15 are shown with small bounds passed in.
+-- A job for each refusal of chapter 11 that a short evaluation can reach, the order of the refusals, and both sides
+-- of the bounds. 13 and both kinds of 15 are shown with small bounds passed in.
 use mathlib.Core.List.{List, [], _∷_, _++_, flatMap}
 use Prim.Native.Nat.{ℕ, _+_, _-_, _*_}
 use lib.Dec.{T}
@@ -50,7 +51,7 @@ unfoldable pub counts : List Case
 counts =
     refusedWith 3 0 (header 1 1 2 4 1 0) ∷ refusedWith 3 0 (header 1 5 4 4 1 0)
     ∷ refusedWith 4 0 (header 1 3 1 4 1 0) ∷ refusedWith 4 0 (header 1 3 5 4 1 0)
-    -- "n = 20 passes 5, 21 and 1 don't. A 10-byte job: 1."
+    -- 2 to 20 points, and no job of 10 bytes
     ∷ answers 0 (line 20 1) twoPoints-answer ∷ refusedWith 5 0 (line 21 1) ∷ refusedWith 5 0 (line 1 1)
     ∷ refusedWith 1 0 (take 10 (line 20 1))
     ∷ answers 0 (line 2 120) twoPoints-answer ∷ refusedWith 6 0 (line 2 121) ∷ refusedWith 6 0 (line 2 0)
@@ -91,7 +92,8 @@ floats =
 unfoldable pub buffers : List Case
 buffers =
     refusedWith 12 524287 (squareJob (plain 3)) ∷ refusedWith 12 4194303 (cornerJob (plain 4))
-    -- "(0,0), (0.001, 0.00000005), (1,0): 14."
+    -- (0,0), (0.001, 0.00000005), (1,0): all lie near the line through the first and the third, and what is made of
+    -- them in their order has two basis vectors
     ∷ refusedWith 14 524288 (threePoints ((0 ∷ 0 ∷ []) ∷ (thousandth ∷ fiveE-8 ∷ []) ∷ (whole 1 ∷ 0 ∷ []) ∷ []))
     -- rank 2 examines nothing
     ∷ answers 0 (jobWith (withBudget 2 0) 1 (wholePoints ((0 ∷ []) ∷ (1 ∷ []) ∷ [])) (identity 2)) twoPoints-answer

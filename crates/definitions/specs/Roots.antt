@@ -1,4 +1,5 @@
--- The square root at some values, evaluated: bit patterns of x and of its root, as a processor's own root instruction gives them.
+-- The square root [3.2] at some values, evaluated: bit patterns of x and of its root, as a processor's own root
+-- instruction gives them.
 use mathlib.Core.Bool.{Bool, true, false, _&&_}
 use mathlib.Core.List.{List, [], _∷_}
 use mathlib.Core.Option.{Option, some, none}

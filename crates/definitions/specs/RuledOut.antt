@@ -1,4 +1,5 @@
--- What `Demand3` rules out, shown of the square: no entry, one entry only, an entry twice, another figure, another order. Leans on Demands and evaluates.
+-- What `Demand3` [13.8] rules out, shown of the square: no entry, one entry only, an entry twice, another figure,
+-- another order. Leans on Demands and evaluates.
 use mathlib.Core.Path.{_≡_, refl, sym, ap, _∙_, subst}
 use mathlib.Core.Bool.{Bool, true, false, not, _&&_}
 use mathlib.Core.List.{List, [], _∷_, _++_, map, flatMap, reverse}
@@ -42,7 +43,7 @@ only-these job entries done =
 unfoldable pub sameEntries : List Entry → List Entry → Bool
 sameEntries d e = isEq (compareNats (counted entryWords d) (counted entryWords e))
 
--- entries that are written otherwise than the definition's do not meet demand 3
+-- entries that are written otherwise than the definition's do not meet the third demand
 pub ruled-out : (bytes : Bytes) (entries : List Entry) → Accepted bytes → T (between 3 4 (readJob bytes .rank)) → T (sameEntries entries entries)
     → T (not (sameEntries entries (entriesOfJob (readJob bytes)))) → Demand3 bytes entries → ⊥
 ruled-out bytes entries accepted rank same differ demand =
@@ -107,7 +108,7 @@ pub not-backwards : Demand3 squareBytes backwards → ⊥
 unfolding open-square backwards
 not-backwards = square-ruled-out backwards tt tt
 
--- ---- the words of demand 3 say of the square what they should
+-- ---- the words of [13.3] to [13.7] say of the square what they should
 
 -- every split list of the square, which has no compound facets, is an order of a closed choice; the shares are equal
 unfoldable pub closedInOrder : Table → List (List Facet) → Bool

@@ -1,0 +1,164 @@
+//! docs/SPECIFICATION.md and those who cite it. A section is cited by its number in
+//! square brackets. Every definition names the section that it renders, every
+//! section is named by a definition, and every section named anywhere is there.
+
+use std::collections::BTreeSet;
+use std::fs;
+use std::path::{Path, PathBuf};
+
+const PAGE: &str = include_str!("../../docs/SPECIFICATION.md");
+
+/// The files that render the specification. The others of their folder are tables
+/// that are evaluated against them.
+const RENDERING: [&str; 11] = [
+    "Lists",
+    "Outcome",
+    "Vectors",
+    "Subspace",
+    "Orbits",
+    "Recursion",
+    "Search",
+    "Figures",
+    "Faceting",
+    "Job",
+    "Demands",
+];
+
+/// What a definition begins with.
+const BEGINNINGS: [&str; 4] = ["unfoldable pub ", "abbrev pub ", "pub record ", "pub data "];
+
+fn repository() -> PathBuf {
+    Path::new(env!("CARGO_MANIFEST_DIR")).join("..")
+}
+
+fn read(path: &Path) -> String {
+    fs::read_to_string(path).unwrap_or_else(|error| panic!("{}: {error}", path.display()))
+}
+
+fn definitions() -> PathBuf {
+    repository().join("crates/definitions/specs")
+}
+
+/// A chapter and a section in it.
+type Section = (u32, u32);
+
+/// The number "4.3".
+fn section(text: &str) -> Option<Section> {
+    let (chapter, number) = text.split_once('.')?;
+    let digits = |part: &str| part.bytes().all(|byte| byte.is_ascii_digit());
+    if !digits(chapter) || !digits(number) {
+        return None;
+    }
+    Some((chapter.parse().ok()?, number.parse().ok()?))
+}
+
+/// The sections of the page, in order.
+fn sections() -> Vec<Section> {
+    let heads = PAGE.lines().filter_map(|line| line.strip_prefix("### "));
+    let number = |head: &str| {
+        let number = head.split(' ').next().and_then(section);
+        number.unwrap_or_else(|| panic!("a section without a number: {head}"))
+    };
+    heads.map(number).collect()
+}
+
+/// The sections that a text cites: each "[4.3]".
+fn cited(text: &str) -> impl Iterator<Item = Section> + '_ {
+    let behind = text.split('[').skip(1);
+    behind.filter_map(|rest| section(rest.split_once(']')?.0))
+}
+
+/// The sections that the comment right above line `at` cites.
+fn own(lines: &[&str], at: usize) -> Vec<Section> {
+    let above = lines[..at].iter().rev();
+    let comment = above.take_while(|line| line.trim_start().starts_with("--"));
+    comment.flat_map(|line| cited(line)).collect()
+}
+
+fn begins_definition(line: &str) -> bool {
+    let line = line.trim_start();
+    BEGINNINGS.iter().any(|start| line.starts_with(start))
+}
+
+/// All files of a folder and of those in it, but for what is built or hidden.
+fn files(folder: &Path, found: &mut Vec<PathBuf>) {
+    for entry in fs::read_dir(folder).expect("a folder") {
+        let path = entry.expect("an entry").path();
+        let name = path.file_name().unwrap_or_default().to_string_lossy();
+        if name == "target" || name.starts_with('.') {
+            continue;
+        }
+        if path.is_dir() {
+            files(&path, found);
+        } else {
+            found.push(path);
+        }
+    }
+}
+
+#[test]
+fn sections_are_numbered_in_order() {
+    let mut last = (0, 0);
+    for section in sections() {
+        let next = [(last.0, last.1 + 1), (last.0 + 1, 1)];
+        assert!(next.contains(&section), "{section:?} behind {last:?}");
+        last = section;
+    }
+    let chapters = PAGE.lines().filter_map(|line| line.strip_prefix("## "));
+    for (number, head) in chapters.enumerate() {
+        let expected = format!("{} ", number + 1);
+        assert!(
+            head.starts_with(&expected),
+            "chapter {}: {head}",
+            number + 1
+        );
+    }
+}
+
+#[test]
+fn every_definition_names_its_section() {
+    for name in RENDERING {
+        let text = read(&definitions().join(format!("{name}.antt")));
+        let lines: Vec<&str> = text.lines().collect();
+        for (at, line) in lines.iter().enumerate() {
+            if begins_definition(line) {
+                assert!(!own(&lines, at).is_empty(), "{name}: {line}");
+            }
+        }
+    }
+}
+
+#[test]
+fn every_section_is_named_by_a_definition() {
+    let mut named = BTreeSet::new();
+    let mut specs = Vec::new();
+    files(&definitions(), &mut specs);
+    for path in specs {
+        let text = read(&path);
+        let lines: Vec<&str> = text.lines().collect();
+        let places = (0..lines.len()).filter(|&at| begins_definition(lines[at]));
+        named.extend(places.flat_map(|at| own(&lines, at)));
+    }
+    for section in sections() {
+        assert!(named.contains(&section), "no definition names {section:?}");
+    }
+}
+
+#[test]
+fn every_section_that_is_named_is_there() {
+    let there: BTreeSet<Section> = sections().into_iter().collect();
+    let mut everything = Vec::new();
+    files(&repository(), &mut everything);
+    let mut citing = 0;
+    for path in everything {
+        // What is not text cites nothing.
+        let Ok(text) = fs::read_to_string(&path) else {
+            continue;
+        };
+        for section in cited(&text) {
+            citing += 1;
+            assert!(there.contains(&section), "{}: {section:?}", path.display());
+        }
+    }
+    assert!(citing > 200, "only {citing} citations were found");
+}
