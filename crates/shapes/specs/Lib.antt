@@ -16,6 +16,7 @@ pub mod Polygons
 pub mod Compounds
 pub mod Splitting
 pub mod SplitCalls
+pub mod SplitEnded
 pub mod EntryFigures
 pub mod Ridges
 pub mod RidgeCalls
