@@ -10,5 +10,6 @@ pub mod OneOrder
 pub mod Entries
 pub mod Determined
 pub mod Jobs
+pub mod Refusals
 pub mod Sentences
 pub mod Example

@@ -1,0 +1,172 @@
+-- Which numbers a refusal has: a call's are 13 to 16, at every rank; a job's 1 to 17. So a return code below 0 is minus one of these, and a code of 0 or more is an answer's length. Leans on Jobs.
+use mathlib.Core.Path.{_≡_, refl, sym, ap, _∙_, subst}
+use mathlib.Core.Bool.{Bool, true, false, not, _&&_}
+use mathlib.Core.List.{List, [], _∷_, _++_, map, reverseAux, List·Memᴰ}
+use Prim.Native.Nat.{ℕ, zero, suc, _+_, _≤_, _<_}
+use native.Mathlib.Omega.{arith}
+use lib.Dec.{T, leb, ltb, eqb, leb→le}
+use lib.IntN.{ℤ, pos, negsuc, negℤ}
+use lib.ListN.{length}
+use Rattle.definitions.specs.Lists.{allOf}
+use Rattle.definitions.specs.Outcome.{Outcome, refused, answered, andThen, refuseIf}
+use Rattle.definitions.specs.Vectors.{Vec}
+use Rattle.definitions.specs.Subspace.{Subspace, fromPoints, flatten}
+use Rattle.definitions.specs.Orbits.{Row, Orbit, pointAt, hyperplaneOrbits}
+use Rattle.definitions.specs.Search.{Facet, Table, Found, Item, Verdict, over, closed, openAt, EntryLimits, limitReached, emit, emitIf, examine, search, judge, totals, putIn, starts}
+use Rattle.definitions.specs.Recursion.{Rules, Call, Answer, Inner, InnerCalls, edgeCall, innerCall, innerCalls, beforeThese, rowsWithin}
+use Rattle.definitions.specs.Faceting.{Prepared, prepare, faceting, searchFrom, finish}
+use Rattle.definitions.specs.Job.{Bytes, Test, readJob, tests, passAll, callOf, between, fitting, answerBytes, outcomeWithin, outcome, codeOf}
+use Rattle.laws.specs.Bools.{first, second}
+use Rattle.laws.specs.Lists.{Mem, here, there, all-of}
+
+-- ---- refusals between two numbers
+
+-- whatever is refused has a number between these
+pub record RefusedWithin {A : Type 0} (low high : ℕ) (o : Outcome A) : Type 0 where
+  pub number-is : (number : ℕ) → o ≡ refused number → (low ≤ number) × (number ≤ high)
+
+numberOf : {A : Type 0} → Outcome A → ℕ
+numberOf (refused number) = number
+numberOf (answered a) = 0
+
+pub same-number : {A : Type 0} (m n : ℕ) → _≡_ {A = Outcome A} (refused m) (refused n) → m ≡ n
+unfolding numberOf
+same-number {A} m n e = ap (λ (o : Outcome A). numberOf o) e
+
+isRefused : {A : Type 0} → Outcome A → Bool
+isRefused (refused number) = true
+isRefused (answered a) = false
+
+pub answer-is-no-refusal : {A : Type 0} (a : A) (n : ℕ) → answered a ≡ refused n → ⊥
+unfolding isRefused
+answer-is-no-refusal {A} a n e = subst (λ (o : Outcome A). T (not (isRefused o))) e tt
+
+module _ {low high : ℕ} where
+  pub one-number : {A : Type 0} (n : ℕ) → low ≤ n → n ≤ high → RefusedWithin {A = A} low high (refused n)
+  one-number {A} n h k = record { number-is = λ m e. let q = same-number {A = A} n m e in (omega arith, omega arith) }
+
+  pub by-answer : {A : Type 0} {a : A} → RefusedWithin low high (answered a)
+  by-answer {A} {a} = record { number-is = λ m e. absurd (answer-is-no-refusal a m e) }
+
+  pub by-then : {A B : Type 0} (o : Outcome A) (next : A → Outcome B) → RefusedWithin low high o → ((a : A) → RefusedWithin low high (next a)) → RefusedWithin low high (andThen o next)
+  unfolding andThen
+  by-then {A} {B} (refused n) next h k = record { number-is = λ m e. h .number-is m (ap refused (same-number {A = B} n m e)) }
+  by-then (answered a) next h k = k a
+
+  pub by-test : {A : Type 0} (b : Bool) (n : ℕ) (next : Unit {0} → Outcome A) → low ≤ n → n ≤ high → RefusedWithin low high (next tt) → RefusedWithin low high (refuseIf b n next)
+  unfolding refuseIf
+  by-test true n next h k g = one-number n h k
+  by-test false n next h k g = g
+
+  pub by-tests : {A : Type 0} (ts : List Test) (next : Unit {0} → Outcome A) → ((t : Test) → Mem t ts → (low ≤ t .number) × (t .number ≤ high)) → RefusedWithin low high (next tt) → RefusedWithin low high (passAll ts next)
+  unfolding passAll
+  by-tests [] next h g = g
+  by-tests (t ∷ ts) next h g =
+      let k = h t (here refl) in
+      by-test (not (t .passes tt)) (t .number) (λ u. passAll ts next) (k .0) (k .1) (by-tests ts next (λ s i. h s (there i)) g)
+
+-- ---- the search: 15 and 16
+
+emitted-within : (v : Verdict) (limits : EntryLimits) (list : List Facet) (left : ℕ) (emitted : List (List Facet)) (next : List (List Facet) → Outcome Found)
+    → ((lists : List (List Facet)) → RefusedWithin 15 16 (next lists)) → RefusedWithin 15 16 (emitIf v limits list left emitted next)
+unfolding emitIf emit
+emitted-within over limits list left emitted next h = h emitted
+emitted-within (openAt ridge) limits list left emitted next h = h emitted
+emitted-within closed limits list left emitted next h =
+    by-test (leb (limits .bound) (length emitted)) 15 _ (omega arith) (omega arith) (go (limitReached (limits .limit) (length (emitted ++ (list ∷ [])))))
+  where
+    go : (b : Bool) → RefusedWithin {A = Found} 15 16 (elim b [ true ↦ answered (record { lists = emitted ++ (list ∷ []); left = left }) | false ↦ next (emitted ++ (list ∷ [])) ])
+    go true = by-answer
+    go false = h (emitted ++ (list ∷ []))
+
+examined-within : (t : Table) (limits : EntryLimits) (left : ℕ) (pending : List Item) (emitted : List (List Facet)) → RefusedWithin 15 16 (examine t limits left pending emitted)
+unfolding examine
+examined-within t limits zero [] emitted = by-answer
+examined-within t limits zero (item ∷ pending) emitted = one-number 16 (omega arith) (omega arith)
+examined-within t limits (suc left) [] emitted = by-answer
+examined-within t limits (suc left) (item ∷ pending) emitted =
+    let verdict = judge (totals t (item .list)) in
+    emitted-within verdict limits (item .list) left emitted (examine t limits left (reverseAux (putIn t item verdict) pending))
+    (λ lists. examined-within t limits left (reverseAux (putIn t item verdict) pending) lists)
+
+pub search-refusals : (t : Table) (limits : EntryLimits) (budget : ℕ) → RefusedWithin 15 16 (search t limits budget)
+unfolding search
+search-refusals t limits budget = examined-within t limits budget (reverseAux (starts t) []) []
+
+pub wider : {A : Type 0} {o : Outcome A} (a b c d : ℕ) → a ≤ b → c ≤ d → RefusedWithin b c o → RefusedWithin a d o
+wider a b c d h k r = record { number-is = λ n e. let q = r .number-is n e in (omega arith, omega arith) }
+
+-- ---- a call of any rank: 13 to 16
+
+inner-within : (inner : Orbit → ℕ → Outcome Inner) (bound : ℕ) → ((o : Orbit) (budget : ℕ) → RefusedWithin 13 16 (inner o budget)) → (orbits : List Orbit) (facets left : ℕ)
+    → RefusedWithin 13 16 (innerCalls inner bound orbits facets left)
+unfolding innerCalls
+inner-within inner bound h [] facets left = by-answer
+inner-within inner bound h (orbit ∷ orbits) facets left =
+    by-then (inner orbit left) _ (h orbit left)
+    (λ i.
+    let stored = facets + length (i .answer .entries) in
+    by-test (ltb bound stored) 15 _ (omega arith) (omega arith)
+    (by-then (innerCalls inner bound orbits stored (i .answer .left)) _ (inner-within inner bound h orbits stored (i .answer .left)) (λ later. by-answer)))
+
+refit-within : (wanted : ℕ) (rules : Rules) (call : Call) → ((plane : Subspace) (points : List Vec) (rows : List Row) (budget : ℕ) → RefusedWithin 13 16 (call plane points rows budget))
+    → (flat : List Vec) (rows : List Row) (orbit : Orbit) (budget : ℕ) → RefusedWithin 13 16 (innerCall wanted rules call flat rows orbit budget)
+unfolding innerCall
+refit-within wanted rules call h flat rows orbit budget =
+    let points = map (pointAt flat) (orbit .vertices) in
+    let plane = fromPoints (rules .tolerance) points in
+    by-test (not (eqb (length (plane .basis)) wanted)) 14 _ (omega arith) (omega arith)
+    (by-then (call plane points (rowsWithin (orbit .vertices) rows) budget) _ (h plane points (rowsWithin (orbit .vertices) rows) budget) (λ a. by-answer))
+
+pub call-refusals : (more : ℕ) (rules : Rules) (plane : Subspace) (points : List Vec) (rows : List Row) (budget : ℕ) → RefusedWithin 13 16 (faceting more rules plane points rows budget)
+unfolding faceting edgeCall prepare searchFrom
+call-refusals zero rules plane points rows budget = by-answer
+call-refusals (suc more) rules plane points rows budget =
+    let flat = map (flatten plane) points in
+    let orbits = hyperplaneOrbits (rules .tolerance) (rules .lengths) more points flat rows in
+    let call = faceting more rules in
+    by-then (prepare more rules call plane points rows budget) _
+    (by-test (ltb (rules .bounds .orbits) (length orbits)) 13 _ (omega arith) (omega arith)
+    (by-then (innerCalls (innerCall (suc more) rules call flat rows) (rules .bounds .facets) orbits 0 budget) _
+    (inner-within (innerCall (suc more) rules call flat rows) (rules .bounds .facets) (refit-within (suc more) rules call (call-refusals more rules) flat rows) orbits 0 budget) (λ done. by-answer)))
+    (λ p. by-then (searchFrom rules p) _ (wider 13 15 16 16 (omega arith) (omega arith) (search-refusals _ _ _)) (λ found. by-answer))
+
+-- ---- a job: 1 to 17
+
+numbered : (bytes : Bytes) (workspace : ℕ) → T (allOf (λ (t : Test). between 1 12 (t .number)) (tests bytes workspace))
+unfolding allOf between tests
+numbered bytes workspace = tt
+
+pub test-number : (bytes : Bytes) (workspace : ℕ) (t : Test) → Mem t (tests bytes workspace) → (1 ≤ t .number) × (t .number ≤ 12)
+unfolding between
+test-number bytes workspace t i =
+    let h = all-of (λ (s : Test). between 1 12 (s .number)) (tests bytes workspace) (numbered bytes workspace) t i in
+    (leb→le 1 (t .number) (first (leb 1 (t .number)) (leb (t .number) 12) h), leb→le (t .number) 12 (second (leb 1 (t .number)) (leb (t .number) 12) h))
+
+pub refusal-numbers : (bytes : Bytes) (workspace room : ℕ) → RefusedWithin 1 17 (outcome bytes workspace room)
+unfolding outcome outcomeWithin callOf fitting
+refusal-numbers bytes workspace room =
+    by-tests (tests bytes workspace) _ (λ t i. let h = test-number bytes workspace t i in (omega arith, omega arith))
+    (by-then _ _ (wider 1 13 16 17 (omega arith) (omega arith) (call-refusals _ _ _ _ _ _)) (λ a. by-test _ 17 _ (omega arith) (omega arith) by-answer))
+
+-- ---- the return code
+
+-- What a return code says: 0 or more is an answer's length, less is minus the number of a refusal, one of 1 to 17.
+pub record CodeSays (o : Outcome Bytes) (code : ℤ) : Type 0 where
+  pub an-answer : (many : ℕ) → code ≡ pos many → (answer : Bytes) × (o ≡ answered answer) × (length answer ≡ many)
+  pub a-refusal : (less : ℕ) → code ≡ negsuc less → (o ≡ refused (suc less)) × (suc less ≤ 17)
+
+pub code-says : (bytes : Bytes) (workspace room : ℕ) → CodeSays (outcome bytes workspace room) (codeOf (outcome bytes workspace room))
+unfolding codeOf
+code-says bytes workspace room = go (outcome bytes workspace room) (refusal-numbers bytes workspace room)
+  where
+    no-length : (n many : ℕ) → negsuc n ≡ pos many → ⊥
+    no-length n many e = let z : _≡_ {A = ℕ} 0 1 = cc in omega arith
+
+    go : (o : Outcome Bytes) → RefusedWithin 1 17 o → CodeSays o (codeOf o)
+    go (refused zero) h = let k = h .number-is 0 refl .0 in absurd (omega arith)
+    go (refused (suc n)) h = record {
+      an-answer = λ many e. absurd (no-length n many e);
+      a-refusal = λ less e. let same : n ≡ less = cc in let k = h .number-is (suc n) refl .1 in (ap (λ (m : ℕ). refused (suc m)) same, omega arith);
+    }
+    go (answered bytes) h = record { an-answer = λ many e. (bytes, refl, cc); a-refusal = λ less e. absurd (no-length less (length bytes) (sym e)) }
