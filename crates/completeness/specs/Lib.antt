@@ -11,5 +11,6 @@ pub mod Entries
 pub mod Determined
 pub mod Jobs
 pub mod Refusals
+pub mod Lengths
 pub mod Sentences
 pub mod Example
