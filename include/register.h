@@ -5,8 +5,9 @@
  *
  *     cc -I include program.c target/staticlib/libregister.a -o program
  *
- * docs/FORMAT.md has the job and the answer byte by byte; examples/figures.c is
- * a program that uses this header.
+ * docs/SPECIFICATION.md says what the answer to a job is; numbers in square
+ * brackets are its sections. docs/FORMAT.md has the job and the answer byte by
+ * byte; examples/figures.c is a program that uses this header.
  */
 #ifndef REGISTER_H
 #define REGISTER_H
@@ -25,8 +26,8 @@ extern "C" {
 
 /*
  * Why a job is refused; the function returns minus this number. They are looked
- * for in this order, and the first that applies is returned. Of 13 to 16, which
- * come up during the work, it is the one that is met first.
+ * for in this order, and the first that applies is returned [11.1]. Of 13 to 16,
+ * which come up during the work, it is the one that is met first [11.4].
  */
 enum register_refusal {
     REGISTER_MARK = 1,         /* under 11 bytes, or does not begin with FCT */
@@ -75,6 +76,8 @@ enum register_refusal {
  *     an entry limit m there are at most max(m, 1) entries; under the same
  *     condition they are of different choices, and are max(m, 1) or as many as
  *     there are closed choices, whichever is less.
+ *     Closed is a matter of these sums [1.3]. Whether each ridge of a figure lies
+ *     in just two of its facets is another question: [1.4] to [1.6].
  *   - Entries stand in ascending order of their lists.
  *   - Nothing outside the three slices is read or written, but for the stack, the
  *     job is not written, and no memory is asked for. Nothing is kept between
