@@ -1,5 +1,5 @@
-//! Document 01's known jobs by name, in the text form, with what its list says of
-//! each as far as a returned value tells it.
+//! The known jobs of [14.2] by name, in the text form, with what is known of each
+//! as far as a returned value tells it.
 
 use crate::text;
 

@@ -1,4 +1,4 @@
-//! The original as an engine: all of document 01 from job bytes to answer bytes,
+//! The original as an engine: the whole way from job bytes to answer bytes [1.1],
 //! with the original function in the middle.
 
 use crate::answer::Answer;

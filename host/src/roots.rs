@@ -28,7 +28,7 @@ pub fn proved(_x: f64) -> f64 {
     f64::NAN
 }
 
-/// Document 01's root by the processor's: nothing (a NaN) for the infinity.
+/// The root [3.2] by the processor's: nothing (a NaN) for the infinity.
 pub fn expected(x: f64) -> f64 {
     if x == f64::INFINITY {
         return f64::NAN;

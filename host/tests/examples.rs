@@ -1,4 +1,4 @@
-//! Readings of document 01 that the original settles, each by a small job.
+//! Points of docs/DECISIONS.md that the original settles, each by a small job.
 
 mod common;
 

@@ -1,4 +1,4 @@
-//! Document 01's known jobs, on the original.
+//! The known jobs of docs/SPECIFICATION.md [14.2], on the original.
 
 mod common;
 

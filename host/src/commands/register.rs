@@ -21,7 +21,7 @@ pub const COMPARE_REGISTER: Command = Command {
     usage: "[--seed S] [--count N] [--first I] [--kind K] [--stop D] [--memory M] [--library FILE]",
     details: || {
         "\
-Puts document 01's known jobs and N generated cases (default: 10000; as generate makes
+Puts the known jobs and N generated cases (default: 10000; as generate makes
 them, every eighth of the kind brink) to the Rust once each, and to the register in several calls: as
 generated, with the workspace of the rank's length and one byte less, with the
 answer buffer exactly full and one byte short, with the job one byte shorter and

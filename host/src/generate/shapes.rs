@@ -129,7 +129,7 @@ pub fn at_tolerance(rng: &mut Rng, points: usize, dimension: usize, tolerance: f
     set
 }
 
-/// Document 01's plane through points, as it is made and measured with plain
+/// The plane through points [4.4], as it is made and measured with plain
 /// operations.
 struct Plane {
     offset: Vec<f64>,

@@ -1,5 +1,5 @@
 //! The original functions, as the build script cut and patched them, with
-//! stand-ins for what they lean on: vectors (document 01's arithmetic), ranks of
+//! stand-ins for what they lean on: vectors (as [3.4] to [3.6] have them), ranks of
 //! elements, hashed collections with a fixed hash, and the watch over a run.
 
 mod hashed;

@@ -1,5 +1,5 @@
-//! Stand-ins for the vector library: document 01's arithmetic, each operation
-//! rounded once, none fused. Also the clock, which stands still.
+//! Stand-ins for the vector library, [3.4] to [3.6]: each operation is rounded
+//! once, none fused. Also the clock, which stands still.
 
 use std::ops::{Add, AddAssign, Div, Mul, Sub};
 use std::time::Duration;
