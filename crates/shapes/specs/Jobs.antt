@@ -51,11 +51,11 @@ rows-passed bytes workspace next a e =
     }
 
 -- the numbers of points and rows are those that the job states
-points-length : (bytes : Bytes) → length (readJob bytes .points) ≡ readJob bytes .n
+pub points-length : (bytes : Bytes) → length (readJob bytes .points) ≡ readJob bytes .n
 unfolding readJob vectorsAt
 points-length bytes = length-map (countFrom 0 _) _ ∙ count-length 0 _
 
-rows-length : (bytes : Bytes) → length (readJob bytes .rows) ≡ readJob bytes .rowCount
+pub rows-length : (bytes : Bytes) → length (readJob bytes .rows) ≡ readJob bytes .rowCount
 unfolding readJob
 rows-length bytes = length-map (countFrom 0 _) _ ∙ count-length 0 _
 

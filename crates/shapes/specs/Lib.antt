@@ -31,6 +31,10 @@ pub mod AllPairs
 pub mod Kept
 pub mod KeptTable
 pub mod FewOrbits
+pub mod FewElements
+pub mod FigureNumbers
+pub mod AnswerWords
+pub mod JobWords
 pub mod KeptSizes
 pub mod KeptRidges
 pub mod KeptAnswer
