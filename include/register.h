@@ -54,7 +54,8 @@ enum register_refusal {
 };
 
 /*
- * Lists every faceting of the job's points.
+ * Lists every faceting of the job's points: the figure of every closed choice of
+ * facets, as said below.
  *
  * Returns the length of the answer, which is 0 or more, or minus the number of a
  * refusal, -1 to -17. Nothing else is returned, and every call ends.

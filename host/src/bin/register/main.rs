@@ -15,6 +15,7 @@ use outcome::Status;
 
 const ABOUT: &str = "\
 register: lists every faceting of a vertex set, by a program that is proved complete
+(docs/SPECIFICATION.md says what a faceting is here, and what is proved of the list)
 
 usage: ./register [OPTIONS] FILE..
 
