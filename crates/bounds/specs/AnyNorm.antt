@@ -1,4 +1,4 @@
--- Document 01's definitions once more, with the norm as a parameter: every definition of `definitions` that a norm enters, word for word, but for the name of the norm.
+-- The definitions once more, with the norm as a parameter: every definition of `definitions` that a norm enters, word for word, but for the name of the norm.
 -- With the norm itself they are those definitions (`Covered` proves it, so that nothing has to be believed of this file); with another one they show which of its values count.
 use mathlib.Core.Bool.{Bool, cond, not, _&&_, _||_}
 use mathlib.Core.List.{List, [], _∷_, _++_, map, flatMap}

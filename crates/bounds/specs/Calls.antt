@@ -1,4 +1,4 @@
--- The calls of a job, and the norms that each takes. A call has a rank (2 + more), a plane and points; document 01 takes norms in it at exactly three places (`Takes`):
+-- The calls of a job, and the norms that each takes. A call has a rank (2 + more), a plane and points; norms are taken in it at exactly three places (`Takes`):
 -- a pair's length in `breaksLimit`, the residuals in `fromPoints`, for the tuples of `hyperplanes` and for the refit of `innerCall`, and the distances in `pointsNear`.
 -- The inner calls are those on any list of vertices whose refit has the wanted number of basis vectors (`Occurs`), so more than a job ever makes.
 -- Every norm taken has a root, as long as the bound of the points, which grows with the depth, leaves room. Leans on Fits.
@@ -33,11 +33,11 @@ through tolerance plane points vertices = fromPoints tolerance (chosen plane poi
 
 -- A call with this plane and these points may take the norm of v.
 pub data Takes (tolerance : Float) (plane : Subspace) (points : List Vec) : Vec → Type 0 where
-  -- "Lengths use the points as passed to this call"
+  -- [5.3] lengths, of the points as passed
   in-length : (v w : ℕ) → Takes tolerance plane points (minus (pointAt points w) (pointAt points v))
   -- a tuple, or a refit
   in-fit : (vertices : List ℕ) {v : Vec} → FitTakes tolerance (chosen plane points vertices) v → Takes tolerance plane points v
-  -- "all points at distance < 1e-7"
+  -- [5.6] distances of flattened points
   in-distance : (vertices : List ℕ) (u : ℕ) → Takes tolerance plane points (residual (through tolerance plane points vertices) (pointAt (flattened plane points) u))
 
 -- ---- the calls that occur
@@ -45,7 +45,7 @@ pub data Takes (tolerance : Float) (plane : Subspace) (points : List Vec) : Vec 
 -- From an outermost call of rank 2 + top with the plane `outer` and the points `given`: at some depth, a call of rank 2 + more with a plane and points.
 pub data Occurs (tolerance : Float) (top : ℕ) (outer : Subspace) (given : List Vec) : ℕ → ℕ → Subspace → List Vec → Type 0 where
   outermost : Occurs tolerance top outer given 0 top outer given
-  -- "each orbit's first set is refitted .. and the call is repeated on it with rank − 1"; a refit without exactly rank − 2 basis vectors is refused
+  -- [6.4] an inner call, on any list of vertices whose plane has rank − 2 basis vectors
   inner : {depth more : ℕ} {plane : Subspace} {points : List Vec} → Occurs tolerance top outer given depth (suc more) plane points → (vertices : List ℕ)
       → length (through tolerance plane points vertices .basis) ≡ suc more
       → Occurs tolerance top outer given (suc depth) more (through tolerance plane points vertices) (chosen plane points vertices)

@@ -1,5 +1,5 @@
 -- `Occurs` and `Takes` leave nothing out: a call with another norm is the call as defined, if the two norms agree wherever `Takes` says that a norm is taken in a call that `Occurs`.
--- So `AnyNorm` is document 01's text (take the norm itself for the other one). Leans on Calls.
+-- So `AnyNorm` is the definitions (take the norm itself for the other one). Leans on Calls.
 use mathlib.Core.Path.{_≡_, refl, ap, _∙_, fun-ext}
 use mathlib.Core.Bool.{Bool, true, false, cond, not, _&&_, _||_}
 use mathlib.Core.List.{List, [], _∷_, _++_, map, flatMap}

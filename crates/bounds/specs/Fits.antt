@@ -19,7 +19,7 @@ RoomToFit n k = 2 * k + 8 + 5 * n ≤ 1023
 
 -- ---- which norms are taken
 
--- To add these points to s is to take the norm of v: "the others are added in order until the basis has d vectors".
+-- To add these points to s, in order and until the basis has d vectors [4.4], is to take the norm of v.
 pub data AddTakes (tolerance : Float) : Subspace → List Vec → Vec → Type 0 where
   at-first : {s : Subspace} {p : Vec} {ps : List Vec} → length (s .basis) < length (s .offset) → AddTakes tolerance s (p ∷ ps) (residual s p)
   behind : {s : Subspace} {p : Vec} {ps : List Vec} {v : Vec} → length (s .basis) < length (s .offset) → AddTakes tolerance (addPoint tolerance s p) ps v

@@ -1,4 +1,4 @@
--- The promise as an equation: whatever a norm is where document 01's root has no value, the outcome is the same, for all bytes and both buffers' lengths (`outcome-is-indifferent`).
+-- The promise as an equation: whatever a norm is where the root [3.2] has no value, the outcome is the same, for all bytes and both buffers' lengths (`outcome-is-indifferent`).
 -- Before it the same for a job's call of any rank, with any rules whose tolerance is 1e-9 or more (`call-is-indifferent`). Leans on Covered and Jobs.
 use mathlib.Core.Path.{_≡_, refl, sym, ap}
 use mathlib.Core.Bool.{Bool, true, false, cond, not, true≢false}
@@ -38,7 +38,7 @@ root-has-value (fin false (suc m) (negsuc k)) h = refl
 abbrev pub KeepsRoots : (Vec → Float) → Type 0
 KeepsRoots other = (v : Vec) → hasRoot (dot v v) ≡ true → other v ≡ norm v
 
--- `AnyNorm` with the norm itself is document 01's text, at any arguments
+-- `AnyNorm` with the norm itself is the definitions, at any arguments
 pub any-norm-is-the-text : (more : ℕ) (rules : Rules) (plane : Subspace) (points : List Vec) (rows : List Row) (budget : ℕ)
     → facetingBy norm more rules plane points rows budget ≡ faceting more rules plane points rows budget
 any-norm-is-the-text more rules plane points rows budget = call-same norm rules more plane points (record { at = λ c k. refl }) more outermost rows budget

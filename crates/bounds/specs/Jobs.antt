@@ -78,7 +78,7 @@ vectors-small n d k most vs D e r t =
 
 -- ---- a job
 
--- what refusals 4 and 9 leave: points of at least rank − 1 and at most n coordinates, and numbers of the sizes that document 01 admits
+-- what refusals 4 and 9 leave: points of at least rank − 1 and at most n coordinates, and numbers of the sizes of [11.2]
 pub record Admitted (n : ℕ) (job : Job) : Type 0 where
   pub enough : job .rank - 1 ≤ job .d
   pub few : job .d ≤ n
@@ -186,7 +186,7 @@ pub tolerance-high-enough : T (le billionth tolerance1)
 unfolding le ofBits
 tolerance-high-enough = tt
 
--- "anything else is refused by that function with no value": no job that passes refusals 1 to 11 ever asks for it.
+-- A double that is negative, infinite or no number has no root [3.2]: no job that passes refusals 1 to 11 ever asks for it.
 pub no-root-is-refused : (bytes : Bytes) (workspace : ℕ) → T (passesFirst 11 bytes workspace)
     → {depth more : ℕ} {plane : Subspace} {points : List Vec} {v : Vec}
     → Occurs tolerance1 (readJob bytes .rank - 2) (planeOf (readJob bytes)) (readJob bytes .points) depth more plane points → Takes tolerance1 plane points v

@@ -48,7 +48,7 @@ module _ (wanted : ℕ) (rules : Rules) (call : Call) (flat : List Vec) (rows : 
   abbrev called : Outcome Answer
   called = call plane points (rowsWithin (orbit .vertices) rows) budget
 
-  -- "refusal 14"
+  -- refusal 14
   pub inner-refit : (eqb (length (plane .basis)) wanted ≡ false) → innerCall wanted rules call flat rows orbit budget ≡ refused 14
   unfolding innerCall
   inner-refit e = refused-where (not (eqb (length (plane .basis)) wanted)) 14 _ (subst (λ (b : Bool). T (not b)) (sym e) tt)
@@ -157,7 +157,7 @@ module _ (more : ℕ) (rules : Rules) (plane : Subspace) (points : List Vec) (ro
   abbrev preparedBy : InnerCalls → Prepared
   preparedBy done = record { more = more; points = length points; rows = rows; inner = done .calls; left = done .left }
 
-  -- "13"
+  -- refusal 13
   pub call-thirteen : rules .bounds .orbits < length orbits → faceting (suc more) rules plane points rows budget ≡ refused 13
   unfolding faceting prepare andThen
   call-thirteen h =

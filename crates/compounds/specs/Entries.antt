@@ -40,7 +40,7 @@ module _ (p : Prepared) (to : ℕ → Pair) (bound : ℕ) (ordered : (m n : ℕ)
       ∙ (ap (comparePairs (map to (listAt most pool j))) (sym (splits k (inside k i)))
       ∙ compare-numbered to bound ordered (listAt most pool j) (listAt most pool k) (below j (inside j h)) (below k (inside k i)))
 
-  -- "Entries are sorted by split list": in the order of the pool's lists, equal ones as they were emitted
+  -- [9.5] in the order of the pool's lists, equal ones as they were emitted
   pub entries-ordered : entriesOf p emitted ≡ map entry (orderFrom most pool 0 (length emitted))
   unfolding entriesOf orderFrom
   entries-ordered =
@@ -62,7 +62,7 @@ module _ (p : Prepared) (to : ℕ → Pair) (bound : ℕ) (ordered : (m n : ℕ)
       ∙ (map-same (λ (k : ℕ). split p (getD emitted k [])) (λ (k : ℕ). map to (listAt most pool k)) (orderFrom most pool 0 (length emitted)) (λ k i. sym (splits k (order-inside k i)))
       ∙ sym (map-map (map to) (listAt most pool) (orderFrom most pool 0 (length emitted)))))
 
-  -- "then `label_irc`": the compounds among the entries are the labels of the ordered lists
+  -- [9.6] the compounds among the entries are the labels of the ordered lists
   pub entry-compounds : labelIrc (map (λ (e : Entry). e .list) (entriesOf p emitted)) ≡ compoundsFrom 0 (labelsOf (map (listAt most pool) (orderFrom most pool 0 (length emitted))))
   entry-compounds =
       ap labelIrc entry-lists

@@ -1,4 +1,4 @@
--- `label_irc` on lists of numbers. The facets of a call are numbered ascending, so a list of facets is a list of numbers, and what document 01 says of pairs
+-- `label_irc` on lists of numbers. The facets of a call are numbered ascending, so a list of facets is a list of numbers, and what [8.7] and [8.8] say of pairs
 -- is said here of numbers, word for word. `labels-numbered` is the one law that carries it back: any numbering that keeps the order keeps the labels.
 -- Leans on the definitions and on the laws of orders. Assumes nothing.
 use mathlib.Core.Path.{_≡_, refl, ap, _∙_, subst}
@@ -17,13 +17,13 @@ use Rattle.laws.specs.Pairs.{Pairs}
 use Rattle.laws.specs.Sorting.{sort-map, byKey}
 use Rattle.laws.specs.Merging.{sort-same}
 
--- ---- the words of document 01, on numbers
+-- ---- the walk and the labels, on numbers
 
 unfoldable pub consTo : ℕ → Option (List ℕ) → Option (List ℕ)
 consTo x none = none
 consTo x (some xs) = some (x ∷ xs)
 
--- "one below b's next item is passed over, an equal one moves on in b, one above ends it without success"
+-- [8.7] the walk
 unfoldable pub walkNats : List ℕ → List ℕ → Option (List ℕ)
 walkNats [] [] = some []
 walkNats [] (y ∷ ys) = none

@@ -1,4 +1,4 @@
--- Splitting on numbers is document 01's splitting of facets, for any numbering whose table says of each facet what its orbit's compounds say.
+-- Splitting on numbers is the splitting of facets [8.6], for any numbering whose table says of each facet what its orbit's compounds say.
 -- The definition gives each facet steps of its own; more steps than end the splitting change nothing, so that one number of steps serves all.
 -- Leans on the definitions and Splitting. Assumes nothing.
 use mathlib.Core.Path.{_≡_, refl, sym, ap, _∙_, subst}
@@ -124,7 +124,7 @@ module _ (to : ℕ → Pair) (bound : ℕ) (table : List (Option Pair)) (orbit :
 
 -- ---- a call's lists
 
--- "each facet of a list at its own place": where every facet's parts are the definition's, so is every list
+-- [9.3] where every facet's parts are the definition's, so is every list
 pub lists-numbered : (to : ℕ → Pair) (table : List (Option Pair)) (steps : ℕ) (parts : Pair → List Pair) (l : List ℕ)
     → ((a : ℕ) → Mem a l → map to (splitNats steps table (a ∷ [])) ≡ parts (to a)) → map to (splitList steps table l) ≡ flatMap parts (map to l)
 unfolding splitList flatMap

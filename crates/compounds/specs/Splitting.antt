@@ -12,7 +12,7 @@ use Rattle.pool.specs.Pool.{count, used, base, closed, opened, pushed, ended, S
 use Rattle.compounds.specs.declared.Layout.{Layout}
 use Rattle.compounds.specs.Labels.{labelsIn}
 
--- "A compound facet is replaced by its two components, first in first out, until none is compound." The first number bounds the steps.
+-- [8.6] a queue of numbers is split. The first number bounds the steps.
 unfoldable pub splitNats : ℕ → List (Option Pair) → List ℕ → List ℕ
 splitNats zero table queue = queue
 splitNats (suc steps) table [] = []

@@ -1,4 +1,4 @@
--- What the call asks of whoever makes it, at rank 2, 3 and 4: structs that are sound, rows that permute the points, bounds no larger than the layouts have room for, and document 01's workspace.
+-- What the call asks of whoever makes it, at rank 2, 3 and 4: structs that are sound, rows that permute the points, bounds no larger than the layouts have room for, and the workspace of [11.3].
 -- Leans on the stored shapes and on the rules' meaning.
 use mathlib.Core.Path.{_≡_}
 use mathlib.Core.List.{List}

@@ -34,7 +34,7 @@ module _ (more : ℕ) (rules : Rules) (plane : Subspace) (points : List Vec) (ro
   abbrev SaysCall : Called → List ℕ → Type 0
   SaysCall = Says (suc more) (rulesOf rules) plane points rows budget
 
-  -- "13"
+  -- refusal 13
   pub says-thirteen : (s : List ℕ) → rulesOf rules .bounds .orbits < length (siteOrbits site) → SaysCall (Refused 13) s
   unfolding Says
   says-thirteen s h = call-thirteen more (rulesOf rules) plane points rows budget h

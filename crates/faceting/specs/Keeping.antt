@@ -62,7 +62,7 @@ module _ (g : Site) (shelf : Shelf) (left i : ℕ) (called : Called) (rows : Lis
       let l : length (sitePoints g i s) ≡ length (verticesOf n (numberAt s (8 * i) 4)) = length-map (siteOrbit g i s .vertices) (pointAt (map (flatten (g .plane)) (g .points))) in
       omega arith
 
-  -- "15"
+  -- refusal 15
   pub too-many : (a : Answer) → faceting (g .more) (g .rules) (sitePlane g i s) (sitePoints g i s) (siteRows g i s) left ≡ answered a → g .rules .bounds .facets < shelf .facets + length (a .entries) → siteWhole g ≡ refused 15
   too-many a is k = turns.turn-full (g .more) (g .rules) (g .plane) (g .points) (g .rows) (g .budget) n shelf left i s (t .state-is) (t .below) (t .fits) a is k
 

@@ -153,7 +153,7 @@ module _ (rank : ℕ) (plane : stored.Subspace) (points : Points) (rows : List �
     found-for =
         subst (λ (ps : List Vec). answerIn (flat .n) r u ≡ orbitsOrRefusal (rules .orbits) (hyperplaneOrbits (rules .tolerance) (limitsOf (rules .min) (rules .max)) (rank - 3) (pointsOf points) ps (rowsIn (flat .n) m rows))) (holds .means) answers
 
-    -- "13"
+    -- refusal 13
     pub start-refused : r ≡ RefusedAnswer → SaysOf (rank - 2) rules (subspaceOf plane) (pointsOf points) (rowsIn (points .n) m rows) budget (Refused 13) u
     start-refused e =
         says-rank rank above (flat .n) (points .n) same-n rules (subspaceOf plane) (pointsOf points) rows m budget (Refused 13) u
@@ -261,7 +261,7 @@ module _ {plane : Subspace} {points : List Vec} {rank : ℕ} {flat : Points} {ro
             subst (Refitted (next .refitted) (next .points) (sitePlane g (shelf .orbits) s)) q
             (subst (λ (ps : List Vec). Refitted (next .refitted) (next .points) (fromPoints (rules .tolerance) ps) (rank - 2)) points-are refits)
 
-        -- "14"
+        -- refusal 14
         pub refit-refused : next .refitted .fit ≡ RefusedFit → siteWhole g ≡ result.refused 14
         unfolding planeOf
         refit-refused e =

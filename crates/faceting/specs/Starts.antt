@@ -28,7 +28,7 @@ use Rattle.faceting.specs.State as state
 use Rattle.faceting.specs.Says.{Site, SiteState, siteOrbits}
 
 module _ (bound : ℕ) (orbits : List Orbit) (n : ℕ) (s : List ℕ) where
-  -- "13": there are more orbits than the bound
+  -- refusal 13: there are more orbits than the bound
   pub found-too-many : answerIn n RefusedAnswer s ≡ orbitsOrRefusal bound orbits → bound < length orbits
   unfolding answerIn orbitsOrRefusal refuseIf
   found-too-many e = ⊎-elim

@@ -52,7 +52,7 @@ module _ (more : ℕ) (rules : Rules) (plane : Subspace) (points : List Vec) (ro
   pub facets-so-far : shelf .facets ≡ facetSum (st .done)
   facets-so-far = st .keeps .facets ∙ (sym (places-number (map keptOf (st .done))) ∙ kept-sum (st .done))
 
-  -- "refusal 14"
+  -- refusal 14
   pub turn-refit : eqb (length (innerPlane .basis)) (suc more) ≡ false → whole ≡ refused 14
   turn-refit e =
       reached-refused (state.inner more rules plane points rows budget n) (rules .bounds .facets) (state.coming more rules plane points rows budget n shelf left i s st h) 14
@@ -72,7 +72,7 @@ module _ (more : ℕ) (rules : Rules) (plane : Subspace) (points : List Vec) (ro
       pub turn-answered : state.inner more rules plane points rows budget n orbit left ≡ answered made
       turn-answered = inner-answered (suc more) rules (faceting more rules) (map (flatten plane) points) rows orbit left fits answer is
 
-      -- "15": its facets are too many
+      -- refusal 15: its facets are too many
       pub turn-full : rules .bounds .facets < shelf .facets + length (answer .entries) → whole ≡ refused 15
       turn-full k =
           reached-full (state.inner more rules plane points rows budget n) (rules .bounds .facets) (state.coming more rules plane points rows budget n shelf left i s st h) made turn-answered

@@ -1,4 +1,4 @@
-// The call of document 01 above rank 2: what an inner call answers is kept, and from what is kept comes the answer. All in the workspace.
+// The call above rank 2 [9.1]: what an inner call answers is kept, and from what is kept comes the answer. All in the workspace.
 ghost use mathlib.Core.Path.{_≡_};
 ghost use Prim.Native.Nat.{ℕ, _*_, _-_, _^_, _≤_, _<_};
 ghost use lib.ListN.{length};
@@ -247,7 +247,7 @@ pub fn keep_inner(
 
 // ---- the call
 
-// Document 01's call. At rank 2 the rows alone answer. Above, the hyperplane orbits are found, each orbit's set is faceted in its own plane by the call itself at the rank below, behind the shelf,
+// The call of every rank [9.1]. At rank 2 the rows alone answer. Above, the hyperplane orbits are found, each orbit's set is faceted in its own plane by the call itself at the rank below, behind the shelf,
 // and what that answers is kept; then the search. The first refusal met is the call's.
 pub fn faceting(
     rank: usize,

@@ -62,7 +62,7 @@ checkedOf bytes workspace = checkedAs bytes (firstRefused (tests bytes workspace
 
 -- ---- single tests
 
--- "Job under 11 bytes or wrong mark.", the other way round
+-- [11.1] test 1 is passed
 unfoldable pub hasMark : Bytes → Bool
 hasMark bytes = leb 11 (length bytes) && sameNats (take 3 bytes) (70 ∷ 67 ∷ 84 ∷ [])
 

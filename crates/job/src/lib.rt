@@ -1,4 +1,4 @@
-// Whether a job is refused, and with which number: refusals 1 to 12 in document 01's order, for every byte slice and every length of the workspace. A job that passes is handed on as its
+// Whether a job is refused, and with which number: refusals 1 to 12 in the order of [11.1], for every byte slice and every length of the workspace. A job that passes is handed on as its
 // fields. Each test equals the definition's; what it requires are the tests before it.
 use load::Fields;
 use space::Limit;
@@ -14,7 +14,7 @@ ghost use Rattle.job.specs.Refusal.{hasMark, sizeWithin, checkedOf};
 
 // ---- single tests
 
-// "FCT", in a job that is long enough for a header.
+// The letters FCT, in a job that is long enough for a header.
 fn has_mark(job: &[u8]) -> bool
     ensures { λ r. ⌜ r ≡ hasMark (now (job .entry)) ⌝ }
 {

@@ -31,7 +31,7 @@ use Rattle.keep.specs.Rooms.{RoomFor, room-edges, room-ridges, room-plac
 abbrev pub vertexOf : Orbit → ℕ → ℕ
 vertexOf o p = getD (o .vertices) p 0
 
--- "counts 2 .. one ridge row, vertex 0", or "counts 1, 1 .. ridge rows vertex 0 and vertex 1"
+-- [6.3] what a call of rank 2 answers: one orbit of two ends, or two of one
 unfoldable pub edgeKept : Bool → Orbit → Kept
 edgeKept swapped o = record {
   orbit = o;

@@ -301,7 +301,7 @@ ascending-distinct : (s : List ℕ) → Ascending s → Distinct s
 ascending-distinct [] a = tt
 ascending-distinct (x ∷ s) a = ((λ y m e. let k = a .0 y m in omega arith), ascending-distinct s (a .1))
 
--- "A row not a permutation": n numbers are a permutation exactly when each is below n and no two are the same
+-- [11.1] test 11: n numbers are a permutation exactly when each is below n and no two are the same
 pub once-permutes : (n : ℕ) (row : List ℕ) → length row ≡ n → OnceBelow n row → T (isPermutation n row)
 unfolding isPermutation sortNats
 once-permutes n row e o =

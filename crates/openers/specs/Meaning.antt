@@ -52,7 +52,7 @@ pub record HoldsPairs (r : Pairs) (meaning : List Pair) : Type 0 where
   pub count-is : r .count ≡ length meaning
   pub means : pairsIn r ≡ meaning
 
--- the codes of a pair's images under the rows, "smaller first"
+-- [5.4] the codes of a pair's images under the rows, the smaller vertex first
 unfoldable pub pairCodes : List Row → Pair → List ℕ
 pairCodes rows p = map (λ (row : Row). codeOf (pairImage p row)) rows
 

@@ -1,5 +1,5 @@
-// Openers: the vertices and the pairs of vertices that open an orbit under the rows, in document 01's order. Marks stand in local arrays; a row is read where it lies, at a stride of
-// 32 bytes. Each function equals a definition of "Orbits" for every n up to 20 and any number of rows, which need not be closed under composition.
+// Openers: the vertices and the pairs of vertices that open an orbit under the rows, in the order of [5.2] and [5.4]. Marks stand in local arrays; a row is read where it lies, at a stride of
+// 32 bytes. Each function equals a definition of Orbits for every n up to 20 and any number of rows, which need not be closed under composition.
 use space::Limit;
 use space::Points;
 ghost use mathlib.Core.Path.{_≡_};

@@ -1,4 +1,4 @@
--- What the whole answers: the hyperplane orbits of a call as document 01 has them, or refusal 13. Leans on Hyperplanes and Walks.
+-- What the whole answers: the hyperplane orbits of a call [5.7], or refusal 13. Leans on Hyperplanes and Walks.
 use mathlib.Core.Path.{_≡_, refl, sym, ap, subst, _∙_}
 use mathlib.Core.Bool.{Bool, true, false, cond, not, _||_}
 use mathlib.Core.List.{List, [], _∷_, _++_, map, flatMap, map-append, append-nil, List·Memᴰ}
@@ -34,7 +34,7 @@ use Rattle.orbits.specs.declared.Answer.the-variants.{Orbits, Refused as
 
 -- ---- definitions
 
--- what an answer says: the orbits that the workspace holds, or "13. A 257th hyperplane orbit in some call."
+-- what an answer says: the orbits that the workspace holds, or refusal 13
 unfoldable pub answerIn : ℕ → Answer → List ℕ → Outcome (List Orbit)
 answerIn n (Orbits count) ws = answered (map (orbitOf n) (orbitsIn ws count))
 answerIn n RefusedAnswer ws = refused 13

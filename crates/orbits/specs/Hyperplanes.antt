@@ -1,4 +1,4 @@
--- Orbits by numbers are document 01's hyperplane orbits: what was seen, as numbers in ascending order, agrees with the definition's list of sets. Leans on Numbers.
+-- Orbits by numbers are the hyperplane orbits of [5.7]: what was seen, as numbers in ascending order, agrees with the definition's list of sets. Leans on Numbers.
 use mathlib.Core.Path.{_≡_, refl, sym, ap, subst, _∙_}
 use mathlib.Core.Bool.{Bool, true, false, cond, not, _&&_, _||_}
 use mathlib.Core.List.{List, [], _∷_, _++_, map, List·Memᴰ}

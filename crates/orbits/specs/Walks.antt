@@ -37,7 +37,7 @@ pub record Walked (tolerance : Float) (flat : List Vec) (rows : List Row) (bound
   pub room : Room bound (r .known) (r .count) after
   pub reached : (seen : List ℕ) (orbits : List Pair) → Reached bound state ws seen orbits → Reached bound r after (seenAfter tolerance flat rows seen tuples) (orbits ++ orbitsFrom tolerance flat rows seen tuples)
 
--- "An added vertex whose length from v breaks a limit drops the tuple."
+-- [5.5] an added vertex that breaks a limit takes its tuples with it
 unfoldable pub keepsLimits : Float → Limits → List Vec → ℕ → ℕ → Bool
 keepsLimits tolerance limits points v u = not (breaksLimit tolerance limits points v u)
 

@@ -1,5 +1,5 @@
 // Hyperplane orbits in the workspace. Its first 2,048 bytes hold up to 256 orbits, eight bytes each: the number of the first set, and how many sets the orbit has. Behind them lie the
-// numbers of all sets seen, ascending, at most 120 for an orbit. Each function equals a step of document 01's "Orbits", at any tolerance and any rank from 3.
+// numbers of all sets seen, ascending, at most 120 for an orbit. Each function equals a step of [5.5] to [5.7], at any tolerance and any rank from 3.
 use openers::Pairs;
 use openers::pair_openers;
 use sets::points_near;

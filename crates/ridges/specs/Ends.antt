@@ -1,4 +1,4 @@
--- The ridges of a call, orbit by orbit, as they stand on the shelf: the ends of each from its code, and their numbers by document 01's "Recursion on rank".
+-- The ridges of a call, orbit by orbit, as they stand on the shelf: the ends of each from its code, and their numbers by [6.7].
 -- Leans on Keeps, Numbering and Areas.
 use mathlib.Core.Path.{_≡_, refl, sym, ap, _∙_}
 use mathlib.Core.Option.{Option, some, none}

@@ -48,7 +48,7 @@ numbersIn src o = getD (closed 2 256 (src .numbers)) o []
 abbrev pub placesIn : Sources → ℕ → List ℕ
 placesIn src x = getD (closed 2 1024 (src .places)) x []
 
--- "floor(facet orbit count × inner count of a / ridge orbit count)", with its ridge orbit
+-- [6.8] the share of a place, with its ridge orbit
 unfoldable pub codeAt : Sources → List ℕ → ℕ → ℕ → ℕ
 codeAt src counts o a =
     let ridge = getD (numbersIn src o) a 0 in

@@ -1,5 +1,5 @@
 // From what a call keeps of its inner calls to the tables that its search reads. A ridge is the code of its two ends, as in the openers; the ridges of all orbits are numbered in their order
-// by document 01's "Recursion on rank", with marks for the 400 codes. Each function equals a definition of specs/ for any rows, with the identity among them or not.
+// by [6.7], with marks for the 400 codes. Each function equals a definition of specs/ for any rows, with the identity among them or not.
 use facets::Areas;
 use shelf::Shelf;
 ghost use mathlib.Core.Path.{_≡_};

@@ -1,4 +1,4 @@
--- Document 01's square root is IEEE 754's: `root-is-ieee`. For every finite double not below zero it gives the nearest double to the root, with the sign of its argument; at a tie, of which there
+-- The square root [3.2] is IEEE 754's [3.3]: `root-is-ieee`. For every finite double not below zero it gives the nearest double to the root, with the sign of its argument; at a tie, of which there
 -- is none but between zeros, the even one; and everything else is refused. The root's value is s 2^k units, where 2 s is the whole root of a number N or next to it, and 4 x is N 4^k squared units:
 -- so N lies between the squares of 2 s − 1 and 2 s + 1, and other doubles lie at least 2^k units away. Assumes nothing.
 use mathlib.Core.Path.{_≡_, refl, sym, ap, _∙_, subst}

@@ -1,4 +1,4 @@
--- Document 01's root, from any whole root that has one binary digit more than a double: its value is half of that root, rounded up, times a power of two. The definition takes 56 digits behind
+-- The definition's root [3.2], from any whole root that has one binary digit more than a double: its value is half of that root, rounded up, times a power of two. The definition takes 56 digits behind
 -- the point of whatever significand it is handed, a program takes 54 in all; the two numbers whose roots they take differ by an even power of two, so one root lies in the other's cell.
 -- Assumes nothing.
 use mathlib.Core.Path.{_≡_, refl, sym, ap, _∙_, subst}

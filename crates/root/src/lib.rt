@@ -1,4 +1,4 @@
-// The square root of document 01: the nearest double, ties to even, for every finite value not below zero.
+// The square root [3.2]: of every finite double not below zero, the nearest double to its root, ties to even.
 // The argument is q × 2^w / 2^1126 with 2^52 ≤ q < 2^53. Its root is that of a whole number of 107 or 108 binary digits, times a power of two, and the whole root of that number decides the rounding:
 // from a start in a table, two of Newton's steps lead to its upper half, and one more division to all of it. Only whole numbers below 2^64 occur.
 ghost use mathlib.Core.Path.{_≡_};
@@ -107,7 +107,7 @@ fn root_bits(bits: u64) -> u64
     (r + 1) / 2 + (s.w / 2 + 485) * FIELD
 }
 
-// Document 01's square root.
+// The square root [3.2].
 pub fn root(x: f64) -> Root
     ensures { λ r. ⌜ meaning r ≡ squareRoot x ⌝ }
 {

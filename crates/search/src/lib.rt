@@ -1,4 +1,4 @@
-// The search of document 01 in a workspace: from the facets of a call, what each adds to each ridge orbit and where it has shares of 1, to the emitted lists and the budget that
+// The search, chapter 7, in a workspace: from the facets of a call, what each adds to each ridge orbit and where it has shares of 1, to the emitted lists and the budget that
 // is left. The lists are examined in the order of the definition's stack, by a path with a place for each depth.
 ghost use mathlib.Core.Path.{_≡_};
 ghost use Prim.Native.Nat.{_+_, _-_, _<_};
@@ -34,7 +34,7 @@ pub enum Step {
     Full,
 }
 
-// "stop if a limit m is given and at least m are emitted"
+// [7.9] whether the entry limit ends the search, with so many lists emitted
 fn reached(limit: Limit, emitted: u32) -> bool
     ensures { λ r. ⌜ r ≡ limitReached (limitOf limit) emitted ⌝ }
 {
@@ -125,7 +125,7 @@ fn found(ws: &[u8], a: Areas, left: u32) -> Outcome
     Outcome::Found(pool::lists(&ws[lists..end]), left)
 }
 
-// The search of document 01: the lists emitted, in order, and what is left of the budget.
+// The search [7.8]: the lists emitted, in order, and what is left of the budget.
 pub fn search(ws: &mut [u8], a: Areas, limit: Limit, budget: u32) -> Outcome
     requires { ⌜ ((t : Table) × Inputs t a (now ws)) ⌝ }
     ensures found { λ r. ⌜ ((t : Table) → Inputs t a (now (ws .entry)) → outcome t a r (now (ws .exit)) ≡ searchOf t (limitsOf a limit) budget) ⌝ }

@@ -1,4 +1,4 @@
--- What a refit answers: "added: refusal 14" where the plane of a set's points has another number of basis vectors than is wanted. Leans on what the structs mean.
+-- What a refit answers [6.4]: refusal 14 where the plane of a set's points has another number of basis vectors than is wanted. Leans on what the structs mean.
 use mathlib.Core.Path.{_≡_}
 use mathlib.Core.Bool.{Bool, true, false, cond}
 use mathlib.Core.Option.{Option, some, none}
@@ -20,7 +20,7 @@ fitted Refused plane = none
 unfoldable pub planeOf : SetPlane → Option Subspace
 planeOf r = fitted (r .fit) (subspaceOf (r .plane))
 
--- "refusal 14": exactly where the number of basis vectors is not the one wanted. The struct holds the plane either way, with the d of the points.
+-- refusal 14: exactly where the number of basis vectors is not the one wanted. The struct holds the plane either way, with the d of the points.
 pub record Refitted (r : SetPlane) (points : Points) (plane : Subspace) (wanted : ℕ) : Type 0 where
   pub answer : planeOf r ≡ cond (eqb (length (plane .basis)) wanted) (some plane) none
   pub holds : HoldsSubspace (r .plane) plane

@@ -1,5 +1,5 @@
 // Sets of vertices as numbers: the sum of 2 ^ v. The image of a set under a row, the points near a plane as a set, and a set's points with the plane that they fit.
-// Each function equals a definition of document 01's "Orbits" or "Recursion on rank".
+// Each function equals a definition of Orbits or Recursion: [5.1], [5.6], [6.4].
 use openers::image;
 use space::Points;
 use space::Subspace;

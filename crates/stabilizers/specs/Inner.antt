@@ -1,4 +1,4 @@
--- The rows that were written are the rows of the inner call: they decode to document 01's rows within the set, and are permutations of its positions. Leans on Places.
+-- The rows that were written are the rows of the inner call: they decode to the definition's rows within the set [6.5], and are permutations of its positions. Leans on Places.
 use mathlib.Core.Path.{_≡_, refl, sym, ap, subst, _∙_}
 use mathlib.Core.Bool.{Bool, true, false, cond}
 use mathlib.Core.List.{List, [], _∷_, _++_, map, append-assoc, append-nil, List·Memᴰ}

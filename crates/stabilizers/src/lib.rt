@@ -1,4 +1,4 @@
-// The rows that keep a set, rewritten to positions in it, in order, with repeats kept: document 01's rows of an inner call. A set is the number of its vertices; rows lie at a stride
+// The rows that keep a set, rewritten to positions in it, in order, with repeats kept: the rows of an inner call [6.5]. A set is the number of its vertices; rows lie at a stride
 // of 32 bytes, and so do the rows that are written. Leans on the sets' images.
 use openers::image;
 use sets::set_image;

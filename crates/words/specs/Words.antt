@@ -1,4 +1,4 @@
--- Little-endian numbers of any width in a list of bytes, and a list of bytes as a list of such numbers. Reading is `numberAt`, document 01's own word;
+-- Little-endian numbers of any width in a list of bytes, and a list of bytes as a list of such numbers. Reading is `numberAt` of the definitions [10.1];
 -- writing is `put`. Each law is stated once, for every width. Leans on the definitions of the job's bytes and on the laws of segments. Assumes nothing.
 use mathlib.Core.Path.{_≡_, refl, sym, ap, _∙_}
 use mathlib.Core.List.{List, [], _∷_, _++_}
@@ -50,7 +50,7 @@ little-append (x ∷ xs) ys =
     let p : 256 ^ suc (length xs) ≡ 256 ^ length xs * 256 = pow-suc 256 (length xs) in
     rw (h, p) (omega arith)
 
--- document 01's word is the number in four bytes
+-- a word [12.6] is the number in four bytes
 pub wordBytes-is : (v : ℕ) → wordBytes v ≡ bytesOf 4 v
 unfolding wordBytes bytesOf
 wordBytes-is v =

@@ -1,5 +1,5 @@
 -- An answer buffer that is cleared once and then takes words one behind another: after each, the words so far and zeros behind them. Words for which there is
--- no room are dropped, and the cursor tells. Leans on document 01's `wordBytes` and on Words. Assumes nothing.
+-- no room are dropped, and the cursor tells. Leans on `wordBytes` [12.6] and on Words. Assumes nothing.
 use mathlib.Core.Path.{_≡_, refl, sym, ap, _∙_}
 use mathlib.Core.Bool.{cond}
 use mathlib.Core.List.{List, [], _∷_, _++_, flatMap, append-assoc, append-nil}
@@ -16,7 +16,7 @@ use Rattle.definitions.specs.Outcome.{answered}
 use Rattle.laws.specs.Segments.{sets-front, sets-behind, drop-replicate, le-or-lt}
 use Rattle.words.specs.Words.{bytesOf, bytesOf-length, put, wordBytes-is}
 
--- the bytes of a list of words, as document 01 writes an answer
+-- [12.6] the bytes of a list of words
 unfoldable pub encoded : List ℕ → List ℕ
 encoded = flatMap wordBytes
 
@@ -104,7 +104,7 @@ pub cursor-none : (n : ℕ) → cursorOf n [] ≡ 0
 unfolding cursorOf
 cursor-none n = rw (le-leb 0 n (omega arith)) refl
 
--- where every word has room, the buffer is document 01's
+-- where every word has room, the buffer is the definition's [12.7]
 pub written-fits : (n : ℕ) (l : List ℕ) → 4 * length l ≤ n → written n l ≡ padded n (encoded l)
 unfolding written
 written-fits n l h = rw (take-all (n / 4) l (omega arith)) refl

@@ -1,5 +1,5 @@
 // Numbers and lists in byte slices. What is large lives in bytes of a workspace that the caller lends: these are the words to speak of it.
-// Every number is little-endian. A `requires` here is a bound on an index and nothing else. Contracts say what is read by document 01's `numberAt` and `floatAt`.
+// Every number is little-endian. A `requires` here is a bound on an index and nothing else. Contracts say what is read by the definitions `numberAt` and `floatAt` [10.1].
 ghost use mathlib.Core.Path.{_≡_};
 ghost use Prim.Native.Nat.{_+_, _*_, _≤_, _<_};
 ghost use lib.ListN.{length, drop, replicate};

@@ -1,4 +1,4 @@
--- The words of an answer of rank 4 are document 01's: the figure of an entry is the polyhedron of its edges and its facets' images in order. Leans on Written, Solids and Arranged.
+-- The words of an answer of rank 4 are the definition's: the figure of an entry is the polyhedron of its edges and its facets' images in order. Leans on Written, Solids and Arranged.
 use mathlib.Core.Path.{_≡_, refl, sym, ap, _∙_, subst}
 use mathlib.Core.Bool.{Bool, true, false, cond, not, _&&_}
 use mathlib.Core.List.{List, [], _∷_, _++_, map, flatMap, map-map, map-append, List·Memᴰ}

@@ -1,5 +1,5 @@
 -- What stands in the workspace when an answer is written, said of its bytes alone: what the writing functions ask, and the words of an answer of rank 3 in those terms.
--- Written says that this is what a call leaves, and that the words are document 01's. Leans on Facets, Marks and Answers.
+-- Written says that this is what a call leaves, and that the words are the definition's. Leans on Facets, Marks and Answers.
 use mathlib.Core.List.{List, [], _∷_, _++_, flatMap}
 use Prim.Native.Nat.{ℕ, _+_, _*_, _-_, _≤_}
 use lib.ListN.{length, drop}

@@ -1,4 +1,4 @@
--- What a call of rank 3 leaves is what the writing functions ask for, and the words that they write are document 01's answer. Leans on Standing, and on what a call leaves.
+-- What a call of rank 3 leaves is what the writing functions ask for, and the words that they write are the definition's answer. Leans on Standing, and on what a call leaves.
 use mathlib.Core.Path.{_≡_, refl, sym, ap, _∙_, subst}
 use mathlib.Core.List.{List, [], _∷_, _++_, map, flatMap, map-append, map-map}
 use Prim.Native.Nat.{ℕ, suc, _+_, _*_, _-_, _/_, _%_, _≤_, _<_}
@@ -268,6 +268,6 @@ pub record Left (n m : ℕ) (bytes : List ℕ) (kept : List Kept) (level : Level
   pub edges : EdgesKept n kept
   pub leaves : Leaves 0 n (rowsIn n m bytes) kept level s
 
--- the answer is written: for whatever is kept there, the words of document 01's answer that stands in the workspace
+-- the answer is written: for whatever is kept there, the words of the answer that stands in the workspace
 pub record WroteAnswer (n m : ℕ) (bytes : List ℕ) (level : Level) (s : List ℕ) (budget left : ℕ) (before : List ℕ) (at : ℕ) (after : List ℕ) (r : ℕ) : Type 0 where
   pub wrote : (kept : List Kept) → Left n m bytes kept level s → Wrote before at after r (answerWords budget (answerLeft 0 n (rowsIn n m bytes) kept level s left))
