@@ -69,14 +69,14 @@ enum register_refusal {
  *     determined by the job and the lengths of the other two slices. What stands
  *     in the workspace or in the answer buffer before the call makes no
  *     difference.
- *   - At ranks 3 and 4 the list is complete and sound. A choice takes at most one
- *     possible facet from each orbit, and at least one in all; it is closed when
- *     its facets add up to 0 or 2 in every ridge orbit. Every entry is that of a
- *     closed choice. Without an entry limit every closed choice has an entry, and
- *     has just one if each facet's shares in any one ridge orbit are equal. With
- *     an entry limit m there are at most max(m, 1) entries; under the same
- *     condition they are of different choices, and are max(m, 1) or as many as
- *     there are closed choices, whichever is less.
+ *   - At ranks 3 and 4 the list is sound and complete [13.8]. A choice takes one
+ *     or more possible facets, never two of one orbit; it is closed if they add
+ *     up to 0 or 2 in every ridge orbit. Each entry belongs to a closed choice.
+ *     If there is no entry limit, each closed choice has an entry. It has just
+ *     one where a facet's places in one ridge orbit always have the same share.
+ *     An entry limit m lets no more than max(m, 1) entries pass; under the same
+ *     condition they belong to different choices, and there are max(m, 1), or
+ *     one for each closed choice if those are fewer.
  *     Closed is a matter of these sums [1.3]. Whether each ridge of a figure lies
  *     in just two of its facets is another question: [1.4] to [1.6].
  *   - Entries stand in ascending order of their lists.

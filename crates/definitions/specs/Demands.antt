@@ -45,8 +45,8 @@ orbitsAscend [] = true
 orbitsAscend (f ∷ []) = true
 orbitsAscend (f ∷ g ∷ fs) = let rest = orbitsAscend (g ∷ fs) in ltb (f .0) (g .0) && rest
 
--- [13.3] at least one possible facet, at most one of each orbit, written ascending by orbit, so that each set is
--- one list
+-- [13.3] one or more possible facets, never two of one orbit, written ascending by orbit, so that each set is one
+-- list
 unfoldable pub isChoice : Table → List Facet → Bool
 isChoice table c = ltb 0 (length c) && allOf (isPossible table) c && orbitsAscend c
 
@@ -158,6 +158,6 @@ pub record CallComplete (job : Job) (entries : List Entry) : Type 0 where
   pub is-found : searchFrom (rulesOf bounds1 job) before ≡ answered found
   pub complete : EntriesComplete (job .entryLimit) before (found .lists) entries
 
--- [13.8] of a job's bytes and any list of entries, for every accepted job of rank 3 or 4
+-- [13.8] of a job's bytes and any list of entries, if the job is accepted and has rank 3 or 4
 pub record Demand3 (bytes : Bytes) (entries : List Entry) : Type 0 where
   pub holds : Accepted bytes → T (between 3 4 (readJob bytes .rank)) → CallComplete (readJob bytes) entries

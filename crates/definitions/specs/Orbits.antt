@@ -29,7 +29,7 @@ pub record Limits : Type 0 where
 
 -- ---- vertices
 
--- [5.2] a vertex that is not seen opens an orbit; its images under the rows are seen from then on
+-- [5.2] a vertex that is not seen opens an orbit; where the rows carry it is seen from then on
 unfoldable pub vertexOpeners : List Row → List ℕ → List ℕ → List ℕ
 vertexOpeners rows seen [] = []
 vertexOpeners rows seen (v ∷ vs) =

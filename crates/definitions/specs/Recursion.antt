@@ -165,7 +165,7 @@ unfoldable pub numberOrOpen : List Row → RidgeOrbits → Figure → Option ℕ
 numberOrOpen rows known ridge (some number) = (number, known)
 numberOrOpen rows known ridge none = (length (known .counts), openRidgeOrbit rows known ridge)
 
--- [6.7] a ridge of an inner answer, moved to this call's vertices and sorted, and then numbered
+-- [6.7] a ridge of an inner answer, in this call's vertices and sorted, gets its number
 unfoldable pub numberRidge : List Row → List ℕ → RidgeOrbits → Figure → ℕ × RidgeOrbits
 numberRidge rows vertices known inner =
     let ridge = moveSorted (λ (v : ℕ). getD vertices v 0) inner in

@@ -119,7 +119,7 @@ unfoldable pub valueOf : Option Float → Float
 valueOf none = nan
 valueOf (some x) = x
 
--- [3.5] the root of the dot product with itself
+-- [3.5] the root of v · v
 unfoldable pub norm : Vec → Float
 norm v = valueOf (squareRoot (dot v v))
 

@@ -80,7 +80,7 @@ fn try_vertex(rows: &[u8], m: usize, v: usize, marks: &mut [bool; 20], found: Ve
     found.with_vertex(v)
 }
 
-// Walk vertices upward; an unseen one opens an orbit, its images under the rows are marked.
+// [5.2] the vertices that open an orbit, upward; what the rows carry one to is marked
 pub fn vertex_openers(rows: &[u8], m: usize, n: usize) -> Vertices
     requires { ⌜ RowsFit n m (now rows) ⌝ }
     ensures { λ r. ⌜ HoldsVertices r (vertexOpeners (rowsIn n m (now (rows .entry))) [] (countFrom 0 n)) ⌝ }
@@ -202,7 +202,7 @@ fn pairs_above(
     pairs
 }
 
-// For each orbit's opener v and each w > v, in order.
+// [5.4] the pairs that open an orbit, for each opener and each vertex above it
 pub fn pair_openers(
     points: Points,
     rows: &[u8],

@@ -111,7 +111,7 @@ fn open_orbit(
 
 // ---- tuples
 
-// If the flattened tuple fits a hyperplane whose set was not seen, it opens an orbit.
+// [5.6] [5.7] A tuple opens an orbit where it makes a hyperplane whose set was not seen.
 fn fit_tuple(
     flat: Points,
     tuple: Points,
@@ -176,7 +176,7 @@ fn try_tuple(
     }
 }
 
-// A tuple that begins with v is extended by as many vertices as are wanted, ascending from one on; a vertex whose length from v breaks a limit drops the tuple.
+// A tuple that begins with v is extended by as many vertices as are wanted, ascending from one on [5.5]; a vertex that breaks a limit with v is passed over.
 fn extend(
     points: Points,
     flat: Points,

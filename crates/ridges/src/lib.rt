@@ -224,7 +224,7 @@ fn share_facets(ws: &mut [u8], shelf: Shelf, desk: Desk, counts: &[u32])
 
 // ---- the tables of the search
 
-// What facet x adds to a ridge orbit, cut off at 3: the last share there × the number of places there.
+// What facet x adds to a ridge orbit [7.2], cut off at 3.
 fn amount(shares: &[u8], x: usize, ridge: usize) -> usize
     requires { ⌜ Sound 4 1024 (now shares) × (x < count (now shares)) ⌝ }
     ensures { λ r. ⌜ r ≡ amountOf ridge (getD (closed 4 1024 (now (shares .entry))) x []) ⌝ }

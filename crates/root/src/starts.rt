@@ -2,7 +2,7 @@
 ghost use Prim.Native.Nat.{_≤_, _<_, _*_, _^_};
 ghost use Rattle.laws.specs.Squares.{WholeRoot};
 
-// For i from 256 to 1023 the largest whole number whose square is at most i × 2^22. Sixteen bits hold each: a constant array is laid out on the stack where it is read, so its width is time.
+// At place k the whole root of (256 + k) × 2^22, rounded down. Sixteen bits hold each: a constant array is laid out on the stack where it is read, so its width is time.
 const STARTS: [u16; 768] = [
     32768,
     32831,

@@ -132,7 +132,7 @@ pub struct SetPlane {
     pub fit: Fit,
 }
 
-// The first point is the offset, the others are added in order; another rank than the one wanted is refused.
+// [6.4] the plane made from a set's points in their order, refused where it has another rank than the one wanted
 pub fn refit(points: Points, tolerance: f64, wanted: usize) -> SetPlane
     requires { ⌜ PointsFit points ⌝ }
     ensures { λ r. ⌜ Refitted r points (fromPoints tolerance (pointsOf points)) wanted ⌝ }
