@@ -68,11 +68,13 @@ fn cited(text: &str) -> impl Iterator<Item = Section> + '_ {
     behind.filter_map(|rest| section(rest.split_once(']')?.0))
 }
 
-/// The sections that the comment right above line `at` cites.
-fn own(lines: &[&str], at: usize) -> Vec<Section> {
-    let above = lines[..at].iter().rev();
-    let comment = above.take_while(|line| line.trim_start().starts_with("--"));
-    comment.flat_map(|line| cited(line)).collect()
+/// The comment right above line `at`, without the titles of parts of a file.
+fn comment<'a>(lines: &[&'a str], at: usize) -> Vec<&'a str> {
+    let above = lines[..at].iter().rev().map(|line| line.trim_start());
+    let comment = above.take_while(|line| line.starts_with("--") && !line.starts_with("-- ----"));
+    let mut comment: Vec<&str> = comment.collect();
+    comment.reverse();
+    comment
 }
 
 fn begins_definition(line: &str) -> bool {
@@ -115,15 +117,21 @@ fn sections_are_numbered_in_order() {
     }
 }
 
+/// Each definition of a file: its first line, and the comment above it.
+fn defined<'a>(lines: &[&'a str]) -> Vec<(&'a str, Vec<&'a str>)> {
+    let places = (0..lines.len()).filter(|&at| begins_definition(lines[at]));
+    places.map(|at| (lines[at], comment(lines, at))).collect()
+}
+
 #[test]
-fn every_definition_names_its_section() {
+fn every_definition_begins_with_its_section() {
     for name in RENDERING {
         let text = read(&definitions().join(format!("{name}.antt")));
         let lines: Vec<&str> = text.lines().collect();
-        for (at, line) in lines.iter().enumerate() {
-            if begins_definition(line) {
-                assert!(!own(&lines, at).is_empty(), "{name}: {line}");
-            }
+        for (line, comment) in defined(&lines) {
+            let first = comment.first().and_then(|line| line.strip_prefix("-- ["));
+            let first = first.and_then(|rest| section(rest.split(']').next()?));
+            assert!(first.is_some(), "{name}: {line}");
         }
     }
 }
@@ -136,8 +144,9 @@ fn every_section_is_named_by_a_definition() {
     for path in specs {
         let text = read(&path);
         let lines: Vec<&str> = text.lines().collect();
-        let places = (0..lines.len()).filter(|&at| begins_definition(lines[at]));
-        named.extend(places.flat_map(|at| own(&lines, at)));
+        for (_, comment) in defined(&lines) {
+            named.extend(comment.into_iter().flat_map(cited));
+        }
     }
     for section in sections() {
         assert!(named.contains(&section), "no definition names {section:?}");
