@@ -5,5 +5,4 @@ pub mod Closed
 pub mod Called
 pub mod Loaded
 pub mod Reading
-pub mod Small
 pub mod Demands

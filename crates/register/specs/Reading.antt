@@ -1,16 +1,18 @@
 -- The entries of an answer, read back from its bytes as document 01 lays them down: "examined; orbit count, counts; entry count, each its split list's length, pairs, figure". What is written of an
--- answer whose numbers are u32 is read back. Leans on the definition of the answer's bytes, and on numbers in bytes.
+-- answer whose numbers are u32 is read back: its bytes determine its words, and these its entries. Leans on the definition of the answer's bytes, and on numbers in bytes.
 use mathlib.Core.Path.{_≡_, refl, sym, ap, _∙_}
-use mathlib.Core.List.{List, [], _∷_, _++_, map, flatMap, append-assoc, map-append}
+use mathlib.Core.List.{List, [], _∷_, _++_, map, flatMap, append-assoc, append-nil}
 use Prim.Native.Nat.{ℕ, zero, suc, _-_, _<_}
-use lib.ListN.{length, length-map}
+use lib.ListN.{length}
 use Rattle.definitions.specs.Lists.{Pair}
 use Rattle.definitions.specs.Figures.{Figure}
 use Rattle.definitions.specs.Recursion.{Entry, Answer}
 use Rattle.definitions.specs.Job.{Bytes, little, counted, figureWords, entryWords, compoundWords, summaryWords, answerWords, wordBytes, answerBytes}
-use Rattle.laws.specs.Lists.{Mem}
+use Rattle.laws.specs.Lists.{Mem, there}
 use Rattle.words.specs.Words.{wordBytes-is, little-bytesOf}
-use Rattle.laws.specs.Places.{flat-singles, map-self}
+use Rattle.laws.specs.Places.{map-self}
+use Rattle.shapes.specs.FigureNumbers.{WordsBelow}
+use Rattle.shapes.specs.JobWords.{u32s}
 
 -- ---- the definition
 
@@ -119,44 +121,46 @@ entry-reads e rest =
     ∙ (ap after (counted-read readPair (λ (p : Pair). p .0 ∷ p .1 ∷ []) pair-reads (e .list) (figureWords (e .figure) ++ rest))
     ∙ ap (λ (figure : Figure × List ℕ). (record { list = e .list; figure = figure .0 }, figure .1)) (figure-reads (e .figure) rest))
 
+-- ---- the words of an answer
+
+low-same : (words : List ℕ) → WordsBelow u32s words → map low words ≡ words
+low-same words s = map-self low words (λ w i. low-is w (s .word w i))
+
+-- the answer's bytes determine its words, whatever stands behind them
+pub words-back : (words : List ℕ) (tail : Bytes) → WordsBelow u32s words → wordsRead (flatMap wordBytes words ++ tail) ≡ words ++ wordsRead tail
+words-back words tail s = words-read words tail ∙ ap (λ (l : List ℕ). l ++ wordsRead tail) (low-same words s)
+
+pub answer-back : (budget : ℕ) (a : Answer) → WordsBelow u32s (answerWords budget a) → wordsRead (answerBytes budget a) ≡ answerWords budget a
+unfolding answerBytes wordsRead
+answer-back budget a s =
+    ap wordsRead (sym (append-nil (flatMap wordBytes (answerWords budget a)))) ∙ (words-back (answerWords budget a) [] s ∙ append-nil (answerWords budget a))
+
 -- ---- the entries of an answer
 
--- every number is a u32
-pub record Small (words : List ℕ) : Type 0 where
-  pub word : (w : ℕ) → Mem w words → w < 4294967296
+-- all words but the first, how many lists were examined
+behindExamined : Answer → List ℕ
+behindExamined a =
+    counted (λ (count : ℕ). count ∷ []) (a .counts) ++ counted entryWords (a .entries) ++ flatMap (counted figureWords) (a .possible) ++ counted compoundWords (a .compounds)
+    ++ flatMap summaryWords (a .entries)
 
-low-small : (words : List ℕ) → Small words → map low words ≡ words
-low-small words s = map-self low words (λ w i. low-is w (s .word w i))
+regroup : (a b c d e f : List ℕ) → (a ++ b ++ c ++ d ++ e) ++ f ≡ a ++ (b ++ (c ++ (d ++ (e ++ f))))
+regroup a b c d e f = simp append-assoc
 
--- the counts are passed over, whatever they are
-passed : (counts rest : List ℕ) → length counts < 4294967296 → readCounted readWord (map low (counted (λ (c : ℕ). c ∷ []) counts) ++ rest) ≡ (map low counts, rest)
-unfolding counted readCounted readWord
-passed counts rest h =
-    let number : low (length counts) ≡ length (map low counts) = low-is (length counts) h ∙ sym (length-map counts low) in
-    let singles : map low (flatMap (λ (c : ℕ). c ∷ []) counts) ≡ flatMap (λ (c : ℕ). c ∷ []) (map low counts) = ap (map low) (flat-singles counts) ∙ sym (flat-singles (map low counts)) in
-    (λ i. readMany readWord (number i) (singles i ++ rest)) ∙ many-read readWord (λ (c : ℕ). c ∷ []) word-reads (map low counts) rest
-
--- a list of words in three parts, the middle one kept
-parts-low : (first middle last tail : List ℕ) → map low middle ≡ middle → map low (first ++ (middle ++ last)) ++ tail ≡ map low first ++ (middle ++ (map low last ++ tail))
-parts-low first middle last tail e =
-    ap (λ (l : List ℕ). l ++ tail) (map-append low first (middle ++ last) ∙ ap (λ (l : List ℕ). map low first ++ l) (map-append low middle last ∙ ap (λ (l : List ℕ). l ++ map low last) e))
-    ∙ (append-assoc (map low first) (middle ++ map low last) tail ∙ ap (λ (l : List ℕ). map low first ++ l) (append-assoc middle (map low last) tail))
-
-regroup : (a b c d e : List ℕ) → a ++ b ++ c ++ d ++ e ≡ a ++ (b ++ (c ++ (d ++ e)))
-regroup a b c d e = simp append-assoc
-
-pub entries-read : (budget : ℕ) (a : Answer) (tail : Bytes) → length (a .counts) < 4294967296 → Small (counted entryWords (a .entries)) → entriesRead (answerBytes budget a ++ tail) ≡ a .entries
-unfolding answerBytes answerWords entriesRead readWord
-entries-read budget a tail few small =
-    let counts = counted (λ (c : ℕ). c ∷ []) (a .counts) in
+-- whatever the budget is, its word stands in front of the counts
+pub entries-read : (budget : ℕ) (a : Answer) (tail : Bytes) → WordsBelow u32s (answerWords 0 a) → entriesRead (answerBytes budget a ++ tail) ≡ a .entries
+unfolding answerBytes answerWords entriesRead readWord behindExamined
+entries-read budget a tail small =
+    let behind = behindExamined a in
+    let counts = counted (λ (count : ℕ). count ∷ []) (a .counts) in
     let entries = counted entryWords (a .entries) in
     let possible = flatMap (counted figureWords) (a .possible) in
     let compounds = counted compoundWords (a .compounds) in
     let summaries = flatMap summaryWords (a .entries) in
-    let others = possible ++ (compounds ++ summaries) in
-    let behind : List ℕ = map low others ++ wordsRead tail in
+    let others = possible ++ (compounds ++ (summaries ++ wordsRead tail)) in
     let after : List ℕ → List Entry = λ words. readCounted readEntry (readCounted readWord words .1) .0 in
-    ap (λ (words : List ℕ). after (readWord words .1)) (words-read (answerWords budget a) tail ∙ ap (λ (l : List ℕ). map low l ++ wordsRead tail) (regroup ((budget - a .left) ∷ counts) entries possible compounds summaries))
-    ∙ (ap after (parts-low counts entries others (wordsRead tail) (low-small entries small))
-    ∙ (ap (λ (r : List ℕ × List ℕ). readCounted readEntry (r .1) .0) (passed (a .counts) (entries ++ behind) few)
-    ∙ ap (λ (r : List Entry × List ℕ). r .0) (counted-read readEntry entryWords entry-reads (a .entries) behind)))
+    let read : map low behind ≡ behind = low-same behind (record { word = λ w i. small .word w (there i) }) in
+    ap (λ (words : List ℕ). after (readWord words .1)) (words-read (answerWords budget a) tail)
+    ∙ (ap (λ (l : List ℕ). after (l ++ wordsRead tail)) read
+    ∙ (ap after (regroup counts entries possible compounds summaries (wordsRead tail))
+    ∙ (ap (λ (r : List ℕ × List ℕ). readCounted readEntry (r .1) .0) (counted-read readWord (λ (count : ℕ). count ∷ []) word-reads (a .counts) (entries ++ others))
+    ∙ ap (λ (r : List Entry × List ℕ). r .0) (counted-read readEntry entryWords entry-reads (a .entries) others))))
