@@ -1,4 +1,4 @@
--- Demand 3's own sentences determine the entries of a call, its last one (`exactly`) left aside: under the proviso a closed choice has one entry, so a list in which every closed choice has an entry
+-- The sentences of [13.8] determine the entries of a call, without the one that names the search (`exactly`): under the proviso a closed choice has one entry, so a list in which every closed choice has an entry
 -- misses none, a list whose every entry is a closed choice's has none that is foreign, and a list that pairs off with the closed choices has each as often as it should. Leans on Entries.
 use mathlib.Core.Path.{_≡_, refl, sym, ap, _∙_, subst}
 use mathlib.Core.Logic.{_↔_}
@@ -90,15 +90,15 @@ module _ {A B : Type 0} (R : A → B → Type 0) where
 -- ---- the sentences, each alone
 
 module _ (p : Prepared) where
-  -- "Every entry is that of a closed choice."
+  -- as the field `every-entry` says it
   abbrev pub EveryEntry : List Entry → Type 0
   EveryEntry entries = (e : Entry) → Mem e entries → (c : List Facet) × T (isClosedChoice (tableFor p) c) × EntryOfChoice p e c
 
-  -- "every closed choice has an entry"
+  -- as `every-choice` does, where there is no limit
   abbrev pub EveryChoice : List Entry → Type 0
   EveryChoice entries = (c : List Facet) → T (isClosedChoice (tableFor p) c) → (e : Entry) × Mem e entries × EntryOfChoice p e c
 
-  -- "entries and closed choices pair off one to one, each entry being its choice's"
+  -- as `one-to-one` does, where there is no limit
   abbrev pub OneToOne : List Entry → Type 0
   OneToOne entries = (choices : List (List Facet)) × Forall₂ (EntryOfChoice p) entries choices × AllClosedChoices (tableFor p) choices
 

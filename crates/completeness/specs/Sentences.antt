@@ -1,4 +1,4 @@
--- What each sentence of demand 3 refuses alone, shown of the square, `exactly` being left aside: a list from which any entry is missing, one with an entry more, one with a foreign entry.
+-- What each sentence of [13.8] refuses alone, shown of the square, without the one that names the search (`exactly`): a list from which any entry is missing, one with an entry more, one with a foreign entry.
 -- Leans on Determined and evaluates.
 use mathlib.Core.Path.{_≡_, refl, sym, _∙_, subst}
 use mathlib.Core.Bool.{Bool, not}
@@ -58,7 +58,7 @@ unfolding amongThem sameEntries
 among-them e l m =
     any-of (λ (x : Entry). sameEntries (e ∷ []) (x ∷ [])) e l m (subst (λ (o : Ordering). T (isEq o)) (sym (nat-lists .self (counted entryWords (e ∷ [])))) tt)
 
--- ---- "every closed choice has an entry"
+-- ---- every closed choice has an entry
 
 -- the square's entries without the one at a place
 unfoldable pub leftOut : ℕ → List Entry
@@ -80,7 +80,7 @@ none-left-out k h all =
     T-not (amongThem e (leftOut k)) (all-of (λ (i : ℕ). not (amongThem (getD squareEntries i noEntry) (leftOut i))) (countFrom 0 7) each-missed k (in-count 0 7 k (omega arith) (omega arith)))
     (among-them e (leftOut k) still)
 
--- ---- "entries and closed choices pair off one to one"
+-- ---- closed choices and entries pair off one to one
 
 pub as-many : (l : List Entry) → OneToOne p l → length l ≡ 7
 as-many l one = perm-length (none-doubled p square-equal l squareEntries one (square-call .complete .one-to-one no-limit square-equal)) ∙ seven-entries
@@ -89,7 +89,7 @@ as-many l one = perm-length (none-doubled p square-equal l squareEntries one (sq
 pub none-twice : (e : Entry) → OneToOne p (e ∷ squareEntries) → ⊥
 none-twice e one = let n = as-many (e ∷ squareEntries) one in let m = seven-entries in omega arith
 
--- ---- "Every entry is that of a closed choice."
+-- ---- every entry is that of a closed choice
 
 pub among-the-seven : (l : List Entry) → EveryEntry p l → (e : Entry) → Mem e l → Mem e squareEntries
 among-the-seven l every = none-missing p square-equal l squareEntries every (square-call .complete .every-choice no-limit)

@@ -1,4 +1,4 @@
--- "A compound facet is replaced by its two components .. until none is compound": splitting ended. No entry of an answered call names a facet that is a compound of its orbit's inner answer, at
+-- Splitting [8.6] ended: no entry of an answered call names a facet that is a compound of its orbit's inner answer, at
 -- every rank from 3, and so splitting an entry's list once more, with any number of steps, leaves it as it is. Leans on SplitCalls.
 use mathlib.Core.Path.{_≡_, refl, sym, ap, _∙_, subst}
 use mathlib.Core.Option.{Option, some, none}
