@@ -1,4 +1,4 @@
--- The customer's demands, of the exported function's return code and answer buffer. They follow from its two equations: demands 1 and 2 for every job, demand 3 of the entries read back from the
+-- The three demands [13.1], [13.2], [13.8], of the exported function's return code and answer buffer. They follow from its two equations: demands 1 and 2 for every job, demand 3 of the entries read back from the
 -- buffer, for every job that is answered at rank 3 or 4. Leans on Reading and on what is proved of the definitions.
 use mathlib.Core.Path.{_≡_, sym, ap, _∙_, subst}
 use mathlib.Core.List.{_++_}

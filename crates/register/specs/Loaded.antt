@@ -85,7 +85,7 @@ module _ (bytes : Bytes) (workspace : ℕ) (f : Fields) (passed : Passed f ≡ c
   given : Given (readJob bytes .points) (readJob bytes .rows)
   given = job-given bytes (rows-passed bytes workspace (λ u. answered (tt {0})) (tt {0}) go-on)
 
-  -- document 01's workspace
+  -- the workspace that the rank asks for [11.3]
   room : workspaceFor (readJob bytes .rank) ≤ workspace
   unfolding tests
   room = leb→le (workspaceFor (readJob bytes .rank)) workspace (passed-test (tests bytes workspace) (λ u. answered (tt {0})) (tt {0}) go-on _ (there (there (there (there (there (there (there (there (there (there (there (here refl)))))))))))))

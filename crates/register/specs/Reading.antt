@@ -1,5 +1,4 @@
--- The entries of an answer, read back from its bytes as document 01 lays them down: "examined; orbit count, counts; entry count, each its split list's length, pairs, figure". What is written of an
--- answer whose numbers are u32 is read back: its bytes determine its words, and these its entries. Leans on the definition of the answer's bytes, and on numbers in bytes.
+-- An answer read back from its bytes, which hold its numbers [12.3] as u32 [12.6]. Where every number is one, the bytes determine the words, and these the entries. Leans on the definition of the answer's bytes, and on numbers in bytes.
 use mathlib.Core.Path.{_≡_, refl, sym, ap, _∙_}
 use mathlib.Core.List.{List, [], _∷_, _++_, map, flatMap, append-assoc, append-nil}
 use Prim.Native.Nat.{ℕ, zero, suc, _-_, _<_}
@@ -16,7 +15,7 @@ use Rattle.shapes.specs.JobWords.{u32s}
 
 -- ---- the definition
 
--- "every number a u32", little-endian
+-- the numbers in the bytes, four bytes to a number [12.6]
 unfoldable pub wordsRead : Bytes → List ℕ
 wordsRead [] = []
 wordsRead (a ∷ []) = []
@@ -50,18 +49,18 @@ readPair words =
     let second = readWord (first .1) in
     ((first .0, second .0), second .1)
 
--- "number of ranks; per rank the number of elements; per element the number of subs, then the subs"
+-- a figure [12.4]: its ranks, their elements, their subs, how many of each in front
 unfoldable pub readFigure : Reader Figure
 readFigure = readCounted (readCounted (readCounted readWord))
 
--- "its split list's length, pairs, figure"
+-- an entry [12.3]: its split list and its figure
 unfoldable pub readEntry : Reader Entry
 readEntry words =
     let list = readCounted readPair words in
     let figure = readFigure (list .1) in
     (record { list = list .0; figure = figure .0 }, figure .1)
 
--- the entries behind "examined" and the orbits' counts
+-- the entries, behind the number of lists examined and the orbits' counts
 unfoldable pub entriesRead : Bytes → List Entry
 entriesRead bytes =
     let counts = readCounted readWord (readWord (wordsRead bytes) .1) in

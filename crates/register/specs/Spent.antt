@@ -1,4 +1,4 @@
--- A call never has more of the budget left than it was given: so the examined count of an answer, "The number of lists examined, over all depths", is a number. About the definitions alone, for
+-- A call never has more of the budget left than it was given: so the number of lists examined in all calls [12.3] is a number. About the definitions alone, for
 -- every rank and any rules.
 use mathlib.Core.Path.{_≡_, ap, subst}
 use mathlib.Core.Bool.{Bool, true, false, cond, not}

@@ -81,7 +81,7 @@ module _ {n m : ℕ} {rows : List ℕ} {kept : List Kept} {level : Level} {budge
       w .spent,
     )
 
-    -- and what it writes is document 01's answer
+    -- and what it writes is the answer of [12.3]
     pub solid-wrote : (from : List ℕ) (to : List ℕ) (end : ℕ) → WroteSolidAnswer n m rows level t (words 4 imagesIn (r .count)) budget rest from 0 to end
         → Wrote from 0 to end (answerWords budget (answerLeft 1 n (rowsIn n m rows) kept level s rest))
     solid-wrote from to end h =

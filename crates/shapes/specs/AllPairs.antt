@@ -23,7 +23,7 @@ set-read n vertices h = ascending-kept compare nats vertices (countFrom 0 n) (h 
 
 -- ---- pairs
 
--- all pairs of n vertices, the smaller first, in the order in which document 01 walks them
+-- all pairs of n vertices, the smaller first, in the order in which a call walks them [5.4]
 unfoldable pub allPairs : ℕ → List Pair
 allPairs n = pairsFrom n (countFrom 0 n)
 

@@ -195,7 +195,7 @@ components-of (c ∷ cs) a parts e = go (eqb a (c .whole)) refl e (components-of
         here (λ t. record { whole = w t; first = sym p t .0; second = sym p t .1 })
     go false q s ih = there (ih s)
 
--- ---- "triples ascending"
+-- ---- the triples ascend
 
 -- at most one compound for an entry
 label-one : (a : ℕ) (items : List Pair) (ls : List (List Pair)) (from : ℕ) → Pairs (λ (c d : Compound). c .whole < d .whole) (labelFrom a items ls from)

@@ -20,7 +20,7 @@ use Rattle.shapes.specs.FigureOf.{Stacked, body-element, figure-of}
 
 -- ---- edges as pairs
 
--- "smaller first", below the number of points
+-- the smaller end first, both below the number of points
 pub record Proper (n : ℕ) (e : Pair) : Type 0 where
   pub rises : e .0 < e .1
   pub below : e .1 < n

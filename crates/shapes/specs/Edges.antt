@@ -62,7 +62,7 @@ pub edge-ends-moved : (to : ℕ → ℕ) (e : Pair) → moveEnds to (edgeFigure 
 unfolding moveEnds edgeFigure
 edge-ends-moved to e = refl
 
--- moved and sorted, "smaller first"
+-- moved and sorted, the smaller end first
 pub edge-moved : (to : ℕ → ℕ) (e : Pair) → moveSorted to (edgeFigure e) ≡ edgeFigure (min (to (e .0)) (to (e .1)), max (to (e .0)) (to (e .1)))
 unfolding moveSorted sortStrong moveEnds edgeFigure sortRanks
 edge-moved to e = ap (λ (ends : List ℕ). ([] ∷ []) ∷ ((0 ∷ []) ∷ (0 ∷ []) ∷ []) ∷ (ends ∷ []) ∷ []) (sort-two (to (e .0)) (to (e .1)))

@@ -14,12 +14,12 @@ use Rattle.shapes.specs.EdgeSets.{ends, edgeNumber, polygon, polyhedron}
 
 -- ---- elements and ranks
 
--- "per element the number of subs, then the subs"
+-- an element: how many subs, then the subs
 element-words : (e : List ℕ) → counted (λ (sub : ℕ). sub ∷ []) e ≡ length e ∷ e
 unfolding counted
 element-words e = ap (λ (l : List ℕ). length e ∷ l) (flat-singles e)
 
--- "per rank the number of elements"
+-- a rank: how many elements, then each
 unfoldable pub rankWords : Elements → List ℕ
 rankWords es = length es ∷ flatMap (λ (e : List ℕ). length e ∷ e) es
 
@@ -27,7 +27,7 @@ rank-words : (es : Elements) → counted (counted (λ (sub : ℕ). sub ∷ [])) 
 unfolding counted rankWords
 rank-words es = ap (λ (l : List ℕ). length es ∷ l) (flatMap-same (λ (e : List ℕ). length e ∷ flatMap (λ (sub : ℕ). sub ∷ []) e) (λ (e : List ℕ). length e ∷ e) es (λ e m. ap (λ (l : List ℕ). length e ∷ l) (flat-singles e)))
 
--- "A figure: number of ranks; per rank .."
+-- a figure [12.4]: how many ranks, then each
 pub figure-words : (f : Figure) → figureWords f ≡ length f ∷ flatMap rankWords f
 unfolding figureWords counted
 figure-words f = ap (λ (l : List ℕ). length f ∷ l) (flatMap-same (counted (counted (λ (sub : ℕ). sub ∷ []))) rankWords f (λ es m. rank-words es))
@@ -102,7 +102,7 @@ polyhedron-words n edges polygons =
     let d = append-nil (rankWords (countFrom 0 (length polygons) ∷ [])) ∙ body-rank (length polygons) in
     figure-words (polyhedron n edges polygons) ∙ (λ t. 5 ∷ 1 ∷ 0 ∷ a t ++ (b t ++ (c t ++ d t)))
 
--- ---- "then per entry a summary: points .., edges .., facets"
+-- ---- summaries [12.5]
 
 pub polygon-summary : (e : Entry) (n : ℕ) (edges : List Pair) → e .figure ≡ polygon n edges → summaryWords e ≡ n ∷ length edges ∷ length edges ∷ []
 unfolding summaryWords rankOf polygon

@@ -49,7 +49,7 @@ numberEnds rows known ends = numberOrOpenKey comparePair edgeVia rows known ends
 unfoldable pub numbersKept : List Row → List Kept → List (List ℕ) × KnownKeys Pair
 numbersKept rows kept = mapWith (mapWith (numberEnds rows)) (noKeys Pair) (map (λ (k : Kept). k .ends) kept)
 
--- "floor(facet orbit count × inner count of a / ridge orbit count)"
+-- a share [6.8]
 unfoldable pub keptShare : List ℕ → Kept → List ℕ → ℕ → Share
 keptShare ridgeCounts k numbers a =
     let ridge = getD numbers a 0 in

@@ -158,7 +158,7 @@ module _ (rules : Rules) (plane : Subspace) (points : List Vec) (rows : List Row
       let r = entry-of-list rules p (c .found) (c .is-found) e (subst (λ (x : Answer). Mem e (x .entries)) (c .is) m) in
       (r .0, r .1, r .2, ap (λ (x : Entry). x .list) (r .2) ∙ found-unsplit (r .0) (r .1))
 
-  -- "A facet's list holds places (a, b)": at rank 3 every b is 0
+  -- every place (a, b) of a facet's list has b = 0 at rank 3
   pub entry-places : (e : Entry) → Mem e (a .entries) → (x : Pair) → Mem x (e .list) → (x .0 < length (p .inner)) × (x .1 ≡ 0)
   entry-places e m x i = let r = entry-list e m in found-first (r .0) (r .1) x (subst (λ (l : List Pair). Mem x l) (r .3) i)
 

@@ -26,7 +26,7 @@ use Rattle.shapes.specs.EdgeSets.{Proper, EdgeSet, ends, edgesInOrder, e
 unfoldable pub endsVia : (ℕ → ℕ) → Pair → Pair
 endsVia to e = (to (e .0), to (e .1))
 
--- "smaller first"
+-- the smaller end first
 unfoldable pub edgeVia : (ℕ → ℕ) → Pair → Pair
 edgeVia to e = (min (to (e .0)) (to (e .1)), max (to (e .0)) (to (e .1)))
 
