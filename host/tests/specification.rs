@@ -184,3 +184,18 @@ fn every_section_that_is_named_is_there() {
     }
     assert!(citing > 200, "only {citing} citations were found");
 }
+
+/// The customer's paper is not in the repository. One page says where each of its
+/// sections went; nothing else leans on it.
+#[test]
+fn nothing_leans_on_a_paper_that_is_not_here() {
+    let paper = concat!("document", " 01");
+    let mut everything = Vec::new();
+    files(&repository(), &mut everything);
+    for path in everything {
+        let text = fs::read_to_string(&path).unwrap_or_default();
+        let named = text.to_lowercase().contains(paper);
+        let may = path.ends_with("docs/DECISIONS.md");
+        assert!(!named || may, "{} names it", path.display());
+    }
+}

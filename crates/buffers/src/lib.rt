@@ -2,7 +2,7 @@
 ghost use mathlib.Core.Path.{_≡_};
 ghost use lib.ListN.{length};
 
-// Document 01's workspace of rank 4, which is enough for every rank, and one byte more.
+// The workspace of rank 4 [11.3], which is enough for every rank, and one byte more.
 pub fn workspace() -> [u8; 4194305]
     ensures { λ r. ⌜ 4194305 ≡ length r ⌝ }
 {

@@ -1,4 +1,4 @@
--- Where the shares of any one facet in any one ridge orbit are equal, a closed choice is taken in one order only: where a ridge orbit is open, what is left of the choice adds 1 there, a facet with
+-- Under the proviso [13.7] a closed choice is taken in one order only [13.4]: where a ridge orbit is open, what is left of the choice adds 1 there, a facet with
 -- a share 1 adds 1 at least, and so there is one such facet; elsewhere the facet of the lowest orbit is one. Over any table, and so for every rank from 3. Leans on Choices, Facets and Complete.
 use mathlib.Core.Path.{_≡_, refl, sym, subst}
 use mathlib.Core.Logic.{_⊎_, inl, inr}

@@ -1,4 +1,4 @@
--- Where the shares of any one facet in any one ridge orbit are equal, no two lists that the search emits have the same facets. Over any table; a closed list may be extended or not.
+-- Under the proviso [13.7] no two lists that the search emits have the same facets. Over any table; a closed list may be extended or not.
 use mathlib.Core.Path.{_≡_, refl, sym, ap, _∙_, subst}
 use mathlib.Core.Logic.{_⊎_, inl, inr}
 use mathlib.Core.Bool.{Bool, true, false, not}

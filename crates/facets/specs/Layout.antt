@@ -156,7 +156,7 @@ withTotals by a s x = placed (a .totals) (a .used - a .totals) s (changed by (to
 unfoldable pub withUse : Areas → List ℕ → ℕ → ℕ → List ℕ
 withUse a s x v = placed (a .used) (a .lists - a .used) s (set (usedPart a s) (numberAt s (2 * x) 2) v)
 
--- "A facet joins a list at its end": what it adds and its orbit are counted, or no longer counted
+-- [7.5] a facet joins a list: what it adds and its orbit are counted, or no longer counted
 unfoldable pub withFacet : Areas → List ℕ → ℕ → List ℕ
 withFacet a s x = withUse a (withTotals _+_ a s x) x 1
 

@@ -17,7 +17,7 @@ headerOf bytes = record {
   flags = getD bytes 10 0;
 }
 
--- "present ones in that order (f64, f64, u32); u32 budget; offset (d f64), basis (rank − 1 vectors), n points, rows of n bytes"
+-- [10.2] where each field behind the header begins
 unfoldable pub placesOf : Header → Places
 placesOf h =
     let maxAt = 11 + cond (flagSet (h .flags) 1) 8 0 in

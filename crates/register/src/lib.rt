@@ -108,7 +108,7 @@ fn write_left(
 
 // ---- the return code
 
-// "minus the refusal number"
+// [12.7] minus the refusal's number
 pub fn refusal(number: u8) -> i64
     ensures { λ r. ⌜ r ≡ negℤ (pos number) ⌝ }
 {
@@ -139,7 +139,7 @@ fn limit_of(entries: EntryLimit) -> Limit
     }
 }
 
-// What is alike at every depth of a job's call: document 01's tolerance and bounds, and the job's own limits.
+// What is alike at every depth of a job's call: the tolerance and bounds of [12.2], and the job's own limits.
 fn rules_of(fields: Fields) -> Rules
     ensures { λ r. ⌜ rulesOf r ≡ jobRules fields ⌝ }
 {
@@ -205,7 +205,7 @@ fn answer_job(job: &[u8], fields: Fields, ws: &mut [u8], answer: &mut [u8]) -> i
 }
 
 // The answer of a job: its length in bytes, or minus the number of its refusal. The answer stands at the front of the buffer, which is zero behind it, and zero throughout after a refusal. Code
-// and buffer are the definition's, whatever the three slices are; the customer's demands follow, the third of the entries read back from the buffer.
+// and buffer are the definition's, whatever the three slices are; the three demands follow [13.1] [13.2] [13.8], the third of the entries read back from the buffer.
 #[no_mangle]
 pub extern "C" fn register_answer(job: &[u8], workspace: &mut [u8], answer: &mut [u8]) -> i64
     ensures code { λ r. ⌜ r ≡ codeOf (outcome (now (job .entry)) (length (now (workspace .entry))) (length (now (answer .entry)))) ⌝ }

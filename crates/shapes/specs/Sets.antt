@@ -172,7 +172,7 @@ module _ (n : ℕ) (vertices : List ℕ) (h : VertexSet n vertices) where
       (omega arith, omega arith))
       (length-map vertices to)
 
-  -- the rows that keep the set, rewritten to positions in it
+  -- [6.5] rows within a set are permutations of its places
   pub rows-within : (rows : List Row) → Rows n rows → Rows k (rowsWithin vertices rows)
   unfolding rowsWithin keep
   rows-within rows given = record {

@@ -43,7 +43,7 @@ pointAlone p = record { offset = p; basis = [] }
 unfoldable pub withVector : Subspace → Vec → Subspace
 withVector s v = record { offset = s .offset; basis = s .basis ++ (v ∷ []) }
 
--- "until the basis has d vectors"
+-- [4.4] the basis has d vectors
 unfoldable pub isFullRank : Subspace → Bool
 isFullRank s = leb (length (s .offset)) (length (s .basis))
 
@@ -66,7 +66,7 @@ pub record HoldsPoints (p : Points) (d : ℕ) (points : List Vec) : Type 0 where
 
 -- ---- limits
 
--- "Each limit is either absent or a length."
+-- [5.3] a limit that is absent, or a length
 unfoldable pub lengthOf : Limit → Option Float
 lengthOf Absent = none
 lengthOf (Length length) = some length

@@ -1,4 +1,4 @@
-// Subspaces, points and limits. Each function equals a definition of document 01's "Subspace" or "Orbits", at every d up to five and at any tolerance. Structs go by value and are
+// Subspaces, points and limits. Each function equals a definition of Subspace or Orbits, chapter 4 and [5.3], at every d up to five and at any tolerance. Structs go by value and are
 // handed back. Numbers lie in flat arrays, five places to a vector; only the first d of them mean something.
 ghost use mathlib.Core.Path.{_≡_};
 ghost use mathlib.Core.List.{_∷_, [], _++_, map};
@@ -13,7 +13,7 @@ ghost use Rattle.space.specs.Meaning.{subspaceOf, SubspaceFits, HoldsSub
 
 // ---- subspaces
 
-// An offset of d numbers and a basis of `rank` vectors.
+// [4.1] d numbers of offset, and `rank` basis vectors
 pub struct Subspace {
     pub offset: [f64; 5],
     pub basis: [f64; 25],
@@ -72,7 +72,7 @@ impl Subspace {
         r
     }
 
-    // The residual, normalised, joins the basis exactly when its norm exceeds the tolerance.
+    // [4.3] a basis vector more, where the residual is longer than the tolerance
     pub fn add(self, p: [f64; 5], tolerance: f64) -> Subspace
         requires { ⌜ SubspaceFits self × (self .rank < 5) ⌝ }
         ensures { λ r. ⌜ HoldsSubspace r (addPoint tolerance (subspaceOf self) (vectorOf (self .d) p)) × (r .d ≡ self .d) ⌝ }
@@ -87,7 +87,7 @@ impl Subspace {
         }
     }
 
-    // The first point is the offset; the others are added in order until the basis has d vectors. Without a point the offset has no numbers; else d is the points' own.
+    // [4.4] Without a point the offset has no numbers; else d is the points' own.
     pub fn from_points(points: Points, tolerance: f64) -> Subspace
         requires { ⌜ PointsFit points ⌝ }
         ensures { λ r. ⌜ HoldsSubspace r (fromPoints tolerance (pointsOf points)) × (0 < points .n → r .d ≡ points .d) ⌝ }
@@ -144,7 +144,7 @@ impl Subspace {
     }
 }
 
-// p − project(p), written, for the point that begins at a place. To project is to start from the offset and to gain, for each basis vector b in order, b × ((p − offset) · b).
+// [4.2] the residual, written, of the point that begins at a place
 pub fn put_residual(plane: Subspace, points: &[f64], at: usize, out: &mut [f64])
     requires { ⌜ SubspaceFits plane × (at + plane .d ≤ length (now points)) × (plane .d ≤ length (now out)) ⌝ }
     ensures { λ _. ⌜ vectorOf (plane .d) (now (out .exit)) ≡ residual (subspaceOf plane) (vectorOf (plane .d) (drop at (now (points .entry)))) ⌝ }

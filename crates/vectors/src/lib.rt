@@ -1,4 +1,4 @@
-// Vectors of up to five numbers. Each function equals the definition of its name in document 01's "Square root and vectors": all floats are f64, rounded once per operation.
+// Vectors of up to five numbers. Each function equals a definition of Vectors, [3.4] to [3.6]: floats are f64, and each operation is rounded once.
 ghost use mathlib.Core.Path.{_≡_};
 ghost use Prim.Native.Nat.{_+_, _≤_};
 ghost use lib.ListN.{length, drop};
@@ -28,7 +28,7 @@ pub fn dot(a: [f64; 5], b: [f64; 5], d: usize) -> f64
     dot_at(&a, &b, 0, d)
 }
 
-// The square root of the dot product with itself.
+// [3.5] the norm
 pub fn norm(v: [f64; 5], d: usize) -> f64
     requires { ⌜ d ≤ 5 ⌝ }
     ensures { λ r. ⌜ r ≡ norm (vectorOf d v) ⌝ }

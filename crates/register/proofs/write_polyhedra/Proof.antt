@@ -1,4 +1,4 @@
--- `register::write_polyhedra` meets its contract: the laws of Writable say what is asked, and that the words written are document 01's. Assumes nothing.
+-- `register::write_polyhedra` meets its contract: the laws of Writable say what is asked, and that the words written are the definition's. Assumes nothing.
 use borrow.Author.Needs.{needs}
 use Rattle.register.specs.Writable.{images-asked, images-inside, solid-asked, solid-wrote}
 use Rattle.register.proofs.write_polyhedra.Statement.{statement}
