@@ -58,7 +58,7 @@ enum register_refusal {
  * facets, as said below.
  *
  * Returns the length of the answer, which is 0 or more, or minus the number of a
- * refusal, -1 to -17. Nothing else is returned, and every call ends.
+ * refusal, -1 to -17. Nothing else is returned (code-says), and every call ends.
  *
  * What is promised, for all bytes in the three slices:
  *
@@ -69,6 +69,11 @@ enum register_refusal {
  *     determined by the job and the lengths of the other two slices. What stands
  *     in the workspace or in the answer buffer before the call makes no
  *     difference.
+ *   - Lending more changes nothing but refusals 12 and 17: an answer is the same
+ *     with every longer workspace and every buffer from its length on
+ *     (answer-stays), and so is any other refusal (refusal-stays).
+ *   - Each number of an answer is below 2^32, so its four bytes are the whole of
+ *     it (accepted-words).
  *   - At ranks 3 and 4 the list is sound and complete [13.8]. A choice takes one
  *     or more possible facets, never two of one orbit; it is closed if they add
  *     up to 0 or 2 in every ridge orbit. Each entry belongs to a closed choice.
