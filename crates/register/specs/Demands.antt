@@ -12,6 +12,7 @@ use Rattle.definitions.specs.Recursion.{Answer}
 use Rattle.definitions.specs.Job.{Bytes, readJob, tests, between, bounds1, callOf, answerBytes, answerWords, fitting, outcomeWithin, outcome, codeOf, bufferOf}
 use Rattle.definitions.specs.Demands.{Demand1, Demand2, Demand3, CallComplete}
 use Rattle.completeness.specs.Jobs.{answered-before, not-refused-if, passed-all, demand-1, demand-2, demand-3}
+use Rattle.completeness.specs.Refusals.{CodeSays, code-says}
 use Rattle.shapes.specs.Answered.{answers-equal}
 use Rattle.shapes.specs.Jobs.{RowsPassed, rows-passed}
 use Rattle.shapes.specs.JobWords.{AreBytes, rank-passed, job-words, budget-below}
@@ -65,6 +66,10 @@ entries-in bytes answer tail c =
 module _ (bytes : Bytes) (workspace room : ℕ) {code : ℤ} {buffer : Bytes} (code-is : code ≡ codeOf (outcome bytes workspace room)) (buffer-is : buffer ≡ bufferOf room (outcome bytes workspace room)) where
   pub meets-1 : Demand1 bytes workspace room code buffer
   meets-1 = rw (code-is, buffer-is) (demand-1 bytes workspace room)
+
+  -- and what the code says: an answer's length, or minus one of 1 to 17
+  pub meets-code : CodeSays (outcome bytes workspace room) code
+  meets-code = rw code-is (code-says bytes workspace room)
 
   pub meets-2 : Demand2 bytes workspace room code buffer
   meets-2 = rw (code-is, buffer-is) (demand-2 bytes workspace room)
