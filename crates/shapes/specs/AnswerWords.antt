@@ -1,6 +1,6 @@
 -- Every number of an answer lies below a bound, at every rank: examined, the orbits' counts, the entries with their lists and figures, the possible facets, the compounds, the summaries. The premises are
--- the call's own: its budget, its points and rows, the bounds of its rules, and how many elements its figures have in a rank; that number is computed for every rank, and where a call refuses larger
--- figures, its own bound takes the place of the computed one. Leans on FigureNumbers and FewElements.
+-- the call's own: its budget, its points and rows, the bounds of its rules, and how many elements its figures have in a rank; that number is computed for every rank (`words-below`), and where a call
+-- refuses to store larger figures, its own bound takes the place of the computed one (`words-from-inner`). Leans on FigureNumbers and FewElements.
 use mathlib.Core.Path.{_≡_, refl, sym, ap, _∙_, subst}
 use mathlib.Core.Logic.{_⊎_, inl, inr}
 use mathlib.Core.List.{List, [], _∷_, _++_, map, flatMap, List·Memᴰ}
@@ -30,7 +30,7 @@ use Rattle.shapes.specs.Calls.{Given, innerPoints, inner-set, inner-size
 use Rattle.shapes.specs.EntryFigures.{facets-many, call-split, found-split-in-call}
 use Rattle.shapes.specs.Sets.{Rows}
 use Rattle.shapes.specs.Sizes.{split-length, orbit-counted}
-use Rattle.shapes.specs.FewElements.{sizes, Few, FewIn, few-moved, mostElements, few-elements, inner-points, inner-rows, possible-few}
+use Rattle.shapes.specs.FewElements.{sizes, Few, FewIn, few-moved, step-few, mostElements, few-elements, inner-points, inner-rows, possible-few}
 use Rattle.shapes.specs.FigureNumbers.{WordsBelow, none-below, more-below, joined-below, each-below, counted-below, Ground, OnGround, ground-wider, ground-moved, figure-ground, dyad-ground, ridge-ground, figure-below, summary-below}
 
 -- ---- what is counted beside figures
@@ -312,6 +312,20 @@ call-words most more w rules plane points rows budget a given e under elements f
       possible-ground = facets-ground more w rules plane points rows a given c;
       possible-few = facets-few more w rules plane points rows a given c inner-few;
     }) (call-numbers most more rules plane points rows a given c under) (under .ranks) (under .few-points) elements few-spent
+
+-- where the inner calls' entries have at most v: so few that a further rank times as many fit
+pub words-from-inner : (most more v : ℕ) (rules : Rules) (plane : Subspace) (points : List Vec) (rows : List Row) (budget : ℕ) (a : Answer) → Given points rows
+    → (e : faceting (suc more) rules plane points rows budget ≡ answered a) → Under most (suc more) (rules .bounds) (length points) (length rows)
+    → v < most → length rows * rules .bounds .facets * v < most
+    → ((i : Inner) → Mem i (answered-call more rules plane points rows budget a e .before .inner) → (x : Entry) → Mem x (i .answer .entries) → Few v (x .figure))
+    → (spent : ℕ) → spent < most → WordsBelow most (answerWords spent a)
+words-from-inner most more v rules plane points rows budget a given e under small product inner-few =
+    let c = answered-call more rules plane points rows budget a e in
+    let own = max 1 (length rows * rules .bounds .facets * v) in
+    let ranks = under .ranks in
+    call-words most more (max own v) rules plane points rows budget a given e under (omega arith)
+    (λ x i. few-more own (max own v) (x .figure) (omega arith) (step-few more (length rows) (rules .bounds .facets) v rules plane points rows a given (omega arith) (omega arith) c inner-few x i))
+    (λ j m x i. few-more v (max own v) (x .figure) (omega arith) (inner-few j m x i))
 
 -- and where these numbers are the computed ones
 module _ (most n r f : ℕ) (rules : Rules) (few-facets : rules .bounds .facets ≤ f) where

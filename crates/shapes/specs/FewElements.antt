@@ -187,6 +187,21 @@ module _ (p : Prepared) (w : ℕ) (inner-few : (i : Inner) → Mem i (p .inner) 
       let parts = split p l in
       figure-few w b (p .more) (p .points) (flatMap (facetImages p) parts) one (subst (λ (k : ℕ). k * w ≤ b) (sym (images-many p parts)) product) (images-few parts)
 
+-- one rank more: rows × possible facets × as many as the inner calls' entries have
+pub step-few : (more r f v : ℕ) (rules : Rules) (plane : Subspace) (points : List Vec) (rows : List Row) (a : Answer) → Given points rows → rules .bounds .facets ≤ f → length rows ≤ r
+    → (c : AnsweredCall more rules plane points rows a) → ((i : Inner) → Mem i (c .before .inner) → (e : Entry) → Mem e (i .answer .entries) → Few v (e .figure))
+    → (x : Entry) → Mem x (a .entries) → Few (max 1 (r * f * v)) (x .figure)
+unfolding finish
+step-few more r f v rules plane points rows a given few-facets h c inner-few x i =
+    let p = c .before in
+    let q = entry-of-list rules p (c .found) (c .is-found) x (subst (λ (y : Answer). Mem x (y .entries)) (c .is) i) in
+    let parts = split-length rules p (c .found) (c .is-found) (call-split more rules plane points rows p given (c .prepared)) (q .0) (q .1) in
+    let same : length (p .rows) ≡ length rows = ap length (c .prepared .rows-are) in
+    let wide : length (p .rows) ≤ r = omega arith in
+    let short : length (split p (q .0)) ≤ f = omega (arith, c .prepared .few-facets) in
+    let product : length (p .rows) * length (split p (q .0)) * v ≤ r * f * v = mul-le-mul (mul-le-mul wide short) (omega arith) in
+    subst (λ (y : Entry). Few (max 1 (r * f * v)) (y .figure)) (sym (q .2)) (entry-few p v inner-few (max 1 (r * f * v)) (q .0) (omega arith) (omega arith))
+
 -- ---- every rank
 
 -- the most elements that a rank of an entry's figure has from the edges up: of a call with at most so many points, rows and possible facets, whose rank is 2 + more
@@ -234,7 +249,7 @@ module _ (rules : Rules) (n r f : ℕ) (few-facets : rules .bounds .facets ≤ f
 
   pub few-elements : (more : ℕ) (plane : Subspace) (points : List Vec) (rows : List Row) (budget : ℕ) (a : Answer) → Given points rows → length points ≤ n → length rows ≤ r
       → faceting more rules plane points rows budget ≡ answered a → (x : Entry) → Mem x (a .entries) → Few (mostElements n r f more) (x .figure)
-  unfolding mostElements finish
+  unfolding mostElements
   few-elements zero plane points rows budget a given h k e x i = two-few plane points rows budget a e x i
   few-elements (suc zero) plane points rows budget a given h k e x i =
       let q = entry-polygon rules plane points rows a given (answered-call 0 rules plane points rows budget a e) x i in
@@ -242,19 +257,11 @@ module _ (rules : Rules) (n r f : ℕ) (few-facets : rules .bounds .facets ≤ f
   few-elements (suc (suc more)) plane points rows budget a given h k e x i =
       let c = answered-call (suc more) rules plane points rows budget a e in
       let p = c .before in
-      let q = entry-of-list rules p (c .found) (c .is-found) x (subst (λ (y : Answer). Mem x (y .entries)) (c .is) i) in
-      let w = mostElements n r f (suc more) in
-      let parts = split-length rules p (c .found) (c .is-found) (call-split (suc more) rules plane points rows p given (c .prepared)) (q .0) (q .1) in
-      let same : length (p .rows) ≡ length rows = ap length (c .prepared .rows-are) in
-      let wide : length (p .rows) ≤ r = omega arith in
-      let short : length (split p (q .0)) ≤ f = omega (arith, c .prepared .few-facets) in
-      let product : length (p .rows) * length (split p (q .0)) * w ≤ r * f * w = mul-le-mul (mul-le-mul wide short) (omega arith) in
-      subst (λ (y : Entry). Few (max 1 (r * f * w)) (y .figure)) (sym (q .2))
-      (entry-few p w
+      step-few (suc more) r f (mostElements n r f (suc more)) rules plane points rows a given few-facets k c
       (λ j m.
       let inner = c .prepared .inner .each j m in
       let its = inner-points (suc more) rules plane points rows p (c .prepared) j m in
       let own = inner-rows (j .orbit .vertices) rows in
       few-elements (suc more) _ (innerPoints plane points j) (rowsWithin (j .orbit .vertices) rows) (inner .budget) (j .answer)
       (inner-given (suc more) rules (faceting (suc more) rules) plane points rows p (c .prepared) (given .rows-good) j m) (omega arith) (omega arith) (inner .is))
-      (max 1 (r * f * w)) (q .0) (omega arith) (omega arith))
+      x i
