@@ -1,10 +1,9 @@
 -- The sentences of [13.8] determine the entries of a call, without the one that names the search (`exactly`): under the proviso a closed choice has one entry, so a list in which every closed choice has an entry
 -- misses none, a list whose every entry is a closed choice's has none that is foreign, and a list that pairs off with the closed choices has each as often as it should. Leans on Entries.
 use mathlib.Core.Path.{_≡_, refl, sym, ap, _∙_, subst}
-use mathlib.Core.Logic.{_↔_}
 use mathlib.Core.List.{List, [], _∷_, List·Memᴰ, List·Nodup, List·Permᴰ, Permᴰ·refl, Permᴰ·symm, Pairwise, Forall₂}
 use lib.Dec.{T}
-use Rattle.definitions.specs.Search.{Facet, Table}
+use Rattle.definitions.specs.Search.{Facet}
 use Rattle.definitions.specs.Recursion.{Entry}
 use Rattle.definitions.specs.Faceting.{Prepared, tableFor, entryOf}
 use Rattle.definitions.specs.Demands.{isClosedChoice, equalShares, EntryOfChoice, AllClosedChoices}

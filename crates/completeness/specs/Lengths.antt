@@ -1,12 +1,12 @@
 -- What the lengths of workspace and answer buffer change. A job has an outcome before its buffer is looked at (`alone`), and the buffer only adds 17; a longer workspace only takes 12 away. So an
 -- accepted job has the same bytes with every longer workspace and every room from its length on, and a refused one the same refusal, unless it is 12 or 17. Leans on Refusals.
-use mathlib.Core.Path.{_≡_, refl, sym, ap, _∙_, subst}
+use mathlib.Core.Path.{_≡_, refl, sym, ap, _∙_}
 use mathlib.Core.Logic.{_⊎_, inl, inr}
 use mathlib.Core.Bool.{Bool, true, false, not}
 use mathlib.Core.List.{List, [], _∷_}
 use Prim.Native.Nat.{ℕ, _≤_, _<_}
 use native.Mathlib.Omega.{arith}
-use lib.Dec.{T, leb, ltb, leb→le, le→leb, nltb→le, ltb→lt}
+use lib.Dec.{leb, ltb, leb→le, le→leb, nltb→le, ltb→lt}
 use lib.ListN.{length, take}
 use Rattle.definitions.specs.Outcome.{Outcome, refused, answered, andThen, refuseIf}
 use Rattle.definitions.specs.Recursion.{Answer}

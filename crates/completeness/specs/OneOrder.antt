@@ -3,11 +3,11 @@
 use mathlib.Core.Path.{_≡_, refl, sym, subst}
 use mathlib.Core.Logic.{_⊎_, inl, inr}
 use mathlib.Core.Bool.{_&&_}
-use mathlib.Core.List.{List, [], _∷_, _++_, List·Memᴰ}
+use mathlib.Core.List.{List, [], _∷_, _++_}
 use mathlib.Core.Option.{Option, some, none}
 use Prim.Native.Nat.{ℕ, suc, _+_, _≤_, _<_}
 use native.Mathlib.Omega.{arith}
-use lib.Dec.{T, leb, ltb, eqb, eqb→eq, leb→le, ltb→lt}
+use lib.Dec.{T, leb, ltb, eqb→eq, leb→le, ltb→lt}
 use lib.ListN.{length}
 use Rattle.definitions.specs.Lists.{memberPair, allOf}
 use Rattle.definitions.specs.Search.{Table, Facet, Verdict, adds, total, totals, judge, allFacets, onesAt}

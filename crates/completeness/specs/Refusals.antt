@@ -1,11 +1,11 @@
 -- Which numbers a refusal has: a call's are 13 to 16, at every rank; a job's 1 to 17. So a return code below 0 is minus one of these, and a code of 0 or more is an answer's length. Leans on Jobs.
-use mathlib.Core.Path.{_≡_, refl, sym, ap, _∙_, subst}
-use mathlib.Core.Bool.{Bool, true, false, not, _&&_}
-use mathlib.Core.List.{List, [], _∷_, _++_, map, reverseAux, List·Memᴰ}
-use Prim.Native.Nat.{ℕ, zero, suc, _+_, _≤_, _<_}
+use mathlib.Core.Path.{_≡_, refl, sym, ap, subst}
+use mathlib.Core.Bool.{Bool, true, false, not}
+use mathlib.Core.List.{List, [], _∷_, _++_, map, reverseAux}
+use Prim.Native.Nat.{ℕ, zero, suc, _+_, _≤_}
 use native.Mathlib.Omega.{arith}
 use lib.Dec.{T, leb, ltb, eqb, leb→le}
-use lib.IntN.{ℤ, pos, negsuc, negℤ}
+use lib.IntN.{ℤ, pos, negsuc}
 use lib.ListN.{length}
 use Rattle.definitions.specs.Lists.{allOf}
 use Rattle.definitions.specs.Outcome.{Outcome, refused, answered, andThen, refuseIf}
@@ -13,9 +13,9 @@ use Rattle.definitions.specs.Vectors.{Vec}
 use Rattle.definitions.specs.Subspace.{Subspace, fromPoints, flatten}
 use Rattle.definitions.specs.Orbits.{Row, Orbit, pointAt, hyperplaneOrbits}
 use Rattle.definitions.specs.Search.{Facet, Table, Found, Item, Verdict, over, closed, openAt, EntryLimits, limitReached, emit, emitIf, examine, search, judge, totals, putIn, starts}
-use Rattle.definitions.specs.Recursion.{Rules, Call, Answer, Inner, InnerCalls, edgeCall, innerCall, innerCalls, beforeThese, rowsWithin}
-use Rattle.definitions.specs.Faceting.{Prepared, prepare, faceting, searchFrom, finish}
-use Rattle.definitions.specs.Job.{Bytes, Test, readJob, tests, passAll, callOf, between, fitting, answerBytes, outcomeWithin, outcome, codeOf}
+use Rattle.definitions.specs.Recursion.{Rules, Call, Inner, edgeCall, innerCall, innerCalls, rowsWithin}
+use Rattle.definitions.specs.Faceting.{prepare, faceting, searchFrom}
+use Rattle.definitions.specs.Job.{Bytes, Test, tests, passAll, callOf, between, fitting, outcomeWithin, outcome, codeOf}
 use Rattle.laws.specs.Bools.{first, second}
 use Rattle.laws.specs.Lists.{Mem, here, there, all-of}
 

@@ -8,7 +8,7 @@ use Prim.Native.Nat.{ℕ, suc, _<_, Ordering}
 use native.Mathlib.Omega.{arith}
 use lib.Dec.{T, T-not, isEq}
 use lib.ListN.{length, getD, take, drop}
-use Rattle.definitions.specs.Lists.{compareNats, anyOf, allOf, countFrom}
+use Rattle.definitions.specs.Lists.{anyOf, allOf, countFrom}
 use Rattle.definitions.specs.Outcome.{Outcome}
 use Rattle.definitions.specs.Recursion.{Entry}
 use Rattle.definitions.specs.Faceting.{Prepared, tableFor}

@@ -7,7 +7,7 @@ use Rattle.definitions.specs.Lists.{Pair}
 use Rattle.definitions.specs.Figures.{Figure}
 use Rattle.definitions.specs.Recursion.{Entry, Answer}
 use Rattle.definitions.specs.Job.{Bytes, little, counted, figureWords, entryWords, compoundWords, summaryWords, answerWords, wordBytes, answerBytes}
-use Rattle.laws.specs.Lists.{Mem, there}
+use Rattle.laws.specs.Lists.{there}
 use Rattle.words.specs.Words.{wordBytes-is, little-bytesOf}
 use Rattle.laws.specs.Places.{map-self}
 use Rattle.shapes.specs.FigureNumbers.{WordsBelow}

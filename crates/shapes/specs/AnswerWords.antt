@@ -3,35 +3,34 @@
 -- refuses to store larger figures, its own bound takes the place of the computed one (`words-from-inner`). Leans on FigureNumbers and FewElements.
 use mathlib.Core.Path.{_≡_, refl, sym, ap, _∙_, subst}
 use mathlib.Core.Logic.{_⊎_, inl, inr}
-use mathlib.Core.List.{List, [], _∷_, _++_, map, flatMap, List·Memᴰ}
+use mathlib.Core.List.{List, [], _∷_, map, flatMap, List·Memᴰ}
 use Prim.Native.Nat.{ℕ, zero, suc, _+_, _-_, _*_, _/_, _≤_, _<_, max}
 use native.Mathlib.Omega.{arith}
-use lib.ListN.{length, getD, take, replicate, length-map, length-replicate}
+use lib.ListN.{length, getD, take, length-map, length-replicate}
 use Rattle.definitions.specs.Lists.{Pair, countFrom}
 use Rattle.definitions.specs.Outcome.{answered}
 use Rattle.definitions.specs.Vectors.{Vec}
 use Rattle.definitions.specs.Subspace.{Subspace, flatten}
 use Rattle.definitions.specs.Orbits.{Row, Orbit, hyperplaneOrbits}
-use Rattle.definitions.specs.Figures.{Figure, Compound, dyad, moveEnds, labelIrc, figureOf}
+use Rattle.definitions.specs.Figures.{Figure, Compound, dyad, moveEnds, labelIrc}
 use Rattle.definitions.specs.Search.{Facet}
 use Rattle.definitions.specs.Recursion.{Rules, Bounds, Entry, Answer, Inner, vertexRidge, rowsWithin}
 use Rattle.definitions.specs.Faceting.{Prepared, possibleFacets, split, facetImages, entryOf, finish, faceting}
 use Rattle.definitions.specs.Job.{counted, figureWords, entryWords, compoundWords, summaryWords, answerWords}
-use Rattle.laws.specs.Lists.{Mem, here, there, in-map, of-map, of-count, count-length, in-replicate}
+use Rattle.laws.specs.Lists.{Mem, in-map, of-map, of-count, count-length, in-replicate}
 use Rattle.laws.specs.Ascending.{Differ, Distinct}
 use Rattle.laws.specs.Pairs.{pairs-map}
 use Rattle.laws.specs.Ranges.{distinct-below}
 use Rattle.shapes.specs.Answered.{facetNumber, facetSum, AnsweredCall, answered-call}
 use Rattle.shapes.specs.Emitted.{entry-of-list}
 use Rattle.shapes.specs.LowRanks.{RankTwo, rank-two, innerAt, inner-at-member, facet-orbit, few-entries}
-use Rattle.shapes.specs.Shape.{Shaped}
 use Rattle.shapes.specs.Compounds.{composed, compounds-ascend}
-use Rattle.shapes.specs.Calls.{Given, innerPoints, inner-set, inner-size, inner-given, facetRank, ShapedAnswer, shaped-answer}
+use Rattle.shapes.specs.Calls.{Given, innerPoints, inner-given, facetRank, ShapedAnswer, shaped-answer}
 use Rattle.shapes.specs.EntryFigures.{facets-many, call-split, found-split-in-call}
 use Rattle.shapes.specs.Sets.{Rows}
 use Rattle.shapes.specs.Sizes.{split-length, orbit-counted}
-use Rattle.shapes.specs.FewElements.{sizes, Few, FewIn, few-moved, step-few, mostElements, few-elements, inner-points, inner-rows, possible-few}
-use Rattle.shapes.specs.FigureNumbers.{WordsBelow, none-below, more-below, joined-below, each-below, counted-below, Ground, OnGround, ground-wider, ground-moved, figure-ground, dyad-ground, ridge-ground, figure-below, summary-below}
+use Rattle.shapes.specs.FewElements.{sizes, Few, step-few, mostElements, few-elements, inner-points, inner-rows, possible-few}
+use Rattle.shapes.specs.FigureNumbers.{WordsBelow, none-below, more-below, joined-below, each-below, counted-below, OnGround, ground-wider, ground-moved, figure-ground, dyad-ground, ridge-ground, figure-below, summary-below}
 
 -- ---- what is counted beside figures
 

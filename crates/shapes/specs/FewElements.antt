@@ -2,8 +2,8 @@
 -- together, and one body. So where the possible facets of a call have few, its entries have at most rows × possible facets × as many; and by induction every call of every rank has a bound that is
 -- computed from its points, its rows and the bound on its possible facets. Leans on EntryFigures and Sizes.
 use mathlib.Core.Path.{_≡_, refl, sym, ap, _∙_, subst}
-use mathlib.Core.List.{List, [], _∷_, _++_, map, flatMap, List·Memᴰ}
-use Prim.Native.Nat.{ℕ, zero, suc, _+_, _*_, _≤_, _<_, max, compare}
+use mathlib.Core.List.{List, [], _∷_, map, flatMap, List·Memᴰ}
+use Prim.Native.Nat.{ℕ, zero, suc, _+_, _*_, _≤_, max, compare}
 use native.Mathlib.Omega.{arith}
 use native.Mathlib.Nat.{mul-le-mul}
 use lib.ListN.{length, getD, drop, replicate, length-append, length-map}
@@ -13,14 +13,14 @@ use Rattle.definitions.specs.Vectors.{Vec}
 use Rattle.definitions.specs.Subspace.{Subspace}
 use Rattle.definitions.specs.Orbits.{Row, image}
 use Rattle.definitions.specs.Figures.{Elements, Figure, renumber, sortRanks, sortStrong, moveEnds, dyad, lowestRanks, withoutLowest, assemble, figureOf}
-use Rattle.definitions.specs.Search.{Facet, Found}
+use Rattle.definitions.specs.Search.{Facet}
 use Rattle.definitions.specs.Recursion.{Rules, Entry, Answer, Inner, moveSorted, keepsSet, rowWithin, rowsWithin}
-use Rattle.definitions.specs.Faceting.{Prepared, possibleFacets, atOrbit, split, facetImages, entryOf, finish, searchFrom, faceting}
+use Rattle.definitions.specs.Faceting.{Prepared, possibleFacets, atOrbit, split, facetImages, entryOf, finish, faceting}
 use Rattle.laws.specs.Lists.{Mem, here, there, of-map, of-flatMap}
 use Rattle.laws.specs.Orders.{nats, nat-lists}
 use Rattle.laws.specs.Ascending.{ascends-distinct, sorted-length}
 use Rattle.laws.specs.Ranges.{distinct-below, fresh-few}
-use Rattle.shapes.specs.Answered.{facetSum, Preparation, AnsweredCall, answered-call}
+use Rattle.shapes.specs.Answered.{Preparation, AnsweredCall, answered-call}
 use Rattle.shapes.specs.Emitted.{entry-of-list}
 use Rattle.shapes.specs.LowRanks.{rank-two}
 use Rattle.shapes.specs.Assemble.{lowestOf, lowestAll}

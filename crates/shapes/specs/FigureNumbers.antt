@@ -1,11 +1,11 @@
 -- Every number with which a figure is written in an answer lies below a bound: how many ranks, elements and subs it has, and the subs. It does where the figure has its shape, few elements in each rank
 -- from the edges up, and below these an empty element and points that are written [0]. Leans on Shape, FigureWords and FewElements.
-use mathlib.Core.Path.{_≡_, refl, sym, ap, _∙_, subst}
+use mathlib.Core.Path.{_≡_, refl, sym, ap, subst}
 use mathlib.Core.Logic.{_⊎_, inl, inr}
 use mathlib.Core.List.{List, [], _∷_, _++_, map, flatMap, List·Memᴰ}
-use Prim.Native.Nat.{ℕ, zero, suc, _-_, _≤_, _<_, compare}
+use Prim.Native.Nat.{ℕ, suc, _-_, _≤_, _<_, compare}
 use native.Mathlib.Omega.{arith}
-use lib.ListN.{length, getD, take, drop, replicate, length-replicate}
+use lib.ListN.{length, take, drop, replicate, length-replicate}
 use Rattle.definitions.specs.Figures.{Elements, Figure, rankOf, dyad, moveEnds, sortStrong, assemble, figureOf}
 use Rattle.definitions.specs.Recursion.{Entry, vertexRidge}
 use Rattle.definitions.specs.Job.{counted, figureWords, summaryWords}

@@ -1,23 +1,22 @@
 -- Every number of an accepted job's answer is a u32, so its bytes lose nothing of it. What a job guarantees (2 to 20 points, 1 to 120 rows, a budget of four bytes) and the bounds of its rules keep every
 -- number of the answer below 2^32, at every rank whose figures are few enough: `fewest` is where a further rank joins. Leans on AnswerWords and Jobs.
-use mathlib.Core.Path.{_≡_, refl, sym, subst}
-use mathlib.Core.Bool.{Bool, not}
-use mathlib.Core.List.{List, [], _∷_, List·Memᴰ}
+use mathlib.Core.Path.{_≡_, refl}
+use mathlib.Core.List.{List, [], _∷_}
 use Prim.Native.Nat.{ℕ, zero, suc, _-_, _≤_, _<_}
 use native.Mathlib.Omega.{arith}
 use lib.Dec.{T, leb, leb→le}
 use lib.ListN.{length, take, drop, length-take}
 use Rattle.definitions.specs.Outcome.{Outcome, answered, andThen}
 use Rattle.definitions.specs.Recursion.{Answer}
-use Rattle.definitions.specs.Job.{Bytes, Job, little, numberAt, readJob, between, tests, passAll, bounds1, rulesOf, planeOf, callOf, fitting, answerBytes, answerWords, outcomeWithin, outcome}
+use Rattle.definitions.specs.Job.{Bytes, little, numberAt, readJob, between, tests, passAll, bounds1, rulesOf, planeOf, callOf, fitting, answerBytes, answerWords, outcomeWithin, outcome}
 use Rattle.definitions.specs.Demands.{Accepted}
-use Rattle.laws.specs.Bools.{first, second}
+use Rattle.laws.specs.Bools.{second}
 use Rattle.laws.specs.Lists.{Mem, here, there}
 use Rattle.laws.specs.Pairs.{in-take}
 use Rattle.shapes.specs.Jobs.{RowsPassed, passed-test, points-length, rows-length, job-given, accepted-rows}
 use Rattle.shapes.specs.FewElements.{mostElements}
 use Rattle.shapes.specs.FigureNumbers.{WordsBelow}
-use Rattle.shapes.specs.AnswerWords.{Under, words-below}
+use Rattle.shapes.specs.AnswerWords.{words-below}
 
 -- 2^32, the number of different u32
 abbrev pub u32s : ℕ
