@@ -1,11 +1,12 @@
--- `room` meets its contract.
+-- `room` meets its contract: the array is made of zeros.
 use mathlib.Core.Path.{refl}
-use Rattle.buffers.proofs.Laws.{as-long}
+use Rattle.buffers.specs.Zeros.{zeros}
 use Rattle.buffers.proofs.room.Statement.{statement}
 use Rattle.buffers.proofs.room.Tie as tie
 
 returns : tie.Need-returns
-returns c = as-long 2097152 0 refl
+unfolding zeros
+returns c = refl
 
 pub room-spec : {M : Type 1} → statement M
 room-spec = tie.close (tie.spec returns)

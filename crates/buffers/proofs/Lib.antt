@@ -1,2 +1,0 @@
--- The law that the proofs of this crate share.
-pub mod Laws

@@ -1,0 +1,2 @@
+-- What a buffer that is lent holds.
+pub mod Zeros
