@@ -15,11 +15,12 @@ use Rattle.definitions.specs.Vectors.{Vec}
 use Rattle.definitions.specs.Subspace.{Subspace, fromPoints, isHyperplane}
 use Rattle.definitions.specs.Orbits.{Row, setImage, pointsNear}
 use Rattle.laws.specs.Parts.{rows, map-rows-more}
+use Rattle.laws.specs.Segments.{onto, take-onto}
 use Rattle.laws.specs.Sets.{setNumber, verticesOf}
 use Rattle.words.specs.Words.{words, put, put-length, words-take, words-length, take-put, drop-put, numberAt-put, numberAt-put-off}
 use Rattle.sorted.specs.Ascending.{Ascending, insertNew, union, length-insert}
-use Rattle.sorted.specs.Gathering.{added, gathered, Gathered, first-gathered, Fresh, Gathering, gathering-none, gathering-more, ascending-added}
-use Rattle.sorted.specs.Merging.{Merged}
+use Rattle.sorted.specs.Gathering.{added, gathered, gathered-few, Fresh, Gathering, gathering-none, gathering-more, ascending-added}
+use Rattle.sorted.specs.Merging.{New, Merged}
 use Rattle.openers.specs.Rows.{rowsIn, rowAt}
 use Rattle.orbits.specs.Numbers.{imageNumbers, nearNumber, opensOrbit, orbitsFrom, seenAfter}
 use Rattle.orbits.specs.Walks.{going, Walked}
@@ -48,12 +49,13 @@ module _ (known : ℕ) (ws : List ℕ) (fits : 2048 + 4 * known ≤ length ws) (
   abbrev pub lent : List ℕ
   lent = words 4 (take (length ws - 2048) (drop 2048 ws)) known
 
-  pub gather-step : (xs new after : List ℕ) (k r x : ℕ) → Gathering (seenIn known ws) xs (take k new) → Gathered lent new k x r after
+  pub gather-step : (xs new after : List ℕ) (k r x : ℕ) → Gathering (seenIn known ws) xs (take k new) → k ≤ length new → r ≡ length (gathered lent (take k new) x) → after ≡ onto (gathered lent (take k new) x) new
       → Gathering (seenIn known ws) (xs ++ (x ∷ [])) (take r after) × (r ≤ k + 1)
-  gather-step xs new after k r x g d =
+  gather-step xs new after k r x g wide count buffer =
       let part = seen-part known ws fits in
-      let taken : take r after ≡ gathered (seenIn known ws) (take k new) x = first-gathered d (rw part ascends) ∙ ap (λ (l : List ℕ). gathered l (take k new) x) part in
-      (rw taken (gathering-more (seenIn known ws) xs (take k new) x ascends g), d .few)
+      let front : take r after ≡ gathered lent (take k new) x = ap (take r) buffer ∙ take-onto (gathered lent (take k new) x) new r count in
+      let taken : take r after ≡ gathered (seenIn known ws) (take k new) x = front ∙ ap (λ (l : List ℕ). gathered l (take k new) x) part in
+      (rw taken (gathering-more (seenIn known ws) xs (take k new) x ascends g), omega (arith, count, gathered-few lent new k x wide .1))
 
 -- ---- an orbit opened
 
@@ -88,13 +90,21 @@ module _ (bound known count : ℕ) (ws : List ℕ) (set : ℕ) (images : List �
       let b : numberAt both (8 * count + 4) 4 ≡ k = numberAt-put 4 first (8 * count + 4) k (omega (arith, room .long, room .bound-fits)) (omega arith) in
       ap (orbitsIn both) (add-one count) ∙ (rw (before, a, b) refl)
 
+  seen-same : words 4 (take (length both - 2048) (drop 2048 both)) known ≡ seenIn known ws
+  unfolding seenIn
+  seen-same = let e = both-long in seen-part known both (omega (arith, room .long, room .known-fits, room .bound-fits)) ∙ ap (λ (l : List ℕ). words 4 l known) both-behind
+
+  -- the part that is lent holds the sets seen, and those gathered are new to it
+  pub new-sets : (w₁ w₂ : List ℕ) → w₁ ≡ put 4 ws (8 * count) set → w₂ ≡ put 4 w₁ (8 * count + 4) k → Gathering (seenIn known ws) images (take k new)
+      → New (words 4 (take (length w₂ - 2048) (drop 2048 w₂)) known) (take k new)
+  new-sets w₁ w₂ e f gather =
+      let same : w₂ ≡ both = f ∙ ap (λ (l : List ℕ). put 4 l (8 * count + 4) k) e in
+      subst (λ (w : List ℕ). New (words 4 (take (length w - 2048) (drop 2048 w)) known) (take k new)) (sym same)
+      (record { old = rw seen-same (room .ascends); ascends = gather .ascends; fresh = rw seen-same (gather .fresh) })
+
   module _ (part : List ℕ) (merged : Merged (take (length both - 2048) (drop 2048 both)) known (take k new) part) (wide : k ≤ length new) (gather : Gathering (seenIn known ws) images (take k new)) where
     abbrev pub after : List ℕ
     after = take 2048 both ++ (part ++ drop (length both - 2048) (drop 2048 both))
-
-    seen-same : words 4 (take (length both - 2048) (drop 2048 both)) known ≡ seenIn known ws
-    unfolding seenIn
-    seen-same = let e = both-long in seen-part known both (omega (arith, room .long, room .known-fits, room .bound-fits)) ∙ ap (λ (l : List ℕ). words 4 l known) both-behind
 
     part-long : length part ≡ length ws - 2048
     part-long = let e = both-long in merged .long ∙ (length-take-le (length both - 2048) (drop 2048 both) (omega (arith, length-drop 2048 both)) ∙ (omega arith))
@@ -112,7 +122,7 @@ module _ (bound known count : ℕ) (ws : List ℕ) (set : ℕ) (images : List �
         ∙ (sym (words-take 4 (part ++ drop (length both - 2048) (drop 2048 both)) (length part) (known + k) fits)
         ∙ (ap (λ (l : List ℕ). words 4 l (known + k)) front
         ∙ (ap (λ (j : ℕ). words 4 part (known + j)) (sym long)
-        ∙ (merged .numbers (rw seen-same (room .ascends)) (gather .ascends) (rw seen-same (gather .fresh))
+        ∙ (merged .numbers
         ∙ (ap (λ (l : List ℕ). union l (take k new)) seen-same ∙ gather .whole)))))
 
     now-orbits : orbitsIn after (count + 1) ≡ orbitsIn ws count ++ ((set, k) ∷ [])

@@ -8,7 +8,7 @@ use Rattle.sorted.specs.Gathering.{Gathering}
 use Rattle.openers.specs.Rows.{rowsIn}
 use Rattle.orbits.specs.Numbers.{imageNumbers}
 use Rattle.orbits.specs.Workspace.{seenIn}
-use Rattle.orbits.proofs.Laws.{lent-room}
+use Rattle.orbits.proofs.Laws.{seen-part, lent-room}
 use Rattle.orbits.proofs.Laws.{gather-step}
 use Rattle.orbits.proofs.Laws.{images-none, images-more}
 use Rattle.orbits.proofs.gather_images.Statement.{statement}
@@ -38,7 +38,7 @@ set-image-requires c κs = let s = c .before .before .before .before .before .be
 
 gather-requires : tie.Need-gather-requires Inv-loop μ-loop
 gather-requires c κs = let s = c .before .before .before .before .before .before .before .before in let l = c .before .before .before .before .loop in
-    (lent-room (s .args .known) (s .args .ws .now) (s .pre .2), omega (arith, l .inv .1, l .inv .2, s .pre .1))
+    (lent-room (s .args .known) (s .args .ws .now) (s .pre .2), rw (seen-part (s .args .known) (s .args .ws .now) (s .pre .2)) (s .pre .3), omega (arith, l .inv .1, l .inv .2, s .pre .1))
 
 add-i : tie.Need-add-i Inv-loop μ-loop
 add-i c = search needs
@@ -48,7 +48,7 @@ loop-less c = search needs
 
 loop-again : tie.Need-loop-again Inv-loop μ-loop
 loop-again c = let s = c .before .before .before .before .before .before .before .before .before .before .before in let l = c .before .before .before .before .before .before .before .loop in
-    let turn = gather-step (s .args .known) (s .args .ws .now) (s .pre .2) (s .pre .3) (imageNumbers (s .args .n) (s .args .set) (rowsIn (s .args .n) (l .i) (s .args .rows .now))) (l .new) _ (l .k) _ _ (l .inv .3) (c .before .before .gather .ensures) in
+    let turn = gather-step (s .args .known) (s .args .ws .now) (s .pre .2) (s .pre .3) (imageNumbers (s .args .n) (s .args .set) (rowsIn (s .args .n) (l .i) (s .args .rows .now))) (l .new) _ (l .k) _ _ (l .inv .3) (omega (arith, l .inv .1, l .inv .2, s .pre .1)) (c .before .before .gather .ensures .0) (c .before .before .gather .ensures .1) in
     (omega arith, omega (arith, turn .1, l .inv .1), c .before .new .given ∙ l .inv .2, rw (images-more (s .args .n) (s .args .set) (l .i) (s .args .rows .now), ← (c .before .before .before .set-image .ensures)) (turn .0))
 
 same-length : tie.Need-same-length Inv-loop μ-loop

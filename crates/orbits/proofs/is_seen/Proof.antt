@@ -2,7 +2,7 @@
 use mathlib.Core.Path.{refl, sym, _∙_}
 use borrow.Author.Needs.{needs}
 use Rattle.sorted.specs.Found.{found-member, absent-new}
-use Rattle.orbits.proofs.Laws.{seen-part}
+use Rattle.orbits.proofs.Laws.{seen-part, lent-room}
 use Rattle.orbits.proofs.is_seen.Statement.{statement}
 use Rattle.orbits.proofs.is_seen.Tie as tie
 
@@ -16,7 +16,8 @@ part-find-end : tie.Need-part-find-end
 part-find-end c = search needs
 
 find-requires : tie.Need-find-requires
-find-requires c κs = search needs
+find-requires c κs = let s = c .before .before in
+    (lent-room (s .args .known) (s .args .ws .now) (s .pre .0), rw (seen-part (s .args .known) (s .args .ws .now) (s .pre .0)) (s .pre .1))
 
 enum-told : tie.Need-enum-told
 enum-told c = search needs
@@ -27,12 +28,12 @@ enum-told-2 c = search needs
 returns : tie.Need-returns
 returns c = let s = c .before .before .before .before .before in
     let part = seen-part (s .args .known) (s .args .ws .now) (s .pre .0) in
-    sym (found-member _ _ _ (sym (c .enum-told .given .1) ∙ (c .before .before .find .ensures (rw part (s .pre .1)) ∙ rw part refl)))
+    sym (found-member _ _ _ (sym (c .enum-told .given .1) ∙ (c .before .before .find .ensures ∙ rw part refl)))
 
 returns-2 : tie.Need-returns-2
 returns-2 c = let s = c .before .before .before .before .before in
     let part = seen-part (s .args .known) (s .args .ws .now) (s .pre .0) in
-    sym (absent-new _ _ (sym (c .enum-told2 .given .1) ∙ (c .before .before .find .ensures (rw part (s .pre .1)) ∙ rw part refl)))
+    sym (absent-new _ _ (sym (c .enum-told2 .given .1) ∙ (c .before .before .find .ensures ∙ rw part refl)))
 
 pub is-seen-spec : {M : Type 1} → statement M
 is-seen-spec =

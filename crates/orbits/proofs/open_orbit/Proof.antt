@@ -1,7 +1,8 @@
 -- `open_orbit` meets its contract.
+use Prim.Native.Nat.{_≤_, _<_}
 use native.Mathlib.Omega.{arith}
 use borrow.Author.Needs.{needs}
-use Rattle.orbits.proofs.Laws.{opened-by}
+use Rattle.orbits.proofs.Laws.{opened-by, new-sets}
 use Rattle.orbits.proofs.Laws.{opened-none}
 use Rattle.orbits.proofs.open_orbit.Statement.{statement}
 use Rattle.orbits.proofs.open_orbit.Tie as tie
@@ -46,7 +47,13 @@ slice-aggregate-merge : tie.Need-slice-aggregate-merge
 slice-aggregate-merge c = search needs
 
 merge-requires : tie.Need-merge-requires
-merge-requires c κs = search needs
+merge-requires c κs = let s = c .before .before .before .before .before .before .before .before .before .before .before .before .before .before .before .before .before in
+    let g = c .before .before .before .before .before .before .before .before .before .before .before .gather-images in
+    let room = s .pre .2 in
+    let few : g .result ≤ 120 = omega (arith, g .ensures .0, s .pre .1) in
+    let free : s .args .count < s .args .bound = omega (arith, room .count-fits, c .before .before .before .before .before .before .before .before .before .before .before .before .before .before .if1 .left) in
+    let new = new-sets (s .args .bound) (s .args .known) (s .args .count) (s .args .ws .now) (s .args .set) _ (g .result) _ room few (s .fits .set .fits) free _ _ (c .before .before .before .before .before .before .before .before .put-u32 .ensures) (c .before .before .before .before .put-u322 .ensures) (g .ensures .1) in
+    (search needs, search needs, new)
 
 add-t23 : tie.Need-add-t23
 add-t23 c = search needs
