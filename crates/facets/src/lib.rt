@@ -108,7 +108,7 @@ pub fn binary(ws: &[u8], a: Areas, kind: usize, mark: usize) -> usize
 
 // One more than the last place from `low` to below `place` whose facet has an orbit that is not in use; where there is none, a number not above `low`.
 pub fn latest(ws: &[u8], a: Areas, kind: usize, low: usize, place: usize) -> usize
-    requires { ⌜ ((t : Table) × Inputs t a (now ws) × (kind ≤ a .ridges) × (place ≤ length (numbers t kind))) ⌝ }
+    requires { ⌜ ((t : Table) × Inputs t a (now ws) × (kind ≤ a .ridges) × (place ≤ length (numbers t kind)) × (list : List Facet) × Uses a list (usedPart a (now ws))) ⌝ }
     ensures { λ r. ⌜ ((t : Table) (list : List Facet) → Inputs t a (now (ws .entry)) → Uses a list (usedPart a (now (ws .entry))) → r ≡ lastFree t list (ridgeOf kind) low place) ⌝ }
 {
     let used = a.used;

@@ -96,6 +96,10 @@ pub record Ready (t : Table) (a : Areas) (s : List ℕ) (d place : ℕ) : Type 0
 abbrev pub Light : Table → Areas → List Facet → Type 0
 Light t a list = (ridge : ℕ) → ridge < a .ridges → sumAt t list ridge ≤ 2
 
+-- The totals say whether a list is light, whichever table they were counted by.
+pub same-light : (t u : Table) (a : Areas) (s : List ℕ) (d : ℕ) → Stands t a s d d → Stands u a s d d → Light t a (listTo t (framesPart a s) d) → Light u a (listTo u (framesPart a s) d)
+same-light t u a s d at au light ridge below = omega (arith, light ridge below, at .totals ridge below, au .totals ridge below)
+
 -- a list was examined
 pub record Visited (t : Table) (a : Areas) (s s' : List ℕ) (d place : ℕ) (v : Verdict) : Type 0 where
   pub stands : Stands t a s' d d

@@ -114,8 +114,8 @@ pub fn mark_after(ws: &[u8], a: Areas, depth: usize) -> usize
 
 // A list is entered: all its candidates above the mark are due.
 pub fn enter(ws: &mut [u8], a: Areas, depth: usize, kind: usize)
-    requires { ⌜ ((t : Table) × Stands t a (now ws) depth depth × (0 < depth) × (kind ≤ a .ridges)) ⌝ }
-    ensures { λ _. ⌜ ((t : Table) → Stands t a (now (ws .entry)) depth depth → Light t a (listTo t (framesPart a (now (ws .entry))) depth) → Entered t a (now (ws .entry)) (now (ws .exit)) depth kind) ⌝ }
+    requires { ⌜ ((t : Table) × Stands t a (now ws) depth depth × (0 < depth) × (kind ≤ a .ridges) × Light t a (listTo t (framesPart a (now ws)) depth)) ⌝ }
+    ensures { λ _. ⌜ ((t : Table) → Stands t a (now (ws .entry)) depth depth → Entered t a (now (ws .entry)) (now (ws .exit)) depth kind) ⌝ }
 {
     let mark = mark_after(ws, a, depth);
     let low = facets::binary(ws, a, kind, mark);

@@ -7,7 +7,7 @@ use Rattle.facets.specs.Kept.{place-within}
 use Rattle.facets.specs.Frames.{lowOf, candidates, above}
 use Rattle.facets.specs.Layout.{ridgeOf}
 use Rattle.facets.specs.Numbers.{numbers-few, numbers-length}
-use Rattle.frames.specs.Steps.{frame-room, entered-is}
+use Rattle.frames.specs.Steps.{frame-room, same-light, entered-is}
 use borrow.Author.Needs.{needs}
 use Rattle.frames.proofs.enter.Statement.{statement}
 use Rattle.frames.proofs.enter.Tie as tie
@@ -54,7 +54,8 @@ same-length : tie.Need-same-length
 same-length c = search needs
 
 returns : tie.Need-returns
-returns c = λ t st light. let s = c .before .before .before .before .before .before .before .before .before .before .before in
+returns c = λ t st. let s = c .before .before .before .before .before .before .before .before .before .before .before in
+    let light = same-light (s .pre .0) t (s .args .a) (s .args .ws .now) (s .args .depth) (s .pre .1) st (s .pre .4) in
     rw (c .before .before .put-frame .ensures)
     (entered-is t (s .args .a) (s .args .ws .now) (s .args .depth) (c .before .before .before .before .candidates .result) (c .before .before .before .before .before .before .binary .result) (c .before .before .before .before .before .before .before .before .mark-after .result) (s .args .kind) st light (s .pre .2) (s .pre .3)
     (c .before .before .before .before .candidates .ensures t (st .inputs)) (c .before .before .before .before .before .before .binary .ensures t (st .inputs)) (c .before .before .before .before .before .before .before .before .mark-after .ensures .1 t st) (omega (arith, cast-put-frame (c .before .before .before))) (omega (arith, cast-put-frame-2 (c .before .before .before))) (c .before .before .before .before .before .before .before .before .mark-after .ensures .0) (let f = st .inputs .fits in let i = s .pre .3 in omega arith))

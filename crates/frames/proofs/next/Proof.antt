@@ -71,7 +71,7 @@ unfolding kindAt placeAt
 latest-requires c κs = let s = c .before .before .before .before .before .before .before in let st = s .pre .1 in let p = framesPart (s .args .a) (s .args .ws .now) in
     let k : c .get-u16 .result ≡ kindAt p (s .args .depth - 1) = c .get-u16 .ensures in
     let q : c .before .before .before .before .get-u32 .result ≡ placeAt p (s .args .depth - 1) = c .before .before .before .before .get-u32 .ensures in
-    (s .pre .0, st .inputs, rw k (st .frames .kinds (s .args .depth - 1) (omega arith)), rw (k, q) (st .frames .places (s .args .depth - 1) (omega arith)))
+    (s .pre .0, st .inputs, rw k (st .frames .kinds (s .args .depth - 1) (omega arith)), rw (k, q) (st .frames .places (s .args .depth - 1) (omega arith)), listTo (s .pre .0) p (s .args .depth - 1), st .uses)
 
 returns : tie.Need-returns
 unfolding kindAt placeAt lowAt frameAt

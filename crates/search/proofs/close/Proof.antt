@@ -11,7 +11,7 @@ use Rattle.facets.specs.Layout.{listsPart, framesPart}
 use Rattle.frames.specs.Paths.{Stands, Emitted, listTo, emittedIn}
 use Rattle.search.specs.Outcomes.{limitOf}
 use Rattle.facets.specs.Judged.{Within}
-use Rattle.frames.specs.Steps.{path-short, Light}
+use Rattle.frames.specs.Steps.{path-short}
 use Rattle.frames.specs.Emission.{emit-stands, emit-frames, emit-emitted, emit-lists, emit-tables}
 use Rattle.search.specs.Turns.{Followed, judged-light, follow-full, follow-stop, follow-closed}
 use borrow.Author.Needs.{needs}
@@ -60,21 +60,28 @@ returns-2 c = λ t j. let s = c .before .before .before .before .before .before 
     rw (c .before .before .before .before .emit .ensures)
     (follow-stop t (s .args .a) (s .args .limit) (s .args .ws .now) (s .args .depth) j h _ (emit-stands t (s .args .a) (s .args .ws .now) (s .args .depth) (j .stands) (j .emitted) h) (emit-frames t (s .args .a) (s .args .ws .now) (s .args .depth) (j .stands) (j .emitted) h) (emit-lists t (s .args .a) (s .args .ws .now) (s .args .depth) (j .stands) (j .emitted) h) (emit-tables t (s .args .a) (s .args .ws .now) (s .args .depth) (j .stands) (j .emitted) h) (emit-emitted t (s .args .a) (s .args .ws .now) (s .args .depth) (j .stands) (j .emitted) h) r)
 
+-- a closed list is not over
+within : Within closed
+unfolding Within
+within = tt
+
 enter-requires : tie.Need-enter-requires
 enter-requires c κs = let s = c .before .before .before .before .before .before .before .before .before .before .before .before in let j = s .pre .1 in let e = c .before .before .before .before .before .before .before .before .lists .ensures in
     let h : count (listsPart (s .args .a) (s .args .ws .now)) < s .args .a .bound = rw e at (c .before .before .before .before .before .before .before .if1 .left) in
-    rw (c .before .before .before .before .before .emit .ensures) (s .pre .0, emit-stands (s .pre .0) (s .args .a) (s .args .ws .now) (s .args .depth) (j .stands) (j .emitted) h, j .deep, omega arith)
+    let light = judged-light (s .pre .0) (s .args .a) (s .args .ws .now) (s .args .depth) closed j within in
+    rw (c .before .before .before .before .before .emit .ensures) (
+      s .pre .0,
+      emit-stands (s .pre .0) (s .args .a) (s .args .ws .now) (s .args .depth) (j .stands) (j .emitted) h,
+      j .deep,
+      omega arith,
+      rw (emit-frames (s .pre .0) (s .args .a) (s .args .ws .now) (s .args .depth) (j .stands) (j .emitted) h) light,
+    )
 
 add-t10 : tie.Need-add-t10
 add-t10 c = let s = c .before .before .before .before .before .before .before .before .before .before .before .before .before .before .before in let j = s .pre .1 in let n = path-short (s .pre .0) (s .args .a) (s .args .ws .now) (j .stands .inputs) (framesPart (s .args .a) (s .args .ws .now)) (s .args .depth) (s .args .depth) (j .stands .frames) in let f = j .stands .inputs .fits in omega arith
 
 same-length-3 : tie.Need-same-length-3
 same-length-3 c = search needs
-
--- a closed list is not over
-within : Within closed
-unfolding Within
-within = tt
 
 returns-3 : tie.Need-returns-3
 unfolding Followed
@@ -86,8 +93,7 @@ returns-3 c = λ t j. let s = c .before .before .before .before .before .before 
     let ls : emittedIn t (s .args .a) (listsPart (s .args .a) (c .before .before .before .before .before .before .before .before .emit .last .0)) ≡ emittedIn t (s .args .a) (listsPart (s .args .a) (s .args .ws .now)) ++ (listTo t (framesPart (s .args .a) (s .args .ws .now)) (s .args .depth) ∷ []) = rw (c .before .before .before .before .before .before .before .before .emit .ensures) (emit-lists t (s .args .a) (s .args .ws .now) (s .args .depth) (j .stands) (j .emitted) h) in
     let tb : take (s .args .a .frames) (c .before .before .before .before .before .before .before .before .emit .last .0) ≡ take (s .args .a .frames) (s .args .ws .now) = rw (c .before .before .before .before .before .before .before .before .emit .ensures) (emit-tables t (s .args .a) (s .args .ws .now) (s .args .depth) (j .stands) (j .emitted) h) in
     let em : Emitted (s .args .a) (listsPart (s .args .a) (c .before .before .before .before .before .before .before .before .emit .last .0)) = rw (c .before .before .before .before .before .before .before .before .emit .ensures) (emit-emitted t (s .args .a) (s .args .ws .now) (s .args .depth) (j .stands) (j .emitted) h) in
-    let li : Light t (s .args .a) (listTo t (framesPart (s .args .a) (c .before .before .before .before .before .before .before .before .emit .last .0)) (s .args .depth)) = rw fr (judged-light t (s .args .a) (s .args .ws .now) (s .args .depth) closed j within) in
-    follow-closed t (s .args .a) (s .args .limit) (s .args .ws .now) (s .args .depth) j h (c .before .before .before .before .before .before .before .before .emit .last .0) st fr ls tb em r (c .before .before .enter .last .0) (c .before .before .enter .ensures t st li)
+    follow-closed t (s .args .a) (s .args .limit) (s .args .ws .now) (s .args .depth) j h (c .before .before .before .before .before .before .before .before .emit .last .0) st fr ls tb em r (c .before .before .enter .last .0) (c .before .before .enter .ensures t st)
 
 pub close-spec : {M : Type 1} → statement M
 close-spec =

@@ -27,9 +27,10 @@ add-enter : tie.Need-add-enter
 add-enter c = search needs
 
 enter-requires : tie.Need-enter-requires
-unfolding verdict
+unfolding verdict Within
 enter-requires c κs = let s = c .before .before .before .before .before in let j : Judged (s .pre .0) (s .args .a) (s .args .ws .now) (s .args .s .depth) (openAt (c .before .before .v .given .0 .0)) = rw (c .before .before .v .given .1) at (s .pre .1) in
-    let r = judged-inside (s .pre .0) (s .args .a) (s .args .ws .now) (s .args .s .depth) (openAt (c .before .before .v .given .0 .0)) j (c .before .before .v .given .0 .0) refl in (s .pre .0, j .stands, j .deep, omega arith)
+    let r = judged-inside (s .pre .0) (s .args .a) (s .args .ws .now) (s .args .s .depth) (openAt (c .before .before .v .given .0 .0)) j (c .before .before .v .given .0 .0) refl in
+    (s .pre .0, j .stands, j .deep, omega arith, judged-light (s .pre .0) (s .args .a) (s .args .ws .now) (s .args .s .depth) (openAt (c .before .before .v .given .0 .0)) j tt)
 
 add-t15 : tie.Need-add-t15
 add-t15 c = let s = c .before .before .before .before .before .before .before .before in let j = s .pre .1 in let n = path-short (s .pre .0) (s .args .a) (s .args .ws .now) (j .stands .inputs) (framesPart (s .args .a) (s .args .ws .now)) (s .args .s .depth) (s .args .s .depth) (j .stands .frames) in let f = j .stands .inputs .fits in omega arith
@@ -52,9 +53,9 @@ same-length-2 : tie.Need-same-length-2
 same-length-2 c = search needs
 
 returns-2 : tie.Need-returns-2
-unfolding Followed verdict Within
+unfolding Followed verdict
 returns-2 c = λ t j. let s = c .before .before .before .before .before .before .before .before in let k : Judged t (s .args .a) (s .args .ws .now) (s .args .s .depth) (openAt (c .before .before .before .before .before .v .given .0 .0)) = rw (c .before .before .before .before .before .v .given .1) at j in
-    follow-open t (s .args .a) (s .args .limit) (s .args .ws .now) (c .before .before .enter .last .0) (s .args .s .depth) (c .before .before .before .before .before .v .given .0 .0) k (c .before .before .enter .ensures t (k .stands) (judged-light t (s .args .a) (s .args .ws .now) (s .args .s .depth) (openAt (c .before .before .before .before .before .v .given .0 .0)) k tt))
+    follow-open t (s .args .a) (s .args .limit) (s .args .ws .now) (c .before .before .enter .last .0) (s .args .s .depth) (c .before .before .before .before .before .v .given .0 .0) k (c .before .before .enter .ensures t (k .stands))
 
 same-length-3 : tie.Need-same-length-3
 same-length-3 c = search needs
