@@ -20,9 +20,8 @@ use Rattle.definitions.specs.Recursion.{rowsWithin}
 use Rattle.laws.specs.Lists.{Mem, member-at}
 use Rattle.laws.specs.Segments.{part, part-take}
 use Rattle.laws.specs.Sets.{verticesFrom, verticesOf}
-use Rattle.openers.specs.Rows.{rowsIn, RowsFit}
+use Rattle.openers.specs.Rows.{rowsIn, RowsFit, writtenRows, written-length}
 use Rattle.stabilizers.specs.Permutations.{Permutations, rows-fit}
-use Rattle.stabilizers.specs.Places.{writtenRows, written-length}
 use Rattle.stabilizers.specs.Inner.{inner-rows, inner-permute}
 use Rattle.orbits.specs.Numbers.{orbitOf}
 use Rattle.orbits.specs.Workspace.{orbitsIn, orbits-front}

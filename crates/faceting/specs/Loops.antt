@@ -19,13 +19,12 @@ use Rattle.definitions.specs.Recursion.{rowsWithin, edgeCall, swappedEnds, sepa
 use Rattle.definitions.specs.Faceting.{faceting}
 use Rattle.laws.specs.Segments.{le-or-lt}
 use Rattle.laws.specs.Sets.{verticesOf}
-use Rattle.openers.specs.Rows.{rowsIn, RowsFit}
+use Rattle.openers.specs.Rows.{rowsIn, RowsFit, writtenRows}
 use Rattle.space.specs.declared.Subspace as stored
 use Rattle.space.specs.declared.Points.{Points}
 use Rattle.space.specs.Meaning.{SubspaceFits, PointsFit, subspaceOf, pointsOf, HoldsPoints, limitsOf}
 use Rattle.space.specs.Counts.{points-length}
 use Rattle.stabilizers.specs.Permutations.{Permutations, rows-fit}
-use Rattle.stabilizers.specs.Places.{writtenRows}
 use Rattle.sets.specs.Refitting.{Refitted, planeOf, fitted}
 use Rattle.sets.specs.declared.Fit.{Fit}
 use Rattle.sets.specs.declared.Fit.the-variants.{Fitted, Refused as RefusedFit}

@@ -1,12 +1,12 @@
 -- What the proofs of the functions cite: a flag that is set or not, a float that was read, and the room that a job of its exact length has for each field. Assumes nothing.
-use mathlib.Core.Path.{_≡_, refl, ap, _∙_}
+use mathlib.Core.Path.{_≡_, refl, sym, ap, _∙_}
 use mathlib.Core.Bool.{true, false, cond}
 use mathlib.Core.List.{List, [], _∷_, _++_}
 use Prim.Native.Nat.{ℕ, _+_, _-_, _*_, _/_, _%_, _≤_, _<_}
 use native.Mathlib.Omega.{arith}
 use borrow.Author.Tests.{eq-eqb, ne-eqb}
-use lib.ListN.{length, take, drop, length-drop}
-use lib.Seq.{paste, length-paste, length-take-le, take-all}
+use lib.ListN.{length, take, drop, length-drop, length-map}
+use lib.Seq.{paste, length-paste, length-take-le, take-all, sets, sets-eq}
 use lib.Ieee.{Float, nan, inf, fin, binary64, ofBits, div}
 use Rattle.definitions.specs.Job.{Bytes, flagSet, present, floatAt, floatsAt, vectorsAt, numberAt, readJob, planeOf}
 use Rattle.words.specs.Floats.{readOf}
@@ -19,7 +19,7 @@ use Rattle.load.specs.declared.EntryLimit.{EntryLimit}
 use Rattle.load.specs.declared.EntryLimit.the-variants.{Unlimited, Number as AtMost}
 use Rattle.load.specs.Places.{headerOf, placesOf, Counted, Exact}
 use Rattle.load.specs.declared.Fields.{Fields}
-use Rattle.openers.specs.Rows.{rowsIn}
+use Rattle.openers.specs.Rows.{rowsIn, writtenRows, written-more}
 use Rattle.load.specs.Meaning.{limitOf, entryLimitOf, fieldsOf, rowsAt, Loadable}
 use Rattle.definitions.specs.Lists.{countFrom}
 use Rattle.definitions.specs.Vectors.{Vec}
@@ -27,8 +27,9 @@ use Rattle.definitions.specs.Subspace.{Subspace}
 use Rattle.space.specs.declared.Subspace.{Subspace as StoredSubspace}
 use Rattle.space.specs.declared.Points.{Points}
 use Rattle.space.specs.Meaning.{subspaceOf, HoldsSubspace, pointAlone, withVector, HoldsPoints}
+use Rattle.laws.specs.Lists.{count-length}
 use Rattle.laws.specs.Tests.{product-at-most, spaced, spaced-more, rows-paste}
-use Rattle.laws.specs.Parts.{rows}
+use Rattle.laws.specs.Parts.{rows, length-rows}
 
 -- ---- flags
 
@@ -141,6 +142,10 @@ pub floats-more : (bytes : Bytes) (at i : ℕ) → floatsAt bytes at (i + 1) ≡
 unfolding floatsAt spaced
 floats-more bytes at i = spaced-more (floatAt bytes) 8 at i
 
+pub floats-length : (bytes : Bytes) (at many : ℕ) → length (floatsAt bytes at many) ≡ many
+unfolding floatsAt
+floats-length bytes at many = length-map (countFrom 0 many) _ ∙ count-length 0 many
+
 pub vectors-more : (bytes : Bytes) (at d i : ℕ) → vectorsAt bytes at d (i + 1) ≡ vectorsAt bytes at d i ++ (floatsAt bytes (at + 8 * d * i) d ∷ [])
 unfolding vectorsAt spaced
 vectors-more bytes at d i = spaced-more (λ (p : ℕ). floatsAt bytes p d) (8 * d) at i
@@ -193,16 +198,25 @@ lent-length bytes from n h = ap length (lent-is bytes from n) ∙ length-take-le
 pub copy-fits : (region bytes : Bytes) (from n i count : ℕ) → n ≤ 32 → from + n ≤ length bytes → i < count → 32 * count ≤ length region → 32 * i + length (lent bytes from n) ≤ length region
 copy-fits region bytes from n i count h k below fits = let e = lent-length bytes from n k in omega arith
 
+-- what is copied is written number by number
+copied-sets : (l row : Bytes) (at n : ℕ) → length row ≡ n → at + n ≤ length l → paste l at row n ≡ sets l at row
+copied-sets l row at n long fits = rw (← long, take-all (length row) row (omega arith)) (sym (sets-eq row l at (omega arith)))
+
 pub row-copied : (region bytes : Bytes) (at n i : ℕ) (after : Bytes) → n ≤ 32 → 32 * i + 32 ≤ length region → at + n * i + n ≤ length bytes
-    → after ≡ paste region (32 * i) (lent bytes (at + n * i) n) (length (lent bytes (at + n * i) n)) → rowsIn n i region ≡ rowsAt bytes at n i
-    → (length after ≡ length region) × (rowsIn n (i + 1) after ≡ rowsAt bytes at n (i + 1))
+    → after ≡ paste region (32 * i) (lent bytes (at + n * i) n) (length (lent bytes (at + n * i) n)) → rowsIn n i region ≡ rowsAt bytes at n i → (before : Bytes)
+    → region ≡ writtenRows (rowsAt bytes at n i) 0 before
+    → (length after ≡ length region) × (rowsIn n (i + 1) after ≡ rowsAt bytes at n (i + 1)) × (after ≡ writtenRows (rowsAt bytes at n (i + 1)) 0 before)
 unfolding rowsIn
-row-copied region bytes at n i after h fits k e held =
+row-copied region bytes at n i after h fits k e held before since =
     let from = at + n * i in
     let row = take n (drop from bytes) in
     let long : length row ≡ n = length-take-le n (drop from bytes) (rw length-drop (omega arith)) in
     let same : after ≡ paste region (32 * i) row n = e ∙ (ap (paste region (32 * i) (lent bytes from n)) (lent-length bytes from n k) ∙ ap (λ (l : Bytes). paste region (32 * i) l n) (lent-is bytes from n)) in
+    let count : length (rowsAt bytes at n i) ≡ i = ap length (sym held) ∙ length-rows 32 n i region in
+    let stored : paste region (32 * i) row n ≡ sets region (32 * i) row = copied-sets region row (32 * i) n long (omega arith) in
+    let place : 32 * (0 + length (rowsAt bytes at n i)) ≡ 32 * i = omega arith in
     let one-more = rows-paste 32 n i region row h (omega arith) (omega arith) in (
       ap length same ∙ length-paste region (32 * i) row n (omega arith) (omega arith),
       ap (rows 32 n (i + 1)) same ∙ (one-more ∙ rw (held, take-all n row (omega arith), rows-more bytes at n i) refl),
+      same ∙ (stored ∙ rw (rows-more bytes at n i, written-more (rowsAt bytes at n i) row 0 before, ← since, place) refl),
     )

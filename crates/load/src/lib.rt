@@ -9,10 +9,10 @@ ghost use mathlib.Core.Bool.{cond};
 ghost use Prim.Native.Nat.{_+_, _-_, _*_, _≤_, _<_};
 ghost use lib.ListN.{length};
 ghost use Rattle.definitions.specs.Job.{flagSet, present, numberAt, floatAt, floatsAt, readJob, planeOf};
-ghost use Rattle.vectors.specs.Meaning.{vectorOf};
+ghost use Rattle.vectors.specs.Meaning.{five};
 ghost use Rattle.space.specs.Meaning.{HoldsSubspace, HoldsPoints};
 ghost use Rattle.load.specs.Places.{headerOf, placesOf, Counted, Exact};
-ghost use Rattle.openers.specs.Rows.{rowsIn};
+ghost use Rattle.openers.specs.Rows.{rowsIn, writtenRows};
 ghost use Rattle.load.specs.Meaning.{limitOf, entryLimitOf, fieldsOf};
 
 // ---- the header
@@ -174,7 +174,7 @@ pub fn fields_of(job: &[u8]) -> Fields
 // d numbers from a place on.
 fn vector_at(job: &[u8], at: usize, d: usize) -> [f64; 5]
     requires { ⌜ (d ≤ 5) × (at + 8 * d ≤ length (now job)) ⌝ }
-    ensures { λ r. ⌜ vectorOf d r ≡ floatsAt (now (job .entry)) at d ⌝ }
+    ensures { λ r. ⌜ r ≡ five (floatsAt (now (job .entry)) at d) ⌝ }
 {
     let mut v = [0.0; 5];
     let mut i = 0;
@@ -219,10 +219,11 @@ pub fn points_of(job: &[u8], fields: Fields) -> Points
     points
 }
 
-// Each row to a place of its own, 32 bytes apart, so that a row's number times a constant finds it.
+// Each row to a place of its own, 32 bytes apart, so that a row's number times a constant finds it. What stands between the rows and behind them stays.
 pub fn load_rows(job: &[u8], fields: Fields, region: &mut [u8])
     requires { ⌜ Exact (now job) × (fields ≡ fieldsOf (now job)) × (32 * fields .count ≤ length (now region)) ⌝ }
-    ensures { λ _. ⌜ (rowsIn (fields .n) (fields .count) (now (region .exit)) ≡ readJob (now (job .entry)) .rows) × (length (now (region .exit)) ≡ length (now (region .entry))) ⌝ }
+    ensures rows { λ _. ⌜ (rowsIn (fields .n) (fields .count) (now (region .exit)) ≡ readJob (now (job .entry)) .rows) × (length (now (region .exit)) ≡ length (now (region .entry))) ⌝ }
+    ensures region { λ _. ⌜ now (region .exit) ≡ writtenRows (readJob (now (job .entry)) .rows) 0 (now (region .entry)) ⌝ }
 {
     let n = fields.n;
     let count = fields.count;

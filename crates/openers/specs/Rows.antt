@@ -4,7 +4,7 @@ use mathlib.Core.List.{List, [], _∷_, _++_, map}
 use Prim.Native.Nat.{ℕ, zero, suc, _+_, _*_, _≤_, _<_}
 use native.Mathlib.Omega.{arith}
 use lib.ListN.{length, getD, take, drop}
-use lib.Seq.{getD-take, getD-drop}
+use lib.Seq.{getD-take, getD-drop, sets, length-sets}
 use Rattle.definitions.specs.Orbits.{Row, image}
 use native.Mathlib.Numerals.{add-one}
 use Rattle.laws.specs.Parts.{rows, map-rows-more}
@@ -12,6 +12,11 @@ use Rattle.laws.specs.Parts.{rows, map-rows-more}
 -- the first m rows of a region, each a permutation of n vertices
 unfoldable pub rowsIn : ℕ → ℕ → List ℕ → List Row
 rowsIn n m s = rows 32 n m s
+
+-- rows written at a stride of 32, from row k on
+unfoldable pub writtenRows : List Row → ℕ → List ℕ → List ℕ
+writtenRows [] k out = out
+writtenRows (row ∷ rows) k out = writtenRows rows (suc k) (sets out (32 * k) row)
 
 -- the images of v under the first m rows are below a bound
 pub record ImagesBelow (bound v m : ℕ) (s : List ℕ) : Type 0 where
@@ -48,3 +53,16 @@ same-images f g n k (suc m) s h =
 -- row i of a region
 unfoldable pub rowAt : ℕ → ℕ → List ℕ → Row
 rowAt n i s = take n (drop (32 * i) s)
+
+-- ---- rows written one behind another
+
+pub written-more : (rows : List Row) (row : Row) (k : ℕ) (out : List ℕ) → writtenRows (rows ++ (row ∷ [])) k out ≡ sets (writtenRows rows k out) (32 * (k + length rows)) row
+unfolding writtenRows
+written-more [] row k out = let e : k ≡ k + 0 = omega arith in ap (λ (j : ℕ). sets out (32 * j) row) e
+written-more (first ∷ rows) row k out = let e : suc k + length rows ≡ k + suc (length rows) = omega arith in
+    written-more rows row (suc k) (sets out (32 * k) first) ∙ ap (λ (j : ℕ). sets (writtenRows rows (suc k) (sets out (32 * k) first)) (32 * j) row) e
+
+pub written-length : (rows : List Row) (k : ℕ) (out : List ℕ) → length (writtenRows rows k out) ≡ length out
+unfolding writtenRows
+written-length [] k out = refl
+written-length (row ∷ rows) k out = written-length rows (suc k) (sets out (32 * k) row) ∙ length-sets out (32 * k) row

@@ -20,9 +20,8 @@ use Rattle.load.specs.Meaning.{fieldsOf, Loadable, loadable}
 use Rattle.job.specs.declared.Checked.the-variants.{Passed}
 use Rattle.job.specs.Refusal.{checkedOf}
 use Rattle.job.specs.Passed.{passed-means, passed-exact, passed-rows}
-use Rattle.openers.specs.Rows.{rowsIn}
+use Rattle.openers.specs.Rows.{rowsIn, writtenRows}
 use Rattle.stabilizers.specs.Permutations.{Permutations, permutations-of}
-use Rattle.stabilizers.specs.Places.{writtenRows}
 use Rattle.stabilizers.specs.Inner.{inner-permute}
 use Rattle.orbits.specs.declared.Answer.{Answer}
 use Rattle.orbits.specs.declared.Answer.the-variants.{Orbits}

@@ -1,5 +1,5 @@
--- The definitions one step at a time, as the loops take them. Leans on the definitions and on what the structs mean.
-use mathlib.Core.Path.{_≡_, refl}
+-- The definitions one step at a time, as the loops take them, and what the arrays that are handed back mean. Leans on the definitions and on what the structs mean.
+use mathlib.Core.Path.{_≡_, refl, sym, _∙_}
 use mathlib.Core.Bool.{true, false}
 use mathlib.Core.List.{List, [], _∷_, _++_}
 use Prim.Native.Nat.{ℕ, suc, _+_, _≤_, _<_}
@@ -9,13 +9,16 @@ use borrow.Author.Tests.{leb-false}
 use lib.ListN.{length, getD, drop, drop-of-length-le}
 use lib.Seq.{drop-cons}
 use lib.Ieee.{Float, lt}
-use Rattle.definitions.specs.Vectors.{Vec, dot, plusTimes, norm, normalised}
-use Rattle.definitions.specs.Subspace.{Subspace, gains, residual, addPoint, addPoints, fromPoints}
+use Rattle.definitions.specs.Vectors.{Vec, dot, minus, plusTimes, norm, normalised}
+use Rattle.definitions.specs.Subspace.{Subspace, gains, project, residual, addPoint, addPoints, fromPoints}
 use Rattle.definitions.specs.Orbits.{pointAt}
 use Rattle.laws.specs.Parts.{rows}
 use Rattle.space.specs.declared.Subspace.{Subspace as StoredSubspace}
 use Rattle.space.specs.declared.Points.{Points}
-use Rattle.space.specs.Meaning.{subspaceOf, HoldsSubspace, withVector, isFullRank, pointAlone, pointsOf}
+use Rattle.vectors.specs.Meaning.{vectorOf, five}
+use Rattle.vectors.specs.Wholes.{five-means, minus-length}
+use Rattle.space.specs.Meaning.{subspaceOf, SubspaceFits, HoldsSubspace, withVector, isFullRank, pointAlone, pointsOf, PointsFit}
+use Rattle.space.specs.Counts.{project-length, residual-length, point-length, point-means}
 
 -- Project: one basis vector more.
 pub gains-snoc : (away : Vec) (bs : List Vec) (b q : Vec) → gains away (bs ++ (b ∷ [])) q ≡ plusTimes (gains away bs q) b (dot away b)
@@ -66,3 +69,23 @@ fromPoints-first tolerance (p ∷ ps) h = refl
 pub has-room : (s : StoredSubspace) → HoldsSubspace s (subspaceOf s) → isFullRank (subspaceOf s) ≡ false → s .rank < s .d
 unfolding isFullRank
 has-room s h e = let more : length (subspaceOf s .basis) < length (subspaceOf s .offset) = leb-false _ _ e in omega arith
+
+-- ---- a residual that is read
+
+module _ (s : StoredSubspace) (fits : SubspaceFits s) (offset-long : length (s .offset) ≡ 5) (basis-long : length (s .basis) ≡ 25) (p : Vec) (p-long : length p ≡ s .d) where
+  pub read-projection : (r : List Float) → r ≡ five (project (subspaceOf s) p) → vectorOf (s .d) r ≡ project (subspaceOf s) p
+  read-projection r is = five-means r (project (subspaceOf s) p) (s .d) is (project-length s fits offset-long basis-long p)
+
+  pub read-residual : (r : List Float) → r ≡ five (residual (subspaceOf s) p) → vectorOf (s .d) r ≡ residual (subspaceOf s) p
+  read-residual r is = five-means r (residual (subspaceOf s) p) (s .d) is (residual-length s fits offset-long basis-long p p-long)
+
+-- ---- the difference of two points that are read
+
+pub read-difference : (p : Points) → PointsFit p → (v w : ℕ) (at-v at-w between : List Float) → v < p .n → w < p .n → at-v ≡ five (pointAt (pointsOf p) v) → at-w ≡ five (pointAt (pointsOf p) w)
+    → between ≡ five (minus (vectorOf (p .d) at-w) (vectorOf (p .d) at-v)) → vectorOf (p .d) between ≡ minus (pointAt (pointsOf p) w) (pointAt (pointsOf p) v)
+read-difference p fits v w at-v at-w between v-below w-below v-is w-is is =
+    let from = pointAt (pointsOf p) v in
+    let to = pointAt (pointsOf p) w in
+    let whole : between ≡ five (minus to from) = is ∙ rw (point-means p fits v v-below at-v v-is, point-means p fits w w-below at-w w-is) refl in
+    let to-long = point-length p fits w w-below in
+    five-means between (minus to from) (p .d) whole (minus-length to from (to-long ∙ sym (point-length p fits v v-below)) ∙ to-long)

@@ -1,16 +1,21 @@
--- The counts of a struct are those of what it means, and its rows are the vectors of what it means. Leans on Meaning and on the rows of the crate of laws.
-use mathlib.Core.Path.{_≡_, sym, ap, _∙_}
+-- The counts of a struct are those of what it means, its rows are the vectors of what it means, and two structs that hold the same are one. Leans on Meaning, on Rows, and on the rows
+-- of the crate of laws.
+use mathlib.Core.Path.{_≡_, refl, sym, ap, _∙_}
 use mathlib.Core.List.{List, []}
-use Prim.Native.Nat.{ℕ, _*_, _≤_, _<_}
+use Prim.Native.Nat.{ℕ, zero, suc, _*_, _≤_, _<_}
 use native.Mathlib.Omega.{arith}
-use lib.ListN.{length, getD, take, drop}
+use lib.ListN.{length, getD, take, drop, length-drop, length-map}
 use lib.Seq.{length-take-le}
-use Rattle.definitions.specs.Vectors.{Vec}
-use Rattle.definitions.specs.Subspace.{Subspace}
+use lib.Ieee.{Float}
+use Rattle.definitions.specs.Vectors.{Vec, dot, plusTimes}
+use Rattle.definitions.specs.Subspace.{Subspace, gains, project, residual, flatten}
 use Rattle.definitions.specs.Orbits.{pointAt}
-use Rattle.laws.specs.Parts.{length-rows, getD-rows}
+use Rattle.laws.specs.Parts.{rows, length-rows, getD-rows}
+use Rattle.vectors.specs.Meaning.{vectorOf, five}
+use Rattle.vectors.specs.Wholes.{five-means, five-own, minus-length, plusTimes-length}
 use Rattle.space.specs.declared.Subspace.{Subspace as StoredSubspace}
 use Rattle.space.specs.declared.Points.{Points}
+use Rattle.space.specs.Rows.{rows-length}
 use Rattle.space.specs.Meaning.{subspaceOf, SubspaceFits, HoldsSubspace, pointsOf, PointsFit, HoldsPoints}
 
 -- ---- a subspace
@@ -39,6 +44,42 @@ holds-subspace s meaning fits long e = record {
 pub holds-own : (s : StoredSubspace) (meaning : Subspace) → HoldsSubspace s meaning → HoldsSubspace s (subspaceOf s)
 holds-own s meaning h = rw (h .means) h
 
+-- The struct is known from what it holds.
+pub one-subspace : (s t : StoredSubspace) (meaning : Subspace) → HoldsSubspace s meaning → HoldsSubspace t meaning → s ≡ t
+one-subspace s t meaning h g =
+    let same : subspaceOf s ≡ subspaceOf t = h .means ∙ sym (g .means) in
+    let offset : s .offset ≡ t .offset = h .fits .offset-is ∙ (rw same refl ∙ sym (g .fits .offset-is)) in
+    let basis : s .basis ≡ t .basis = h .fits .basis-is ∙ (rw same refl ∙ sym (g .fits .basis-is)) in
+    let d : s .d ≡ t .d = h .d-is ∙ sym (g .d-is) in
+    let rank : s .rank ≡ t .rank = h .rank-is ∙ sym (g .rank-is) in
+    cc (subspace-eta s, subspace-eta t)
+  where
+    subspace-eta : (u : StoredSubspace) → u ≡ record { offset = u .offset; basis = u .basis; d = u .d; rank = u .rank }
+    subspace-eta u = refl
+
+-- ---- how long the vectors of a subspace are
+
+gains-length : (away : Vec) (d n : ℕ) (flat : List Float) (q : Vec) → d ≤ 5 → 5 * n ≤ length flat → length q ≡ d → length (gains away (rows 5 d n flat) q) ≡ d
+unfolding gains rows
+gains-length away d zero flat q few fits long = long
+gains-length away d (suc n) flat q few fits long =
+    let b = take d flat in
+    let b-long : length b ≡ d = length-take-le d flat (omega arith) in
+    gains-length away d n (drop 5 flat) (plusTimes q b (dot away b)) few (omega (arith, length-drop 5 flat)) (plusTimes-length q b _ (omega arith) ∙ long)
+
+module _ (s : StoredSubspace) (fits : SubspaceFits s) (offset-long : length (s .offset) ≡ 5) (basis-long : length (s .basis) ≡ 25) (p : Vec) where
+  pub project-length : length (project (subspaceOf s) p) ≡ s .d
+  unfolding project subspaceOf
+  project-length = gains-length _ (s .d) (s .rank) (s .basis) (take (s .d) (s .offset)) (fits .d-fits) (omega (arith, fits .rank-fits)) (offset-length s (fits .d-fits) offset-long)
+
+  pub residual-length : length p ≡ s .d → length (residual (subspaceOf s) p) ≡ s .d
+  unfolding residual
+  residual-length long = minus-length p (project (subspaceOf s) p) (long ∙ sym project-length) ∙ long
+
+  pub flatten-length : length (flatten (subspaceOf s) p) ≡ s .rank
+  unfolding flatten
+  flatten-length = length-map (subspaceOf s .basis) _ ∙ basis-length s
+
 -- ---- points
 
 pub points-length : (p : Points) → length (pointsOf p) ≡ p .n
@@ -51,3 +92,32 @@ point-row p i below = getD-rows 5 (p .d) (p .n) (p .at) i below
 
 pub holds-points : (p : Points) (d : ℕ) (points : List Vec) → PointsFit p → p .d ≡ d → pointsOf p ≡ points → HoldsPoints p d points
 holds-points p d points fits same e = record { fits = fits; d-is = same; n-is = sym (points-length p) ∙ ap length e; means = e }
+
+-- A point has d numbers, and an array that holds it means it.
+module _ (p : Points) (fits : PointsFit p) where
+  at-long : length (p .at) ≡ 100
+  unfolding pointsOf
+  at-long = ap length (fits .at-is) ∙ rows-length 100 (p .d) (p .n) (p .at) (fits .d-fits) (omega (arith, fits .n-fits))
+
+  module _ (i : ℕ) (below : i < p .n) where
+    pub point-length : length (pointAt (pointsOf p) i) ≡ p .d
+    point-length =
+        rw (point-row p i below) (length-take-le (p .d) (drop (5 * i) (p .at)) (omega (arith, length-drop (5 * i) (p .at), at-long, fits .n-fits, fits .d-fits)))
+
+    pub point-means : (r : List Float) → r ≡ five (pointAt (pointsOf p) i) → vectorOf (p .d) r ≡ pointAt (pointsOf p) i
+    point-means r is = five-means r (pointAt (pointsOf p) i) (p .d) is point-length
+
+    pub point-own : (r : List Float) → r ≡ five (pointAt (pointsOf p) i) → r ≡ five (vectorOf (p .d) r)
+    point-own r is = five-own r (pointAt (pointsOf p) i) (p .d) is point-length
+
+-- The struct is known from what it holds.
+pub one-points : (p q : Points) (d : ℕ) (points : List Vec) → HoldsPoints p d points → HoldsPoints q d points → p ≡ q
+one-points p q d points h g =
+    let same : pointsOf p ≡ pointsOf q = h .means ∙ sym (g .means) in
+    let at : p .at ≡ q .at = h .fits .at-is ∙ (rw same refl ∙ sym (g .fits .at-is)) in
+    let n : p .n ≡ q .n = h .n-is ∙ sym (g .n-is) in
+    let d : p .d ≡ q .d = h .d-is ∙ sym (g .d-is) in
+    cc (points-eta p, points-eta q)
+  where
+    points-eta : (u : Points) → u ≡ record { at = u .at; n = u .n; d = u .d }
+    points-eta u = refl

@@ -1,5 +1,5 @@
--- What the structs and the enum of this crate mean in the definitions' terms. Numbers lie in flat arrays, in rows of five; a row means its first d numbers, and what lies
--- behind the counts means nothing. Leans on the definitions and on the rows of the crate of laws.
+-- What the structs and the enum of this crate mean in the definitions' terms. Numbers lie in flat arrays, in rows of five; a row means its first d numbers, and zeros stand behind
+-- all that the counts reach, so that a struct is known from what it means. Leans on the definitions and on the rows of the crate of laws.
 use mathlib.Core.Path.{_≡_}
 use mathlib.Core.Bool.{Bool}
 use mathlib.Core.List.{List, [], _∷_, _++_}
@@ -12,23 +12,37 @@ use Rattle.definitions.specs.Vectors.{Vec}
 use Rattle.definitions.specs.Subspace.{Subspace}
 use Rattle.definitions.specs.Orbits.{Limits}
 use Rattle.laws.specs.Parts.{rows}
-use Rattle.vectors.specs.Meaning.{vectorOf}
+use Rattle.laws.specs.Segments.{onto}
+use Rattle.vectors.specs.Meaning.{vectorOf, zeros, five}
 use Rattle.space.specs.declared.Subspace.{Subspace as StoredSubspace}
 use Rattle.space.specs.declared.Points.{Points}
 use Rattle.space.specs.declared.Limit.{Limit}
 use Rattle.space.specs.declared.Limit.the-variants.{Absent, Length}
+
+-- ---- vectors in rows
+
+-- one behind the other, each in five places
+unfoldable pub joined : List Vec → List Float
+joined [] = []
+joined (v ∷ vs) = five v ++ joined vs
+
+-- the array of so many numbers that holds them
+unfoldable pub inRows : ℕ → List Vec → List Float
+inRows most vs = onto (joined vs) (zeros most)
 
 -- ---- a subspace
 
 unfoldable pub subspaceOf : StoredSubspace → Subspace
 subspaceOf s = record { offset = vectorOf (s .d) (s .offset); basis = rows 5 (s .d) (s .rank) (s .basis) }
 
--- the counts fit the arrays
+-- The counts fit the arrays, and zeros stand behind what they reach.
 pub record SubspaceFits (s : StoredSubspace) : Type 0 where
   pub d-fits : s .d ≤ 5
   pub rank-fits : s .rank ≤ 5
+  pub offset-is : s .offset ≡ five (subspaceOf s .offset)
+  pub basis-is : s .basis ≡ inRows 25 (subspaceOf s .basis)
 
--- The struct holds a subspace. That its counts are those of the subspace follows; it is said for whoever calls.
+-- The struct holds a subspace, and no other struct holds the same one: `one-subspace`. That its counts are those of the subspace follows; it is said for whoever calls.
 pub record HoldsSubspace (s : StoredSubspace) (meaning : Subspace) : Type 0 where
   pub fits : SubspaceFits s
   pub d-is : s .d ≡ length (meaning .offset)
@@ -52,12 +66,13 @@ isFullRank s = leb (length (s .offset)) (length (s .basis))
 unfoldable pub pointsOf : Points → List Vec
 pointsOf p = rows 5 (p .d) (p .n) (p .at)
 
--- the counts fit the arrays
+-- The counts fit the array, and zeros stand behind what they reach.
 pub record PointsFit (p : Points) : Type 0 where
   pub n-fits : p .n ≤ 20
   pub d-fits : p .d ≤ 5
+  pub at-is : p .at ≡ inRows 100 (pointsOf p)
 
--- The struct holds points of d numbers each.
+-- The struct holds points of d numbers each, and no other struct holds the same ones: `one-points`.
 pub record HoldsPoints (p : Points) (d : ℕ) (points : List Vec) : Type 0 where
   pub fits : PointsFit p
   pub d-is : p .d ≡ d

@@ -1,14 +1,14 @@
 // Subspaces, points and limits. Each function equals a definition of Subspace or Orbits, chapter 4 and [5.3], at every d up to five and at any tolerance. Structs go by value and are
-// handed back. Numbers lie in flat arrays, five places to a vector; only the first d of them mean something.
+// handed back. Numbers lie in flat arrays, five places to a vector; only the first d of them mean something, and zeros stand behind all that mean something.
 ghost use mathlib.Core.Path.{_≡_};
 ghost use mathlib.Core.List.{_∷_, [], _++_, map};
 ghost use Prim.Native.Nat.{_+_, _≤_, _<_};
 ghost use lib.ListN.{length, drop};
 ghost use lib.Ieee.{lt};
 ghost use Rattle.definitions.specs.Vectors.{minus};
-ghost use Rattle.definitions.specs.Subspace.{residual, distance, addPoint, fromPoints, isHyperplane, flatten};
+ghost use Rattle.definitions.specs.Subspace.{project, residual, distance, addPoint, fromPoints, isHyperplane, flatten};
 ghost use Rattle.definitions.specs.Orbits.{pointAt, tooShort, tooLong, breaksLimit};
-ghost use Rattle.vectors.specs.Meaning.{vectorOf};
+ghost use Rattle.vectors.specs.Meaning.{vectorOf, five};
 ghost use Rattle.space.specs.Meaning.{subspaceOf, SubspaceFits, HoldsSubspace, pointAlone, withVector, isFullRank, pointsOf, PointsFit, HoldsPoints, lengthOf, limitsOf};
 
 // ---- subspaces
@@ -24,7 +24,7 @@ pub struct Subspace {
 impl Subspace {
     // A point alone: its basis has no vector yet.
     pub fn new(offset: [f64; 5], d: usize) -> Subspace
-        requires { ⌜ d ≤ 5 ⌝ }
+        requires { ⌜ (d ≤ 5) × (offset ≡ five (vectorOf d offset)) ⌝ }
         ensures { λ r. ⌜ HoldsSubspace r (pointAlone (vectorOf d offset)) × (r .d ≡ d) × (r .rank ≡ 0) ⌝ }
     {
         Subspace {
@@ -37,7 +37,7 @@ impl Subspace {
 
     // A vector joins the basis as it is.
     pub fn with_vector(self, v: [f64; 5]) -> Subspace
-        requires { ⌜ SubspaceFits self × (self .rank < 5) ⌝ }
+        requires { ⌜ SubspaceFits self × (self .rank < 5) × (v ≡ five (vectorOf (self .d) v)) ⌝ }
         ensures { λ r. ⌜ HoldsSubspace r (withVector (subspaceOf self) (vectorOf (self .d) v)) × (r .d ≡ self .d) × (r .rank ≡ self .rank + 1) ⌝ }
     {
         let mut wider = self;
@@ -62,14 +62,30 @@ impl Subspace {
         vectors::minus(p, offset, d)
     }
 
-    // p − project(p)
-    pub fn residual(self, p: [f64; 5]) -> [f64; 5]
+    // [4.2] the projection
+    pub fn project(self, p: [f64; 5]) -> [f64; 5]
         requires { ⌜ SubspaceFits self ⌝ }
-        ensures { λ r. ⌜ vectorOf (self .d) r ≡ residual (subspaceOf self) (vectorOf (self .d) p) ⌝ }
+        ensures { λ r. ⌜ r ≡ five (project (subspaceOf self) (vectorOf (self .d) p)) ⌝ }
     {
-        let mut r = [0.0; 5];
-        put_residual(self, &p, 0, &mut r);
-        r
+        project_at(self, &p, 0)
+    }
+
+    // [4.2] p less its projection
+    fn residual(self, p: [f64; 5]) -> [f64; 5]
+        requires { ⌜ SubspaceFits self ⌝ }
+        ensures { λ r. ⌜ r ≡ five (residual (subspaceOf self) (vectorOf (self .d) p)) ⌝ }
+    {
+        let d = self.d;
+        vectors::minus(p, self.project(p), d)
+    }
+
+    // [4.2] the norm of the residual
+    pub fn distance(self, p: [f64; 5]) -> f64
+        requires { ⌜ SubspaceFits self ⌝ }
+        ensures { λ r. ⌜ r ≡ distance (subspaceOf self) (vectorOf (self .d) p) ⌝ }
+    {
+        let d = self.d;
+        vectors::norm(self.residual(p), d)
     }
 
     // [4.3] a basis vector more, where the residual is longer than the tolerance
@@ -113,7 +129,7 @@ impl Subspace {
     // (p − offset) · b for each basis vector b: `rank` numbers.
     pub fn flatten(self, p: [f64; 5]) -> [f64; 5]
         requires { ⌜ SubspaceFits self ⌝ }
-        ensures { λ r. ⌜ vectorOf (self .rank) r ≡ flatten (subspaceOf self) (vectorOf (self .d) p) ⌝ }
+        ensures { λ r. ⌜ r ≡ five (flatten (subspaceOf self) (vectorOf (self .d) p)) ⌝ }
     {
         let d = self.d;
         let rank = self.rank;
@@ -136,7 +152,7 @@ impl Subspace {
     }
 
     // The basis has d vectors, and no point is added any more.
-    pub fn is_full_rank(self) -> bool
+    fn is_full_rank(self) -> bool
         requires { ⌜ SubspaceFits self ⌝ }
         ensures { λ r. ⌜ r ≡ isFullRank (subspaceOf self) ⌝ }
     {
@@ -144,10 +160,10 @@ impl Subspace {
     }
 }
 
-// [4.2] the residual, written, of the point that begins at a place
-pub fn put_residual(plane: Subspace, points: &[f64], at: usize, out: &mut [f64])
-    requires { ⌜ SubspaceFits plane × (at + plane .d ≤ length (now points)) × (plane .d ≤ length (now out)) ⌝ }
-    ensures { λ _. ⌜ vectorOf (plane .d) (now (out .exit)) ≡ residual (subspaceOf plane) (vectorOf (plane .d) (drop at (now (points .entry)))) ⌝ }
+// [4.2] the projection of the point that begins at a place
+fn project_at(plane: Subspace, points: &[f64], at: usize) -> [f64; 5]
+    requires { ⌜ SubspaceFits plane × (at + plane .d ≤ length (now points)) ⌝ }
+    ensures { λ r. ⌜ r ≡ five (project (subspaceOf plane) (vectorOf (plane .d) (drop at (now (points .entry))))) ⌝ }
 {
     let d = plane.d;
     let rank = plane.rank;
@@ -160,7 +176,7 @@ pub fn put_residual(plane: Subspace, points: &[f64], at: usize, out: &mut [f64])
         vectors::gain(&mut q, &plane.basis, 5 * j, s, d);
         j += 1;
     }
-    vectors::take_from(points, at, &q, d, out);
+    q
 }
 
 // Whether the point that begins at a place is at a distance below the tolerance.
@@ -169,8 +185,9 @@ pub fn is_near(plane: Subspace, points: &[f64], at: usize, tolerance: f64) -> bo
     ensures { λ r. ⌜ r ≡ lt (distance (subspaceOf plane) (vectorOf (plane .d) (drop at (now (points .entry))))) tolerance ⌝ }
 {
     let d = plane.d;
+    let q = project_at(plane, points, at);
     let mut r = [0.0; 5];
-    put_residual(plane, points, at, &mut r);
+    vectors::take_from(points, at, &q, d, &mut r);
     root::root_below(vectors::dot_at(&r, &r, 0, d), tolerance)
 }
 
@@ -197,7 +214,7 @@ impl Points {
 
     pub fn point(self, i: usize) -> [f64; 5]
         requires { ⌜ PointsFit self × (i < self .n) ⌝ }
-        ensures { λ r. ⌜ vectorOf (self .d) r ≡ pointAt (pointsOf self) i ⌝ }
+        ensures { λ r. ⌜ r ≡ five (pointAt (pointsOf self) i) ⌝ }
     {
         let at = 5 * i;
         [
@@ -211,7 +228,7 @@ impl Points {
 
     // One point more, at the end.
     pub fn with_point(self, p: [f64; 5]) -> Points
-        requires { ⌜ PointsFit self × (self .n < 20) ⌝ }
+        requires { ⌜ PointsFit self × (self .n < 20) × (p ≡ five (vectorOf (self .d) p)) ⌝ }
         ensures { λ r. ⌜ HoldsPoints r (self .d) (pointsOf self ++ (vectorOf (self .d) p ∷ [])) × (r .n ≡ self .n + 1) ⌝ }
     {
         let mut more = self;
@@ -263,7 +280,7 @@ pub enum Limit {
 }
 
 // < min − tolerance
-pub fn too_short(length: f64, min: Limit, tolerance: f64) -> bool
+fn too_short(length: f64, min: Limit, tolerance: f64) -> bool
     ensures { λ r. ⌜ r ≡ tooShort tolerance (lengthOf min) length ⌝ }
 {
     match min {
@@ -273,7 +290,7 @@ pub fn too_short(length: f64, min: Limit, tolerance: f64) -> bool
 }
 
 // > max + tolerance
-pub fn too_long(length: f64, max: Limit, tolerance: f64) -> bool
+fn too_long(length: f64, max: Limit, tolerance: f64) -> bool
     ensures { λ r. ⌜ r ≡ tooLong tolerance (lengthOf max) length ⌝ }
 {
     match max {

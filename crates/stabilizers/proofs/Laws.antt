@@ -13,9 +13,9 @@ use Rattle.definitions.specs.Recursion.{keepsSet, rowWithin, rowsWithin}
 use Rattle.laws.specs.Parts.{rows, rows-more}
 use Rattle.laws.specs.Segments.{sets-append}
 use Rattle.laws.specs.Sets.{verticesFrom, verticesOf, vertices-odd, vertices-even}
-use Rattle.openers.specs.Rows.{rowsIn, rowAt}
+use Rattle.openers.specs.Rows.{rowsIn, rowAt, writtenRows, written-more}
 use Rattle.sets.specs.Steps.{vertices-step}
-use Rattle.stabilizers.specs.Places.{places, writtenRows, bit-length, vertices-few, written-more}
+use Rattle.stabilizers.specs.Places.{places, bit-length, vertices-few}
 
 -- ---- a place
 

@@ -17,9 +17,9 @@ use Rattle.laws.specs.Pairs.{Pairs}
 use Rattle.laws.specs.Parts.{rows, rows-more, rows-of-take, getD-rows, length-rows}
 use Rattle.laws.specs.Segments.{take-sets-le, part-sets}
 use Rattle.laws.specs.Sets.{verticesOf, verticesFrom, vertices-set, set-range, set-rises}
-use Rattle.openers.specs.Rows.{rowsIn, rowAt, image-at}
+use Rattle.openers.specs.Rows.{rowsIn, rowAt, image-at, writtenRows, written-length}
 use Rattle.stabilizers.specs.Permutations.{Permutation, Permutations}
-use Rattle.stabilizers.specs.Places.{writtenRows, written-length, vertices-few, stays, image-one}
+use Rattle.stabilizers.specs.Places.{vertices-few, stays, image-one}
 
 -- ---- decoded
 

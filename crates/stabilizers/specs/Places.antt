@@ -9,7 +9,6 @@ use native.Mathlib.Numerals.{add-one}
 use borrow.Author.Tests.{eq-eqb, ne-eqb}
 use lib.Dec.{T, eqb, isEq}
 use lib.ListN.{length, getD, take, drop, length-append, length-map}
-use lib.Seq.{sets, length-sets}
 use Rattle.definitions.specs.Lists.{placeOf, compareNats, keep, sortNats}
 use Rattle.definitions.specs.Orbits.{Row, image, setImage}
 use Rattle.definitions.specs.Recursion.{keepsSet, rowWithin, rowsWithin}
@@ -26,11 +25,6 @@ use Rattle.stabilizers.specs.Permutations.{Permutation}
 -- for each vertex of a list, the place of its image under row i: the number of the set's vertices below it
 unfoldable pub places : List ℕ → ℕ → ℕ → List ℕ → List ℕ
 places s i set vertices = map (λ (v : ℕ). length (verticesOf (getD s (32 * i + v) 0) set)) vertices
-
--- rows written at a stride of 32, from row k on
-unfoldable pub writtenRows : List Row → ℕ → List ℕ → List ℕ
-writtenRows [] k out = out
-writtenRows (row ∷ rows) k out = writtenRows rows (suc k) (sets out (32 * k) row)
 
 -- ---- how many vertices
 
@@ -129,16 +123,3 @@ module _ (n i : ℕ) (s : List ℕ) (row-fits : Permutation n i s) where
   places-within x e =
       same-map (λ (v : ℕ). length (verticesOf (getD s (32 * i + v) 0) x)) (λ (v : ℕ). placeOf (eqb (image (rowAt n i s) v)) (verticesOf n x)) (verticesOf n x)
       (λ u h. sym (place-is n (image (rowAt n i s) u) x (stays x e u h) ∙ ap (λ (k : ℕ). length (verticesOf k x)) (read x u h)))
-
--- ---- rows written one behind another
-
-pub written-more : (rows : List Row) (row : Row) (k : ℕ) (out : List ℕ) → writtenRows (rows ++ (row ∷ [])) k out ≡ sets (writtenRows rows k out) (32 * (k + length rows)) row
-unfolding writtenRows
-written-more [] row k out = let e : k ≡ k + 0 = omega arith in ap (λ (j : ℕ). sets out (32 * j) row) e
-written-more (first ∷ rows) row k out = let e : suc k + length rows ≡ k + suc (length rows) = omega arith in
-    written-more rows row (suc k) (sets out (32 * k) first) ∙ ap (λ (j : ℕ). sets (writtenRows rows (suc k) (sets out (32 * k) first)) (32 * j) row) e
-
-pub written-length : (rows : List Row) (k : ℕ) (out : List ℕ) → length (writtenRows rows k out) ≡ length out
-unfolding writtenRows
-written-length [] k out = refl
-written-length (row ∷ rows) k out = written-length rows (suc k) (sets out (32 * k) row) ∙ length-sets out (32 * k) row

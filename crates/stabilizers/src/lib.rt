@@ -10,9 +10,9 @@ ghost use lib.ListN.{length, getD};
 ghost use lib.Seq.{sets};
 ghost use Rattle.definitions.specs.Recursion.{keepsSet, rowWithin, rowsWithin};
 ghost use Rattle.laws.specs.Sets.{verticesFrom, verticesOf};
-ghost use Rattle.openers.specs.Rows.{rowsIn, rowAt};
+ghost use Rattle.openers.specs.Rows.{rowsIn, rowAt, writtenRows};
 ghost use Rattle.stabilizers.specs.Permutations.{Permutation, Permutations};
-ghost use Rattle.stabilizers.specs.Places.{places, writtenRows};
+ghost use Rattle.stabilizers.specs.Places.{places};
 
 // Whether row i keeps a set.
 pub fn keeps_set(rows: &[u8], i: usize, n: usize, set: u32) -> bool

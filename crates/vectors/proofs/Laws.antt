@@ -1,10 +1,10 @@
 -- The definitions at vectors that grow by one number at the end, as the loops build them. Leans on the definitions and on the laws of parts.
-use mathlib.Core.Path.{_≡_, refl, sym, ap, _∙_}
+use mathlib.Core.Path.{_≡_, refl, sym, ap}
 use mathlib.Core.List.{List, [], _∷_, _++_}
 use Prim.Native.Nat.{ℕ, _+_, _<_}
 use native.Mathlib.Omega.{arith}
-use lib.ListN.{length, getD, take, drop}
-use lib.Seq.{length-take-le, getD-drop, drop-drop}
+use lib.ListN.{length, getD, take}
+use lib.Seq.{length-take-le}
 use lib.Ieee.{Float, binary64, nan, add, sub, mul}
 use Rattle.definitions.specs.Vectors.{Vec, dotFrom, dot, zero64, minus, plusTimes}
 use Rattle.laws.specs.Parts.{take-more}
@@ -44,10 +44,3 @@ module _ (a b : List Float) (i : ℕ) (fits-a : i < length a) (fits-b : i < leng
 
   pub plusTimes-more : (s : Float) → plusTimes (take i a) (take i b) s ++ (add binary64 (getD a i nan) (mul binary64 (getD b i nan) s) ∷ []) ≡ plusTimes (take (i + 1) a) (take (i + 1) b) s
   plusTimes-more s = rw (take-more a i nan fits-a, take-more b i nan fits-b) (sym (plusTimes-snoc _ _ _ _ s same-length))
-
--- what is alike from a place on is alike at that place and behind it
-pub rest-same : (a b : List Float) (i : ℕ) (z : Float) → drop i a ≡ drop i b → (getD a i z ≡ getD b i z) × (drop (i + 1) a ≡ drop (i + 1) b)
-rest-same a b i z e =
-    let here : i + 0 ≡ i = omega arith in
-    let at : (l : List Float) → getD (drop i l) 0 z ≡ getD l i z = λ l. getD-drop i l 0 z ∙ ap (λ (k : ℕ). getD l k z) here in
-    (sym (at a) ∙ (ap (λ (l : List Float). getD l 0 z) e ∙ at b), sym (drop-drop 1 i a) ∙ (ap (drop 1) e ∙ drop-drop 1 i b))

@@ -1,2 +1,3 @@
--- What the arrays of the code mean.
+-- What the arrays of the code mean, and what follows at once.
 pub mod Meaning
+pub mod Wholes

@@ -3,7 +3,8 @@ ghost use mathlib.Core.Path.{_≡_};
 ghost use Prim.Native.Nat.{_+_, _≤_};
 ghost use lib.ListN.{length, drop};
 ghost use Rattle.definitions.specs.Vectors.{dot, norm, normalised, minus, plusTimes};
-ghost use Rattle.vectors.specs.Meaning.{vectorOf};
+ghost use Rattle.laws.specs.Segments.{onto};
+ghost use Rattle.vectors.specs.Meaning.{vectorOf, five};
 
 // The vectors of a call lie in arrays, one behind the other. The loops borrow such an array and are told where a vector begins: to copy it out would cost more than its arithmetic.
 
@@ -21,7 +22,7 @@ pub fn dot_at(a: &[f64], b: &[f64], at: usize, d: usize) -> f64
     sum
 }
 
-pub fn dot(a: [f64; 5], b: [f64; 5], d: usize) -> f64
+fn dot(a: [f64; 5], b: [f64; 5], d: usize) -> f64
     requires { ⌜ d ≤ 5 ⌝ }
     ensures { λ r. ⌜ r ≡ dot (vectorOf d a) (vectorOf d b) ⌝ }
 {
@@ -45,7 +46,7 @@ pub struct Normalised {
 // Divides each component by the norm and returns the norm beside the vector. It divides before anyone looks at the norm, so that a norm of zero has its equation too.
 pub fn normalise(v: [f64; 5], d: usize) -> Normalised
     requires { ⌜ d ≤ 5 ⌝ }
-    ensures { λ r. ⌜ (vectorOf d (r .vector) ≡ normalised (vectorOf d v)) × (r .norm ≡ norm (vectorOf d v)) ⌝ }
+    ensures { λ r. ⌜ (r .vector ≡ five (normalised (vectorOf d v))) × (r .norm ≡ norm (vectorOf d v)) ⌝ }
 {
     let length = norm(v, d);
     let mut r = [0.0; 5];
@@ -60,10 +61,10 @@ pub fn normalise(v: [f64; 5], d: usize) -> Normalised
     }
 }
 
-// p − q, written. The first vector begins at a place.
+// p − q, written over the front of a slice. The first vector begins at a place.
 pub fn take_from(p: &[f64], at: usize, q: &[f64], d: usize, out: &mut [f64])
     requires { ⌜ (at + d ≤ length (now p)) × (d ≤ length (now q)) × (d ≤ length (now out)) ⌝ }
-    ensures { λ _. ⌜ vectorOf d (now (out .exit)) ≡ minus (vectorOf d (drop at (now (p .entry)))) (vectorOf d (now (q .entry))) ⌝ }
+    ensures { λ _. ⌜ now (out .exit) ≡ onto (minus (vectorOf d (drop at (now (p .entry)))) (vectorOf d (now (q .entry)))) (now (out .entry)) ⌝ }
 {
     let mut i = 0;
     while i < d {
@@ -75,7 +76,7 @@ pub fn take_from(p: &[f64], at: usize, q: &[f64], d: usize, out: &mut [f64])
 // p − q
 pub fn minus(p: [f64; 5], q: [f64; 5], d: usize) -> [f64; 5]
     requires { ⌜ d ≤ 5 ⌝ }
-    ensures { λ r. ⌜ vectorOf d r ≡ minus (vectorOf d p) (vectorOf d q) ⌝ }
+    ensures { λ r. ⌜ r ≡ five (minus (vectorOf d p) (vectorOf d q)) ⌝ }
 {
     let mut r = [0.0; 5];
     take_from(&p, 0, &q, d, &mut r);
@@ -85,7 +86,7 @@ pub fn minus(p: [f64; 5], q: [f64; 5], d: usize) -> [f64; 5]
 // q gains b × s. The vector b begins at a place.
 pub fn gain(q: &mut [f64], b: &[f64], at: usize, s: f64, d: usize)
     requires { ⌜ (d ≤ length (now q)) × (at + d ≤ length (now b)) ⌝ }
-    ensures { λ _. ⌜ vectorOf d (now (q .exit)) ≡ plusTimes (vectorOf d (now (q .entry))) (vectorOf d (drop at (now (b .entry)))) s ⌝ }
+    ensures { λ _. ⌜ now (q .exit) ≡ onto (plusTimes (vectorOf d (now (q .entry))) (vectorOf d (drop at (now (b .entry)))) s) (now (q .entry)) ⌝ }
 {
     let mut i = 0;
     while i < d {

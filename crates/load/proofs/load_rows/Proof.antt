@@ -1,4 +1,4 @@
--- `load::load_rows` meets its contract. The invariant: the first i rows stand in the region, 32 bytes apart. Assumes nothing.
+-- `load::load_rows` meets its contract. The invariant: the first i rows were written to the region, 32 bytes apart, and stand there. Assumes nothing.
 use mathlib.Core.Path.{_≡_, refl, _∙_}
 use Prim.Native.Nat.{_+_, _-_, _*_, _≤_}
 use native.Mathlib.Omega.{arith}
@@ -7,21 +7,21 @@ use lib.ListN.{length}
 use Rattle.definitions.specs.Lists.{countFrom}
 use Rattle.laws.specs.Parts.{rows}
 use Rattle.laws.specs.Tests.{next-fits}
-use Rattle.openers.specs.Rows.{rowsIn}
+use Rattle.openers.specs.Rows.{rowsIn, writtenRows}
 use Rattle.load.specs.Meaning.{rowsAt, loadable}
 use Rattle.load.proofs.Laws.{copy-fits, row-copied}
 use Rattle.load.proofs.load_rows.Statement.{statement}
 use Rattle.load.proofs.load_rows.Tie as tie
 
 abbrev Inv-loop : tie.InvT-loop
-Inv-loop job region₀ n count at i₀ region i = (i ≤ count) × (length region ≡ length region₀) × (rowsIn n i region ≡ rowsAt job at n i)
+Inv-loop job region₀ n count at i₀ region i = (i ≤ count) × (length region ≡ length region₀) × (rowsIn n i region ≡ rowsAt job at n i) × (region ≡ writtenRows (rowsAt job at n i) 0 region₀)
 
 abbrev μ-loop : tie.MeasureT-loop
 μ-loop job region₀ n count at i₀ region i = count - i
 
 loop-holds : tie.Need-loop-holds Inv-loop μ-loop
-unfolding rowsIn rowsAt countFrom rows
-loop-holds c = (omega arith, refl, refl)
+unfolding rowsIn rowsAt writtenRows countFrom rows
+loop-holds c = (omega arith, refl, refl, refl)
 
 mul-from : tie.Need-mul-from Inv-loop μ-loop
 mul-from c =
@@ -74,8 +74,8 @@ loop-again c =
     let k = loadable _ _ (c .before .before .before .before .before .before .before .before .before .pre .0) (c .before .before .before .before .before .before .before .before .before .pre .1) in
     let m = next-fits (c .before .before .before .before .before .before .before .before .before .args .fields .n) (c .before .before .before .before .before .before .loop .i) (c .before .before .before .before .before .before .before .before .before .args .fields .count) (omega arith) in
     let l = c .before .before .before .before .before .before .loop in
-    let next = row-copied (l .region) _ (c .before .before .before .before .before .before .before .before .before .args .fields .rows) (c .before .before .before .before .before .before .before .before .before .args .fields .n) (l .i) _ (omega arith) (omega arith) (omega arith) (c .before .before .copy .ensures) (l .inv .2) in
-    (omega arith, next .0 ∙ l .inv .1, next .1)
+    let next = row-copied (l .region) _ (c .before .before .before .before .before .before .before .before .before .args .fields .rows) (c .before .before .before .before .before .before .before .before .before .args .fields .n) (l .i) _ (omega arith) (omega arith) (omega arith) (c .before .before .copy .ensures) (l .inv .2) (c .before .before .before .before .before .before .before .before .before .args .region .now) (l .inv .3) in
+    (omega arith, next .0 ∙ l .inv .1, next .1, next .2)
 
 same-length : tie.Need-same-length Inv-loop μ-loop
 same-length c = search needs
@@ -85,7 +85,7 @@ returns c =
     let k = loadable _ _ (c .before .before .before .before .pre .0) (c .before .before .before .before .pre .1) in
     let l = c .before .loop in
     let end : l .i ≡ c .before .before .before .before .args .fields .count = omega arith in
-    (rw (k .rows-is, ← end) (l .inv .2), l .inv .1)
+    ((rw (k .rows-is, ← end) (l .inv .2), l .inv .1), rw (k .rows-is, ← end) (l .inv .3))
 
 pub load-rows-spec : {M : Type 1} → statement M
 load-rows-spec =

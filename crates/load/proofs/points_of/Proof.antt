@@ -1,14 +1,15 @@
 -- `load::points_of` meets its contract. The invariant: the first i points stand in the struct. Assumes nothing.
-use mathlib.Core.Path.{_≡_, ap, _∙_}
+use mathlib.Core.Path.{_≡_, sym, ap, _∙_}
 use Prim.Native.Nat.{ℕ, _+_, _*_, _-_, _≤_}
 use native.Mathlib.Omega.{arith}
 use borrow.Author.Needs.{needs}
 use Rattle.definitions.specs.Job.{vectorsAt}
 use Rattle.definitions.specs.Lists.{countFrom}
 use Rattle.laws.specs.Tests.{next-fits}
+use Rattle.vectors.specs.Wholes.{five-means, five-own}
 use Rattle.space.specs.Meaning.{HoldsPoints}
 use Rattle.load.specs.Meaning.{loadable}
-use Rattle.load.proofs.Laws.{points-turn}
+use Rattle.load.proofs.Laws.{floats-length, points-turn}
 use Rattle.load.proofs.points_of.Statement.{statement}
 use Rattle.load.proofs.points_of.Tie as tie
 
@@ -51,7 +52,8 @@ vector-at-requires c κs =
 with-point-requires : tie.Need-with-point-requires Inv-loop μ-loop
 with-point-requires c κs =
     let k = loadable _ _ (c .before .before .before .before .before .pre .0) (c .before .before .before .before .before .pre .1) in
-    (c .before .before .loop .inv .1 .fits, omega arith)
+    let l = c .before .before .loop in
+    (l .inv .1 .fits, omega arith, five-own _ _ (l .points .d) (c .vector-at .ensures) (floats-length _ _ _ ∙ sym (l .inv .1 .d-is)))
 
 add-i : tie.Need-add-i Inv-loop μ-loop
 add-i c = search needs
@@ -63,7 +65,7 @@ loop-again : tie.Need-loop-again Inv-loop μ-loop
 loop-again c =
     let l = c .before .before .before .loop in
     let e = l .inv .1 .d-is in
-    (omega arith, points-turn _ _ _ _ _ _ _ _ (c .with-point .ensures .0) e (l .inv .1 .means) (rw e (c .before .vector-at .ensures)), c .with-point .ensures .1 ∙ ap (λ (x : ℕ). x + 1) (l .inv .2))
+    (omega arith, points-turn _ _ _ _ _ _ _ _ (c .with-point .ensures .0) e (l .inv .1 .means) (rw e (five-means _ _ _ (c .before .vector-at .ensures) (floats-length _ _ _))), c .with-point .ensures .1 ∙ ap (λ (x : ℕ). x + 1) (l .inv .2))
 
 returns : tie.Need-returns Inv-loop μ-loop
 returns c =

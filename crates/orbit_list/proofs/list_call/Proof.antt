@@ -35,7 +35,7 @@ find-orbits-requires c κs =
     let f = c .before .before .before .before .before .flatten-all in
     let l = c .before .before .before .load-rows in
     let k = counts (s .args .job .now) (s .args .fields) (s .pre .0) in (
-      call-fits (s .args .job .now) (s .args .fields) (s .pre .0) (p .result) (f .result) (p .ensures .0 .fits) (f .ensures .0 .fits) (p .ensures .1) (f .ensures .1) _ (omega (arith, l .ensures .1)) (l .ensures .0),
+      call-fits (s .args .job .now) (s .args .fields) (s .pre .0) (p .result) (f .result) (p .ensures .0 .fits) (f .ensures .0 .fits) (p .ensures .1) (f .ensures .1) _ (omega (arith, l .ensures .0 .1)) (l .ensures .0 .0),
       omega arith,
       search needs,
     )
@@ -66,7 +66,7 @@ list-found-requires c κs =
     let few = orbits-few (f .result .n) (c .before .before .before .count .given .0 .0) 256 _ _ (o .result) (c .before .before .before .count .given .1) (o .ensures) in (
       f .ensures .0 .fits,
       omega arith,
-      call-fits (s .args .job .now) (s .args .fields) (s .pre .0) (p .result) (f .result) (p .ensures .0 .fits) (f .ensures .0 .fits) (p .ensures .1) (f .ensures .1) _ (omega (arith, l .ensures .1)) (l .ensures .0) .permute,
+      call-fits (s .args .job .now) (s .args .fields) (s .pre .0) (p .result) (f .result) (p .ensures .0 .fits) (f .ensures .0 .fits) (p .ensures .1) (f .ensures .1) _ (omega (arith, l .ensures .0 .1)) (l .ensures .0 .0) .permute,
       k .count-most,
       omega (arith, few),
     )

@@ -12,7 +12,7 @@ use Rattle.definitions.specs.Vectors.{Vec}
 use Rattle.definitions.specs.Orbits.{pointAt}
 use Rattle.vectors.specs.Meaning.{vectorOf}
 use Rattle.space.specs.Meaning.{pointsOf, limitsOf}
-use Rattle.space.specs.Counts.{points-length}
+use Rattle.space.specs.Counts.{points-length, point-means, point-own}
 use Rattle.space.proofs.Points.breaks_limit.Reads as breaks-limit-reads
 use Rattle.space.proofs.Points.point.Reads as point-reads
 use Rattle.space.proofs.Points.with_point.Reads as with-point-reads
@@ -191,7 +191,9 @@ extend-with-point-requires : (t : ℕ) → extend-lts.Need-with-point-requires (
   extend-below t,
   extend.Post,
 ) (extend-at t) extend.Post extend-Inv-loop extend-μ-loop
-extend-with-point-requires t c κs = let s = c .before .before .before .before .before .before .before .before in let a = s .args in let p = s .pre .1 in let l = c .before .before .before .before .loop in (p .0 .tuple-fits, omega (arith, l .inv .0, p .5, p .2 .n-fits))
+extend-with-point-requires t c κs = let s = c .before .before .before .before .before .before .before .before in let a = s .args in let p = s .pre .1 in let l = c .before .before .before .before .loop in
+    let below : l .u < a .flat .n = omega (arith, c .before .before .before .loop-test .taken, p .4) in
+    (p .0 .tuple-fits, omega (arith, l .inv .0, p .5, p .2 .n-fits), rw (p .0 .same-d) (point-own (a .flat) (p .0 .flat-fits) (l .u) below _ (c .point .ensures)))
 
 extend-add-extend : (t : ℕ) → extend-lts.Need-add-extend (
   try-tuple-reads.Asked,
@@ -287,7 +289,8 @@ extend-loop-again-2 t c = let s = c .before .before .before .before .before .bef
     let positive : 0 < a .more = omega (arith, c .before .before .before .before .before .before .before .before .before .before .if1 .left) in
     let joins : passes (l .u) ≡ true = kept (a .tolerance) (limitsOf (a .min) (a .max)) (pointsOf (a .points)) (a .v) (l .u) (sym (c .before .before .before .before .before .before .before .breaks-limit .ensures) ∙ c .before .before .before .before .before .before .if2 .left) in
     let h = c .before .before .before .before .with-point .ensures .0 in
-    let point : vectorOf (a .tuple .d) (c .before .before .before .before .before .point .result) ≡ pointAt flat (l .u) = rw (p .0 .same-d) (c .before .before .before .before .before .point .ensures) in
+    let below : l .u < a .flat .n = omega (arith, c .before .before .before .before .before .before .before .before .loop-test .taken, p .4) in
+    let point : vectorOf (a .tuple .d) (c .before .before .before .before .before .point .result) ≡ pointAt flat (l .u) = rw (p .0 .same-d) (point-means (a .flat) (p .0 .flat-fits) (l .u) below _ (c .before .before .before .before .before .point .ensures)) in
     let longer : pointsOf (c .before .before .before .before .with-point .result) ≡ tuple ++ (pointAt flat (l .u) ∷ []) = h .means ∙ ap (λ (x : Vec). tuple ++ (x ∷ [])) point in (
       omega arith,
       c .before .ws2 .given ∙ l .inv .1,

@@ -40,7 +40,7 @@ faceting-requires c κs =
     let s = c .before .before .before .before .before .before .before .before .before .before .before in
     let job = s .args .job .now in
     let size = length (s .args .ws .now) in
-    let loaded = loads job size (s .args .fields) (s .pre .0) (c .before .before .before .before .before .before .before .plane-of .ensures) (c .before .before .before .before .before .before .points-of .ensures) (c .before .before .before .load-rows .ensures) (c .before .before .before .before .before .rules-of .ensures) in
+    let loaded = loads job size (s .args .fields) (s .pre .0) (c .before .before .before .before .before .before .before .plane-of .ensures) (c .before .before .before .before .before .before .points-of .ensures) (c .before .before .before .load-rows .ensures .0) (c .before .before .before .before .before .rules-of .ensures) in
     call-asked job size (s .args .fields) (s .pre .0) loaded _ (search needs)
 
 slice-aggregate-write-called : tie.Need-slice-aggregate-write-called
@@ -51,7 +51,7 @@ write-called-requires c κs =
     let s = c .before .before .before .before .before .before .before .before .before .before .before .before .before .before .before .before .before in
     let job = s .args .job .now in
     let size = length (s .args .ws .now) in
-    let loaded = loads job size (s .args .fields) (s .pre .0) (c .before .before .before .before .before .before .before .before .before .before .before .before .before .plane-of .ensures) (c .before .before .before .before .before .before .before .before .before .before .before .before .points-of .ensures) (c .before .before .before .before .before .before .before .before .before .load-rows .ensures) (c .before .before .before .before .before .before .before .before .before .before .before .rules-of .ensures) in
+    let loaded = loads job size (s .args .fields) (s .pre .0) (c .before .before .before .before .before .before .before .before .before .before .before .before .before .plane-of .ensures) (c .before .before .before .before .before .before .before .before .before .before .before .before .points-of .ensures) (c .before .before .before .before .before .before .before .before .before .load-rows .ensures .0) (c .before .before .before .before .before .before .before .before .before .before .before .rules-of .ensures) in
     ((_, _, _, call-said job size (s .args .fields) (s .pre .0) loaded _ _ (search needs) (c .before .before .before .before .before .faceting .ensures)), s .pre .1)
 
 same-length : tie.Need-same-length
@@ -65,7 +65,7 @@ returns c =
     let s = c .before .before .before .before .before .before .before .before .before .before .before .before .before .before .before .before .before .before .before .before .before .before in
     let job = s .args .job .now in
     let size = length (s .args .ws .now) in
-    let loaded = loads job size (s .args .fields) (s .pre .0) (c .before .before .before .before .before .before .before .before .before .before .before .before .before .before .before .before .before .before .plane-of .ensures) (c .before .before .before .before .before .before .before .before .before .before .before .before .before .before .before .before .before .points-of .ensures) (c .before .before .before .before .before .before .before .before .before .before .before .before .before .before .load-rows .ensures) (c .before .before .before .before .before .before .before .before .before .before .before .before .before .before .before .before .rules-of .ensures) in
+    let loaded = loads job size (s .args .fields) (s .pre .0) (c .before .before .before .before .before .before .before .before .before .before .before .before .before .before .before .before .before .before .plane-of .ensures) (c .before .before .before .before .before .before .before .before .before .before .before .before .before .before .before .before .before .points-of .ensures) (c .before .before .before .before .before .before .before .before .before .before .before .before .before .before .load-rows .ensures .0) (c .before .before .before .before .before .before .before .before .before .before .before .before .before .before .before .before .rules-of .ensures) in
     let k = c .before .before .before .before .write-called in
     let fits : SFits w64 (k .result) = search needs in
     let o = outcome-is job size (s .args .fields) (s .pre .0) loaded (length (s .args .answer .now)) in

@@ -1,51 +1,63 @@
--- `is_near` meets its contract, from those of its calls.
-use mathlib.Core.Path.{refl, _∙_}
-use Rattle.definitions.specs.Vectors.{norm}
-use Rattle.definitions.specs.Subspace.{distance}
+-- `is_near` meets its contract, from those of its calls: the difference is written over zeros.
+use mathlib.Core.Path.{_≡_, refl, _∙_}
+use native.Mathlib.Omega.{arith}
 use borrow.Author.Needs.{needs}
+use lib.ListN.{length, drop, length-drop}
+use lib.Seq.{length-take-le}
+use Rattle.definitions.specs.Vectors.{norm}
+use Rattle.definitions.specs.Subspace.{residual, distance}
+use Rattle.vectors.specs.Meaning.{vectorOf, zeros, five}
+use Rattle.space.specs.Meaning.{subspaceOf}
+use Rattle.space.proofs.Laws.{read-projection, read-residual}
 use Rattle.space.proofs.is_near.Statement.{statement}
 use Rattle.space.proofs.is_near.Tie as tie
-use Rattle.space.proofs.is_near.Reads as reads
-use Rattle.space.proofs.is_near.Lts as lts
-use Rattle.root.proofs.root_below.Reads as root-below-reads
-use Rattle.space.proofs.put_residual.Reads as put-residual-reads
-use Rattle.vectors.proofs.dot_at.Reads as dot-at-reads
 
--- src/lib.rt:173:37
-slice-aggregate-put-residual : tie.Need-slice-aggregate-put-residual
-slice-aggregate-put-residual c = search needs
+project-at-requires : tie.Need-project-at-requires
+project-at-requires c κs = search needs
 
--- src/lib.rt:173:5
-put-residual-requires : tie.Need-put-residual-requires
-put-residual-requires c κs = search needs
+slice-aggregate-take-from : tie.Need-slice-aggregate-take-from
+slice-aggregate-take-from c = search needs
 
--- src/lib.rt:174:38
+slice-aggregate-take-from-2 : tie.Need-slice-aggregate-take-from-2
+slice-aggregate-take-from-2 c = search needs
+
+take-from-requires : tie.Need-take-from-requires
+take-from-requires c κs = search needs
+
 slice-aggregate-dot-at : tie.Need-slice-aggregate-dot-at
 slice-aggregate-dot-at c = search needs
 
--- src/lib.rt:174:42
 slice-aggregate-dot-at-2 : tie.Need-slice-aggregate-dot-at-2
 slice-aggregate-dot-at-2 c = search needs
 
--- src/lib.rt:174:22
 dot-at-requires : tie.Need-dot-at-requires
 dot-at-requires c κs = search needs
 
--- src/lib.rt:174:5
 root-below-requires : tie.Need-root-below-requires
 root-below-requires c κs = search needs
 
--- src/lib.rt:167:1
 returns : tie.Need-returns
-unfolding distance norm
-returns c = c .root-below .ensures ∙ rw (c .before .dot-at .ensures, c .before .before .before .before .before .put-residual .ensures) refl
+unfolding distance norm residual five zeros
+returns c =
+    let entry = c .before .before .before .before .before .before .before .before .before .before in
+    let s = entry .args .plane in
+    let offset-long : length (s .offset) ≡ 5 = search needs in
+    let basis-long : length (s .basis) ≡ 25 = search needs in
+    let numbers = drop (entry .args .at) (entry .args .points .now) in
+    let p = vectorOf (s .d) numbers in
+    let p-long : length p ≡ s .d = length-take-le (s .d) numbers (omega (arith, length-drop (entry .args .at) (entry .args .points .now), entry .pre .1)) in
+    let q = read-projection s (entry .pre .0) offset-long basis-long p p-long _ (c .before .before .before .before .before .before .before .before .project-at .ensures) in
+    let r = read-residual s (entry .pre .0) offset-long basis-long p p-long _ (c .before .before .before .before .before .take-from .ensures ∙ rw q refl) in
+    c .root-below .ensures ∙ rw (c .before .dot-at .ensures, r) refl
 
 pub is-near-spec : {M : Type 1} → statement M
 is-near-spec =
     tie.close
     (tie.spec
-    slice-aggregate-put-residual
-    put-residual-requires
+    project-at-requires
+    slice-aggregate-take-from
+    slice-aggregate-take-from-2
+    take-from-requires
     slice-aggregate-dot-at
     slice-aggregate-dot-at-2
     dot-at-requires

@@ -6,8 +6,7 @@ use borrow.Author.Needs.{needs}
 use lib.ListN.{length}
 use Rattle.definitions.specs.Recursion.{keepsSet}
 use Rattle.laws.specs.Sets.{verticesOf}
-use Rattle.openers.specs.Rows.{rowAt}
-use Rattle.stabilizers.specs.Places.{writtenRows, written-length}
+use Rattle.openers.specs.Rows.{rowAt, writtenRows, written-length}
 use Rattle.stabilizers.proofs.Laws.{kept, rows-none, rows-turn, one-more}
 use Rattle.stabilizers.proofs.rows_within.Statement.{statement}
 use Rattle.stabilizers.proofs.rows_within.Tie as tie

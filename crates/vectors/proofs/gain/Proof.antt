@@ -7,7 +7,8 @@ use lib.ListN.{length, take, drop, length-drop, length-set}
 use lib.Seq.{getD-drop, drop-set-lt}
 use Rattle.definitions.specs.Vectors.{plusTimes}
 use Rattle.laws.specs.Parts.{take-more-set}
-use Rattle.vectors.proofs.Laws.{plusTimes-more, rest-same}
+use Rattle.vectors.specs.Wholes.{whole, rest-same}
+use Rattle.vectors.proofs.Laws.{plusTimes-more}
 use borrow.Author.Needs.{needs}
 use Rattle.vectors.proofs.gain.Statement.{statement}
 use Rattle.vectors.proofs.gain.Tie as tie
@@ -83,8 +84,9 @@ same-length c = search needs
 returns : tie.Need-returns Inv-loop μ-loop
 returns c =
     let l = c .before .loop in
-    let end : l .i ≡ c .before .before .args .d = omega arith in
-    rw (← end) (l .inv .2)
+    let a = c .before .before .args in
+    let end : l .i ≡ a .d = omega arith in
+    rw (← end) (whole (l .q) (a .q .now) _ (l .i) (omega (arith, l .inv .1)) (l .inv .2) (l .inv .3))
 
 pub gain-spec : {M : Type 1} → statement M
 gain-spec =

@@ -1,10 +1,10 @@
 -- `Points::breaks_limit` meets its contract, from those of its calls.
 use mathlib.Core.Path.{_≡_, refl, _∙_}
 use borrow.Author.Needs.{needs}
-use lib.ListN.{length}
 use Rattle.definitions.specs.Vectors.{minus, norm}
 use Rattle.definitions.specs.Orbits.{pointAt, tooShort, tooLong, breaksLimit}
 use Rattle.space.specs.Meaning.{pointsOf, lengthOf, limitsOf}
+use Rattle.space.proofs.Laws.{read-difference}
 use Rattle.space.proofs.Points.breaks_limit.Statement.{statement}
 use Rattle.space.proofs.Points.breaks_limit.Tie as tie
 
@@ -31,9 +31,10 @@ unfolding breaksLimit limitsOf
 returns c =
     let a = c .before .before .before .before .before .before .args in
     let points = pointsOf (a .self) in
-    let length = norm (minus (pointAt points (a .w)) (pointAt points (a .v))) in
-    let measured : c .before .before .norm .result ≡ length = c .before .before .norm .ensures ∙ rw (c .before .before .before .minus .ensures, c .before .before .before .before .before .point .ensures, c .before .before .before .before .point2 .ensures) refl in
-    let short : c .before .too-short .result ≡ tooShort (a .tolerance) (lengthOf (a .min)) length = rw (← measured) (c .before .too-short .ensures) in
+    let distance = norm (minus (pointAt points (a .w)) (pointAt points (a .v))) in
+    let between = read-difference (a .self) (c .before .before .before .before .before .before .pre .0) (a .v) (a .w) _ _ _ (c .before .before .before .before .before .before .pre .1) (c .before .before .before .before .before .before .pre .2) (c .before .before .before .before .point2 .ensures) (c .before .before .before .before .before .point .ensures) (c .before .before .before .minus .ensures) in
+    let measured : c .before .before .norm .result ≡ distance = c .before .before .norm .ensures ∙ rw between refl in
+    let short : c .before .too-short .result ≡ tooShort (a .tolerance) (lengthOf (a .min)) distance = rw (← measured) (c .before .too-short .ensures) in
     rw (← short, c .if1 .taken) refl
 
 returns-2 : tie.Need-returns-2
@@ -41,10 +42,11 @@ unfolding breaksLimit limitsOf
 returns-2 c =
     let a = c .before .before .before .before .before .before .before .args in
     let points = pointsOf (a .self) in
-    let length = norm (minus (pointAt points (a .w)) (pointAt points (a .v))) in
-    let measured : c .before .before .before .norm .result ≡ length = c .before .before .before .norm .ensures ∙ rw (c .before .before .before .before .minus .ensures, c .before .before .before .before .before .before .point .ensures, c .before .before .before .before .before .point2 .ensures) refl in
-    let short : c .before .before .too-short .result ≡ tooShort (a .tolerance) (lengthOf (a .min)) length = rw (← measured) (c .before .before .too-short .ensures) in
-    let long : c .too-long .result ≡ tooLong (a .tolerance) (lengthOf (a .max)) length = rw (← measured) (c .too-long .ensures) in
+    let distance = norm (minus (pointAt points (a .w)) (pointAt points (a .v))) in
+    let between = read-difference (a .self) (c .before .before .before .before .before .before .before .pre .0) (a .v) (a .w) _ _ _ (c .before .before .before .before .before .before .before .pre .1) (c .before .before .before .before .before .before .before .pre .2) (c .before .before .before .before .before .point2 .ensures) (c .before .before .before .before .before .before .point .ensures) (c .before .before .before .before .minus .ensures) in
+    let measured : c .before .before .before .norm .result ≡ distance = c .before .before .before .norm .ensures ∙ rw between refl in
+    let short : c .before .before .too-short .result ≡ tooShort (a .tolerance) (lengthOf (a .min)) distance = rw (← measured) (c .before .before .too-short .ensures) in
+    let long : c .too-long .result ≡ tooLong (a .tolerance) (lengthOf (a .max)) distance = rw (← measured) (c .too-long .ensures) in
     rw (← short, c .before .if1 .left) long
 
 pub breaks-limit-spec : {M : Type 1} → statement M

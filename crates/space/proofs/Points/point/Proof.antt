@@ -1,12 +1,15 @@
--- `Points::point` meets its contract: the five places that are read are row i. Leans on the laws of rows.
-use mathlib.Core.Path.{_≡_}
+-- `Points::point` meets its contract: the five places that are read are row i, with its zeros. Leans on the laws of rows.
+use mathlib.Core.Path.{_≡_, sym, ap, _∙_}
+use Prim.Native.Nat.{_*_}
 use native.Mathlib.Omega.{arith}
 use borrow.Author.Needs.{needs}
 use lib.ListN.{length}
 use lib.Ieee.{nan}
-use Rattle.definitions.specs.Orbits.{pointAt}
-use Rattle.laws.specs.Parts.{fiveAt, rows-read}
+use Rattle.laws.specs.Parts.{fiveAt, fiveAt-is}
+use Rattle.vectors.specs.Meaning.{five}
 use Rattle.space.specs.Meaning.{pointsOf}
+use Rattle.space.specs.Rows.{row-is}
+use Rattle.space.specs.Counts.{point-row}
 use Rattle.space.proofs.Points.point.Statement.{statement}
 use Rattle.space.proofs.Points.point.Tie as tie
 
@@ -56,11 +59,14 @@ element-copy-out-t28 : tie.Need-element-copy-out-t28
 element-copy-out-t28 c = search needs
 
 returns : tie.Need-returns
-unfolding pointsOf pointAt fiveAt
+unfolding pointsOf fiveAt
 returns c =
-    let p = c .before .before .before .before .before .args .t1 in
+    let entry = c .before .before .before .before .before in
+    let p = entry .args .t1 in
+    let i = entry .args .i in
     let long : length (p .at) ≡ 100 = search needs in
-    rows-read (p .d) (p .n) (p .at) (c .before .before .before .before .before .args .i) nan (c .before .before .before .before .before .pre .0 .d-fits) (c .before .before .before .before .before .pre .1) (omega arith)
+    fiveAt-is (p .at) (5 * i) nan (omega (arith, entry .pre .0 .n-fits, entry .pre .1))
+    ∙ (row-is 100 (p .d) (p .n) (p .at) i (entry .pre .0 .d-fits) (entry .pre .1) (entry .pre .0 .at-is) ∙ ap five (sym (point-row p i (entry .pre .1))))
 
 pub point-spec : {M : Type 1} → statement M
 point-spec =

@@ -1,11 +1,14 @@
 -- `Points::with_point` meets its contract: the five places that are written are one row more, and the rows before stay. Leans on the laws of rows.
-use mathlib.Core.Path.{_≡_, refl}
+use mathlib.Core.Path.{_≡_, refl, _∙_}
+use mathlib.Core.List.{[], _∷_, _++_}
+use Prim.Native.Nat.{_+_, _*_}
 use native.Mathlib.Omega.{arith}
 use borrow.Author.Needs.{needs}
-use lib.ListN.{length}
+use lib.ListN.{length, take}
 use lib.Ieee.{nan}
-use Rattle.laws.specs.Parts.{setFive, rows-written}
-use Rattle.space.specs.Meaning.{pointsOf}
+use Rattle.laws.specs.Parts.{setFive, setFive-is, rows, rows-written}
+use Rattle.space.specs.Meaning.{pointsOf, inRows}
+use Rattle.space.specs.Rows.{joined-length, row-joins}
 use Rattle.space.specs.Counts.{holds-points}
 use Rattle.space.proofs.Points.with_point.Statement.{statement}
 use Rattle.space.proofs.Points.with_point.Tie as tie
@@ -79,8 +82,13 @@ returns c =
     let p = c .args .self in
     let at-long : length (p .at) ≡ 100 = search needs in
     let long : length (c .args .t2) ≡ 5 = search needs in
-    let written = rows-written (p .d) (p .n) (p .at) (c .args .t2) nan (c .pre .0 .d-fits) (omega arith) long in
-    (holds-points _ _ _ (record { n-fits = omega arith; d-fits = c .pre .0 .d-fits }) refl written, refl)
+    let before = rows 5 (p .d) (p .n) (p .at) in
+    let written : rows 5 (p .d) (p .n + 1) (setFive (p .at) (5 * p .n) (c .args .t2) nan) ≡ before ++ (take (p .d) (c .args .t2) ∷ []) =
+    rows-written (p .d) (p .n) (p .at) (c .args .t2) nan (c .pre .0 .d-fits) (omega arith) long in
+    let taken : setFive (p .at) (5 * p .n) (c .args .t2) nan ≡ inRows 100 (before ++ (take (p .d) (c .args .t2) ∷ [])) =
+    setFive-is (p .at) (5 * p .n) (c .args .t2) nan (omega arith) long
+    ∙ row-joins 100 (p .n) before (p .at) (c .args .t2) _ (joined-length (p .d) (p .n) (p .at) (c .pre .0 .d-fits)) long (c .pre .2) (c .pre .0 .at-is) in
+    (holds-points _ _ _ (record { n-fits = omega arith; d-fits = c .pre .0 .d-fits; at-is = rw written taken }) refl written, refl)
 
 pub with-point-spec : {M : Type 1} → statement M
 with-point-spec =

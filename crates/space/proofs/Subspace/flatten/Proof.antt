@@ -1,12 +1,16 @@
--- `Subspace::flatten` meets its contract. The invariant: the first j numbers are the dot products with the first j basis vectors. Leans on the laws of rows.
+-- `Subspace::flatten` meets its contract. The invariant: the first j numbers are the dot products with the first j basis vectors, and zeros stand behind them. Leans on the laws of rows.
 use mathlib.Core.Path.{_≡_, refl, sym, _∙_}
 use mathlib.Core.List.{map}
-use Prim.Native.Nat.{_*_, _-_, _≤_}
+use Prim.Native.Nat.{_+_, _*_, _-_, _≤_}
 use native.Mathlib.Omega.{arith}
 use lib.ListN.{length, take, drop, length-set}
+use lib.Seq.{drop-set-lt}
+use lib.Ieee.{nan}
 use Rattle.definitions.specs.Vectors.{dot}
 use Rattle.definitions.specs.Subspace.{flatten}
 use Rattle.laws.specs.Parts.{rows, map-rows-more, take-more-set}
+use Rattle.vectors.specs.Meaning.{zeros, five}
+use Rattle.vectors.specs.Wholes.{whole, rest-same}
 use Rattle.space.specs.Meaning.{subspaceOf}
 use borrow.Author.Needs.{needs}
 use Rattle.space.proofs.Subspace.flatten.Statement.{statement}
@@ -17,7 +21,7 @@ use Rattle.space.proofs.Subspace.away.Reads as away-reads
 use Rattle.vectors.proofs.dot_at.Reads as dot-at-reads
 
 abbrev Inv-loop : tie.InvT-loop
-Inv-loop self d rank away r₀ j₀ r j = (j ≤ rank) × (length r ≡ 5) × (take j r ≡ map (dot (take d away)) (rows 5 d j (self .basis)))
+Inv-loop self d rank away r₀ j₀ r j = (j ≤ rank) × (length r ≡ 5) × (take j r ≡ map (dot (take d away)) (rows 5 d j (self .basis))) × (drop j r ≡ drop j (zeros 5))
 
 abbrev μ-loop : tie.MeasureT-loop
 μ-loop self d rank away r₀ j₀ r j = rank - j
@@ -28,8 +32,8 @@ away-requires c κs = search needs
 
 -- src/lib.rt:123:9
 loop-holds : tie.Need-loop-holds Inv-loop μ-loop
-unfolding rows
-loop-holds c = (omega arith, refl, refl)
+unfolding rows zeros
+loop-holds c = (omega arith, refl, refl, refl)
 
 -- src/lib.rt:124:36
 slice-aggregate-dot-at : tie.Need-slice-aggregate-dot-at Inv-loop μ-loop
@@ -67,15 +71,16 @@ loop-again c =
       omega arith,
       length-set (l .r) (l .j) _ ∙ l .inv .1,
       take-more-set (l .r) (l .j) _ (omega arith) ∙ rw (l .inv .2, c .dot-at .ensures) (sym (map-rows-more _ 5 (s .d) (l .j) (s .basis))),
+      drop-set-lt (l .j + 1) (l .r) (l .j) _ (omega arith) ∙ rest-same (l .r) (zeros 5) (l .j) nan (l .inv .3) .1,
     )
 
 -- src/lib.rt:114:5
 returns : tie.Need-returns Inv-loop μ-loop
-unfolding flatten subspaceOf
+unfolding flatten subspaceOf five
 returns c =
     let l = c .before .loop in
     let end : l .j ≡ c .before .before .before .args .t1 .rank = omega arith in
-    rw (← end, ← (c .before .before .away .ensures)) (l .inv .2)
+    rw (← end, ← (c .before .before .away .ensures)) (whole (l .r) (zeros 5) _ (l .j) (omega (arith, l .inv .1)) (l .inv .2) (l .inv .3))
 
 pub flatten-spec : {M : Type 1} → statement M
 flatten-spec =

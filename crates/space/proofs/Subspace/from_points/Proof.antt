@@ -1,5 +1,5 @@
 -- `Subspace::from_points` meets its contract. The invariant: to add the points from i on to s gives what is to be given. Leans on the laws of this crate.
-use mathlib.Core.Path.{_≡_, sym, _∙_}
+use mathlib.Core.Path.{_≡_, refl, sym, _∙_}
 use mathlib.Core.Bool.{true, false}
 use Prim.Native.Nat.{_-_, _≤_, _<_}
 use native.Mathlib.Omega.{arith}
@@ -7,9 +7,10 @@ use borrow.Author.Needs.{needs}
 use lib.ListN.{length, drop}
 use Rattle.definitions.specs.Subspace.{addPoints, fromPoints}
 use Rattle.definitions.specs.Orbits.{pointAt}
-use Rattle.vectors.specs.Meaning.{vectorOf}
+use Rattle.laws.specs.Segments.{onto}
+use Rattle.vectors.specs.Meaning.{vectorOf, zeros, five}
 use Rattle.space.specs.Meaning.{subspaceOf, HoldsSubspace, isFullRank, pointsOf}
-use Rattle.space.specs.Counts.{holds-own, points-length}
+use Rattle.space.specs.Counts.{holds-own, points-length, point-means, point-own}
 use Rattle.space.proofs.Laws.{addPoints-full, addPoints-step, addPoints-end, fromPoints-none, fromPoints-first, has-room}
 use Rattle.space.proofs.Subspace.from_points.Statement.{statement}
 use Rattle.space.proofs.Subspace.from_points.Tie as tie
@@ -21,7 +22,8 @@ abbrev μ-loop : tie.MeasureT-loop
 μ-loop points tolerance n d s₀ i₀ s i = n - i
 
 new-requires : tie.Need-new-requires Inv-loop μ-loop
-new-requires c κs = search needs
+unfolding five onto zeros
+new-requires c κs = (omega arith, refl)
 
 returns : tie.Need-returns Inv-loop μ-loop
 returns c = (rw (fromPoints-none _ (c .before .before .args .points) (c .before .if1 .taken)) (c .new .ensures .0), λ h. absurd (omega arith))
@@ -30,16 +32,20 @@ point-requires : tie.Need-point-requires Inv-loop μ-loop
 point-requires c κs = search needs
 
 new-requires-2 : tie.Need-new-requires-2 Inv-loop μ-loop
-new-requires-2 c κs = search needs
+new-requires-2 c κs =
+    let entry = c .before .before in
+    let p = entry .args .points in
+    (entry .pre .d-fits, point-own p (entry .pre) 0 (omega arith) _ (c .point .ensures))
 
 loop-holds : tie.Need-loop-holds Inv-loop μ-loop
 loop-holds c =
     let p = c .before .before .before .args .points in
+    let first : vectorOf (p .d) (c .before .point .result) ≡ pointAt (pointsOf p) 0 = point-means p (c .before .before .before .pre) 0 (omega arith) _ (c .before .point .ensures) in
     let some-points : 0 < length (pointsOf p) = omega (arith, points-length p) in (
       omega arith,
       c .new2 .ensures .1,
       holds-own _ _ (c .new2 .ensures .0),
-      rw (c .new2 .ensures .0 .means, c .before .point .ensures) (sym (fromPoints-first (c .before .before .before .args .tolerance) (pointsOf p) some-points)),
+      rw (c .new2 .ensures .0 .means, first) (sym (fromPoints-first (c .before .before .before .args .tolerance) (pointsOf p) some-points)),
     )
 
 is-full-rank-requires : tie.Need-is-full-rank-requires Inv-loop μ-loop
@@ -74,7 +80,7 @@ loop-again c =
     let s = subspaceOf (l .s) in
     let not-full : isFullRank s ≡ false = sym (c .before .before .before .is-full-rank .ensures) ∙ c .before .before .if2 .left in
     let below : l .i < length (pointsOf (a .points)) = omega (arith, points-length (a .points)) in
-    let point : vectorOf (l .s .d) (c .before .point2 .result) ≡ pointAt (pointsOf (a .points)) (l .i) = rw (l .inv .1) (c .before .point2 .ensures) in (
+    let point : vectorOf (l .s .d) (c .before .point2 .result) ≡ pointAt (pointsOf (a .points)) (l .i) = rw (l .inv .1) (point-means (a .points) (c .before .before .before .before .before .before .before .before .before .pre) (l .i) (omega arith) _ (c .before .point2 .ensures)) in (
       omega arith,
       c .add .ensures .1 ∙ l .inv .1,
       holds-own _ _ (c .add .ensures .0),

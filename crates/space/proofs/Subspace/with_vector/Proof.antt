@@ -1,13 +1,14 @@
 -- `Subspace::with_vector` meets its contract: the five places that are written are one row more, and the rows before stay. Leans on the laws of rows.
-use mathlib.Core.Path.{_≡_, refl}
+use mathlib.Core.Path.{_≡_, refl, _∙_}
 use mathlib.Core.List.{[], _∷_, _++_}
 use Prim.Native.Nat.{_+_, _*_}
 use native.Mathlib.Omega.{arith}
 use borrow.Author.Needs.{needs}
 use lib.ListN.{length, take}
 use lib.Ieee.{nan}
-use Rattle.laws.specs.Parts.{setFive, rows, rows-written}
-use Rattle.space.specs.Meaning.{subspaceOf, withVector}
+use Rattle.laws.specs.Parts.{setFive, setFive-is, rows, rows-written}
+use Rattle.space.specs.Meaning.{subspaceOf, withVector, inRows}
+use Rattle.space.specs.Rows.{joined-length, row-joins}
 use Rattle.space.specs.Counts.{holds-subspace}
 use Rattle.space.proofs.Subspace.with_vector.Statement.{statement}
 use Rattle.space.proofs.Subspace.with_vector.Tie as tie
@@ -84,7 +85,11 @@ returns c =
     let long : length (c .args .t2) ≡ 5 = search needs in
     let written : rows 5 (s .d) (s .rank + 1) (setFive (s .basis) (5 * s .rank) (c .args .t2) nan) ≡ rows 5 (s .d) (s .rank) (s .basis) ++ (take (s .d) (c .args .t2) ∷ []) =
     rows-written (s .d) (s .rank) (s .basis) (c .args .t2) nan (c .pre .0 .d-fits) (omega arith) long in
-    (holds-subspace _ _ (record { d-fits = c .pre .0 .d-fits; rank-fits = omega arith }) offset-long (rw written refl), refl, refl)
+    let before = rows 5 (s .d) (s .rank) (s .basis) in
+    let taken : setFive (s .basis) (5 * s .rank) (c .args .t2) nan ≡ inRows 25 (before ++ (take (s .d) (c .args .t2) ∷ [])) =
+    setFive-is (s .basis) (5 * s .rank) (c .args .t2) nan (omega arith) long
+    ∙ row-joins 25 (s .rank) before (s .basis) (c .args .t2) _ (joined-length (s .d) (s .rank) (s .basis) (c .pre .0 .d-fits)) long (c .pre .2) (c .pre .0 .basis-is) in
+    (holds-subspace _ _ (record { d-fits = c .pre .0 .d-fits; rank-fits = omega arith; offset-is = c .pre .0 .offset-is; basis-is = rw written taken }) offset-long (rw written refl), refl, refl)
 
 pub with-vector-spec : {M : Type 1} → statement M
 with-vector-spec =
