@@ -78,7 +78,7 @@ fn list_entries(ws: &mut [u8], shelf: Shelf, rank: usize, areas: Areas) -> Level
 }
 
 // The second half of a call: from what it keeps of its inner calls to its answer, or a refusal. The search is given the workspace from the owners on.
-pub fn search_call(
+fn search_call(
     ws: &mut [u8],
     shelf: Shelf,
     rank: usize,
@@ -107,7 +107,7 @@ pub fn search_call(
 // ---- the inner calls
 
 // A call's hyperplane orbits are found, or refused, and the shelf of its rank is cleared behind them.
-pub fn start_call(
+fn start_call(
     ws: &mut [u8],
     rank: usize,
     points: Points,
@@ -148,7 +148,7 @@ pub struct Next {
 }
 
 // The inner call on a set: its points from the flattened ones, its plane fitted anew, and the rows that keep it, written.
-pub fn next_call(
+fn next_call(
     flat: Points,
     set: u32,
     rows: &[u8],
@@ -225,7 +225,7 @@ fn keep_left(
 }
 
 // What the inner call on the next orbit's set says: a refusal is passed on, and else its answer is kept.
-pub fn keep_inner(
+fn keep_inner(
     ws: &mut [u8],
     shelf: Shelf,
     n: usize,

@@ -55,7 +55,7 @@ fn push_three(answer: &mut [u8], at: usize, a: u32, b: u32, c: u32) -> usize
 // ---- the ranks of a figure
 
 // An element with the one sub 0 for each point.
-pub fn write_points(answer: &mut [u8], at: usize, n: usize) -> usize
+fn write_points(answer: &mut [u8], at: usize, n: usize) -> usize
     ensures { λ r. ⌜ Wrote (now (answer .entry)) at (now (answer .exit)) r (pointWords n) ⌝ }
 {
     let mut cursor = at;
@@ -87,7 +87,7 @@ fn write_edge(answer: &mut [u8], at: usize, code: usize) -> usize
 }
 
 // The edges whose codes are list k of a pool.
-pub fn write_edges(answer: &mut [u8], at: usize, pool: &[u8], most: usize, k: usize) -> usize
+fn write_edges(answer: &mut [u8], at: usize, pool: &[u8], most: usize, k: usize) -> usize
     requires { ⌜ Sound 2 most (now pool) × (k < count (now pool)) ⌝ }
     ensures { λ r. ⌜ Wrote (now (answer .entry)) at (now (answer .exit)) r (edgeWords (map pairOf (listAt most (now (pool .entry)) k))) ⌝ }
 {
@@ -103,7 +103,7 @@ pub fn write_edges(answer: &mut [u8], at: usize, pool: &[u8], most: usize, k: us
 }
 
 // A body that names the facets 0 to n - 1.
-pub fn write_body(answer: &mut [u8], at: usize, n: usize) -> usize
+fn write_body(answer: &mut [u8], at: usize, n: usize) -> usize
     requires { ⌜ n < 4294967296 ⌝ }
     ensures { λ r. ⌜ Wrote (now (answer .entry)) at (now (answer .exit)) r (bodyWords n) ⌝ }
 {
@@ -120,7 +120,7 @@ pub fn write_body(answer: &mut [u8], at: usize, n: usize) -> usize
 // ---- figures of facets
 
 // The figure of rank 2 that is an edge.
-pub fn write_edge_figure(answer: &mut [u8], at: usize, code: usize) -> usize
+fn write_edge_figure(answer: &mut [u8], at: usize, code: usize) -> usize
     requires { ⌜ code < 65536 ⌝ }
     ensures { λ r. ⌜ Wrote (now (answer .entry)) at (now (answer .exit)) r (figureWords (edgeFigure (pairOf code))) ⌝ }
 {
@@ -130,7 +130,7 @@ pub fn write_edge_figure(answer: &mut [u8], at: usize, code: usize) -> usize
 }
 
 // The polygon over n points with the edges whose codes are list k of a pool.
-pub fn write_polygon(
+fn write_polygon(
     answer: &mut [u8],
     at: usize,
     n: usize,
