@@ -62,10 +62,10 @@ pub record Bounded (n k : ℕ) (plane : Subspace) (points : List Vec) : Type 0 w
   pub small : Each (Small n k) points
 
 -- room for the norms that a call takes: its flattened points are at most 2 ^ (k + 2 + n)
-abbrev pub Room : ℕ → ℕ → Type 0
-Room n k = 2 * k + 12 + 7 * n ≤ 1023
+abbrev pub NormsFit : ℕ → ℕ → Type 0
+NormsFit n k = 2 * k + 12 + 7 * n ≤ 1023
 
-module _ (n k : ℕ) (plane : Subspace) (points : List Vec) (room : Room n k) (h : Bounded n k plane points) where
+module _ (n k : ℕ) (plane : Subspace) (points : List Vec) (room : NormsFit n k) (h : Bounded n k plane points) where
   pub flattened-small : Each (Small n (k + 2 + n)) (flattened plane points)
   unfolding flattened
   flattened-small = each-map (Small n k) (Small n (k + 2 + n)) (flatten plane) (λ p a. flatten-small n k plane p (omega arith) (h .tame) a) points (h .small)
@@ -114,16 +114,16 @@ boundAt n k zero = k
 boundAt n k (suc depth) = boundAt n k depth + 2 + n
 
 module _ (n k : ℕ) (tolerance : Float) (low : T (le billionth tolerance)) (top : ℕ) (outer : Subspace) (given : List Vec) (h : Bounded n k outer given) where
-  pub occurs-bounded : {depth more : ℕ} {plane : Subspace} {points : List Vec} → Room n (boundAt n k depth) → Occurs tolerance top outer given depth more plane points
+  pub occurs-bounded : {depth more : ℕ} {plane : Subspace} {points : List Vec} → NormsFit n (boundAt n k depth) → Occurs tolerance top outer given depth more plane points
       → Bounded n (boundAt n k depth) plane points
   unfolding boundAt
   occurs-bounded room outermost = h
   occurs-bounded {depth} room (inner {depth = before} {plane = plane} {points = points} c vertices e) =
-      let r : Room n (boundAt n k before) = omega arith in
+      let r : NormsFit n (boundAt n k before) = omega arith in
       inner-bounded n (boundAt n k before) plane points r (occurs-bounded r c) tolerance low vertices
 
   -- no norm asks for a root that has no value, and every norm is a finite double
-  pub every-norm-has-its-root : {depth more : ℕ} {plane : Subspace} {points : List Vec} {v : Vec} → Room n (boundAt n k depth)
+  pub every-norm-has-its-root : {depth more : ℕ} {plane : Subspace} {points : List Vec} {v : Vec} → NormsFit n (boundAt n k depth)
       → Occurs tolerance top outer given depth more plane points → Takes tolerance plane points v → Rooted v
   every-norm-has-its-root {depth} {plane = plane} {points = points} {v = v} room c t =
       let bound = boundAt n k depth in

@@ -10,14 +10,14 @@ use lib.ListN.{length, take, length-map}
 use lib.Ieee.{Float, nan, inf, fin, binary64, up, down, ofBits, fits, le}
 use lib.Ieee.Bits.{ofBits-fits}
 use lib.Ieee.Fits.{and-l, and-r}
-use Rattle.laws.specs.Floats.{Within, not-above}
+use Rattle.laws.specs.Floats.{AtMostPower, not-above}
 use Rattle.definitions.specs.Lists.{allOf, countFrom}
 use Rattle.definitions.specs.Vectors.{Vec, dot, hasRoot}
 use Rattle.definitions.specs.Subspace.{Subspace}
 use Rattle.definitions.specs.Job.{Bytes, Job, Test, floatAt, floatsAt, vectorsAt, readJob, between, within, allWithin, limitGood, floatsGood, tests, tolerance1, planeOf}
 use Rattle.bounds.specs.Sizes.{Each, IsDouble, is-double, each-of-map, each-so, each-both, Double, Small, small-wider}
 use Rattle.bounds.specs.Norms.{billionth}
-use Rattle.bounds.specs.Calls.{Takes, Occurs, depth-and-rank, Bounded, Rooted, Room, boundAt, flattened, flattened-small, occurs-bounded, every-norm-has-its-root}
+use Rattle.bounds.specs.Calls.{Takes, Occurs, depth-and-rank, Bounded, Rooted, NormsFit, boundAt, flattened, flattened-small, occurs-bounded, every-norm-has-its-root}
 
 -- ---- tests over lists
 
@@ -33,7 +33,7 @@ count-length a (suc n) = ap suc (count-length (suc a) n)
 
 -- ---- numbers of a job
 
-within-power : (k most : ℕ) (x : Float) → most ≡ 2 ^ k → T (within most x) → Within k x
+within-power : (k most : ℕ) (x : Float) → most ≡ 2 ^ k → T (within most x) → AtMostPower k x
 unfolding within le
 within-power k most nan e t = t
 within-power k most (inf s) e t = t
@@ -122,7 +122,7 @@ bound-at zero = refl
 bound-at (suc depth) = let e = bound-at depth in omega arith
 
 -- points of at most 5 coordinates leave room down to depth 67; a job of at most 5 coordinates has no call deeper than 4
-pub room-at : (depth : ℕ) → depth ≤ 67 → Room 5 (boundAt 5 16 depth)
+pub room-at : (depth : ℕ) → depth ≤ 67 → NormsFit 5 (boundAt 5 16 depth)
 room-at depth h = let e = bound-at depth in omega arith
 
 -- every number that a call of the job is given, or makes of its points by flattening, is a finite double
@@ -135,7 +135,7 @@ pub record AllDoubles (plane : Subspace) (points : List Vec) : Type 0 where
 small-doubles : (n k : ℕ) (v : Vec) → Small n k v → Each IsDouble v
 small-doubles n k v s = each-so (Double k) IsDouble (is-double k) v (s .sized)
 
-pub bounded-doubles : (n k : ℕ) (plane : Subspace) (points : List Vec) → Room n k → Bounded n k plane points → AllDoubles plane points
+pub bounded-doubles : (n k : ℕ) (plane : Subspace) (points : List Vec) → NormsFit n k → Bounded n k plane points → AllDoubles plane points
 bounded-doubles n k plane points room h = record {
   offset = small-doubles n k (plane .offset) (h .tame .offset);
   basis = each-so (Small n 1) (Each IsDouble) (small-doubles n 1) (plane .basis) (h .tame .basis);
@@ -144,7 +144,7 @@ bounded-doubles n k plane points room h = record {
 }
 
 module _ (job : Job) (w : Whole job) (h : Admitted 5 job) (tolerance : Float) (low : T (le billionth tolerance)) where
-  call-room : {depth more : ℕ} {plane : Subspace} {points : List Vec} → Occurs tolerance (job .rank - 2) (planeOf job) (job .points) depth more plane points → Room 5 (boundAt 5 16 depth)
+  call-room : {depth more : ℕ} {plane : Subspace} {points : List Vec} → Occurs tolerance (job .rank - 2) (planeOf job) (job .points) depth more plane points → NormsFit 5 (boundAt 5 16 depth)
   call-room {depth} c =
       let e = depth-and-rank c in
       let a = h .enough in

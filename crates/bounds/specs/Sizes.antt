@@ -8,7 +8,7 @@ use native.Mathlib.Omega.{arith}
 use lib.Dec.{T}
 use lib.ListN.{length, getD, length-map}
 use lib.Ieee.{Float, nan, inf, fin, binary64, ofBits, add, mul, fits}
-use Rattle.laws.specs.Floats.{Within, Sized, wider, add-sized, sub-sized, mul-sized}
+use Rattle.laws.specs.Floats.{AtMostPower, Sized, wider, add-sized, sub-sized, mul-sized}
 use Rattle.definitions.specs.Vectors.{Vec, zero64, isDouble, dotFrom, dot, minus, plusTimes}
 use Rattle.definitions.specs.Subspace.{Subspace, gains, project, residual, flatten}
 
@@ -56,7 +56,7 @@ Double = Sized binary64
 abbrev pub IsDouble : Float → Type 0
 IsDouble x = T (isDouble x)
 
-finite-double : (k : ℕ) (x : Float) → T (fits binary64 x) → Within k x → IsDouble x
+finite-double : (k : ℕ) (x : Float) → T (fits binary64 x) → AtMostPower k x → IsDouble x
 unfolding isDouble
 finite-double k nan h w = w
 finite-double k (inf s) h w = w

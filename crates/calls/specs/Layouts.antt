@@ -7,7 +7,7 @@ use native.Mathlib.Omega.{arith}
 use lib.Dec.{eqb}
 use borrow.Author.Tests.{eq-eqb, ne-eqb}
 use Rattle.pool.specs.Pool.{base}
-use Rattle.shelf.specs.Keeps.{Fits}
+use Rattle.shelf.specs.Keeps.{ShelfFits}
 use Rattle.shelf.specs.declared.Shelf.{Shelf}
 
 unfoldable pub shelfThree : Shelf
@@ -20,12 +20,12 @@ unfoldable pub shelfFor : ℕ → Shelf
 shelfFor rank = cond (eqb rank 3) shelfThree shelfFour
 
 -- each fits the workspace of its rank
-pub three-fits : Fits shelfThree 524288
+pub three-fits : ShelfFits shelfThree 524288
 unfolding shelfThree
 three-fits = record { orbitRoom = omega arith; edgeRoom = omega arith; labelRoom = omega arith; ownerRoom = omega arith; ridgeRoom = omega arith; placeRoom = omega arith; ends = omega arith }
 
 -- and behind rank 4's there is the workspace of an inner call
-pub four-fits : Fits shelfFour (4194304 - 524288)
+pub four-fits : ShelfFits shelfFour (4194304 - 524288)
 unfolding shelfFour
 four-fits = record { orbitRoom = omega arith; edgeRoom = omega arith; labelRoom = omega arith; ownerRoom = omega arith; ridgeRoom = omega arith; placeRoom = omega arith; ends = omega arith }
 

@@ -13,7 +13,7 @@ use Rattle.definitions.specs.Faceting.{Prepared, split, entryOf, compareEntries
 use Rattle.laws.specs.Lists.{Mem, here, there, of-count, of-map}
 use Rattle.laws.specs.Sorting.{byKey, sort-map, of-sorted}
 use Rattle.laws.specs.Merging.{sort-same, map-count}
-use Rattle.compounds.specs.Numbers.{Below, AllBelow, labelsOf, compoundsFrom, compare-numbered, labels-numbered}
+use Rattle.compounds.specs.Numbers.{ItemsBelow, AllBelow, labelsOf, compoundsFrom, compare-numbered, labels-numbered}
 use Rattle.compounds.specs.Areas.{listAt}
 use Rattle.compounds.specs.Sorted.{compareAt, orderFrom}
 
@@ -25,7 +25,7 @@ map-same f g (x ∷ l) h = rw (h x (here refl), map-same f g l (λ y i. h y (the
 module _ (p : Prepared) (to : ℕ → Pair) (bound : ℕ) (ordered : (m n : ℕ) → m < bound → n < bound → comparePair (to m) (to n) ≡ compare m n)
     (emitted : List (List Facet)) (most : ℕ) (pool : List ℕ)
     (splits : (k : ℕ) → k < length emitted → map to (listAt most pool k) ≡ split p (getD emitted k []))
-    (below : (k : ℕ) → k < length emitted → Below bound (listAt most pool k)) where
+    (below : (k : ℕ) → k < length emitted → ItemsBelow bound (listAt most pool k)) where
   -- the entry of the k-th emitted list
   abbrev entry : ℕ → Entry
   entry k = entryOf p (getD emitted k [])

@@ -23,15 +23,15 @@ leaves a b items = elim (walkNats a b) [
   | some rest ↦ isEq (compareNats rest items)
 ]
 
-unfoldable pub codeOf : Option Pair → ℕ
-codeOf none = 0
-codeOf (some p) = p .0 + 65536 * p .1
+unfoldable pub labelCode : Option Pair → ℕ
+labelCode none = 0
+labelCode (some p) = p .0 + 65536 * p .1
 
 unfoldable pub labelOf : ℕ → Option Pair
 labelOf n = cond (eqb (n / 65536) 0) none (some (n % 65536, n / 65536))
 
 unfoldable pub labelBytes : List (Option Pair) → List ℕ
-labelBytes = flatMap (λ (o : Option Pair). bytesOf 4 (codeOf o))
+labelBytes = flatMap (λ (o : Option Pair). bytesOf 4 (labelCode o))
 
 -- the table of n labels from a place on
 unfoldable pub labelsIn : ℕ → ℕ → List ℕ → List (Option Pair)
@@ -39,8 +39,8 @@ labelsIn at n s = map labelOf (words 4 (drop at s) n)
 
 -- ---- what is written is read
 
-pub label-code : (o : Option Pair) → ((p : Pair) → o ≡ some p → (p .0 < p .1) × (p .1 < 65536)) → (labelOf (codeOf o) ≡ o) × (codeOf o < 4294967296)
-unfolding labelOf codeOf
+pub label-code : (o : Option Pair) → ((p : Pair) → o ≡ some p → (p .0 < p .1) × (p .1 < 65536)) → (labelOf (labelCode o) ≡ o) × (labelCode o < 4294967296)
+unfolding labelOf labelCode
 label-code none f = (refl, omega arith)
 label-code (some p) f =
     let r = f p refl in
@@ -50,12 +50,12 @@ label-code (some p) f =
     let m : (p .0 + 65536 * p .1) % 65536 ≡ p .0 = omega arith in
     (rw (d, m, ne-eqb (p .1) 0 (λ e. let z : p .1 ≡ 0 = e in omega arith)) refl, omega arith)
 
-bytes-run : (os : List (Option Pair)) → labelBytes os ≡ run 4 (map codeOf os)
+bytes-run : (os : List (Option Pair)) → labelBytes os ≡ run 4 (map labelCode os)
 unfolding labelBytes run flatMap
 bytes-run [] = refl
-bytes-run (o ∷ os) = ap (λ (r : List ℕ). bytesOf 4 (codeOf o) ++ r) (bytes-run os)
+bytes-run (o ∷ os) = ap (λ (r : List ℕ). bytesOf 4 (labelCode o) ++ r) (bytes-run os)
 
-codes-read : (os : List (Option Pair)) → ((o : Option Pair) → Mem o os → labelOf (codeOf o) ≡ o) → map labelOf (map codeOf os) ≡ os
+codes-read : (os : List (Option Pair)) → ((o : Option Pair) → Mem o os → labelOf (labelCode o) ≡ o) → map labelOf (map labelCode os) ≡ os
 codes-read [] f = refl
 codes-read (o ∷ os) f = rw (f o (here refl), codes-read os (λ q i. f q (there i))) refl
 
@@ -98,10 +98,10 @@ pub labels-read : (s : List ℕ) (at : ℕ) (ls : List (List ℕ)) → at + 4 * 
 unfolding labelsIn labelsOf
 labels-read s at ls h few =
     let n : length (labelsOf ls) ≡ length ls = labels-many in
-    let m : length (map codeOf (labelsOf ls)) ≡ length (labelsOf ls) = length-map (labelsOf ls) codeOf in
-    let w : words 4 (drop at (sets s at (labelBytes (labelsOf ls)))) (length ls) ≡ map codeOf (labelsOf ls) =
+    let m : length (map labelCode (labelsOf ls)) ≡ length (labelsOf ls) = length-map (labelsOf ls) labelCode in
+    let w : words 4 (drop at (sets s at (labelBytes (labelsOf ls)))) (length ls) ≡ map labelCode (labelsOf ls) =
     ap (λ (r : List ℕ). words 4 (drop at (sets s at r)) (length ls)) (bytes-run (labelsOf ls))
-    ∙ (ap (words 4 (drop at (sets s at (run 4 (map codeOf (labelsOf ls)))))) (sym (m ∙ n)) ∙ words-sets 4 s at (map codeOf (labelsOf ls)) (omega arith) small) in
+    ∙ (ap (words 4 (drop at (sets s at (run 4 (map labelCode (labelsOf ls)))))) (sym (m ∙ n)) ∙ words-sets 4 s at (map labelCode (labelsOf ls)) (omega arith) small) in
     ap (map labelOf) w ∙ codes-read (labelsOf ls) (λ o i. label-code o (fits o i) .0)
   where
     labels-many : length (labelsOf ls) ≡ length ls
@@ -114,9 +114,9 @@ labels-read s at ls h few =
         let u = q .1 in
         (q .0, omega arith)
 
-    small : (n : ℕ) → Mem n (map codeOf (labelsOf ls)) → n < 256 ^ 4
+    small : (n : ℕ) → Mem n (map labelCode (labelsOf ls)) → n < 256 ^ 4
     small n i =
-        let r = of-map codeOf n (labelsOf ls) i in
+        let r = of-map labelCode n (labelsOf ls) i in
         let e = r .2 in
         let u = label-code (r .0) (fits (r .0) (r .1)) .1 in
         omega arith

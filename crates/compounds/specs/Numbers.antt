@@ -88,8 +88,8 @@ first-decides = refl
 -- ---- lists in order
 
 -- no list is above a later one
-abbrev pub Ascending : List (List ℕ) → Type 0
-Ascending = Pairs (λ (x y : List ℕ). T (not (isGt (compareNats x y))))
+abbrev pub AllAscending : List (List ℕ) → Type 0
+AllAscending = Pairs (λ (x y : List ℕ). T (not (isGt (compareNats x y))))
 
 -- ---- a table of labels as compounds
 
@@ -104,11 +104,11 @@ compoundsFrom a (o ∷ os) = compoundAt a o ++ compoundsFrom (suc a) os
 -- ---- a numbering that keeps the order
 
 -- every item of every list is below the bound
-abbrev pub Below : ℕ → List ℕ → Type 0
-Below bound l = (x : ℕ) → Mem x l → x < bound
+abbrev pub ItemsBelow : ℕ → List ℕ → Type 0
+ItemsBelow bound l = (x : ℕ) → Mem x l → x < bound
 
 abbrev pub AllBelow : ℕ → List (List ℕ) → Type 0
-AllBelow bound ls = (l : List ℕ) → Mem l ls → Below bound l
+AllBelow bound ls = (l : List ℕ) → Mem l ls → ItemsBelow bound l
 
 abbrev mapIn : (ℕ → Pair) → Option (List ℕ) → Option (List Pair)
 mapIn to none = none
@@ -154,7 +154,7 @@ module _ (to : ℕ → Pair) (bound : ℕ) (ordered : (m n : ℕ) → m < bound 
   cons-numbered x none = refl
   cons-numbered x (some l) = refl
 
-  walk-numbered : (a b : List ℕ) → Below bound a → Below bound b → walk (map to a) (map to b) ≡ mapIn to (walkNats a b)
+  walk-numbered : (a b : List ℕ) → ItemsBelow bound a → ItemsBelow bound b → walk (map to a) (map to b) ≡ mapIn to (walkNats a b)
   unfolding walk walkNats
   walk-numbered [] [] h k = refl
   walk-numbered [] (y ∷ b) h k = refl
@@ -176,13 +176,13 @@ module _ (to : ℕ → Pair) (bound : ℕ) (ordered : (m n : ℕ) → m < bound 
       go Ordering·eq p q = q
       go Ordering·gt p q = refl
 
-  first-numbered : (b a : List ℕ) → Below bound a → Below bound b → firstAbove (map to b) (map to a) ≡ firstAboveNats b a
+  first-numbered : (b a : List ℕ) → ItemsBelow bound a → ItemsBelow bound b → firstAbove (map to b) (map to a) ≡ firstAboveNats b a
   unfolding firstAbove firstAboveNats
   first-numbered [] a h k = refl
   first-numbered (y ∷ b) [] h k = refl
   first-numbered (y ∷ b) (x ∷ a) h k = ap isGt (ordered y x (k y (here refl)) (h x (here refl)))
 
-  inside-numbered : (a b : List ℕ) → Below bound a → Below bound b → foundInside (map to a) (map to b) ≡ mapIn to (insideNats a b)
+  inside-numbered : (a b : List ℕ) → ItemsBelow bound a → ItemsBelow bound b → foundInside (map to a) (map to b) ≡ mapIn to (insideNats a b)
   unfolding foundInside insideNats
   inside-numbered a b h k =
       rw (length-map a to, length-map b to, first-numbered b a h k, walk-numbered a b h k)
@@ -192,7 +192,7 @@ module _ (to : ℕ → Pair) (bound : ℕ) (ordered : (m n : ℕ) → m < bound 
       go true = refl
       go false = refl
 
-  pub compare-numbered : (a b : List ℕ) → Below bound a → Below bound b → comparePairs (map to a) (map to b) ≡ compareNats a b
+  pub compare-numbered : (a b : List ℕ) → ItemsBelow bound a → ItemsBelow bound b → comparePairs (map to a) (map to b) ≡ compareNats a b
   unfolding comparePairs compareNats compareList
   compare-numbered [] [] h k = refl
   compare-numbered [] (y ∷ b) h k = refl
@@ -201,7 +201,7 @@ module _ (to : ℕ → Pair) (bound : ℕ) (ordered : (m n : ℕ) → m < bound 
       ap (λ (o : Ordering). thenBy o (compareList comparePair (map to a) (map to b))) (ordered x y (h x (here refl)) (k y (here refl)))
       ∙ ap (thenBy (compare x y)) (compare-numbered a b (λ z m. h z (there m)) (λ z m. k z (there m)))
 
-  seek-numbered : (items : List ℕ) (ls : List (List ℕ)) (c : ℕ) → Below bound items → AllBelow bound ls → seek (map to items) (map (map to) ls) c ≡ seekNats items ls c
+  seek-numbered : (items : List ℕ) (ls : List (List ℕ)) (c : ℕ) → ItemsBelow bound items → AllBelow bound ls → seek (map to items) (map (map to) ls) c ≡ seekNats items ls c
   unfolding seek seekNats
   seek-numbered items [] c h k = refl
   seek-numbered items (l ∷ ls) c h k =
@@ -214,10 +214,10 @@ module _ (to : ℕ → Pair) (bound : ℕ) (ordered : (m n : ℕ) → m < bound 
   compound-numbered a b (some c) = refl
 
   -- what the walk leaves are items of a
-  rest-below : (a b : List ℕ) → Below bound a → (rest : List ℕ) → walkNats a b ≡ some rest → Below bound rest
+  rest-below : (a b : List ℕ) → ItemsBelow bound a → (rest : List ℕ) → walkNats a b ≡ some rest → ItemsBelow bound rest
   rest-below a b h rest e x m = h x (walk-members a b rest e x m)
 
-  label-numbered : (a : ℕ) (items : List ℕ) (ls : List (List ℕ)) (b : ℕ) → Below bound items → AllBelow bound ls
+  label-numbered : (a : ℕ) (items : List ℕ) (ls : List (List ℕ)) (b : ℕ) → ItemsBelow bound items → AllBelow bound ls
       → labelFrom a (map to items) (map (map to) ls) b ≡ compoundAt a (labelNats items ls b)
   unfolding labelFrom labelNats compoundAt
   label-numbered a items [] b h k = refl

@@ -15,7 +15,7 @@ use Rattle.definitions.specs.Figures.{Compound, componentsOf, splitQueue, parts
 use Rattle.laws.specs.Lists.{Mem, here, there, in-append}
 use Rattle.definitions.specs.Recursion.{Inner, Entry}
 use Rattle.definitions.specs.Faceting.{Prepared, splitIn, atOrbit, split}
-use Rattle.compounds.specs.Numbers.{Below}
+use Rattle.compounds.specs.Numbers.{ItemsBelow}
 use Rattle.compounds.specs.Splitting.{splitNats, splitList}
 
 -- ---- more steps than end the splitting
@@ -163,13 +163,13 @@ facet-numbered p before later i q to bound table m steps a f t h =
 -- ---- what is below a bound stays below it
 
 pub splitNats-below : (bound : ℕ) (table : List (Option Pair)) → ((a : ℕ) (p : Pair) → getD table a none ≡ some p → (p .0 < bound) × (p .1 < bound))
-    → (steps : ℕ) (q : List ℕ) → Below bound q → Below bound (splitNats steps table q)
+    → (steps : ℕ) (q : List ℕ) → ItemsBelow bound q → ItemsBelow bound (splitNats steps table q)
 unfolding splitNats
 splitNats-below bound table g zero q f = f
 splitNats-below bound table g (suc steps) [] f = f
 splitNats-below bound table g (suc steps) (a ∷ q) f = go (getD table a none) refl (λ r h. splitNats-below bound table g steps r h)
   where
-    later : Below bound q
+    later : ItemsBelow bound q
     later x i = f x (there i)
 
     both : (p : Pair) → (p .0 < bound) × (p .1 < bound) → (x : ℕ) → Mem x q ⊎ Mem x (p .0 ∷ p .1 ∷ []) → x < bound
@@ -177,11 +177,11 @@ splitNats-below bound table g (suc steps) (a ∷ q) f = go (getD table a none) r
     both p h x (inr (List·Memᴰ.List·Memᴰ·head e)) = subst (λ (y : ℕ). y < bound) (sym e) (h .0)
     both p h x (inr (List·Memᴰ.List·Memᴰ·tail (List·Memᴰ.List·Memᴰ·head e))) = subst (λ (y : ℕ). y < bound) (sym e) (h .1)
 
-    first-or : (r : List ℕ) → Below bound r → Below bound (a ∷ r)
+    first-or : (r : List ℕ) → ItemsBelow bound r → ItemsBelow bound (a ∷ r)
     first-or r h x (List·Memᴰ.List·Memᴰ·head e) = f x (here e)
     first-or r h x (List·Memᴰ.List·Memᴰ·tail i) = h x i
 
-    go : (o : Option Pair) → getD table a none ≡ o → ((r : List ℕ) → Below bound r → Below bound (splitNats steps table r))
-        → Below bound (elim o [ none ↦ a ∷ splitNats steps table q | some parts ↦ splitNats steps table (q ++ (parts .0 ∷ parts .1 ∷ [])) ])
+    go : (o : Option Pair) → getD table a none ≡ o → ((r : List ℕ) → ItemsBelow bound r → ItemsBelow bound (splitNats steps table r))
+        → ItemsBelow bound (elim o [ none ↦ a ∷ splitNats steps table q | some parts ↦ splitNats steps table (q ++ (parts .0 ∷ parts .1 ∷ [])) ])
     go none e rec = first-or (splitNats steps table q) (rec q later)
     go (some p) e rec = rec (q ++ (p .0 ∷ p .1 ∷ [])) (λ x i. both p (g a p e) x (in-append x q (p .0 ∷ p .1 ∷ []) i))

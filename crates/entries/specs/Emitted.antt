@@ -11,7 +11,7 @@ use Rattle.laws.specs.Lists.{Mem, in-map, at-member}
 use Rattle.laws.specs.Pairs.{Pairs}
 use Rattle.laws.specs.Segments.{part}
 use Rattle.completeness.specs.Taken.{OtherOrbit}
-use Rattle.pool.specs.Pool.{closed, Sound}
+use Rattle.pool.specs.Pool.{closedLists, Sound}
 use Rattle.facets.specs.declared.Areas.{Areas}
 use Rattle.facets.specs.Layout.{facetOf, listsPart}
 use Rattle.frames.specs.Paths.{emittedIn, Emitted}
@@ -20,19 +20,19 @@ use Rattle.shapes.specs.Kept.{Kept}
 use Rattle.shelf.specs.declared.Shelf.{Shelf}
 use Rattle.shelf.specs.Keeps.{Keeps, facetsOf}
 use Rattle.shelf.specs.Leaves.{facetAt}
-use Rattle.entries.specs.Listed.{Ready}
+use Rattle.entries.specs.Listed.{ListsBehind}
 use Rattle.entries.specs.Split.{Splits}
 use Rattle.entries.specs.Parts.{Splittable}
 use Rattle.entries.specs.Answer.{split-numbers, split-short}
 
 -- a table's facets are those of what was kept: then the search's lists are the numbered lists' facets, and their numbers are the call's
-emitted-numbers : (t : Table) (kept : List Kept) (a : Areas) (l : List ℕ) → allFacets t ≡ facetsOf kept → emittedIn t a l ≡ map (map (facetAt kept)) (closed 2 (a .bound) l)
+emitted-numbers : (t : Table) (kept : List Kept) (a : Areas) (l : List ℕ) → allFacets t ≡ facetsOf kept → emittedIn t a l ≡ map (map (facetAt kept)) (closedLists 2 (a .bound) l)
 unfolding emittedIn facetOf facetAt
-emitted-numbers t kept a l e = ap (λ (fs : List Facet). map (map (λ (x : ℕ). getD fs x (0, 0))) (closed 2 (a .bound) l)) e
+emitted-numbers t kept a l e = ap (λ (fs : List Facet). map (map (λ (x : ℕ). getD fs x (0, 0))) (closedLists 2 (a .bound) l)) e
 
-emitted-below : (a : Areas) (l : List ℕ) → Emitted a l → AllBelow (a .facets) (closed 2 (a .bound) l)
+emitted-below : (a : Areas) (l : List ℕ) → Emitted a l → AllBelow (a .facets) (closedLists 2 (a .bound) l)
 emitted-below a l e m i x j =
-    let p = at-member m (closed 2 (a .bound) l) [] i in
+    let p = at-member m (closedLists 2 (a .bound) l) [] i in
     let q = at-member x m 0 j in
     let b = e .numbered (p .0) (q .0) (p .1) (subst (λ (r : List ℕ). q .0 < length r) (sym (p .2)) (q .1)) in
     subst (λ (y : ℕ). y < a .facets) (ap (λ (r : List ℕ). getD r (q .0) 0) (p .2) ∙ q .2) b
@@ -49,13 +49,13 @@ module _ (shelf : Shelf) (a : Areas) (s : List ℕ) (most : a .bound ≡ 1024) w
   left = listsPart a (drop (shelf .owners) s)
 
   abbrev emitted : List (List ℕ)
-  emitted = closed 2 1024 (part at bytes s)
+  emitted = closedLists 2 1024 (part at bytes s)
 
   pool-is : left ≡ part at bytes s
   pool-is = ap (take bytes) (drop-drop (a .lists) (shelf .owners) s)
 
-  lists-are : closed 2 (a .bound) left ≡ emitted
-  lists-are = ap (λ (n : ℕ). closed 2 n left) most ∙ ap (closed 2 1024) pool-is
+  lists-are : closedLists 2 (a .bound) left ≡ emitted
+  lists-are = ap (λ (n : ℕ). closedLists 2 n left) most ∙ ap (closedLists 2 1024) pool-is
 
   -- the lists found, where the table's facets are those of what was kept
   pub found-lists : (t : Table) (kept : List Kept) → allFacets t ≡ facetsOf kept → emittedIn t a left ≡ map (map (facetAt kept)) emitted
@@ -69,7 +69,7 @@ module _ (shelf : Shelf) (a : Areas) (s : List ℕ) (most : a .bound ≡ 1024) w
     numbers-below = subst (λ (n : ℕ). AllBelow n emitted) facets (subst (AllBelow (a .facets)) lists-are (emitted-below a left e))
 
     -- what `sort_entries` is asked
-    pub sort-ready : 2048 ≤ a .lists → at + bytes + 6144 ≤ length s → Ready shelf at bytes s
+    pub sort-ready : 2048 ≤ a .lists → at + bytes + 6144 ≤ length s → ListsBehind shelf at bytes s
     sort-ready behind room = record {
       behind = omega arith;
       sound = sound;

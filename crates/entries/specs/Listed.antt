@@ -11,9 +11,9 @@ use Rattle.definitions.specs.Orbits.{Row}
 use Rattle.laws.specs.Lists.{Mem}
 use Rattle.laws.specs.Sorting.{of-sorted}
 use Rattle.laws.specs.Segments.{part, take-sets-le}
-use Rattle.pool.specs.Pool.{count, closed, closed-length, Sound}
-use Rattle.compounds.specs.Areas.{Holds, listsIn, lists-length, lists-kept, holds-kept}
-use Rattle.compounds.specs.Numbers.{AllBelow, Ascending, labelsOf}
+use Rattle.pool.specs.Pool.{count, closedLists, closed-length, Sound}
+use Rattle.compounds.specs.Areas.{HoldsOrder, listsIn, lists-length, lists-kept, holds-kept}
+use Rattle.compounds.specs.Numbers.{AllBelow, AllAscending, labelsOf}
 use Rattle.compounds.specs.Labels.{labelBytes, labelsIn, labels-read}
 use Rattle.compounds.specs.Sorted.{ordered, ordered-length, ordered-holds, ordered-ascends, sorted-lists}
 use Rattle.shapes.specs.Kept.{Kept}
@@ -59,15 +59,15 @@ module _ (bytes : ℕ) (s : List ℕ) (p : Pool bytes s) where
   unfolding inOrder
   order-length = let f = few in ordered-length 1024 bytes s 0 n (p .sound) (omega arith) (omega arith) order-room
 
-  pub order-holds : Holds 1024 bytes n (inOrder bytes s)
+  pub order-holds : HoldsOrder 1024 bytes n (inOrder bytes s)
   unfolding inOrder
   order-holds = let f = few in ordered-holds 1024 bytes s 0 n (p .sound) (omega arith) (omega arith) order-room
 
-  pub order-ascends : Ascending (listsIn 1024 bytes n (inOrder bytes s))
+  pub order-ascends : AllAscending (listsIn 1024 bytes n (inOrder bytes s))
   unfolding inOrder
   order-ascends = let f = few in ordered-ascends 1024 bytes s 0 n (p .sound) (omega arith) (omega arith) order-room
 
-  order-lists : listsIn 1024 bytes n (inOrder bytes s) ≡ sortBy compareNats (closed 2 1024 (take bytes s))
+  order-lists : listsIn 1024 bytes n (inOrder bytes s) ≡ sortBy compareNats (closedLists 2 1024 (take bytes s))
   unfolding inOrder
   order-lists = let f = few in sorted-lists 1024 bytes s (p .sound) (omega arith) order-room
 
@@ -79,13 +79,13 @@ module _ (bytes : ℕ) (s : List ℕ) (p : Pool bytes s) where
   unfolding labelled
   same-front = let f = few in take-sets-le (labelRun bytes s) (inOrder bytes s) (bytes + 2 * n) (bytes + 2048) (omega arith)
 
-  pub labelled-holds : Holds 1024 bytes n (labelled bytes s)
+  pub labelled-holds : HoldsOrder 1024 bytes n (labelled bytes s)
   labelled-holds = holds-kept 1024 bytes n (inOrder bytes s) (labelled bytes s) same-front (labelled-length ∙ sym order-length) order-holds
 
-  pub labelled-lists : listsIn 1024 bytes n (labelled bytes s) ≡ sortBy compareNats (closed 2 1024 (take bytes s))
+  pub labelled-lists : listsIn 1024 bytes n (labelled bytes s) ≡ sortBy compareNats (closedLists 2 1024 (take bytes s))
   labelled-lists = lists-kept 1024 bytes n (inOrder bytes s) (labelled bytes s) same-front (labelled-length ∙ sym order-length) ∙ order-lists
 
-  pub labelled-labels : labelsIn (bytes + 2048) n (labelled bytes s) ≡ labelsOf (sortBy compareNats (closed 2 1024 (take bytes s)))
+  pub labelled-labels : labelsIn (bytes + 2048) n (labelled bytes s) ≡ labelsOf (sortBy compareNats (closedLists 2 1024 (take bytes s)))
   unfolding labelled labelRun
   labelled-labels =
       let f = few in
@@ -98,7 +98,7 @@ module _ (bytes : ℕ) (s : List ℕ) (p : Pool bytes s) where
 
   -- what `label_irc` is asked behind `sort_lists`, and what it leaves
   pub label-asked : (t : List ℕ) (lists : ℕ) → t ≡ inOrder bytes s → lists ≡ n
-      → Holds 1024 bytes lists t × Ascending (listsIn 1024 bytes lists t) × (lists ≤ 65536) × (bytes + 2 * lists ≤ bytes + 2048) × (bytes + 2048 + 4 * lists ≤ length t)
+      → HoldsOrder 1024 bytes lists t × AllAscending (listsIn 1024 bytes lists t) × (lists ≤ 65536) × (bytes + 2 * lists ≤ bytes + 2048) × (bytes + 2048 + 4 * lists ≤ length t)
   label-asked t lists e q =
       let f = few in
       let l = order-length in
@@ -111,11 +111,11 @@ module _ (bytes : ℕ) (s : List ℕ) (p : Pool bytes s) where
 -- ---- a level
 
 -- what is asked of a workspace with a pool of numbered facets somewhere behind the shelf
-pub record Ready (shelf : Shelf) (at bytes : ℕ) (s : List ℕ) : Type 0 where
+pub record ListsBehind (shelf : Shelf) (at bytes : ℕ) (s : List ℕ) : Type 0 where
   pub behind : shelf .owners + 2048 ≤ at
   pub sound : Sound 2 1024 (part at bytes s)
   pub room : at + (bytes + 2048 + 4 * count (part at bytes s)) ≤ length s
-  pub numbers : AllBelow (shelf .facets) (closed 2 1024 (part at bytes s))
+  pub numbers : AllBelow (shelf .facets) (closedLists 2 1024 (part at bytes s))
 
 -- The level stands at a place, with a pool of so many bytes, and its entries are these lists, in order and labelled. What lies before the byte `from` is as it was, so that a shelf before it
 -- is part of what the call leaves.
@@ -130,7 +130,7 @@ pub record Listed (shelf : Shelf) (from at bytes : ℕ) (lists : List (List ℕ)
   pub long : length t ≡ length s
   pub leaves : (more n : ℕ) (rows : List Row) (kept : List Kept) → Keeps n shelf kept s → Leaves more n rows kept level t
 
-module _ (shelf : Shelf) (at bytes : ℕ) (s : List ℕ) (r : Ready shelf at bytes s) where
+module _ (shelf : Shelf) (at bytes : ℕ) (s : List ℕ) (r : ListsBehind shelf at bytes s) where
   -- its area, alone
   pub ready-pool : Pool bytes (drop at s)
   ready-pool = record { sound = r .sound; room = let d = length-drop at s in omega (arith, r .room) }
@@ -139,7 +139,7 @@ module _ (shelf : Shelf) (at bytes : ℕ) (s : List ℕ) (r : Ready shelf at byt
   level = record { shelf = shelf; lists = at; bytes = bytes; count = count (part at bytes s) }
 
   abbrev lists : List (List ℕ)
-  lists = closed 2 1024 (part at bytes s)
+  lists = closedLists 2 1024 (part at bytes s)
 
   module _ (t : List ℕ) (front : take at t ≡ take at s) (long : length t ≡ length s) (is : drop at t ≡ labelled bytes (drop at s)) where
     left-lists : listsLeft level t ≡ sortBy compareNats lists

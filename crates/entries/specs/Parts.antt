@@ -18,7 +18,7 @@ use Rattle.laws.specs.Ascending.{Differ, Distinct}
 use Rattle.laws.specs.Ranges.{distinct-below}
 use Rattle.laws.specs.Places.{flat-singles}
 use Rattle.completeness.specs.Taken.{OtherOrbit}
-use Rattle.compounds.specs.Numbers.{Below, AllBelow}
+use Rattle.compounds.specs.Numbers.{ItemsBelow, AllBelow}
 use Rattle.compounds.specs.Splitting.{splitNats, splitList}
 use Rattle.compounds.specs.Parts.{Of, Matches, within, queue-numbered, lists-numbered, splitNats-below}
 use Rattle.shapes.specs.Compounds.{Composed, components-of, some-equal, none-is-not-some}
@@ -191,7 +191,7 @@ module _ (kept : List Kept) (each : (k : Kept) → Mem k kept → Splittable k) 
       only a b (List·Memᴰ.List·Memᴰ·head q) o is = subst (Of to bound o) (sym q) is
 
   -- a list of numbered facets, split
-  pub list-parts : (l : List ℕ) → Below bound l → map to (splitList 380 table l) ≡ flatMap (keptParts kept) (map to l)
+  pub list-parts : (l : List ℕ) → ItemsBelow bound l → map to (splitList 380 table l) ≡ flatMap (keptParts kept) (map to l)
   list-parts l below = lists-numbered to table 380 (keptParts kept) l (λ a i. facet-parts a (below a i))
 
   -- every number of the table is a facet's
@@ -212,7 +212,7 @@ module _ (kept : List Kept) (each : (k : Kept) → Mem k kept → Splittable k) 
       let q = of-flatMap (λ (a : ℕ). splitNats 380 table (a ∷ [])) x (r .0) (subst (Mem x) (r .2) i) in
       splitNats-below bound table table-below 380 (q .0 ∷ []) (alone (q .0) (below (r .0) (r .1) (q .0) (q .1))) x (q .2)
     where
-      alone : (a : ℕ) → a < bound → Below bound (a ∷ [])
+      alone : (a : ℕ) → a < bound → ItemsBelow bound (a ∷ [])
       alone a h b (List·Memᴰ.List·Memᴰ·head e) = subst (λ (n : ℕ). n < bound) (sym e) h
 
   -- ---- how many parts a list has
@@ -223,7 +223,7 @@ module _ (kept : List Kept) (each : (k : Kept) → Mem k kept → Splittable k) 
       let parts = partsOf (getD (map (λ (k : Kept). k .compounds) kept) (f .0) []) (length (keptAt (λ (k : Kept). k .places) kept f)) (f .1) in
       ap (λ (x : Facet). x .0) (of-map (λ (part : ℕ). (f .0, part)) g parts m .2)
 
-  parts-apart : (l : List ℕ) → Below bound l → Pairs OtherOrbit (map to l) → Distinct (flatMap (keptParts kept) (map to l))
+  parts-apart : (l : List ℕ) → ItemsBelow bound l → Pairs OtherOrbit (map to l) → Distinct (flatMap (keptParts kept) (map to l))
   parts-apart l below apart =
       pairs-flatMap OtherOrbit Differ (keptParts kept) (map to l) one
       (λ f m g j other u a v b e. other (sym (part-orbit f u a) ∙ (ap (λ (x : Facet). x .0) e ∙ part-orbit g v b))) apart
@@ -242,14 +242,14 @@ module _ (kept : List Kept) (each : (k : Kept) → Mem k kept → Splittable k) 
           subst (λ (g : Facet). Distinct (keptParts kept g)) (sym (q .2)) (at (q .0) (below (q .0) (q .1)))
 
   -- a list of facets of different orbits has no more parts than the call has facets
-  pub parts-few : (l : List ℕ) → Below bound l → Pairs OtherOrbit (map to l) → length (splitList 380 table l) ≤ bound
+  pub parts-few : (l : List ℕ) → ItemsBelow bound l → Pairs OtherOrbit (map to l) → length (splitList 380 table l) ≤ bound
   parts-few l below apart =
       distinct-below bound (splitList 380 table l)
       (distinct-numbers to (splitList 380 table l) (subst Distinct (sym (list-parts l below)) (parts-apart l below apart)))
       (parts-below (l ∷ []) (λ m i. alone m i) (splitList 380 table l) (here refl))
     where
-      alone : (m : List ℕ) → Mem m (l ∷ []) → Below bound m
-      alone m (List·Memᴰ.List·Memᴰ·head e) = subst (Below bound) (sym e) below
+      alone : (m : List ℕ) → Mem m (l ∷ []) → ItemsBelow bound m
+      alone m (List·Memᴰ.List·Memᴰ·head e) = subst (ItemsBelow bound) (sym e) below
 
 -- ---- no compounds
 

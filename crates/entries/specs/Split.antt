@@ -12,17 +12,17 @@ use Rattle.laws.specs.Lists.{Mem, here, there}
 use Rattle.laws.specs.Places.{flatMap-map}
 use Rattle.laws.specs.Segments.{part, placed, part-take, part-part, part-length, part-placed, take-placed, placed-length}
 use Rattle.words.specs.Words.{words, words-take}
-use Rattle.pool.specs.Pool.{count, base, closed, emptied, Sound, closed-length, emptied-sound, emptied-closed, emptied-opened, emptied-used, emptied-length}
+use Rattle.pool.specs.Pool.{count, base, closedLists, emptied, Sound, closed-length, emptied-sound, emptied-closed, emptied-opened, emptied-used, emptied-length}
 use Rattle.compounds.specs.declared.Layout.{Layout}
 use Rattle.compounds.specs.Labels.{labelOf, labelsIn}
 use Rattle.compounds.specs.Numbers.{AllBelow, labelsOf}
-use Rattle.compounds.specs.Splitting.{splitList, fillAll, fillAll-filled, Filled, Room, tableOf, poolOf, restOf, partsOf}
+use Rattle.compounds.specs.Splitting.{splitList, fillAll, fillAll-filled, Filled, PoolRoom, facetLabels, poolOf, restOf, partsIn}
 use Rattle.compounds.specs.Splitting as compounds
 use Rattle.shelf.specs.declared.Shelf.{Shelf}
 use Rattle.shelf.specs.declared.Level.{Level}
-use Rattle.shelf.specs.Keeps.{Fits, labelsPart}
+use Rattle.shelf.specs.Keeps.{ShelfFits, labelsPart}
 use Rattle.shelf.specs.Front.{keeps-front}
-use Rattle.entries.specs.Listed.{Ready, Listed}
+use Rattle.entries.specs.Listed.{ListsBehind, Listed}
 
 -- the components of each facet, as the shelf has them
 unfoldable pub componentsIn : Shelf → List ℕ → List (Option Pair)
@@ -34,13 +34,13 @@ splitOn shelf s = splitList 380 (componentsIn shelf s)
 
 -- what is asked: a pool anywhere, room for it behind the shelf and for what is made behind it, and split lists that fit there
 pub record Splits (shelf : Shelf) (from bytes : ℕ) (s : List ℕ) : Type 0 where
-  pub fits : Fits shelf (length s)
+  pub fits : ShelfFits shelf (length s)
   pub fewFacets : shelf .facets ≤ 1024
   pub inside : from + bytes ≤ length s
   pub sound : Sound 2 1024 (part from bytes s)
   pub room : shelf .owners + (bytes + 2109452) ≤ length s
-  pub short : (l : List ℕ) → Mem l (closed 2 1024 (part from bytes s)) → length (splitOn shelf s l) ≤ 1024
-  pub numbers : AllBelow (shelf .facets) (map (splitOn shelf s) (closed 2 1024 (part from bytes s)))
+  pub short : (l : List ℕ) → Mem l (closedLists 2 1024 (part from bytes s)) → length (splitOn shelf s l) ≤ 1024
+  pub numbers : AllBelow (shelf .facets) (map (splitOn shelf s) (closedLists 2 1024 (part from bytes s)))
 
 -- ---- lists and parts
 
@@ -81,7 +81,7 @@ module _ (shelf : Shelf) (from bytes : ℕ) (s : List ℕ) (r : Splits shelf fro
   labels = shelf .labels
 
   abbrev emitted : List (List ℕ)
-  emitted = closed 2 1024 (part from bytes s)
+  emitted = closedLists 2 1024 (part from bytes s)
 
   abbrev lists : List (List ℕ)
   lists = map (splitOn shelf s) emitted
@@ -126,7 +126,7 @@ module _ (shelf : Shelf) (from bytes : ℕ) (s : List ℕ) (r : Splits shelf fro
         ∙ (part-part (at - labels) bytes labels wide s1 (omega (arith, labels-before))
         ∙ (ap (λ (n : ℕ). part n bytes s1) e ∙ pool1))
 
-    table-is : tableOf layout u ≡ componentsIn shelf s
+    table-is : facetLabels layout u ≡ componentsIn shelf s
     unfolding componentsIn labelsIn
     table-is =
         ap (map labelOf)
@@ -139,10 +139,10 @@ module _ (shelf : Shelf) (from bytes : ℕ) (s : List ℕ) (r : Splits shelf fro
             sym (part-take at s1 labels (shelf .owners - labels) (omega (arith, labels-before)))
             ∙ (ap (part labels (shelf .owners - labels)) front1 ∙ part-take at s labels (shelf .owners - labels) (omega (arith, labels-before)))
 
-    parts-are : map (partsOf layout u) (closed 2 1024 (poolOf layout u)) ≡ lists
+    parts-are : map (partsIn layout u) (closedLists 2 1024 (poolOf layout u)) ≡ lists
     parts-are = rw (pool-is, table-is) refl
 
-    all-few : length (flatMap (partsOf layout u) (closed 2 1024 (poolOf layout u))) ≤ 1048576
+    all-few : length (flatMap (partsIn layout u) (closedLists 2 1024 (poolOf layout u))) ≤ 1048576
     all-few =
         let c = closed-length 2 1024 (part from bytes s) in
         rw (pool-is, table-is) (omega (arith, joined-few (splitOn shelf s) 1024 emitted (r .short), r .sound .few))
@@ -151,9 +151,9 @@ module _ (shelf : Shelf) (from bytes : ℕ) (s : List ℕ) (r : Splits shelf fro
     rest-length = length-drop (at - labels + bytes) u ∙ omega (arith, u-length, labels-before)
 
     -- what `split_lists` is asked
-    pub split-asked : compounds.Ready layout u
-        × (base 1024 + 2 * length (flatMap (partsOf layout u) (closed 2 1024 (poolOf layout u))) ≤ length (restOf layout u))
-        × (length (flatMap (partsOf layout u) (closed 2 1024 (poolOf layout u))) < 4294967296)
+    pub split-asked : compounds.SplittingRoom layout u
+        × (base 1024 + 2 * length (flatMap (partsIn layout u) (closedLists 2 1024 (poolOf layout u))) ≤ length (restOf layout u))
+        × (length (flatMap (partsIn layout u) (closedLists 2 1024 (poolOf layout u))) < 4294967296)
     split-asked = (
       record {
         table = omega (arith, labels-before, r .fewFacets);
@@ -169,7 +169,7 @@ module _ (shelf : Shelf) (from bytes : ℕ) (s : List ℕ) (r : Splits shelf fro
 
     -- ---- the split lists
 
-    module _ (p : List ℕ) (many : length p ≡ length u) (split : p ≡ take (at - labels + bytes) u ++ fillAll 1024 (emptied (restOf layout u)) (map (partsOf layout u) (closed 2 1024 (poolOf layout u)))) where
+    module _ (p : List ℕ) (many : length p ≡ length u) (split : p ≡ take (at - labels + bytes) u ++ fillAll 1024 (emptied (restOf layout u)) (map (partsIn layout u) (closedLists 2 1024 (poolOf layout u)))) where
       abbrev s2 : List ℕ
       s2 = placed labels wide s1 p
 
@@ -202,7 +202,7 @@ module _ (shelf : Shelf) (from bytes : ℕ) (s : List ℕ) (r : Splits shelf fro
               let j = joined-few (splitOn shelf s) 1024 emitted (r .short) in
               omega (arith, r .sound .few)
 
-          room : Room 1024 empty (length (flatMap (λ (l : List ℕ). l) lists))
+          room : PoolRoom 1024 empty (length (flatMap (λ (l : List ℕ). l) lists))
           room =
               let n = emptied-used 2 1024 (restOf layout u) fits in
               let l = emptied-length (restOf layout u) in
@@ -231,11 +231,11 @@ module _ (shelf : Shelf) (from bytes : ℕ) (s : List ℕ) (r : Splits shelf fro
           ∙ (ap (part (at - labels + bytes) 2101260) own
           ∙ (take-all 2101260 (drop (at - labels + bytes) p) (omega (arith, many, u-length, labels-before)) ∙ rest-is)))
 
-      split-closed : closed 2 1024 (part to 2101260 s2) ≡ lists
-      split-closed = ap (closed 2 1024) split-part ∙ (filled .lists ∙ ap (λ (l : List (List ℕ)). l ++ lists) (emptied-closed 2 1024 (restOf layout u) (omega (arith, rest-length))))
+      split-closed : closedLists 2 1024 (part to 2101260 s2) ≡ lists
+      split-closed = ap (closedLists 2 1024) split-part ∙ (filled .lists ∙ ap (λ (l : List (List ℕ)). l ++ lists) (emptied-closed 2 1024 (restOf layout u) (omega (arith, rest-length))))
 
       -- what `sort_entries` is asked
-      pub sort-asked : Ready shelf to 2101260 s2
+      pub sort-asked : ListsBehind shelf to 2101260 s2
       sort-asked = record {
         behind = omega arith;
         sound = sound2;
@@ -262,7 +262,7 @@ module _ (shelf : Shelf) (from bytes : ℕ) (s : List ℕ) (r : Splits shelf fro
               ∙ (take-append-le (at - labels) (take (at - labels + bytes) u) _ (omega (arith, front-length))
               ∙ (take-take (at - labels) (at - labels + bytes) u (omega arith) ∙ take-take (at - labels) wide (drop labels s1) (omega (arith, labels-before)))))
 
-      pub split-left : (level : Level) (t : List ℕ) → Listed shelf to to 2101260 (closed 2 1024 (part to 2101260 s2)) s2 level t → Listed shelf at to 2101260 lists s level t
+      pub split-left : (level : Level) (t : List ℕ) → Listed shelf to to 2101260 (closedLists 2 1024 (part to 2101260 s2)) s2 level t → Listed shelf at to 2101260 lists s level t
       split-left level t l = record {
         shelf-is = l .shelf-is;
         at-is = l .at-is;

@@ -3,8 +3,8 @@ ghost use mathlib.Core.Path.{_≡_};
 ghost use Prim.Native.Nat.{_+_};
 ghost use mathlib.Core.List.{map};
 ghost use Rattle.laws.specs.Segments.{part};
-ghost use Rattle.pool.specs.Pool.{closed};
-ghost use Rattle.entries.specs.Listed.{many, labelled, Pool, Ready, Listed};
+ghost use Rattle.pool.specs.Pool.{closedLists};
+ghost use Rattle.entries.specs.Listed.{many, labelled, Pool, ListsBehind, Listed};
 ghost use Rattle.entries.specs.Split.{splitOn, Splits};
 use compounds::Area;
 use compounds::Layout;
@@ -31,8 +31,8 @@ fn order_lists(s: &mut [u8], bytes: usize) -> usize
 
 // The entries of a call whose emitted lists need no splitting: the pool from a place on, in order and labelled.
 pub fn sort_entries(ws: &mut [u8], shelf: Shelf, at: usize, bytes: usize) -> Level
-    requires { ⌜ Ready shelf at bytes (now ws) ⌝ }
-    ensures { λ r. ⌜ Listed shelf at at bytes (closed 2 1024 (part at bytes (now (ws .entry)))) (now (ws .entry)) r (now (ws .exit)) ⌝ }
+    requires { ⌜ ListsBehind shelf at bytes (now ws) ⌝ }
+    ensures { λ r. ⌜ Listed shelf at at bytes (closedLists 2 1024 (part at bytes (now (ws .entry)))) (now (ws .entry)) r (now (ws .exit)) ⌝ }
 {
     let count = order_lists(&mut ws[at..], bytes);
     Level {
@@ -49,7 +49,7 @@ pub fn sort_entries(ws: &mut [u8], shelf: Shelf, at: usize, bytes: usize) -> Lev
 // labelled. The table of components is the shelf's own, so the part that splitting works in begins there.
 pub fn split_entries(ws: &mut [u8], shelf: Shelf, from: usize, bytes: usize) -> Level
     requires { ⌜ Splits shelf from bytes (now ws) ⌝ }
-    ensures { λ r. ⌜ Listed shelf (shelf .owners + 2048) (shelf .owners + 2048 + bytes) 2101260 (map (splitOn shelf (now (ws .entry))) (closed 2 1024 (part from bytes (now (ws .entry))))) (now (ws .entry)) r (now (ws .exit)) ⌝ }
+    ensures { λ r. ⌜ Listed shelf (shelf .owners + 2048) (shelf .owners + 2048 + bytes) 2101260 (map (splitOn shelf (now (ws .entry))) (closedLists 2 1024 (part from bytes (now (ws .entry))))) (now (ws .entry)) r (now (ws .exit)) ⌝ }
 {
     let labels = shelf.labels;
     let at = shelf.owners + 2048;

@@ -28,7 +28,7 @@ use Rattle.orbits.specs.Workspace.{orbitsIn, orbits-front}
 use Rattle.shapes.specs.Sets.{VertexSet, Rows, orbit-set, rows-within, points-of-refit}
 use Rattle.shapes.specs.Calls.{Given}
 use Rattle.shapes.specs.Kept.{Kept, keptOf}
-use Rattle.shelf.specs.Keeps.{Fits}
+use Rattle.shelf.specs.Keeps.{ShelfFits}
 use Rattle.shelf.specs.Front.{keeps-front}
 use Rattle.shelf.specs.declared.Shelf.{Shelf}
 use Rattle.calls.specs.Layouts.{shelfFor}
@@ -114,7 +114,7 @@ module _ (g : Site) (shelf : Shelf) (left i : ℕ) (s u : List ℕ) (fitting : F
   abbrev kept : List Kept
   kept = map keptOf (st .done)
 
-  abbrev f : Fits shelf (length s)
+  abbrev f : ShelfFits shelf (length s)
   f = st .keeps .fits
 
   enough : 2048 ≤ shelf .end

@@ -23,27 +23,27 @@ use Rattle.calls.specs.declared.Called.{Called}
 use Rattle.calls.specs.declared.Called.the-variants.{Refused, Ends, Left}
 use Rattle.faceting.specs.Spaces.{Laid}
 use Rattle.faceting.specs.State as state
-use Rattle.faceting.specs.Stocks.{Stock, Stocked, rulesOf}
+use Rattle.faceting.specs.Stocks.{Stock, Stocked, callRules}
 use Rattle.faceting.specs.Answers.{Searched, searched-refused, searched-answered}
 use Rattle.faceting.specs.Says.{Site, Says, SiteState, siteOrbits, siteWhole}
 
 module _ (more : ℕ) (rules : Rules) (plane : Subspace) (points : List Vec) (rows : List Row) (budget : ℕ) where
   abbrev pub site : Site
-  site = record { more = more; rules = rulesOf rules; plane = plane; points = points; rows = rows; budget = budget }
+  site = record { more = more; rules = callRules rules; plane = plane; points = points; rows = rows; budget = budget }
 
   abbrev SaysCall : Called → List ℕ → Type 0
-  SaysCall = Says (suc more) (rulesOf rules) plane points rows budget
+  SaysCall = Says (suc more) (callRules rules) plane points rows budget
 
   -- refusal 13
-  pub says-thirteen : (s : List ℕ) → rulesOf rules .bounds .orbits < length (siteOrbits site) → SaysCall (Refused 13) s
+  pub says-thirteen : (s : List ℕ) → callRules rules .bounds .orbits < length (siteOrbits site) → SaysCall (Refused 13) s
   unfolding Says
-  says-thirteen s h = call-thirteen more (rulesOf rules) plane points rows budget h
+  says-thirteen s h = call-thirteen more (callRules rules) plane points rows budget h
 
-  module _ (few : length (siteOrbits site) ≤ rulesOf rules .bounds .orbits) where
+  module _ (few : length (siteOrbits site) ≤ callRules rules .bounds .orbits) where
     -- a refusal on the way
     pub says-refused : (number : ℕ) (s : List ℕ) → siteWhole site ≡ result.refused number → SaysCall (Refused number) s
     unfolding Says
-    says-refused number s e = call-inner-refused more (rulesOf rules) plane points rows budget few number e
+    says-refused number s e = call-inner-refused more (callRules rules) plane points rows budget few number e
 
     module _ (shelf : Shelf) (left i : ℕ) (s : List ℕ) (st : SiteState site shelf left i s) (all : length (siteOrbits site) ≤ i) where
       none-left : drop i (siteOrbits site) ≡ []
@@ -51,15 +51,15 @@ module _ (more : ℕ) (rules : Rules) (plane : Subspace) (points : List Vec) (ro
 
       made-all : siteWhole site ≡ result.answered (record { calls = st .done; left = left })
       made-all =
-          let inner = state.inner more (rulesOf rules) plane points rows budget (length points) in
-          reached-all inner (rulesOf rules .bounds .facets)
-          (subst (λ (os : List Orbit). Reached inner (rulesOf rules .bounds .facets) (siteOrbits site) budget (st .done) os left) none-left (st .reached))
+          let inner = state.inner more (callRules rules) plane points rows budget (length points) in
+          reached-all inner (callRules rules .bounds .facets)
+          (subst (λ (os : List Orbit). Reached inner (callRules rules .bounds .facets) (siteOrbits site) budget (st .done) os left) none-left (st .reached))
 
       abbrev before : Prepared
       before = record { more = more; points = length points; rows = rows; inner = st .done; left = left }
 
-      prepared-is : prepare more (rulesOf rules) (faceting more (rulesOf rules)) plane points rows budget ≡ result.answered before
-      prepared-is = call-prepared more (rulesOf rules) plane points rows budget few (record { calls = st .done; left = left }) made-all
+      prepared-is : prepare more (callRules rules) (faceting more (callRules rules)) plane points rows budget ≡ result.answered before
+      prepared-is = call-prepared more (callRules rules) plane points rows budget few (record { calls = st .done; left = left }) made-all
 
       abbrev pub stock : Stock
       stock = record { more = more; plane = plane; points = points; rows = rows; prepared = before }
@@ -72,7 +72,7 @@ module _ (more : ℕ) (rules : Rules) (plane : Subspace) (points : List Vec) (ro
         rank-is = rank-is;
         given = given;
         few-points = few-points;
-        made = preparation more (rulesOf rules) (faceting more (rulesOf rules)) plane points rows budget before prepared-is;
+        made = preparation more (callRules rules) (faceting more (callRules rules)) plane points rows budget before prepared-is;
         left-is = refl;
         few-entries = entries;
         rows-are = rows-are;

@@ -41,7 +41,7 @@ use Rattle.faceting.specs.InnerAmounts.{two-amounts, three-amounts}
 use Rattle.faceting.specs.State as state
 use Rattle.faceting.specs.Turns as turns
 use Rattle.faceting.specs.Spaces.{Laid, room-three, room-four}
-use Rattle.faceting.specs.Says.{Site, Turn, Says, Stands, SiteState, siteOrbits, siteOrbit, sitePoints, sitePlane, siteRows, siteWhole}
+use Rattle.faceting.specs.Says.{Site, Turn, Says, AnswerStands, SiteState, siteOrbits, siteOrbit, sitePoints, sitePlane, siteRows, siteWhole}
 
 module _ (g : Site) (shelf : Shelf) (left i : ℕ) (called : Called) (rows : List ℕ) (m : ℕ) (s : List ℕ) (t : Turn g shelf left i called rows m s) where
   abbrev n : ℕ
@@ -142,12 +142,12 @@ module _ (g : Site) (shelf : Shelf) (left : ℕ) (level : Level) (rest : ℕ) (r
   many-points = length-map (siteOrbit g i₀ s .vertices) (pointAt (map (flatten (g .plane)) (g .points)))
 
   -- only the inner calls of rank 4 leave their answer in the workspace
-  pub left-four : (g .more ≡ 1) × Stands 0 (g .rules) (sitePlane g i₀ s) (sitePoints g i₀ s) (siteRows g i₀ s) left level rest behind
+  pub left-four : (g .more ≡ 1) × AnswerStands 0 (g .rules) (sitePlane g i₀ s) (sitePoints g i₀ s) (siteRows g i₀ s) left level rest behind
   unfolding Says
   left-four = go (g .more) (t .fitting .few-more) (t .says)
     where
       go : (more : ℕ) → more ≤ 1 → Says more (g .rules) (sitePlane g i₀ s) (sitePoints g i₀ s) (siteRows g i₀ s) left (Left level rest) behind
-          → (more ≡ 1) × Stands 0 (g .rules) (sitePlane g i₀ s) (sitePoints g i₀ s) (siteRows g i₀ s) left level rest behind
+          → (more ≡ 1) × AnswerStands 0 (g .rules) (sitePlane g i₀ s) (sitePoints g i₀ s) (siteRows g i₀ s) left level rest behind
       go zero few e = absurd e
       go (suc zero) few e = (refl, e)
       go (suc (suc more)) few e = absurd (omega arith)

@@ -25,7 +25,7 @@ use Rattle.space.specs.declared.Points.{Points}
 use Rattle.space.specs.Meaning.{SubspaceFits, PointsFit, subspaceOf, pointsOf, HoldsPoints, limitsOf}
 use Rattle.space.specs.Counts.{points-length}
 use Rattle.stabilizers.specs.Permutations.{Permutations, rows-fit}
-use Rattle.sets.specs.Refitting.{Refitted, planeOf, fitted}
+use Rattle.sets.specs.Refitting.{Refitted, refittedPlane, fitted}
 use Rattle.sets.specs.declared.Fit.{Fit}
 use Rattle.sets.specs.declared.Fit.the-variants.{Fitted, Refused as RefusedFit}
 use Rattle.orbits.specs.Answers.{answerIn, orbitsOrRefusal, CallFits}
@@ -33,7 +33,7 @@ use Rattle.orbits.specs.declared.Answer.{Answer}
 use Rattle.orbits.specs.declared.Answer.the-variants.{Orbits, Refused as RefusedAnswer}
 use Rattle.shapes.specs.Calls.{Given}
 use Rattle.shapes.specs.Kept.{keptOf}
-use Rattle.shelf.specs.Keeps.{Fits, Keeps, Ridges}
+use Rattle.shelf.specs.Keeps.{ShelfFits, Keeps, Ridges}
 use Rattle.shelf.specs.declared.Shelf.{Shelf}
 use Rattle.calls.specs.Layouts.{shelfThree, shelfFour, shelfFor, three-fits, four-fits, at-three, at-four}
 use Rattle.calls.specs.declared.Rules.{Rules}
@@ -45,7 +45,7 @@ use Rattle.faceting.specs.declared.Stored.{Stored}
 use Rattle.faceting.specs.declared.Stored.the-variants.{Kept as KeptStored}
 use Rattle.faceting.specs.Asked.{Asked}
 use Rattle.faceting.specs.Spaces.{Laid}
-use Rattle.faceting.specs.Stocks.{Stock, Stocked, rulesOf}
+use Rattle.faceting.specs.Stocks.{Stock, Stocked, callRules}
 use Rattle.faceting.specs.Answers.{Searched}
 use Rattle.faceting.specs.Says.{Site, SiteState, siteOrbits, siteWhole, siteOrbit, sitePoints, sitePlane, siteRows, Says, Turn, Fitting}
 use Rattle.faceting.specs.Turns as turns
@@ -81,7 +81,7 @@ pub record Loop (plane : Subspace) (points : List Vec) (rank : ℕ) (flat : Poin
 -- ---- the ranks
 
 abbrev SaysOf : ℕ → Rules → Subspace → List Vec → List Row → ℕ → Called → List ℕ → Type 0
-SaysOf more rules = Says more (rulesOf rules)
+SaysOf more rules = Says more (callRules rules)
 
 -- at rank 2 the rows alone answer
 pub says-ends : (rank : ℕ) (rules : Rules) (plane : Subspace) (points : List Vec) (rows : List Row) (budget : ℕ) (swapped : Bool) (s : List ℕ) → rank ≡ 2
@@ -98,7 +98,7 @@ says-rank rank least n k e rules plane points rows m budget r s a =
     let q : suc (rank - 3) ≡ rank - 2 = omega arith in
     subst (λ (x : ℕ). SaysOf (rank - 2) rules plane points (rowsIn x m rows) budget r s) e (subst (λ (more : ℕ). SaysOf more rules plane points (rowsIn n m rows) budget r s) q a)
 
-fits-more : (shelf : Shelf) (a b : ℕ) → Fits shelf a → a ≤ b → Fits shelf b
+fits-more : (shelf : Shelf) (a b : ℕ) → ShelfFits shelf a → a ≤ b → ShelfFits shelf b
 fits-more shelf a b f h = record {
   orbitRoom = f .orbitRoom;
   edgeRoom = f .edgeRoom;
@@ -110,12 +110,12 @@ fits-more shelf a b f h = record {
 }
 
 -- the shelf of either rank fits its workspace
-shelf-fits : (rank size : ℕ) → 3 ≤ rank → rank ≤ 4 → (rank ≡ 3 → 524288 ≤ size) → (rank ≡ 4 → 4194304 ≤ size) → Fits (shelfFor rank) size
+shelf-fits : (rank size : ℕ) → 3 ≤ rank → rank ≤ 4 → (rank ≡ 3 → 524288 ≤ size) → (rank ≡ 4 → 4194304 ≤ size) → ShelfFits (shelfFor rank) size
 shelf-fits rank size least most three four = ⊎-elim
-    (λ h. let e : rank ≡ 3 = omega arith in subst (λ (x : Shelf). Fits x size) (at-three rank e) (fits-more shelfThree 524288 size three-fits (three e)))
+    (λ h. let e : rank ≡ 3 = omega arith in subst (λ (x : Shelf). ShelfFits x size) (at-three rank e) (fits-more shelfThree 524288 size three-fits (three e)))
     (λ h.
     let e : rank ≡ 4 = omega arith in
-    subst (λ (x : Shelf). Fits x size) (at-four rank (λ q. omega arith)) (fits-more shelfFour (4194304 - 524288) size four-fits (omega (arith, four e))))
+    subst (λ (x : Shelf). ShelfFits x size) (at-four rank (λ q. omega arith)) (fits-more shelfFour (4194304 - 524288) size four-fits (omega (arith, four e))))
     (le-or-lt rank 3)
 
 -- and behind that of rank 4 there is the workspace of an inner call
@@ -136,7 +136,7 @@ module _ (rank : ℕ) (plane : stored.Subspace) (points : Points) (rows : List �
   enough = ⊎-elim (λ h. asked .room-three (omega arith)) (λ h. omega (arith, asked .room-four (omega (arith, asked .rank-most)))) (le-or-lt rank 3)
 
   -- what the start of a call is asked
-  pub start-asks : CallFits points flat m rows × (rules .orbits ≤ 256) × (124928 ≤ length ws) × Fits (shelfFor rank) (length ws) × (3 ≤ rank)
+  pub start-asks : CallFits points flat m rows × (rules .orbits ≤ 256) × (124928 ≤ length ws) × ShelfFits (shelfFor rank) (length ws) × (3 ≤ rank)
   start-asks = (
     record { points-fit = asked .points-fit; flat-fit = holds .fits; same-n = sym same-n; permute = permute; few = asked .rows-few },
     asked .few-orbits,
@@ -147,8 +147,8 @@ module _ (rank : ℕ) (plane : stored.Subspace) (points : Points) (rows : List �
 
   module _ (r : Answer) (u : List ℕ)
       (answers : answerIn (flat .n) r u ≡ orbitsOrRefusal (rules .orbits) (hyperplaneOrbits (rules .tolerance) (limitsOf (rules .min) (rules .max)) (rank - 3) (pointsOf points) (pointsOf flat) (rowsIn (flat .n) m rows))) where
-    found-for : answerIn (flat .n) r u ≡ orbitsOrRefusal (rulesOf rules .bounds .orbits) (siteOrbits called)
-    unfolding rulesOf
+    found-for : answerIn (flat .n) r u ≡ orbitsOrRefusal (callRules rules .bounds .orbits) (siteOrbits called)
+    unfolding callRules
     found-for =
         subst (λ (ps : List Vec). answerIn (flat .n) r u ≡ orbitsOrRefusal (rules .orbits) (hyperplaneOrbits (rules .tolerance) (limitsOf (rules .min) (rules .max)) (rank - 3) (pointsOf points) ps (rowsIn (flat .n) m rows))) (holds .means) answers
 
@@ -157,15 +157,15 @@ module _ (rank : ℕ) (plane : stored.Subspace) (points : Points) (rows : List �
     start-refused e =
         says-rank rank above (flat .n) (points .n) same-n rules (subspaceOf plane) (pointsOf points) rows m budget (Refused 13) u
         (finishes.says-thirteen (rank - 3) rules (subspaceOf plane) (pointsOf points) (rowsIn (flat .n) m rows) budget u
-        (found-too-many (rulesOf rules .bounds .orbits) (siteOrbits called) (flat .n) u (subst (λ (a : Answer). answerIn (flat .n) a u ≡ orbitsOrRefusal (rulesOf rules .bounds .orbits) (siteOrbits called)) e found-for)))
+        (found-too-many (callRules rules .bounds .orbits) (siteOrbits called) (flat .n) u (subst (λ (a : Answer). answerIn (flat .n) a u ≡ orbitsOrRefusal (callRules rules .bounds .orbits) (siteOrbits called)) e found-for)))
 
     -- or the loop begins
     pub begun : (count : ℕ) → r ≡ Orbits count → ((k : ℕ) → Keeps k (shelfFor rank) [] u × Ridges (shelfFor rank) [] u) → length u ≡ length ws
         → Loop (subspaceOf plane) (pointsOf points) rank flat rows m rules budget count u
-    unfolding rulesOf
+    unfolding callRules
     begun count e cleared long =
-        let all = subst (λ (a : Answer). answerIn (flat .n) a u ≡ orbitsOrRefusal (rulesOf rules .bounds .orbits) (siteOrbits called)) e found-for in
-        let many = found-count (rulesOf rules .bounds .orbits) (siteOrbits called) (flat .n) u count all in
+        let all = subst (λ (a : Answer). answerIn (flat .n) a u ≡ orbitsOrRefusal (callRules rules .bounds .orbits) (siteOrbits called)) e found-for in
+        let many = found-count (callRules rules .bounds .orbits) (siteOrbits called) (flat .n) u count all in
         let size : flat .n ≡ length (pointsOf points) = same-n ∙ sym (points-length points) in
         record {
           rank-least = above;
@@ -180,7 +180,7 @@ module _ (rank : ℕ) (plane : stored.Subspace) (points : Points) (rows : List �
           few-facets = asked .few-facets;
           entries-are = asked .entries-are;
           found = many;
-          few-found = omega (arith, many, found-few (rulesOf rules .bounds .orbits) (siteOrbits called) (flat .n) u count all);
+          few-found = omega (arith, many, found-few (callRules rules .bounds .orbits) (siteOrbits called) (flat .n) u count all);
           first = loop-starts called (shelfFor rank) (flat .n) count u u size all (asked .few-orbits) refl (cleared (length (pointsOf points)) .0) (cleared (length (pointsOf points)) .1);
           room-three = λ q. omega (arith, asked .room-three q);
           room-four = λ q. omega (arith, asked .room-four q);
@@ -209,7 +209,7 @@ module _ {plane : Subspace} {points : List Vec} {rank : ℕ} {flat : Points} {ro
   few-more = omega (arith, l .rank-most)
 
   fitting-is : Fitting g
-  unfolding rulesOf
+  unfolding callRules
   fitting-is = record {
     few-more = few-more;
     few-points = omega (arith, l .size, l .flat-fits .n-fits);
@@ -224,7 +224,7 @@ module _ {plane : Subspace} {points : List Vec} {rank : ℕ} {flat : Points} {ro
       subst (λ (x : Shelf). SiteState g x budget (x .orbits) ws) (sym e) (subst (λ (i : ℕ). SiteState g (shelfFor rank) budget i ws) (sym (shelf-empty rank .0)) (l .first))
 
   pub bound-is : rules .facets ≡ g .rules .bounds .facets
-  unfolding rulesOf
+  unfolding callRules
   bound-is = refl
 
   -- behind a turn: the shelf has one orbit more
@@ -254,7 +254,7 @@ module _ {plane : Subspace} {points : List Vec} {rank : ℕ} {flat : Points} {ro
         next-holds = subst (HoldsPoints (next .points) (flat .d)) points-are holds
 
         next-refits : Refitted (next .refitted) (next .points) (sitePlane g (shelf .orbits) s) (suc (rank - 3))
-        unfolding rulesOf
+        unfolding callRules
         next-refits =
             let q : rank - 2 ≡ suc (rank - 3) = omega (arith, l .rank-least) in
             subst (Refitted (next .refitted) (next .points) (sitePlane g (shelf .orbits) s)) q
@@ -262,14 +262,14 @@ module _ {plane : Subspace} {points : List Vec} {rank : ℕ} {flat : Points} {ro
 
         -- refusal 14
         pub refit-refused : next .refitted .fit ≡ RefusedFit → siteWhole g ≡ result.refused 14
-        unfolding planeOf
+        unfolding refittedPlane
         refit-refused e =
-            turns.turn-refit (rank - 3) (rulesOf rules) plane points (rowsIn (flat .n) m rows) budget (length points) shelf left (shelf .orbits) s st next-below
+            turns.turn-refit (rank - 3) (callRules rules) plane points (rowsIn (flat .n) m rows) budget (length points) shelf left (shelf .orbits) s st next-below
             (not-fitted (next .refitted .fit) (subspaceOf (next .refitted .plane)) (sitePlane g (shelf .orbits) s) (eqb (length (sitePlane g (shelf .orbits) s .basis)) (suc (rank - 3))) e (next-refits .answer))
 
         module _ (e : next .refitted .fit ≡ Fitted) where
           fits-so : eqb (length (sitePlane g (shelf .orbits) s .basis)) (suc (rank - 3)) ≡ true
-          unfolding planeOf
+          unfolding refittedPlane
           fits-so = is-fitted (next .refitted .fit) (subspaceOf (next .refitted .plane)) (sitePlane g (shelf .orbits) s) (eqb (length (sitePlane g (shelf .orbits) s .basis)) (suc (rank - 3))) e (next-refits .answer)
 
           given-next : Given (sitePoints g (shelf .orbits) s) (siteRows g (shelf .orbits) s)
@@ -327,7 +327,7 @@ module _ {plane : Subspace} {points : List Vec} {rank : ℕ} {flat : Points} {ro
 
   -- a refusal met in a turn is the call's
   pub loop-refused : (number : ℕ) (s : List ℕ) → siteWhole g ≡ result.refused number → SaysOf (suc (rank - 3)) rules plane points (rowsIn (flat .n) m rows) budget (Refused number) s
-  unfolding rulesOf
+  unfolding callRules
   loop-refused number s e =
       finishes.says-refused (rank - 3) rules plane points (rowsIn (flat .n) m rows) budget (omega (arith, l .found, l .few-found)) number s e
 
@@ -335,8 +335,8 @@ module _ {plane : Subspace} {points : List Vec} {rank : ℕ} {flat : Points} {ro
     pub every : length (siteOrbits g) ≤ shelf .orbits
     every = omega (arith, l .found)
 
-    pub few : length (siteOrbits g) ≤ rulesOf rules .bounds .orbits
-    unfolding rulesOf
+    pub few : length (siteOrbits g) ≤ callRules rules .bounds .orbits
+    unfolding callRules
     few = omega (arith, l .found, l .few-found)
 
     abbrev pub stock : Stock

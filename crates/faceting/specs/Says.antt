@@ -33,7 +33,7 @@ use Rattle.faceting.specs.Spaces.{Laid}
 
 -- A call of rank 3 + more is answered, and its answer stands in the workspace. Wherever its entries lie, they end before the byte 3,211,264: at rank 4 the images of all facets, at most 1,024 under
 -- 120 rows, have room behind them.
-pub record Stands (more : ℕ) (rules : Rules) (plane : Subspace) (points : List Vec) (rows : List Row) (budget : ℕ) (level : Level) (rest : ℕ) (s : List ℕ) : Type 0 where
+pub record AnswerStands (more : ℕ) (rules : Rules) (plane : Subspace) (points : List Vec) (rows : List Row) (budget : ℕ) (level : Level) (rest : ℕ) (s : List ℕ) : Type 0 where
   pub before : Prepared
   pub prepared : prepare more rules (faceting more rules) plane points rows budget ≡ answered before
   pub leaves : Leaves more (length points) rows (map keptOf (before .inner)) level s
@@ -47,7 +47,7 @@ Says zero rules plane points rows budget (Ends swapped rest) s = faceting 0 rule
 Says zero rules plane points rows budget (Left level rest) s = ⊥
 Says (suc more) rules plane points rows budget (Refused number) s = faceting (suc more) rules plane points rows budget ≡ refused number
 Says (suc more) rules plane points rows budget (Ends swapped rest) s = ⊥
-Says (suc more) rules plane points rows budget (Left level rest) s = Stands more rules plane points rows budget level rest s
+Says (suc more) rules plane points rows budget (Left level rest) s = AnswerStands more rules plane points rows budget level rest s
 
 -- the definition's call that the loop belongs to
 pub record Site : Type 0 where

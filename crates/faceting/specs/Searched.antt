@@ -1,5 +1,5 @@
 -- From what a call keeps to its answer in the workspace: the tables are laid, the search runs in the workspace from the owners on, and the lists that it emitted are made the call's entries, at
--- rank 3 as they are, at rank 4 split. Leans on Stocks and Answers, on the search's outcome and on the laws of emitted lists.
+-- rank 3 as they are, at rank 4 split. Leans on Stocks and Answers, on the search's searchOutcome and on the laws of emitted lists.
 use mathlib.Core.Path.{_≡_, refl, sym, ap, _∙_, subst}
 use mathlib.Core.List.{List, [], _++_, map}
 use Prim.Native.Nat.{ℕ, zero, suc, _+_, _-_, _≤_}
@@ -15,7 +15,7 @@ use Rattle.laws.specs.Pairs.{Pairs}
 use Rattle.laws.specs.Segments.{part}
 use Rattle.completeness.specs.Taken.{OtherOrbit}
 use Rattle.words.specs.Lent.{lent-tail, back-length, back-front, back-tail}
-use Rattle.pool.specs.Pool.{closed}
+use Rattle.pool.specs.Pool.{closedLists}
 use Rattle.openers.specs.Rows.{rowsIn}
 use Rattle.facets.specs.declared.Areas.{Areas}
 use Rattle.facets.specs.Layout.{Inputs, listsPart}
@@ -23,7 +23,7 @@ use Rattle.compounds.specs.Numbers.{AllBelow}
 use Rattle.frames.specs.Paths.{Emitted, emittedIn}
 use Rattle.search.specs.declared.Outcome.{Outcome}
 use Rattle.search.specs.declared.Outcome.the-variants as search
-use Rattle.search.specs.Outcomes.{limitOf, limitsOf, outcome, counted}
+use Rattle.search.specs.Outcomes.{entryLimitOf, entryLimitsOf, searchOutcome, countedLists}
 use Rattle.shapes.specs.Answered.{Preparation}
 use Rattle.shapes.specs.Emitted.{found-apart}
 use Rattle.shapes.specs.Kept.{Kept, keptTable, keptAnswer}
@@ -34,7 +34,7 @@ use Rattle.shelf.specs.declared.Level.{Level}
 use Rattle.shelf.specs.Keeps.{Keeps, facetsOf}
 use Rattle.shelf.specs.Front.{keeps-front}
 use Rattle.shelf.specs.Leaves.{Leaves, answerLeft, facetAt}
-use Rattle.entries.specs.Listed.{Ready, Listed}
+use Rattle.entries.specs.Listed.{ListsBehind, Listed}
 use Rattle.entries.specs.Split.{Splits, splitOn}
 use Rattle.entries.specs.Parts.{Splittable}
 use Rattle.entries.specs.Emitted.{found-lists, numbers-below, sort-ready, split-ready}
@@ -48,7 +48,7 @@ use Rattle.ridges.specs.Ranks.{desk3, desk4}
 use Rattle.ridges.specs.Shared.{facets-same}
 use Rattle.faceting.specs.Desks.{deskFor, desk-three, desk-four}
 use Rattle.faceting.specs.Answers.{Answers, Searched}
-use Rattle.faceting.specs.Stocks.{Stock, Stocked, pointsIn, keptIn, rulesOf, shelf-three, shelf-four, tables-asked}
+use Rattle.faceting.specs.Stocks.{Stock, Stocked, pointsIn, keptIn, callRules, shelf-three, shelf-four, tables-asked}
 
 -- ---- entries from emitted lists
 
@@ -63,12 +63,12 @@ listBytes a = a .end - a .lists
 pub record ListsReady (shelf : Shelf) (rank : ℕ) (a : Areas) (s : List ℕ) : Type 0 where
   pub order : a .lists ≤ a .end
   pub inside : shelf .owners + a .end ≤ length s
-  pub whole : rank ≡ 3 → Ready shelf (listsAt shelf a) (listBytes a) s
+  pub whole : rank ≡ 3 → ListsBehind shelf (listsAt shelf a) (listBytes a) s
   pub parts : (rank ≡ 3 → ⊥) → Splits shelf (listsAt shelf a) (listBytes a) s
 
 pub record EntriesListed (shelf : Shelf) (rank : ℕ) (a : Areas) (s : List ℕ) (level : Level) (t : List ℕ) : Type 0 where
-  pub whole : rank ≡ 3 → Listed shelf (listsAt shelf a) (listsAt shelf a) (listBytes a) (closed 2 1024 (part (listsAt shelf a) (listBytes a) s)) s level t
-  pub parts : (rank ≡ 3 → ⊥) → Listed shelf (shelf .owners + 2048) (shelf .owners + 2048 + listBytes a) 2101260 (map (splitOn shelf s) (closed 2 1024 (part (listsAt shelf a) (listBytes a) s))) s level t
+  pub whole : rank ≡ 3 → Listed shelf (listsAt shelf a) (listsAt shelf a) (listBytes a) (closedLists 2 1024 (part (listsAt shelf a) (listBytes a) s)) s level t
+  pub parts : (rank ≡ 3 → ⊥) → Listed shelf (shelf .owners + 2048) (shelf .owners + 2048 + listBytes a) 2101260 (map (splitOn shelf s) (closedLists 2 1024 (part (listsAt shelf a) (listBytes a) s))) s level t
 
 -- ---- where the areas lie
 
@@ -149,7 +149,7 @@ module _ (k : Stock) (shelf : Shelf) (rank : ℕ) (rows : List ℕ) (m : ℕ) (r
 
   table-is : tableFor (k .prepared) ≡ table
   table-is =
-      kept-table (k .more) (rulesOf rules) (k .plane) (k .points) (k .rows) (k .prepared) (st .few-more) (st .made)
+      kept-table (k .more) (callRules rules) (k .plane) (k .points) (k .rows) (k .prepared) (st .few-more) (st .made)
       ∙ ap (λ (l : List _). keptTable l (keptIn k)) (st .rows-are)
 
   table-facets : allFacets table ≡ facetsOf (keptIn k)
@@ -171,11 +171,11 @@ module _ (k : Stock) (shelf : Shelf) (rank : ℕ) (rows : List ℕ) (m : ℕ) (r
       at-rank (suc (suc more)) few e = absurd (omega arith)
 
   -- the search of the tables is the call's
-  pub search-is : (a : Areas) → a .bound ≡ 1024 → def.search table (limitsOf a (rules .limit)) left ≡ searchFrom (rulesOf rules) (k .prepared)
-  unfolding searchFrom entryLimits limitsOf rulesOf
+  pub search-is : (a : Areas) → a .bound ≡ 1024 → def.search table (entryLimitsOf a (rules .limit)) left ≡ searchFrom (callRules rules) (k .prepared)
+  unfolding searchFrom entryLimits entryLimitsOf callRules
   search-is a bound =
       let same : a .bound ≡ rules .entries = bound ∙ sym (st .few-entries) in
-      λ i. def.search (sym table-is i) (record { limit = limitOf (rules .limit); bound = same i }) (st .left-is i)
+      λ i. def.search (sym table-is i) (record { limit = entryLimitOf (rules .limit); bound = same i }) (st .left-is i)
 
   -- ---- what the search leaves
 
@@ -187,33 +187,33 @@ module _ (k : Stock) (shelf : Shelf) (rank : ℕ) (rows : List ℕ) (m : ℕ) (r
     keeps-still : Keeps (pointsIn k) shelf (keptIn k) t
     keeps-still = keeps-front (pointsIn k) shelf (keptIn k) s t front long (st .keeps)
 
-    module _ (rest : ℕ) (is-found : result.answered (record { lists = emittedIn table a (listsPart a (drop (shelf .owners) t)); left = rest }) ≡ searchFrom (rulesOf rules) (k .prepared))
+    module _ (rest : ℕ) (is-found : result.answered (record { lists = emittedIn table a (listsPart a (drop (shelf .owners) t)); left = rest }) ≡ searchFrom (callRules rules) (k .prepared))
         (emitted : Emitted a (listsPart a (drop (shelf .owners) t))) where
       abbrev found : Found
       found = record { lists = emittedIn table a (listsPart a (drop (shelf .owners) t)); left = rest }
 
       abbrev numbered : List (List ℕ)
-      numbered = closed 2 1024 (part (listsAt shelf a) (listBytes a) t)
+      numbered = closedLists 2 1024 (part (listsAt shelf a) (listBytes a) t)
 
       lists-are : found .lists ≡ map (map (facetAt (keptIn k))) numbered
       lists-are = found-lists shelf a t (p .bound) table (keptIn k) table-facets
 
       apart : (l : List Facet) → Mem l (map (map (facetAt (keptIn k))) numbered) → Pairs OtherOrbit l
-      apart l i = found-apart (rulesOf rules) (k .prepared) found (sym is-found) l (subst (λ (ls : List (List Facet)). Mem l ls) (sym lists-are) i)
+      apart l i = found-apart (callRules rules) (k .prepared) found (sym is-found) l (subst (λ (ls : List (List Facet)). Mem l ls) (sym lists-are) i)
 
       splittable : (rank ≡ 3 → ⊥) → (j : Kept) → Mem j (keptIn k) → Splittable j
       splittable other = at-rank (k .more) (st .few-more) (st .rank-is) (st .made)
         where
-          at-rank : (more : ℕ) → more ≤ 1 → rank ≡ 3 + more → Preparation more (rulesOf rules) (faceting more (rulesOf rules)) (k .plane) (k .points) (k .rows) (k .prepared) → (j : Kept) → Mem j (keptIn k) → Splittable j
+          at-rank : (more : ℕ) → more ≤ 1 → rank ≡ 3 + more → Preparation more (callRules rules) (faceting more (callRules rules)) (k .plane) (k .points) (k .rows) (k .prepared) → (j : Kept) → Mem j (keptIn k) → Splittable j
           at-rank zero few e made = absurd (other (omega arith))
-          at-rank (suc zero) few e made = four-splittable (rulesOf rules) (k .plane) (k .points) (k .rows) (k .prepared) made (st .few-points)
+          at-rank (suc zero) few e made = four-splittable (callRules rules) (k .plane) (k .points) (k .rows) (k .prepared) made (st .few-points)
           at-rank (suc (suc more)) few e made = absurd (omega arith)
 
       plain : rank ≡ 3 → (j : Kept) → Mem j (keptIn k) → j .compounds ≡ []
       plain three = at-rank (k .more) (st .rank-is) (st .made)
         where
-          at-rank : (more : ℕ) → rank ≡ 3 + more → Preparation more (rulesOf rules) (faceting more (rulesOf rules)) (k .plane) (k .points) (k .rows) (k .prepared) → (j : Kept) → Mem j (keptIn k) → j .compounds ≡ []
-          at-rank zero e made = three-plain (rulesOf rules) (k .plane) (k .points) (k .rows) (k .prepared) made
+          at-rank : (more : ℕ) → rank ≡ 3 + more → Preparation more (callRules rules) (faceting more (callRules rules)) (k .plane) (k .points) (k .rows) (k .prepared) → (j : Kept) → Mem j (keptIn k) → j .compounds ≡ []
+          at-rank zero e made = three-plain (callRules rules) (k .plane) (k .points) (k .rows) (k .prepared) made
           at-rank (suc more) e made = absurd (omega arith)
 
       -- what the entries are asked
@@ -234,7 +234,7 @@ module _ (k : Stock) (shelf : Shelf) (rank : ℕ) (rows : List ℕ) (m : ℕ) (r
       entries-answer level u l = at-rank (k .more) (st .few-more) (st .rank-is)
         where
           finished : finish (k .prepared) found ≡ keptAnswer (k .more) (pointsIn k) (k .rows) (keptIn k) found
-          finished = kept-finish (k .more) (rulesOf rules) (k .plane) (k .points) (k .rows) (st .few-more) (st .given) (k .prepared) (st .made) found (sym is-found)
+          finished = kept-finish (k .more) (callRules rules) (k .plane) (k .points) (k .rows) (st .few-more) (st .given) (k .prepared) (st .made) found (sym is-found)
 
           answers : answerLeft (k .more) (pointsIn k) (k .rows) (keptIn k) level u rest ≡ keptAnswer (k .more) (pointsIn k) (k .rows) (keptIn k) found → Leaves (k .more) (pointsIn k) (k .rows) (keptIn k) level u → level .lists + (level .bytes + 6144) ≤ 3211264 → Answers k rules level rest u
           answers e leaves ends = record { found = found; is-found = sym is-found; rest-is = refl; leaves = leaves; answer = finished ∙ sym e; ends = ends }
@@ -274,28 +274,28 @@ module _ (k : Stock) (shelf : Shelf) (rank : ℕ) (rows : List ℕ) (m : ℕ) (r
         front-kept (shelf .owners) (a .frames) s1 now (p .frames) (back-front (shelf .owners) s1 u inside long-u) (ap (take (a .frames)) tail-is ∙ tables)
         ∙ (sym (take-take (shelf .owners + 2048) (shelf .end) s1 (p .owners)) ∙ (ap (take (shelf .owners + 2048)) front1 ∙ take-take (shelf .owners + 2048) (shelf .end) s (p .owners)))
 
-    module _ (o : Outcome) (said : outcome table a o u ≡ def.search table (limitsOf a (rules .limit)) left) where
-      whole : outcome table a o u ≡ searchFrom (rulesOf rules) (k .prepared)
+    module _ (o : Outcome) (said : searchOutcome table a o u ≡ def.search table (entryLimitsOf a (rules .limit)) left) where
+      whole : searchOutcome table a o u ≡ searchFrom (callRules rules) (k .prepared)
       whole = said ∙ search-is a (placed a is .bound)
 
       -- it is refused
       pub search-refused : (number : ℕ) → o ≡ search.Refused number → (v : List ℕ) → Searched k rules (Refused number) v
-      unfolding outcome Searched
-      search-refused number e v = sym whole ∙ ap (λ (x : Outcome). outcome table a x u) e
+      unfolding searchOutcome Searched
+      search-refused number e v = sym whole ∙ ap (λ (x : Outcome). searchOutcome table a x u) e
 
       -- or it found lists, which stand in the whole workspace
       pub search-answered : (n rest : ℕ) → o ≡ search.Found n rest
-          → result.answered (record { lists = emittedIn table a (listsPart a (drop (shelf .owners) now)); left = rest }) ≡ searchFrom (rulesOf rules) (k .prepared)
-      unfolding outcome
+          → result.answered (record { lists = emittedIn table a (listsPart a (drop (shelf .owners) now)); left = rest }) ≡ searchFrom (callRules rules) (k .prepared)
+      unfolding searchOutcome
       search-answered n rest e =
           ap (λ (l : List ℕ). result.answered (record { lists = emittedIn table a (listsPart a l); left = rest })) tail-is
-          ∙ (sym (ap (λ (x : Outcome). outcome table a x u) e) ∙ whole)
+          ∙ (sym (ap (λ (x : Outcome). searchOutcome table a x u) e) ∙ whole)
 
-    pub search-emitted : (o : Outcome) → counted table a o u → (n rest : ℕ) → o ≡ search.Found n rest → Emitted a (listsPart a (drop (shelf .owners) now))
-    unfolding counted
-    search-emitted o c n rest e = subst (λ (l : List ℕ). Emitted a (listsPart a l)) (sym tail-is) (emitted-in (subst (λ (x : Outcome). counted table a x u) e c))
+    pub search-emitted : (o : Outcome) → countedLists table a o u → (n rest : ℕ) → o ≡ search.Found n rest → Emitted a (listsPart a (drop (shelf .owners) now))
+    unfolding countedLists
+    search-emitted o c n rest e = subst (λ (l : List ℕ). Emitted a (listsPart a l)) (sym tail-is) (emitted-in (subst (λ (x : Outcome). countedLists table a x u) e c))
       where
-        emitted-in : counted table a (search.Found n rest) u → Emitted a (listsPart a u)
+        emitted-in : countedLists table a (search.Found n rest) u → Emitted a (listsPart a u)
         emitted-in d = d .emitted
 
   -- ---- the tables as they are laid
@@ -320,8 +320,8 @@ module _ (k : Stock) (shelf : Shelf) (rank : ℕ) (rows : List ℕ) (m : ℕ) (r
       -- ---- what the search said
 
       module _ (long1 : length s1 ≡ length s) (o : Outcome) (u : List ℕ) (long-u : length u ≡ length (take (length s1 - shelf .owners) (drop (shelf .owners) s1)))
-          (said : (t : Table) → Inputs t a (take (length s1 - shelf .owners) (drop (shelf .owners) s1)) → outcome t a o u ≡ def.search t (limitsOf a (rules .limit)) left)
-          (many : (t : Table) → counted t a o u) (tables : take (a .frames) u ≡ take (a .frames) (take (length s1 - shelf .owners) (drop (shelf .owners) s1))) where
+          (said : (t : Table) → Inputs t a (take (length s1 - shelf .owners) (drop (shelf .owners) s1)) → searchOutcome t a o u ≡ def.search t (entryLimitsOf a (rules .limit)) left)
+          (many : (t : Table) → countedLists t a o u) (tables : take (a .frames) u ≡ take (a .frames) (take (length s1 - shelf .owners) (drop (shelf .owners) s1))) where
         tail-long : length u ≡ length (drop (shelf .owners) s1)
         tail-long = long-u ∙ ap length (lent-tail (shelf .owners) s1)
 

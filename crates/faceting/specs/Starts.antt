@@ -19,11 +19,11 @@ use Rattle.orbits.specs.Answers.{answerIn, orbitsOrRefusal}
 use Rattle.orbits.specs.declared.Answer.{Answer}
 use Rattle.orbits.specs.declared.Answer.the-variants.{Orbits, Refused as RefusedAnswer}
 use Rattle.shapes.specs.Answered.{answers-equal}
-use Rattle.shelf.specs.Keeps.{Fits, Keeps, Ridges}
+use Rattle.shelf.specs.Keeps.{ShelfFits, Keeps, Ridges}
 use Rattle.shelf.specs.declared.Shelf.{Shelf}
 use Rattle.calls.specs.Layouts.{shelfThree, shelfFour, shelfFor}
 use Rattle.keep.specs.Storing.{beside-take}
-use Rattle.keep.specs.Stocked.{Within}
+use Rattle.keep.specs.Stocked.{ShelfWritten}
 use Rattle.faceting.specs.State as state
 use Rattle.faceting.specs.Says.{Site, SiteState, siteOrbits}
 
@@ -77,11 +77,11 @@ shelf-empty rank = go (eqb rank 3)
     go false = (refl, refl)
 
 -- what a cleared shelf behind the orbits says of them
-pub start-kept : (bound : ℕ) (orbits : List Orbit) (n : ℕ) (r : Answer) (rank : ℕ) (shelf : Shelf) (s u : List ℕ) → shelf ≡ shelfFor rank → Fits (shelfFor rank) (length s) → bound ≤ 256 → Within shelf s u
+pub start-kept : (bound : ℕ) (orbits : List Orbit) (n : ℕ) (r : Answer) (rank : ℕ) (shelf : Shelf) (s u : List ℕ) → shelf ≡ shelfFor rank → ShelfFits (shelfFor rank) (length s) → bound ≤ 256 → ShelfWritten shelf s u
     → ((k : ℕ) → shelf .orbits ≡ 0 → shelf .facets ≡ 0 → Keeps k shelf [] u × Ridges shelf [] u) → answerIn n r s ≡ orbitsOrRefusal bound orbits
     → (answerIn n r u ≡ orbitsOrRefusal bound orbits) × ((k : ℕ) → Keeps k (shelfFor rank) [] u × Ridges (shelfFor rank) [] u)
 start-kept bound orbits n r rank shelf s u is fits few within keeps e =
-    let w : Within (shelfFor rank) s u = subst (λ (x : Shelf). Within x s u) is within in
+    let w : ShelfWritten (shelfFor rank) s u = subst (λ (x : Shelf). ShelfWritten x s u) is within in
     let cleared : (k : ℕ) → shelfFor rank .orbits ≡ 0 → shelfFor rank .facets ≡ 0 → Keeps k (shelfFor rank) [] u × Ridges (shelfFor rank) [] u =
     subst (λ (x : Shelf). (k : ℕ) → x .orbits ≡ 0 → x .facets ≡ 0 → Keeps k x [] u × Ridges x [] u) is keeps in
     (answer-kept bound orbits n r s u few (beside-take w 2048 (fits .orbitRoom)) e, λ k. cleared k (shelf-empty rank .0) (shelf-empty rank .1))

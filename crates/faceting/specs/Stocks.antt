@@ -14,7 +14,7 @@ use Rattle.laws.specs.Lists.{Mem}
 use Rattle.laws.specs.Parts.{length-rows}
 use Rattle.openers.specs.Rows.{rowsIn, RowsFit}
 use Rattle.space.specs.Meaning as space
-use Rattle.search.specs.Outcomes.{limitOf}
+use Rattle.search.specs.Outcomes.{entryLimitOf}
 use Rattle.shapes.specs.Answered.{Preparation}
 use Rattle.shapes.specs.Calls.{Given}
 use Rattle.shapes.specs.Kept.{Kept, keptOf, numbersKept}
@@ -32,11 +32,11 @@ use Rattle.ridges.specs.Small.{Small}
 use Rattle.faceting.specs.Desks.{deskFor, desk-three, desk-four}
 
 -- the definition's rules, from those that the code passes down
-unfoldable pub rulesOf : Rules → def.Rules
-rulesOf rules = record {
+unfoldable pub callRules : Rules → def.Rules
+callRules rules = record {
   tolerance = rules .tolerance;
   lengths = space.limitsOf (rules .min) (rules .max);
-  entryLimit = limitOf (rules .limit);
+  entryLimit = entryLimitOf (rules .limit);
   bounds = record { orbits = rules .orbits; facets = rules .facets; entries = rules .entries };
 }
 
@@ -60,7 +60,7 @@ pub record Stocked (k : Stock) (shelf : Shelf) (rank : ℕ) (rows : List ℕ) (m
   pub rank-is : rank ≡ 3 + k .more
   pub given : Given (k .points) (k .rows)
   pub few-points : pointsIn k ≤ 20
-  pub made : Preparation (k .more) (rulesOf rules) (faceting (k .more) (rulesOf rules)) (k .plane) (k .points) (k .rows) (k .prepared)
+  pub made : Preparation (k .more) (callRules rules) (faceting (k .more) (callRules rules)) (k .plane) (k .points) (k .rows) (k .prepared)
   pub left-is : left ≡ k .prepared .left
   pub few-entries : rules .entries ≡ 1024
   pub rows-are : k .rows ≡ rowsIn (pointsIn k) m rows
@@ -88,7 +88,7 @@ module _ (k : Stock) (shelf : Shelf) (rank : ℕ) (rows : List ℕ) (m : ℕ) (r
   rows-many = let e = ap length (st .rows-are) ∙ length-rows 32 (pointsIn k) m rows in omega (arith, st .rows-few)
 
   sized : (j : Kept) → Mem j (keptIn k) → KeptSized (k .more) (pointsIn k) (k .rows) j
-  sized = kept-sized (k .more) (rulesOf rules) (k .plane) (k .points) (k .rows) (k .prepared) (st .few-more) (st .given) (st .made)
+  sized = kept-sized (k .more) (callRules rules) (k .plane) (k .points) (k .rows) (k .prepared) (st .few-more) (st .given) (st .made)
 
   small : (most : ℕ) → ((j : Kept) → Mem j (keptIn k) → length (j .ends) ≤ most) → Small (pointsIn k) most (keptIn k)
   small most few = record {
@@ -102,7 +102,7 @@ module _ (k : Stock) (shelf : Shelf) (rank : ℕ) (rows : List ℕ) (m : ℕ) (r
   }
 
   many-ridges : RidgesKept (k .more) (pointsIn k) (k .rows) (keptIn k)
-  many-ridges = ridges-kept (k .more) (rulesOf rules) (k .plane) (k .points) (k .rows) (k .prepared) (st .few-more) (st .given) (st .made)
+  many-ridges = ridges-kept (k .more) (callRules rules) (k .plane) (k .points) (k .rows) (k .prepared) (st .few-more) (st .given) (st .made)
 
   laid-from : (most ridges : ℕ) → ((j : Kept) → Mem j (keptIn k) → length (j .ends) ≤ most) → length (numbersKept (k .rows) (keptIn k) .1 .counts) ≤ ridges
       → DeskFits shelf (deskFor rank) most ridges (length s) → desks.Given (pointsIn k) most ridges m rows (keptIn k) shelf (deskFor rank) s
@@ -120,16 +120,16 @@ module _ (k : Stock) (shelf : Shelf) (rank : ℕ) (rows : List ℕ) (m : ℕ) (r
   pub tables-asked : (most : ℕ) × (ridges : ℕ) × desks.Given (pointsIn k) most ridges m rows (keptIn k) shelf (deskFor rank) s
   tables-asked = at-rank (k .more) (st .few-more) (st .rank-is) (st .made) many-ridges
     where
-      at-rank : (more : ℕ) → more ≤ 1 → rank ≡ 3 + more → Preparation more (rulesOf rules) (faceting more (rulesOf rules)) (k .plane) (k .points) (k .rows) (k .prepared)
+      at-rank : (more : ℕ) → more ≤ 1 → rank ≡ 3 + more → Preparation more (callRules rules) (faceting more (callRules rules)) (k .plane) (k .points) (k .rows) (k .prepared)
           → RidgesKept more (pointsIn k) (k .rows) (keptIn k) → (most : ℕ) × (ridges : ℕ) × desks.Given (pointsIn k) most ridges m rows (keptIn k) shelf (deskFor rank) s
       at-rank zero few e made r =
           let three : rank ≡ 3 = omega arith in
           let at = shelf-three shelf rank three (st .owners-at) (st .end-at) in
-          let orbits = few-orbits-three (rulesOf rules) (k .plane) (k .points) (k .rows) (k .prepared) made (st .few-points) in
+          let orbits = few-orbits-three (callRules rules) (k .plane) (k .points) (k .rows) (k .prepared) made (st .few-points) in
           let ridges = rank-three-ridges (pointsIn k) (k .rows) (keptIn k) r in (
             2,
             20,
-            laid-from 2 20 (λ j i. omega (arith, sized j i .ends-many, kept-edge (rulesOf rules) (k .plane) (k .points) (k .rows) (k .prepared) made j i .few-counts)) (omega (arith, st .few-points))
+            laid-from 2 20 (λ j i. omega (arith, sized j i .ends-many, kept-edge (callRules rules) (k .plane) (k .points) (k .rows) (k .prepared) made j i .few-counts)) (omega (arith, st .few-points))
                 (subst (λ (desk : Desk). DeskFits shelf desk 2 20 (length s)) (desk-three rank three) (rank3-fits shelf (length s) (omega (arith, at .1)) (omega (arith, st .keeps .orbits)) (st .room-three three))),
           )
       at-rank (suc zero) few e made r =

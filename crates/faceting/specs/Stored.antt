@@ -24,7 +24,7 @@ use Rattle.keep.specs.Adding.{orbitAt, withFacets}
 use Rattle.keep.specs.Edges.{edgeAnswer}
 use Rattle.keep.specs.Rooms.{RoomFor}
 use Rattle.keep.specs.Storing.{beside-take}
-use Rattle.keep.specs.Stocked.{Within}
+use Rattle.keep.specs.Stocked.{ShelfWritten}
 use Rattle.keep.specs.Whole.{nextVertices, InnerLeft, innerAnswer, PolygonRoom}
 use Rattle.faceting.specs.Spaces.{Laid}
 use Rattle.faceting.specs.Says.{Site, Turn, Says, SiteState, siteOrbits, siteOrbit, sitePoints, sitePlane, siteRows, siteWhole}
@@ -79,7 +79,7 @@ module _ (g : Site) (shelf : Shelf) (left : ℕ) (swapped : Bool) (rest : ℕ) (
   pub edge-full : (bound : ℕ) → bound ≡ g .rules .bounds .facets → bound < shelf .facets + 1 → siteWhole g ≡ refused 15
   edge-full bound e k = keeping.ends-full g shelf left (shelf .orbits) swapped rest rows m s t (omega arith)
 
-  pub edge-stored : (bound : ℕ) → bound ≡ g .rules .bounds .facets → shelf .facets + 1 ≤ bound → (r : Shelf) (u : List ℕ) → r ≡ withFacets shelf 1 → Within shelf s u
+  pub edge-stored : (bound : ℕ) → bound ≡ g .rules .bounds .facets → shelf .facets + 1 ≤ bound → (r : Shelf) (u : List ℕ) → r ≡ withFacets shelf 1 → ShelfWritten shelf s u
       → ((kept : List Kept) (i : Inner) (left : ℕ) → Keeps n shelf kept s → Ridges shelf kept s → i .orbit ≡ orbitOf n (orbitAt s (shelf .orbits)) → i .answer ≡ edgeAnswer swapped left
       → Keeps n r (kept ++ (keptOf i ∷ [])) u × Ridges r (kept ++ (keptOf i ∷ [])) u) → OneMore g shelf r rest u
   edge-stored bound e room r u is within more =
@@ -112,7 +112,7 @@ module _ (g : Site) (shelf : Shelf) (left : ℕ) (level : Level) (rest : ℕ) (r
   pub polygons-full : (bound : ℕ) → bound ≡ g .rules .bounds .facets → bound < shelf .facets + level .count → siteWhole g ≡ refused 15
   polygons-full bound e k = keeping.left-full g shelf left level rest rows m s t (omega arith)
 
-  pub polygons-stored : (bound : ℕ) → bound ≡ g .rules .bounds .facets → shelf .facets + level .count ≤ bound → (r : Shelf) (u : List ℕ) → r ≡ withFacets shelf (level .count) → Within shelf s u
+  pub polygons-stored : (bound : ℕ) → bound ≡ g .rules .bounds .facets → shelf .facets + level .count ≤ bound → (r : Shelf) (u : List ℕ) → r ≡ withFacets shelf (level .count) → ShelfWritten shelf s u
       → ((kept : List Kept) (inner : List Kept) (i : Inner) (left : ℕ) → Keeps n shelf kept s → Ridges shelf kept s → InnerLeft n shelf (shelf .end) m inner level rows s → i .orbit ≡ orbitOf n (orbitAt s (shelf .orbits))
       → i .answer ≡ innerAnswer n shelf (shelf .end) m inner level rows s left → Keeps n r (kept ++ (keptOf i ∷ [])) u × Ridges r (kept ++ (keptOf i ∷ [])) u) → OneMore g shelf r rest u
   polygons-stored bound e room r u is within more =

@@ -13,13 +13,13 @@ ghost use Rattle.laws.specs.Sets.{verticesOf};
 ghost use Rattle.openers.specs.Rows.{rowsIn, writtenRows};
 ghost use Rattle.space.specs.Meaning.{PointsFit, pointsOf, subspaceOf, HoldsPoints, limitsOf};
 ghost use Rattle.orbits.specs.Answers.{CallFits, answerIn, orbitsOrRefusal};
-ghost use Rattle.shelf.specs.Keeps.{Fits, Keeps, Ridges};
+ghost use Rattle.shelf.specs.Keeps.{ShelfFits, Keeps, Ridges};
 ghost use Rattle.calls.specs.Layouts.{shelfFor};
 ghost use Rattle.sets.specs.Refitting.{Refitted};
 ghost use Rattle.stabilizers.specs.Permutations.{Permutations};
 ghost use Rattle.calls.specs.declared.Called.the-variants.{Ends, Left};
 ghost use Rattle.faceting.specs.Desks.{deskFor};
-ghost use Rattle.faceting.specs.Stocks.{Stock, Stocked, rulesOf};
+ghost use Rattle.faceting.specs.Stocks.{Stock, Stocked, callRules};
 ghost use Rattle.faceting.specs.Answers.{Searched};
 ghost use Rattle.faceting.specs.Searched.{ListsReady, EntriesListed};
 use calls::Called;
@@ -116,7 +116,7 @@ fn start_call(
     m: usize,
     rules: Rules,
 ) -> Answer
-    requires { ⌜ CallFits points flat m (now rows) × (rules .orbits ≤ 256) × (124928 ≤ length (now ws)) × Fits (shelfFor rank) (length (now ws)) × (3 ≤ rank) ⌝ }
+    requires { ⌜ CallFits points flat m (now rows) × (rules .orbits ≤ 256) × (124928 ≤ length (now ws)) × ShelfFits (shelfFor rank) (length (now ws)) × (3 ≤ rank) ⌝ }
     ensures { λ r. ⌜ (answerIn (flat .n) r (now (ws .exit)) ≡ orbitsOrRefusal (rules .orbits) (hyperplaneOrbits (rules .tolerance) (limitsOf (rules .min) (rules .max)) (rank - 3) (pointsOf points) (pointsOf flat) (rowsIn (flat .n) m (now (rows .entry))))) × ((k : ℕ) → Keeps k (shelfFor rank) [] (now (ws .exit)) × Ridges (shelfFor rank) [] (now (ws .exit))) ⌝ }
 {
     let min = rules.min;
@@ -259,7 +259,7 @@ pub fn faceting(
     ws: &mut [u8],
 ) -> Called
     requires { ⌜ Asked rank plane points (now rows) m rules (now ws) ⌝ }
-    ensures { λ r. ⌜ Says (rank - 2) (rulesOf rules) (subspaceOf plane) (pointsOf points) (rowsIn (points .n) m (now (rows .entry))) budget r (now (ws .exit)) ⌝ }
+    ensures { λ r. ⌜ Says (rank - 2) (callRules rules) (subspaceOf plane) (pointsOf points) (rowsIn (points .n) m (now (rows .entry))) budget r (now (ws .exit)) ⌝ }
 {
     if rank == 2 {
         return Called::Ends(calls::swaps_ends(rows, m), budget);

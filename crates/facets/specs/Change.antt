@@ -19,7 +19,7 @@ use Rattle.words.specs.Words.{numberAt-take}
 use Rattle.pool.specs.Pool.{used, lengthAt, placeAt, list-length, list-item, item-inside}
 use Rattle.facets.specs.declared.Areas.{Areas}
 use Rattle.facets.specs.Sums.{amount-small}
-use Rattle.facets.specs.Layout.{Inputs, Fits, facetOf, amountIn, codes, touchedPart, totalsPart, usedPart, framesPart, listsPart, changed, lifted, withTotals, withUse}
+use Rattle.facets.specs.Layout.{Inputs, AreasFit, facetOf, amountIn, codes, touchedPart, totalsPart, usedPart, framesPart, listsPart, changed, lifted, withTotals, withUse}
 
 -- ---- the totals changed
 
@@ -171,7 +171,7 @@ module _ (t : Table) (a : Areas) (s : List ℕ) (h : Inputs t a s) (x : ℕ) (k 
 unfoldable pub afterCodes : (ℕ → ℕ → ℕ) → Areas → List ℕ → ℕ → ℕ → List ℕ
 afterCodes by a s x i = placed (a .totals) (a .used - a .totals) s (changed by (totalsPart a s) (take i (codes a (touchedPart a s) x)))
 
-module _ (by : ℕ → ℕ → ℕ) (a : Areas) (s : List ℕ) (f : Fits a (length s)) (x : ℕ) where
+module _ (by : ℕ → ℕ → ℕ) (a : Areas) (s : List ℕ) (f : AreasFit a (length s)) (x : ℕ) where
   abbrev cs : List ℕ
   cs = codes a (touchedPart a s) x
 
@@ -291,7 +291,7 @@ module _ (t : Table) (a : Areas) (s : List ℕ) (h : Inputs t a s) (x : ℕ) (k 
 
 -- ---- what the areas hold afterwards
 
-module _ (by : ℕ → ℕ → ℕ) (a : Areas) (s : List ℕ) (f : Fits a (length s)) (x v : ℕ) (h : x < a .facets) where
+module _ (by : ℕ → ℕ → ℕ) (a : Areas) (s : List ℕ) (f : AreasFit a (length s)) (x v : ℕ) (h : x < a .facets) where
   abbrev s1 : List ℕ
   s1 = withTotals by a s x
 

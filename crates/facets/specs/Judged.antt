@@ -61,16 +61,16 @@ none-over l light = fails→false (anyOf (ltb 2) l) (not-T (anyOf (ltb 2) l) non
         omega arith
 
 -- a verdict that is not over
-unfoldable pub Within : Verdict → Type 0
-Within over = ⊥
-Within (openAt ridge) = Unit {0}
-Within closed = Unit {0}
+unfoldable pub NotOver : Verdict → Type 0
+NotOver over = ⊥
+NotOver (openAt ridge) = Unit {0}
+NotOver closed = Unit {0}
 
-pub judge-light : (l : List ℕ) → Within (judge l) → (i : ℕ) → i < length l → getD l i 0 ≤ 2
-unfolding judge Within
+pub judge-light : (l : List ℕ) → NotOver (judge l) → (i : ℕ) → i < length l → getD l i 0 ≤ 2
+unfolding judge NotOver
 judge-light l w i h = go (anyOf (ltb 2) l) refl w
   where
-    go : (b : Bool) → anyOf (ltb 2) l ≡ b → Within (cond b over (cond (ltb (placeOf (eqb 1) l) (length l)) (openAt (placeOf (eqb 1) l)) closed)) → getD l i 0 ≤ 2
+    go : (b : Bool) → anyOf (ltb 2) l ≡ b → NotOver (cond b over (cond (ltb (placeOf (eqb 1) l) (length l)) (openAt (placeOf (eqb 1) l)) closed)) → getD l i 0 ≤ 2
     go true e v = absurd v
     go false e v = nltb→le 2 (getD l i 0) (not-T (ltb 2 (getD l i 0)) (λ z. T-not (anyOf (ltb 2) l) (false→fails e) (any-of (ltb 2) (getD l i 0) l (member-at l i 0 h) z)))
 

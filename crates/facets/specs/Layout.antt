@@ -15,7 +15,7 @@ use Rattle.definitions.specs.Outcome as result
 use Rattle.definitions.specs.Search.{Table, Facet, allFacets, onesAt, usesOrbit}
 use Rattle.laws.specs.Segments.{part, placed, part-take}
 use Rattle.words.specs.Words.{words, words-take}
-use Rattle.pool.specs.Pool.{Sound, count, used, closed}
+use Rattle.pool.specs.Pool.{Sound, count, used, closedLists}
 use Rattle.facets.specs.Sums.{amount, sumAt}
 use Rattle.facets.specs.declared.Areas.{Areas}
 use Rattle.facets.specs.declared.Verdict.{Verdict}
@@ -36,7 +36,7 @@ facetOf t x = getD (allFacets t) x (0, 0)
 unfoldable pub onesOf : Table → ℕ → List ℕ
 onesOf t ridge = flatMap (λ (x : ℕ). replicate (onesAt t ridge (facetOf t x)) x) (countFrom 0 (length (allFacets t)))
 
--- the candidates of a list: of a closed one all facets, of one that is open those with shares of 1. The kind is 0, or one more than the ridge orbit
+-- the candidates of a list: of a closedLists one all facets, of one that is open those with shares of 1. The kind is 0, or one more than the ridge orbit
 unfoldable pub numbers : Table → ℕ → List ℕ
 numbers t zero = countFrom 0 (length (allFacets t))
 numbers t (suc ridge) = onesOf t ridge
@@ -60,7 +60,7 @@ amountIn ridge (c ∷ cs) = cond (eqb ridge (c / 4)) (c % 4) 0 + amountIn ridge 
 
 -- the codes of a facet
 unfoldable pub codes : Areas → List ℕ → ℕ → List ℕ
-codes a touched x = getD (closed 2 (a .facets) touched) x []
+codes a touched x = getD (closedLists 2 (a .facets) touched) x []
 
 -- the areas hold a table
 pub record Tables (t : Table) (a : Areas) (os touched ones : List ℕ) : Type 0 where
@@ -73,14 +73,14 @@ pub record Tables (t : Table) (a : Areas) (os touched ones : List ℕ) : Type 0 
   pub amounts : (x : ℕ) → x < a .facets → (ridge : ℕ) → ridge < a .ridges → amountIn ridge (codes a touched x) ≡ amount t ridge (facetOf t x)
   pub within : (x : ℕ) → x < a .facets → (i : ℕ) → i < length (codes a touched x) → getD (codes a touched x) i 0 / 4 < a .ridges
   pub onesSound : Sound 2 (a .ridges) ones
-  pub onesAre : closed 2 (a .ridges) ones ≡ map (onesOf t) (countFrom 0 (a .ridges))
+  pub onesAre : closedLists 2 (a .ridges) ones ≡ map (onesOf t) (countFrom 0 (a .ridges))
 
-abbrev pub Holds : Table → Areas → List ℕ → Type 0
-Holds t a s = Tables t a (words 2 s (a .facets)) (touchedPart a s) (onesPart a s)
+abbrev pub HoldsTables : Table → Areas → List ℕ → Type 0
+HoldsTables t a s = Tables t a (words 2 s (a .facets)) (touchedPart a s) (onesPart a s)
 
 -- ---- sizes
 
-pub record Fits (a : Areas) (size : ℕ) : Type 0 where
+pub record AreasFit (a : Areas) (size : ℕ) : Type 0 where
   pub fewFacets : a .facets ≤ 65536
   pub fewRidges : a .ridges < 16384
   pub fewOrbits : a .orbits ≤ 65536
@@ -96,11 +96,11 @@ pub record Fits (a : Areas) (size : ℕ) : Type 0 where
   pub ends : a .end ≤ size
 
 pub record Inputs (t : Table) (a : Areas) (s : List ℕ) : Type 0 where
-  pub fits : Fits a (length s)
-  pub holds : Holds t a s
+  pub fits : AreasFit a (length s)
+  pub holds : HoldsTables t a s
 
 -- the tables lie before the frames
-pub holds-kept : (t : Table) (a : Areas) (s s' : List ℕ) → Fits a (length s) → take (a .frames) s' ≡ take (a .frames) s → Holds t a s → Holds t a s'
+pub holds-kept : (t : Table) (a : Areas) (s s' : List ℕ) → AreasFit a (length s) → take (a .frames) s' ≡ take (a .frames) s → HoldsTables t a s → HoldsTables t a s'
 holds-kept t a s s' f e h =
     let o : words 2 s' (a .facets) ≡ words 2 s (a .facets) =
     sym (words-take 2 s' (a .frames) (a .facets) (omega arith)) ∙ (ap (λ (r : List ℕ). words 2 r (a .facets)) e ∙ words-take 2 s (a .frames) (a .facets) (omega arith)) in

@@ -10,7 +10,7 @@ use Rattle.definitions.specs.Job.{numberAt}
 use Rattle.definitions.specs.Search.{Table, Facet, allFacets, onesAt}
 use Rattle.laws.specs.Lists.{Mem, map-at, count-at, count-length, member-at, of-count, of-flatMap, in-replicate}
 use Rattle.words.specs.Words.{getD-words}
-use Rattle.pool.specs.Pool.{count, closed, lengthAt, placeAt, closed-length, list-length, list-item, item-inside}
+use Rattle.pool.specs.Pool.{count, closedLists, lengthAt, placeAt, closed-length, list-length, list-item, item-inside}
 use Rattle.facets.specs.declared.Areas.{Areas}
 use Rattle.facets.specs.Frames.{candidates}
 use Rattle.facets.specs.Layout.{Inputs, numbers, ridgeOf, facetOf, onesOf, onesPart}
@@ -80,7 +80,7 @@ module _ (t : Table) (a : Areas) (s : List ℕ) (h : Inputs t a s) where
       sym (closed-length 2 (a .ridges) (onesPart a s))
       ∙ (ap length (h .holds .onesAre) ∙ (length-map (countFrom 0 (a .ridges)) (onesOf t) ∙ count-length 0 (a .ridges)))
 
-  ones-list : (ridge : ℕ) → ridge < a .ridges → getD (closed 2 (a .ridges) (onesPart a s)) ridge [] ≡ onesOf t ridge
+  ones-list : (ridge : ℕ) → ridge < a .ridges → getD (closedLists 2 (a .ridges) (onesPart a s)) ridge [] ≡ onesOf t ridge
   ones-list ridge k =
       let c = count-length 0 (a .ridges) in
       ap (λ (l : List (List ℕ)). getD l ridge []) (h .holds .onesAre)

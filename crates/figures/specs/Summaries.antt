@@ -7,7 +7,7 @@ use lib.ListN.{length, getD, length-map, List·getD-map}
 use Rattle.definitions.specs.Figures.{Figure, rankOf}
 use Rattle.definitions.specs.Recursion.{Entry}
 use Rattle.definitions.specs.Job.{summaryWords}
-use Rattle.pool.specs.Pool.{count, closed, closed-length}
+use Rattle.pool.specs.Pool.{count, closedLists, closed-length}
 use Rattle.compounds.specs.Areas.{listAt}
 use Rattle.figures.specs.Flat.{figureIn, figureLists}
 
@@ -19,9 +19,9 @@ pub summary-entry : (e : Entry) → summaryWords e ≡ summaryOf (e .figure)
 unfolding summaryOf summaryWords
 summary-entry e = refl
 
-module _ (most : ℕ) (s : List ℕ) (form : closed 2 most s ≡ figureLists (figureIn (closed 2 most s))) where
+module _ (most : ℕ) (s : List ℕ) (form : closedLists 2 most s ≡ figureLists (figureIn (closedLists 2 most s))) where
   abbrev f : Figure
-  f = figureIn (closed 2 most s)
+  f = figureIn (closedLists 2 most s)
 
   lengths : listAt most s 0 ≡ map length f
   unfolding listAt figureLists

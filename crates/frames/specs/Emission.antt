@@ -12,12 +12,12 @@ use lib.Seq.{getD-append-seam}
 use borrow.Rule.Slice.PartMut.{put-same}
 use Rattle.definitions.specs.Search.{Table, usesOrbit}
 use Rattle.laws.specs.Segments.{placed, part-length, placed-length, part-placed, take-placed, part-placed-off, le-or-lt}
-use Rattle.pool.specs.Pool.{Sound, count, used, base, closed, opened, emptied, pushed, ended, closed-length, emptied-sound, emptied-closed, emptied-opened, pushed-length, pushed-count, pushed-used, pushed-sound, pushed-closed, pushed-opened, ended-length, ended-count, ended-used, ended-sound, ended-closed, ended-opened}
+use Rattle.pool.specs.Pool.{Sound, count, used, base, closedLists, opened, emptied, pushed, ended, closed-length, emptied-sound, emptied-closed, emptied-opened, pushed-length, pushed-count, pushed-used, pushed-sound, pushed-closed, pushed-opened, ended-length, ended-count, ended-used, ended-sound, ended-closed, ended-opened}
 use Rattle.facets.specs.declared.Areas.{Areas}
 use Rattle.facets.specs.Kept.{map-last}
 use Rattle.facets.specs.Frames.{root}
-use Rattle.facets.specs.Layout.{Inputs, Fits, holds-kept, facetOf, numbers, ridgeOf, totalsPart, usedPart, framesPart, listsPart, Totals, Uses, flag}
-use Rattle.frames.specs.Paths.{kindAt, placeAt, path, listTo, framesTo, takenAt, Path, Stands, Numbered, Emitted, emittedIn, pushedAll, withFrame}
+use Rattle.facets.specs.Layout.{Inputs, AreasFit, holds-kept, facetOf, numbers, ridgeOf, totalsPart, usedPart, framesPart, listsPart, Totals, Uses, flag}
+use Rattle.frames.specs.Paths.{kindAt, placeAt, path, listTo, framesTo, takenAt, Path, PathStands, Numbered, Emitted, emittedIn, pushedAll, withFrame}
 use Rattle.facets.specs.Change.{placed-placed}
 use Rattle.facets.specs.Sums.{sumAt}
 use Rattle.facets.specs.Numbers.{numbers-all-length, numbers-length}
@@ -38,7 +38,7 @@ pub record Pushed (most : ℕ) (l vs r : List ℕ) : Type 0 where
   pub long : length r ≡ length l
   pub items : used r ≡ used l + length vs
   pub lists : count r ≡ count l
-  pub shut : closed 2 most r ≡ closed 2 most l
+  pub shut : closedLists 2 most r ≡ closedLists 2 most l
   pub rest : opened 2 most r ≡ opened 2 most l ++ vs
 
 pub pushed-all : (most : ℕ) (l vs : List ℕ) → Sound 2 most l → base most + 2 * (used l + length vs) ≤ length l → used l + length vs < 4294967296 → ((i : ℕ) → i < length vs → getD vs i 0 < 65536)
@@ -71,7 +71,7 @@ path-length p (suc k) = let e = path-length p k in length-append (path p k) (tak
 
 -- ---- the lists' area replaced
 
-module _ (a : Areas) (s q : List ℕ) (f : Fits a (length s)) (l : length q ≡ a .end - a .lists) where
+module _ (a : Areas) (s q : List ℕ) (f : AreasFit a (length s)) (l : length q ≡ a .end - a .lists) where
   abbrev after : List ℕ
   after = placed (a .lists) (a .end - a .lists) s q
 
@@ -96,7 +96,7 @@ module _ (a : Areas) (s q : List ℕ) (f : Fits a (length s)) (l : length q ≡ 
   pub lists-inputs : (t : Table) → Inputs t a s → Inputs t a after
   lists-inputs t h = record { fits = rw lists-length f; holds = holds-kept t a s after f lists-tables (h .holds) }
 
-  pub lists-stands : (t : Table) (d m : ℕ) → Stands t a s d m → Stands t a after d m
+  pub lists-stands : (t : Table) (d m : ℕ) → PathStands t a s d m → PathStands t a after d m
   lists-stands t d m st = record {
     inputs = lists-inputs t (st .inputs);
     frames = rw lists-frames (st .frames);
@@ -125,7 +125,7 @@ numbered-last facets lists l h f k i m j =
 unfoldable pub afterPushes : Areas → List ℕ → ℕ → List ℕ
 afterPushes a s k = placed (a .lists) (a .end - a .lists) s (pushedAll (a .bound) (listsPart a s) (path (framesPart a s) k))
 
-module _ (t : Table) (a : Areas) (s : List ℕ) (d : ℕ) (st : Stands t a s d d) (em : Emitted a (listsPart a s)) (h : count (listsPart a s) < a .bound) where
+module _ (t : Table) (a : Areas) (s : List ℕ) (d : ℕ) (st : PathStands t a s d d) (em : Emitted a (listsPart a s)) (h : count (listsPart a s) < a .bound) where
   abbrev l : List ℕ
   l = listsPart a s
 
@@ -243,7 +243,7 @@ module _ (t : Table) (a : Areas) (s : List ℕ) (d : ℕ) (st : Stands t a s d d
   new-long : length new ≡ a .end - a .lists
   new-long = ended-length 2 (a .bound) (pushedAll (a .bound) l (path p d)) (all-pushed d (omega arith) .sound) more bounded ∙ pushed-long d (omega arith)
 
-  pub emit-stands : Stands t a then d d
+  pub emit-stands : PathStands t a then d d
   emit-stands = lists-stands a s new (st .inputs .fits) new-long t d d st
 
   pub emit-tables : take (a .frames) then ≡ take (a .frames) s
@@ -266,7 +266,7 @@ module _ (t : Table) (a : Areas) (s : List ℕ) (d : ℕ) (st : Stands t a s d d
       (record {
         sound = ended-sound 2 (a .bound) (pushedAll (a .bound) l (path p d)) (q .sound) more bounded;
         none = ended-opened 2 (a .bound) (pushedAll (a .bound) l (path p d)) (q .sound) more bounded;
-        numbered = rw (ended-closed 2 (a .bound) (pushedAll (a .bound) l (path p d)) (q .sound) more bounded, q .shut, q .rest, em .none) (numbered-last (a .facets) (closed 2 (a .bound) l) (path p d) (em .numbered) (few-taken d (omega arith)));
+        numbered = rw (ended-closed 2 (a .bound) (pushedAll (a .bound) l (path p d)) (q .sound) more bounded, q .shut, q .rest, em .none) (numbered-last (a .facets) (closedLists 2 (a .bound) l) (path p d) (em .numbered) (few-taken d (omega arith)));
         room = rw (z, u) (omega (arith, short));
       })
 
@@ -274,21 +274,21 @@ module _ (t : Table) (a : Areas) (s : List ℕ) (d : ℕ) (st : Stands t a s d d
   unfolding emittedIn listTo
   emit-lists =
       let q = all-pushed d (omega arith) in
-      let e : closed 2 (a .bound) (pushedAll (a .bound) l (path p d)) ++ (opened 2 (a .bound) (pushedAll (a .bound) l (path p d)) ∷ []) ≡ closed 2 (a .bound) l ++ (path p d ∷ []) =
+      let e : closedLists 2 (a .bound) (pushedAll (a .bound) l (path p d)) ++ (opened 2 (a .bound) (pushedAll (a .bound) l (path p d)) ∷ []) ≡ closedLists 2 (a .bound) l ++ (path p d ∷ []) =
       rw (q .shut, q .rest, em .none) refl in
       rw (lists-are a s new (st .inputs .fits) new-long)
       (ap (map (map (facetOf t))) (ended-closed 2 (a .bound) (pushedAll (a .bound) l (path p d)) (q .sound) more bounded ∙ e)
-      ∙ map-last (map (facetOf t)) (closed 2 (a .bound) l) (path p d))
+      ∙ map-last (map (facetOf t)) (closedLists 2 (a .bound) l) (path p d))
 
 -- as many as the area says
 pub emitted-count : (t : Table) (a : Areas) (l : List ℕ) → length (emittedIn t a l) ≡ count l
 unfolding emittedIn
-emitted-count t a l = length-map (closed 2 (a .bound) l) (map (facetOf t)) ∙ closed-length 2 (a .bound) l
+emitted-count t a l = length-map (closedLists 2 (a .bound) l) (map (facetOf t)) ∙ closed-length 2 (a .bound) l
 
 -- ---- the start
 
 pub record Started (t : Table) (a : Areas) (s₀ s : List ℕ) : Type 0 where
-  pub stands : Stands t a s 1 0
+  pub stands : PathStands t a s 1 0
   pub frames : framesTo t (framesPart a s) 1 ≡ root t ∷ []
   pub emitted : Emitted a (listsPart a s)
   pub none : emittedIn t a (listsPart a s) ≡ []
@@ -331,7 +331,7 @@ module _ (t : Table) (a : Areas) (s r1 r2 r3 r4 : List ℕ) (h : Inputs t a s) w
     size-2 : length s2 ≡ length s
     size-2 = let f = h .fits in placed-length (a .used) (a .lists - a .used) s1 r2 (omega (arith, size-1)) long-2 ∙ size-1
 
-    fits-2 : Fits a (length s2)
+    fits-2 : AreasFit a (length s2)
     fits-2 = rw size-2 (h .fits)
 
     tables-2 : take (a .frames) s2 ≡ take (a .frames) s

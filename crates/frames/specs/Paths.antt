@@ -7,7 +7,7 @@ use lib.ListN.{length, getD}
 use Rattle.definitions.specs.Job.{numberAt}
 use Rattle.definitions.specs.Search.{Table, Facet, Item}
 use Rattle.words.specs.Words.{put}
-use Rattle.pool.specs.Pool.{Sound, count, used, closed, opened, pushed}
+use Rattle.pool.specs.Pool.{Sound, count, used, closedLists, opened, pushed}
 use Rattle.facets.specs.Frames.{Frame, unused, markOf}
 use Rattle.facets.specs.Sums.{sumAt}
 use Rattle.facets.specs.declared.Areas.{Areas}
@@ -56,7 +56,7 @@ pub record Path (t : Table) (a : Areas) (p : List ℕ) (d m : ℕ) : Type 0 wher
   pub near : d ≤ m + 1
 
 -- d frames, and the first m facets counted
-pub record Stands (t : Table) (a : Areas) (s : List ℕ) (d m : ℕ) : Type 0 where
+pub record PathStands (t : Table) (a : Areas) (s : List ℕ) (d m : ℕ) : Type 0 where
   pub inputs : Inputs t a s
   pub frames : Path t a (framesPart a s) d m
   pub totals : Totals t a (listTo t (framesPart a s) m) (totalsPart a s)
@@ -80,7 +80,7 @@ withFrame p k place low mark kind = put 2 (put 2 (put 4 (put 4 p (16 * k) place)
 -- ---- the emitted lists
 
 unfoldable pub emittedIn : Table → Areas → List ℕ → List (List Facet)
-emittedIn t a l = map (map (facetOf t)) (closed 2 (a .bound) l)
+emittedIn t a l = map (map (facetOf t)) (closedLists 2 (a .bound) l)
 
 -- every item of every list is a facet's number
 abbrev pub Numbered : ℕ → List (List ℕ) → Type 0
@@ -89,7 +89,7 @@ Numbered facets lists = (k i : ℕ) → k < length lists → i < length (getD li
 pub record Emitted (a : Areas) (l : List ℕ) : Type 0 where
   pub sound : Sound 2 (a .bound) l
   pub none : opened 2 (a .bound) l ≡ []
-  pub numbered : Numbered (a .facets) (closed 2 (a .bound) l)
+  pub numbered : Numbered (a .facets) (closedLists 2 (a .bound) l)
   pub room : used l ≤ count l * a .orbits
 
 -- items pushed one after another

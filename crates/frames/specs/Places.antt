@@ -13,10 +13,10 @@ use Rattle.facets.specs.Layout.{facetOf, ridgeOf}
 use Rattle.frames.specs.Paths.{path, listTo, frameAt, framesTo, placeAt, lowAt, markAt, kindAt, takenAt, withPlace, withFrame}
 
 -- the first k frames are the same, byte for byte
-abbrev pub Below : List ℕ → List ℕ → ℕ → Type 0
-Below p q k = (j o w : ℕ) → j < k → o + w ≤ 16 → numberAt q (16 * j + o) w ≡ numberAt p (16 * j + o) w
+abbrev pub SameFrames : List ℕ → List ℕ → ℕ → Type 0
+SameFrames p q k = (j o w : ℕ) → j < k → o + w ≤ 16 → numberAt q (16 * j + o) w ≡ numberAt p (16 * j + o) w
 
-module _ (p q : List ℕ) (k : ℕ) (b : Below p q k) where
+module _ (p q : List ℕ) (k : ℕ) (b : SameFrames p q k) where
   same-place : (j : ℕ) → j < k → placeAt q j ≡ placeAt p j
   unfolding placeAt
   same-place j h =
@@ -77,7 +77,7 @@ module _ (p : List ℕ) (k place x : ℕ) (room : 16 * k + 16 ≤ length p) (sma
       later (inl h) = inl h
       later (inr h) = inr (omega arith)
 
-  pub place-below : Below p q k
+  pub place-below : SameFrames p q k
   place-below j o w h l = beside (16 * j + o) w (inl (omega arith)) (inl (omega arith))
 
   pub place-is : placeAt q k ≡ place
@@ -136,7 +136,7 @@ module _ (p : List ℕ) (k place low mark kind : ℕ) (room : 16 * k + 16 ≤ le
   unfolding withFrame
   frame-length = put-length 2 r3 (16 * k + 10) kind ∙ long-3
 
-  pub frame-below : Below p r k
+  pub frame-below : SameFrames p r k
   unfolding withFrame
   frame-below j o w h l =
       numberAt-put-off 2 r3 (16 * k + 10) kind (16 * j + o) w (inl (omega arith))

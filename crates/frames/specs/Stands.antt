@@ -18,7 +18,7 @@ use Rattle.facets.specs.Kept.{map-last}
 use Rattle.facets.specs.Frames.{unused}
 use Rattle.facets.specs.Sums.{sumAt, sum-joined}
 use Rattle.facets.specs.Layout.{Inputs, holds-kept, facetOf, amountIn, codes, touchedPart, totalsPart, usedPart, framesPart, withTotals, withUse, withFacet, withoutFacet, Uses, flag}
-use Rattle.frames.specs.Paths.{path, listTo, takenAt, Stands}
+use Rattle.frames.specs.Paths.{path, listTo, takenAt, PathStands}
 use Rattle.facets.specs.Numbers.{orbit-is}
 use Rattle.facets.specs.Latest.{facet-small}
 use Rattle.facets.specs.Change.{added-at, taken-at, change-length, change-tables, change-frames, change-totals, change-used}
@@ -81,7 +81,7 @@ module _ (t : Table) (a : Areas) (s : List ℕ) (d m : ℕ) where
     holds = holds-kept t a s (withUse a (withTotals by a s x) x v) (h .fits) (change-tables by a s (h .fits) x v k) (h .holds);
   }
 
-  pub stands-join : (x : ℕ) → Stands t a s d m → m < d → takenAt (framesPart a s) m ≡ x → x < a .facets → T (unused (listTo t (framesPart a s) m) (facetOf t x)) → Stands t a (withFacet a s x) d (suc m)
+  pub stands-join : (x : ℕ) → PathStands t a s d m → m < d → takenAt (framesPart a s) m ≡ x → x < a .facets → T (unused (listTo t (framesPart a s) m) (facetOf t x)) → PathStands t a (withFacet a s x) d (suc m)
   unfolding withFacet
   stands-join x st h e k free =
       let p = framesPart a s in
@@ -109,7 +109,7 @@ module _ (t : Table) (a : Areas) (s : List ℕ) (d m : ℕ) where
 
   -- ---- the last facet leaves
 
-  pub stands-leave : (x : ℕ) → Stands t a s d (suc m) → d ≤ suc m → takenAt (framesPart a s) m ≡ x → Stands t a (withoutFacet a s x) d m
+  pub stands-leave : (x : ℕ) → PathStands t a s d (suc m) → d ≤ suc m → takenAt (framesPart a s) m ≡ x → PathStands t a (withoutFacet a s x) d m
   unfolding withoutFacet
   stands-leave x st h e =
       let p = framesPart a s in
@@ -142,7 +142,7 @@ module _ (t : Table) (a : Areas) (s : List ℕ) (d m : ℕ) where
       }
 
   -- what the last facet added is in the totals
-  pub last-counted : Stands t a s d (suc m) → (ridge : ℕ) → ridge < a .ridges → amountIn ridge (codes a (touchedPart a s) (takenAt (framesPart a s) m)) ≤ getD (totalsPart a s) ridge 0
+  pub last-counted : PathStands t a s d (suc m) → (ridge : ℕ) → ridge < a .ridges → amountIn ridge (codes a (touchedPart a s) (takenAt (framesPart a s) m)) ≤ getD (totalsPart a s) ridge 0
   last-counted st ridge r =
       let p = framesPart a s in
       let w = st .totals ridge r in
@@ -151,5 +151,5 @@ module _ (t : Table) (a : Areas) (s : List ℕ) (d m : ℕ) where
       omega arith
 
   -- the list of the deepest frame is not over
-  pub totals-light : Stands t a s d m → m < d → (ridge : ℕ) → ridge < a .ridges → getD (totalsPart a s) ridge 0 ≤ 2
+  pub totals-light : PathStands t a s d m → m < d → (ridge : ℕ) → ridge < a .ridges → getD (totalsPart a s) ridge 0 ≤ 2
   totals-light st h ridge r = let w = st .totals ridge r in let l = st .frames .light m h ridge r in omega arith

@@ -1,4 +1,4 @@
--- The steps of the search on the workspace: the next candidate, a list examined, the last facet withdrawn, a list entered. Leans on Stands and Places.
+-- The steps of the search on the workspace: the next candidate, a list examined, the last facet withdrawn, a list entered. Leans on PathStands and Places.
 use mathlib.Core.Path.{_≡_, refl, sym, ap, _∙_}
 use mathlib.Core.Logic.{_⊎_, inl, inr, ⊎-elim}
 use mathlib.Core.Bool.{Bool, true, false, cond, not, _||_}
@@ -20,14 +20,14 @@ use Rattle.facets.specs.declared.Areas.{Areas}
 use Rattle.facets.specs.declared.Verdict.{Verdict}
 use Rattle.facets.specs.Frames.{Frame, candidates, unused, waiting, markOf, child, moved, entered, lowOf}
 use Rattle.facets.specs.Sums.{sumAt}
-use Rattle.facets.specs.Layout.{verdict, Inputs, Fits, holds-kept, facetOf, numbers, ridgeOf, codes, touchedPart, totalsPart, usedPart, framesPart, listsPart, lifted, withFacet, withoutFacet}
-use Rattle.frames.specs.Paths.{listTo, frameAt, framesTo, placeAt, lowAt, markAt, kindAt, takenAt, markAfter, itemAt, withPlace, withFrame, Path, Stands}
+use Rattle.facets.specs.Layout.{verdict, Inputs, AreasFit, holds-kept, facetOf, numbers, ridgeOf, codes, touchedPart, totalsPart, usedPart, framesPart, listsPart, lifted, withFacet, withoutFacet}
+use Rattle.frames.specs.Paths.{listTo, frameAt, framesTo, placeAt, lowAt, markAt, kindAt, takenAt, markAfter, itemAt, withPlace, withFrame, Path, PathStands}
 use Rattle.facets.specs.Numbers.{numbers-length, numbers-small, candidate-at, numbers-few}
 use Rattle.facets.specs.Latest.{Latest, latest-none, latest-found, latest-is, lastFree, not-below, facet-small}
 use Rattle.facets.specs.Judged.{none-over}
 use Rattle.facets.specs.Change.{over-after, change-frames, change-tables, change-totals, change-lists}
 use Rattle.frames.specs.Stands.{list-last, last-inside, totals-light, stands-join, stands-leave}
-use Rattle.frames.specs.Places.{Below, same-kind, same-places, same-taken, same-list, place-length, place-below, place-is, place-taken, place-kind, place-mark, place-frames, frame-length, frame-below, frame-place, frame-kind, frame-frames}
+use Rattle.frames.specs.Places.{SameFrames, same-kind, same-places, same-taken, same-list, place-length, place-below, place-is, place-taken, place-kind, place-mark, place-frames, frame-length, frame-below, frame-place, frame-kind, frame-frames}
 
 -- ---- how deep a path can be: its orbits differ
 
@@ -85,8 +85,8 @@ unfoldable pub nextPlace : Table → Frame → ℕ
 nextPlace t fr = let r = lastFree t (fr .list) (fr .ridge) (fr .low) (fr .place) in cond (ltb (fr .low) r) r 0
 
 -- a next candidate is there
-pub record Ready (t : Table) (a : Areas) (s : List ℕ) (d place : ℕ) : Type 0 where
-  pub stands : Stands t a s d (d - 1)
+pub record CandidateDue (t : Table) (a : Areas) (s : List ℕ) (d place : ℕ) : Type 0 where
+  pub stands : PathStands t a s d (d - 1)
   pub deep : 0 < d
   pub positive : 0 < place
   pub inside : place ≤ placeAt (framesPart a s) (d - 1)
@@ -97,12 +97,12 @@ abbrev pub Light : Table → Areas → List Facet → Type 0
 Light t a list = (ridge : ℕ) → ridge < a .ridges → sumAt t list ridge ≤ 2
 
 -- The totals say whether a list is light, whichever table they were counted by.
-pub same-light : (t u : Table) (a : Areas) (s : List ℕ) (d : ℕ) → Stands t a s d d → Stands u a s d d → Light t a (listTo t (framesPart a s) d) → Light u a (listTo u (framesPart a s) d)
+pub same-light : (t u : Table) (a : Areas) (s : List ℕ) (d : ℕ) → PathStands t a s d d → PathStands u a s d d → Light t a (listTo t (framesPart a s) d) → Light u a (listTo u (framesPart a s) d)
 same-light t u a s d at au light ridge below = omega (arith, light ridge below, at .totals ridge below, au .totals ridge below)
 
 -- a list was examined
 pub record Visited (t : Table) (a : Areas) (s s' : List ℕ) (d place : ℕ) (v : Verdict) : Type 0 where
-  pub stands : Stands t a s' d d
+  pub stands : PathStands t a s' d d
   pub frames : framesTo t (framesPart a s') d ≡ moved (frameAt t (framesPart a s) (d - 1)) (place - 1) ∷ framesTo t (framesPart a s) (d - 1)
   pub item : child (listTo t (framesPart a s) (d - 1)) (markAt (framesPart a s) (d - 1)) (ridgeOf (kindAt (framesPart a s) (d - 1))) (candidateOf t (frameAt t (framesPart a s) (d - 1)) place)
       ≡ itemAt t (framesPart a s') d
@@ -111,20 +111,20 @@ pub record Visited (t : Table) (a : Areas) (s s' : List ℕ) (d place : ℕ) (v 
   pub tables : take (a .frames) s' ≡ take (a .frames) s
 
 pub record Withdrawn (t : Table) (a : Areas) (s s' : List ℕ) (d : ℕ) : Type 0 where
-  pub stands : Stands t a s' d (d - 1)
+  pub stands : PathStands t a s' d (d - 1)
   pub frames : framesPart a s' ≡ framesPart a s
   pub lists : listsPart a s' ≡ listsPart a s
   pub tables : take (a .frames) s' ≡ take (a .frames) s
 
 pub record Entered (t : Table) (a : Areas) (s s' : List ℕ) (d kind : ℕ) : Type 0 where
-  pub stands : Stands t a s' (d + 1) d
+  pub stands : PathStands t a s' (d + 1) d
   pub frames : framesTo t (framesPart a s') (d + 1) ≡ entered t (listTo t (framesPart a s) d) (markAfter t (framesPart a s) (d - 1)) (ridgeOf kind) ∷ framesTo t (framesPart a s) d
   pub lists : listsPart a s' ≡ listsPart a s
   pub tables : take (a .frames) s' ≡ take (a .frames) s
 
 -- ---- room for the frames
 
-module _ (t : Table) (a : Areas) (s : List ℕ) (d m : ℕ) (st : Stands t a s d m) where
+module _ (t : Table) (a : Areas) (s : List ℕ) (d m : ℕ) (st : PathStands t a s d m) where
   pub frames-length : length (framesPart a s) ≡ a .totals - a .frames
   frames-length = let f = st .inputs .fits in part-length (a .frames) (a .totals - a .frames) s (omega arith)
 
@@ -136,7 +136,7 @@ module _ (t : Table) (a : Areas) (s : List ℕ) (d m : ℕ) (st : Stands t a s d
 
 -- ---- the frames replaced
 
-module _ (a : Areas) (s q : List ℕ) (f : Fits a (length s)) (l : length q ≡ a .totals - a .frames) where
+module _ (a : Areas) (s q : List ℕ) (f : AreasFit a (length s)) (l : length q ≡ a .totals - a .frames) where
   abbrev after : List ℕ
   after = placed (a .frames) (a .totals - a .frames) s q
 
@@ -171,7 +171,7 @@ pub next-none : (t : Table) (fr : Frame) (r : ℕ) → r ≡ lastFree t (fr .lis
 unfolding nextPlace
 next-none t fr r e h = rw (← e, not-below (fr .low) r h) refl
 
-pub next-holds : (t : Table) (a : Areas) (s : List ℕ) (d r : ℕ) → Stands t a s d (d - 1) → 0 < d → r ≡ nextPlace t (frameAt t (framesPart a s) (d - 1)) → Next t (frameAt t (framesPart a s) (d - 1)) r
+pub next-holds : (t : Table) (a : Areas) (s : List ℕ) (d r : ℕ) → PathStands t a s d (d - 1) → 0 < d → r ≡ nextPlace t (frameAt t (framesPart a s) (d - 1)) → Next t (frameAt t (framesPart a s) (d - 1)) r
 unfolding frameAt nextPlace candidateOf
 next-holds t a s d r st h e = rw e (go (ltb low last) refl)
   where
@@ -219,7 +219,7 @@ next-holds t a s d r st h e = rw e (go (ltb low last) refl)
 
 -- ---- a place taken
 
-module _ (t : Table) (a : Areas) (s : List ℕ) (d place x : ℕ) (ok : Ready t a s d place) (is : x ≡ getD (numbers t (kindAt (framesPart a s) (d - 1))) (place - 1) 0) where
+module _ (t : Table) (a : Areas) (s : List ℕ) (d place x : ℕ) (ok : CandidateDue t a s d place) (is : x ≡ getD (numbers t (kindAt (framesPart a s) (d - 1))) (place - 1) 0) where
   abbrev p : List ℕ
   p = framesPart a s
 
@@ -263,7 +263,7 @@ module _ (t : Table) (a : Areas) (s : List ℕ) (d place x : ℕ) (ok : Ready t 
   frames-are : framesPart a s1 ≡ q
   frames-are = put-frames a s q (ok .stands .inputs .fits) long
 
-  below : Below p q k
+  below : SameFrames p q k
   below = place-below p k (place - 1) x room place-small number-small
 
   taken-is : takenAt q k ≡ x
@@ -287,7 +287,7 @@ module _ (t : Table) (a : Areas) (s : List ℕ) (d place x : ℕ) (ok : Ready t 
         near = fr .near;
       }
 
-  pub stands-placed : Stands t a s1 d k
+  pub stands-placed : PathStands t a s1 d k
   stands-placed =
       let st = ok .stands in
       let f = st .inputs .fits in
@@ -343,7 +343,7 @@ module _ (t : Table) (a : Areas) (s : List ℕ) (d place x : ℕ) (ok : Ready t 
 
 -- ---- the last facet withdrawn
 
-pub withdrawn : (t : Table) (a : Areas) (s : List ℕ) (d x : ℕ) → Stands t a s d d → 0 < d → x ≡ takenAt (framesPart a s) (d - 1) → Withdrawn t a s (withoutFacet a s x) d
+pub withdrawn : (t : Table) (a : Areas) (s : List ℕ) (d x : ℕ) → PathStands t a s d d → 0 < d → x ≡ takenAt (framesPart a s) (d - 1) → Withdrawn t a s (withoutFacet a s x) d
 unfolding withoutFacet
 withdrawn t a s d x st h e =
     let z : suc (d - 1) ≡ d = omega arith in
@@ -357,7 +357,7 @@ withdrawn t a s d x st h e =
 
 -- ---- a list entered
 
-module _ (t : Table) (a : Areas) (s : List ℕ) (d place low mark kind : ℕ) (st : Stands t a s d d) (light : Light t a (listTo t (framesPart a s) d)) (deep : 0 < d) (inside : kind ≤ a .ridges)
+module _ (t : Table) (a : Areas) (s : List ℕ) (d place low mark kind : ℕ) (st : PathStands t a s d d) (light : Light t a (listTo t (framesPart a s) d)) (deep : 0 < d) (inside : kind ≤ a .ridges)
     (places : place ≡ length (numbers t kind)) (lows : low ≡ lowOf t mark (ridgeOf kind)) (marks : mark ≡ markAfter t (framesPart a s) (d - 1)) (a1 : place < 4294967296) (a2 : low < 4294967296) (a3 : mark < 65536) (a4 : kind < 65536) where
   abbrev p' : List ℕ
   p' = framesPart a s
@@ -377,7 +377,7 @@ module _ (t : Table) (a : Areas) (s : List ℕ) (d place low mark kind : ℕ) (s
   frames-are' : framesPart a s' ≡ q'
   frames-are' = put-frames a s q' (st .inputs .fits) long'
 
-  below' : Below p' q' d
+  below' : SameFrames p' q' d
   below' = frame-below p' d place low mark kind room' a1 a2 a3 a4
 
   at-or-below' : (j : ℕ) → j < d + 1 → (j < d) ⊎ (j ≡ d)

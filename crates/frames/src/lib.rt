@@ -6,10 +6,10 @@ ghost use lib.ListN.{length};
 ghost use Rattle.definitions.specs.Search.{Table};
 ghost use Rattle.laws.specs.Segments.{placed};
 ghost use Rattle.facets.specs.Layout.{Inputs, verdict, framesPart, listsPart};
-ghost use Rattle.frames.specs.Paths.{withPlace, withFrame, listTo, frameAt, markAfter, Stands, Emitted, path, pushedAll};
+ghost use Rattle.frames.specs.Paths.{withPlace, withFrame, listTo, frameAt, markAfter, PathStands, Emitted, path, pushedAll};
 ghost use Rattle.frames.specs.Emission.{Started};
 ghost use Rattle.pool.specs.Pool.{count, ended};
-ghost use Rattle.frames.specs.Steps.{nextPlace, Visited, Entered, Withdrawn, Ready, Light};
+ghost use Rattle.frames.specs.Steps.{nextPlace, Visited, Entered, Withdrawn, CandidateDue, Light};
 use facets::Areas;
 use facets::Verdict;
 
@@ -42,8 +42,8 @@ pub fn put_frame(frames: &mut [u8], k: usize, place: u32, low: u32, mark: u16, k
 
 // One more than the place of the next candidate in the deepest frame, or 0 if none is left.
 pub fn next(ws: &[u8], a: Areas, depth: usize) -> usize
-    requires { ⌜ ((t : Table) × Stands t a (now ws) depth (depth - 1) × (0 < depth)) ⌝ }
-    ensures { λ r. ⌜ ((t : Table) → Stands t a (now (ws .entry)) depth (depth - 1) → r ≡ nextPlace t (frameAt t (framesPart a (now (ws .entry))) (depth - 1))) ⌝ }
+    requires { ⌜ ((t : Table) × PathStands t a (now ws) depth (depth - 1) × (0 < depth)) ⌝ }
+    ensures { λ r. ⌜ ((t : Table) → PathStands t a (now (ws .entry)) depth (depth - 1) → r ≡ nextPlace t (frameAt t (framesPart a (now (ws .entry))) (depth - 1))) ⌝ }
 {
     let frames = a.frames;
     let totals = a.totals;
@@ -60,8 +60,8 @@ pub fn next(ws: &[u8], a: Areas, depth: usize) -> usize
 
 // The next candidate is taken, and the list that it makes is judged.
 pub fn visit(ws: &mut [u8], a: Areas, s: State, place: usize) -> State
-    requires { ⌜ ((t : Table) × Ready t a (now ws) (s .depth) place × (0 < s .left)) ⌝ }
-    ensures { λ r. ⌜ (r .depth ≡ s .depth) × (r .left ≡ s .left - 1) × ((t : Table) → Ready t a (now (ws .entry)) (s .depth) place → Visited t a (now (ws .entry)) (now (ws .exit)) (s .depth) place (r .verdict)) ⌝ }
+    requires { ⌜ ((t : Table) × CandidateDue t a (now ws) (s .depth) place × (0 < s .left)) ⌝ }
+    ensures { λ r. ⌜ (r .depth ≡ s .depth) × (r .left ≡ s .left - 1) × ((t : Table) → CandidateDue t a (now (ws .entry)) (s .depth) place → Visited t a (now (ws .entry)) (now (ws .exit)) (s .depth) place (r .verdict)) ⌝ }
 {
     let depth = s.depth;
     let left = s.left;
@@ -87,8 +87,8 @@ pub fn visit(ws: &mut [u8], a: Areas, s: State, place: usize) -> State
 
 // The last facet leaves the list.
 pub fn withdraw(ws: &mut [u8], a: Areas, depth: usize)
-    requires { ⌜ ((t : Table) × Stands t a (now ws) depth depth × (0 < depth)) ⌝ }
-    ensures { λ _. ⌜ ((t : Table) → Stands t a (now (ws .entry)) depth depth → Withdrawn t a (now (ws .entry)) (now (ws .exit)) depth) ⌝ }
+    requires { ⌜ ((t : Table) × PathStands t a (now ws) depth depth × (0 < depth)) ⌝ }
+    ensures { λ _. ⌜ ((t : Table) → PathStands t a (now (ws .entry)) depth depth → Withdrawn t a (now (ws .entry)) (now (ws .exit)) depth) ⌝ }
 {
     let frames = a.frames;
     let totals = a.totals;
@@ -98,8 +98,8 @@ pub fn withdraw(ws: &mut [u8], a: Areas, depth: usize)
 
 // The mark of the list: at an open list the mark stays, at a closed one it moves to the orbit of the facet that joins.
 pub fn mark_after(ws: &[u8], a: Areas, depth: usize) -> usize
-    requires { ⌜ ((t : Table) × Stands t a (now ws) depth depth × (0 < depth)) ⌝ }
-    ensures { λ r. ⌜ (r < 65536) × ((t : Table) → Stands t a (now (ws .entry)) depth depth → r ≡ markAfter t (framesPart a (now (ws .entry))) (depth - 1)) ⌝ }
+    requires { ⌜ ((t : Table) × PathStands t a (now ws) depth depth × (0 < depth)) ⌝ }
+    ensures { λ r. ⌜ (r < 65536) × ((t : Table) → PathStands t a (now (ws .entry)) depth depth → r ≡ markAfter t (framesPart a (now (ws .entry))) (depth - 1)) ⌝ }
 {
     let frames = a.frames;
     let totals = a.totals;
@@ -114,8 +114,8 @@ pub fn mark_after(ws: &[u8], a: Areas, depth: usize) -> usize
 
 // A list is entered: all its candidates above the mark are due.
 pub fn enter(ws: &mut [u8], a: Areas, depth: usize, kind: usize)
-    requires { ⌜ ((t : Table) × Stands t a (now ws) depth depth × (0 < depth) × (kind ≤ a .ridges) × Light t a (listTo t (framesPart a (now ws)) depth)) ⌝ }
-    ensures { λ _. ⌜ ((t : Table) → Stands t a (now (ws .entry)) depth depth → Entered t a (now (ws .entry)) (now (ws .exit)) depth kind) ⌝ }
+    requires { ⌜ ((t : Table) × PathStands t a (now ws) depth depth × (0 < depth) × (kind ≤ a .ridges) × Light t a (listTo t (framesPart a (now ws)) depth)) ⌝ }
+    ensures { λ _. ⌜ ((t : Table) → PathStands t a (now (ws .entry)) depth depth → Entered t a (now (ws .entry)) (now (ws .exit)) depth kind) ⌝ }
 {
     let mark = mark_after(ws, a, depth);
     let low = facets::binary(ws, a, kind, mark);
@@ -134,7 +134,7 @@ pub fn enter(ws: &mut [u8], a: Areas, depth: usize, kind: usize)
 
 // The list joins the emitted ones.
 pub fn emit(ws: &mut [u8], a: Areas, depth: usize)
-    requires { ⌜ ((t : Table) × Stands t a (now ws) depth depth × Emitted a (listsPart a (now ws)) × (count (listsPart a (now ws)) < a .bound)) ⌝ }
+    requires { ⌜ ((t : Table) × PathStands t a (now ws) depth depth × Emitted a (listsPart a (now ws)) × (count (listsPart a (now ws)) < a .bound)) ⌝ }
     ensures { λ _. ⌜ now (ws .exit) ≡ placed (a .lists) (a .end - a .lists) (now (ws .entry)) (ended (pushedAll (a .bound) (listsPart a (now (ws .entry))) (path (framesPart a (now (ws .entry))) depth))) ⌝ }
 {
     let frames = a.frames;

@@ -12,14 +12,14 @@ use Rattle.definitions.specs.Figures.{componentsOf}
 use Rattle.definitions.specs.Orbits.{Orbit}
 use Rattle.definitions.specs.Search.{Facet}
 use Rattle.laws.specs.Lists.{flatMap-append, count-length}
-use Rattle.openers.specs.Meaning.{codeOf}
+use Rattle.openers.specs.Meaning.{pairCode}
 use Rattle.orbits.specs.Numbers.{orbitOf}
 use Rattle.orbits.specs.Workspace.{orbitsIn, orbits-front}
 use Rattle.shapes.specs.Kept.{Kept}
 use Rattle.shelf.specs.declared.Shelf.{Shelf}
-use Rattle.shelf.specs.Keeps.{Keeps, Ridges, Fits, joined, facetsIn, facetsOf, ownersOf, placesOf, edgesOf, raised, labelsFrom, ridgeCodes}
+use Rattle.shelf.specs.Keeps.{Keeps, Ridges, ShelfFits, joined, facetsIn, facetsOf, ownersOf, placesOf, edgesOf, raised, labelsFrom, ridgeCodes}
 use Rattle.keep.specs.Storing.{beside-take}
-use Rattle.keep.specs.Stocked.{Stocked, Within}
+use Rattle.keep.specs.Stocked.{Stocked, ShelfWritten}
 
 -- the shelf with one orbit more, of so many facets
 unfoldable pub withFacets : Shelf → ℕ → Shelf
@@ -115,9 +115,9 @@ flat-last : {A B : Type 0} (f : A → List B) (l : List A) (x : A) → flatMap f
 unfolding flatMap
 flat-last f l x = flatMap-append f l (x ∷ []) ∙ ap (λ m. flatMap f l ++ m) (append-nil (f x))
 
-pub edges-more : (kept : List Kept) (k : Kept) → map (map codeOf) (edgesOf (kept ++ (k ∷ []))) ≡ map (map codeOf) (edgesOf kept) ++ map (map codeOf) (k .edges)
+pub edges-more : (kept : List Kept) (k : Kept) → map (map pairCode) (edgesOf (kept ++ (k ∷ []))) ≡ map (map pairCode) (edgesOf kept) ++ map (map pairCode) (k .edges)
 unfolding edgesOf
-edges-more kept k = ap (map (map codeOf)) (flat-last (λ (h : Kept). h .edges) kept k) ∙ map-append (map codeOf) (edgesOf kept) (k .edges)
+edges-more kept k = ap (map (map pairCode)) (flat-last (λ (h : Kept). h .edges) kept k) ∙ map-append (map pairCode) (edgesOf kept) (k .edges)
 
 pub places-more : (kept : List Kept) (k : Kept) → placesOf (kept ++ (k ∷ [])) ≡ placesOf kept ++ k .places
 unfolding placesOf
@@ -130,7 +130,7 @@ ridges-more kept k = map-append ridgeCodes kept (k ∷ [])
 
 -- the areas hold what is kept of these orbits
 abbrev pub StockedWith : Shelf → List Kept → List ℕ → Type 0
-StockedWith shelf kept s = Stocked shelf (map (map codeOf) (edgesOf kept)) (labelsFrom 0 kept) (ownersOf kept) (map ridgeCodes kept) (placesOf kept) s
+StockedWith shelf kept s = Stocked shelf (map (map pairCode) (edgesOf kept)) (labelsFrom 0 kept) (ownersOf kept) (map ridgeCodes kept) (placesOf kept) s
 
 pub stocked-with : {n : ℕ} {shelf : Shelf} {kept : List Kept} {s : List ℕ} → Keeps n shelf kept s → Ridges shelf kept s → StockedWith shelf kept s
 stocked-with {n} {shelf} {kept} {s} k r =
@@ -147,18 +147,18 @@ stocked-with {n} {shelf} {kept} {s} k r =
 
 -- what is added to each area, one list behind another
 pub stocked-more : {shelf : Shelf} {s : List ℕ} (kept : List Kept) (k : Kept)
-    → Stocked shelf (map (map codeOf) (edgesOf kept) ++ map (map codeOf) (k .edges)) (labelsFrom 0 kept ++ orbitLabels (length (facetsOf kept)) k) (ownersOf kept ++ map (λ (f : ℕ). length kept) (countFrom 0 (facetsIn k))) (map ridgeCodes kept ++ (ridgeCodes k ∷ [])) (placesOf kept ++ k .places) s
+    → Stocked shelf (map (map pairCode) (edgesOf kept) ++ map (map pairCode) (k .edges)) (labelsFrom 0 kept ++ orbitLabels (length (facetsOf kept)) k) (ownersOf kept ++ map (λ (f : ℕ). length kept) (countFrom 0 (facetsIn k))) (map ridgeCodes kept ++ (ridgeCodes k ∷ [])) (placesOf kept ++ k .places) s
     → StockedWith shelf (kept ++ (k ∷ [])) s
 stocked-more kept k stock = rw (edges-more kept k, labels-more kept k, owners-more kept k, ridges-more kept k, places-more kept k) stock
 
 -- the orbits found are as they were
-orbits-same : {shelf : Shelf} {s t : List ℕ} → Fits shelf (length s) → Within shelf s t → (count : ℕ) → count ≤ 256 → orbitsIn t count ≡ orbitsIn s count
+orbits-same : {shelf : Shelf} {s t : List ℕ} → ShelfFits shelf (length s) → ShelfWritten shelf s t → (count : ℕ) → count ≤ 256 → orbitsIn t count ≡ orbitsIn s count
 orbits-same {shelf} {s} {t} f w count h =
     sym (orbits-front t 2048 count (omega arith))
     ∙ (ap (λ (r : List ℕ). orbitsIn r count) (beside-take w 2048 (f .orbitRoom)) ∙ orbits-front s 2048 count (omega arith))
 
 module _ {n : ℕ} {shelf : Shelf} {kept : List Kept} {s t : List ℕ} (keeps : Keeps n shelf kept s) (k : Kept) where
-  sets-more : Within shelf s t → shelf .orbits < 256 → k .orbit ≡ orbitOf n (orbitAt s (shelf .orbits)) → map (orbitOf n) (orbitsIn t (shelf .orbits + 1)) ≡ map (λ (h : Kept). h .orbit) (kept ++ (k ∷ []))
+  sets-more : ShelfWritten shelf s t → shelf .orbits < 256 → k .orbit ≡ orbitOf n (orbitAt s (shelf .orbits)) → map (orbitOf n) (orbitsIn t (shelf .orbits + 1)) ≡ map (λ (h : Kept). h .orbit) (kept ++ (k ∷ []))
   unfolding orbitsIn orbitAt
   sets-more w few e =
       let i = shelf .orbits in
@@ -168,7 +168,7 @@ module _ {n : ℕ} {shelf : Shelf} {kept : List Kept} {s t : List ℕ} (keeps : 
       ∙ (ap (λ (o : Orbit). map (λ (h : Kept). h .orbit) kept ++ (o ∷ [])) (sym e) ∙ sym (map-append (λ (h : Kept). h .orbit) kept (k ∷ [])))))
 
   -- stocked with one orbit more it keeps one more
-  pub kept-more : Within shelf s t → shelf .orbits < 256 → shelf .facets + facetsIn k ≤ 1024 → k .orbit ≡ orbitOf n (orbitAt s (shelf .orbits)) → StockedWith shelf (kept ++ (k ∷ [])) t
+  pub kept-more : ShelfWritten shelf s t → shelf .orbits < 256 → shelf .facets + facetsIn k ≤ 1024 → k .orbit ≡ orbitOf n (orbitAt s (shelf .orbits)) → StockedWith shelf (kept ++ (k ∷ [])) t
       → Keeps n (withFacets shelf (facetsIn k)) (kept ++ (k ∷ [])) t × Ridges (withFacets shelf (facetsIn k)) (kept ++ (k ∷ [])) t
   unfolding withFacets
   kept-more w few room e stock =
@@ -187,7 +187,7 @@ module _ {n : ℕ} {shelf : Shelf} {kept : List Kept} {s t : List ℕ} (keeps : 
         record { ridges = stock .ridges-are; places = stock .places-are },
       )
     where
-      stocked-fits : Fits (withFacets shelf (facetsIn k)) (length t)
+      stocked-fits : ShelfFits (withFacets shelf (facetsIn k)) (length t)
       stocked-fits = record {
         orbitRoom = stock .fits .orbitRoom;
         edgeRoom = stock .fits .edgeRoom;

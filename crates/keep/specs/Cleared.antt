@@ -13,9 +13,9 @@ use Rattle.pool.specs.Holds.{Holds, holds-none}
 use Rattle.orbits.specs.Workspace.{orbitsIn}
 use Rattle.compounds.specs.Labels.{labelsIn}
 use Rattle.shelf.specs.declared.Shelf.{Shelf}
-use Rattle.shelf.specs.Keeps.{Keeps, Ridges, Fits, facetsOf, ownersOf, placesOf, edgesOf, labelsFrom, edgesPart, ridgesPart, placesPart}
+use Rattle.shelf.specs.Keeps.{Keeps, Ridges, ShelfFits, facetsOf, ownersOf, placesOf, edgesOf, labelsFrom, edgesPart, ridgesPart, placesPart}
 use Rattle.keep.specs.Storing.{Beside, beside-both, beside-wider, beside-part, beside-placed}
-use Rattle.keep.specs.Stocked.{Within}
+use Rattle.keep.specs.Stocked.{ShelfWritten}
 
 emptied-length : (l : List ℕ) → length (emptied l) ≡ length l
 unfolding emptied
@@ -32,7 +32,7 @@ module _ (w most a n : ℕ) (s p : List ℕ) (inside : a + n ≤ length s) (room
   cleared-holds : Holds w most (part a n (placed a n s p)) [] [] 0
   cleared-holds = rw (part-placed a n s p (omega arith) cleared-long) (holds-none w most (part a n s) p e (omega (arith, part-length a n s inside)))
 
-module _ (shelf : Shelf) (s p q r : List ℕ) (f : Fits shelf (length s)) where
+module _ (shelf : Shelf) (s p q r : List ℕ) (f : ShelfFits shelf (length s)) where
   abbrev s1 : List ℕ
   s1 = placed (shelf .edges) (shelf .labels - shelf .edges) s p
 
@@ -56,11 +56,11 @@ module _ (shelf : Shelf) (s p q r : List ℕ) (f : Fits shelf (length s)) where
     b3 : Beside (shelf .places) (shelf .end - shelf .places) s2 s3
     b3 = let o = order in cleared-beside 2 1024 (shelf .places) (shelf .end - shelf .places) s2 r (omega (arith, o .3, o .4, b1 .long, b2 .long)) (omega (arith, o .3)) e3
 
-    pub cleared-within : Within shelf s s3
+    pub cleared-within : ShelfWritten shelf s s3
     cleared-within =
         let o = order in
-        let w1 : Within shelf s s1 = beside-wider b1 (omega arith) (omega (arith, o .0, o .1, o .2, o .3)) in
-        let w2 : Within shelf s s2 = beside-both w1 b2 (omega (arith, o .0, o .1)) (omega (arith, o .0, o .1, o .2, o .3)) in
+        let w1 : ShelfWritten shelf s s1 = beside-wider b1 (omega arith) (omega (arith, o .0, o .1, o .2, o .3)) in
+        let w2 : ShelfWritten shelf s s2 = beside-both w1 b2 (omega (arith, o .0, o .1)) (omega (arith, o .0, o .1, o .2, o .3)) in
         beside-both w2 b3 (omega (arith, o .0, o .1, o .2)) (omega (arith, o .0, o .1, o .2, o .3))
 
     edges-none : Holds 2 1024 (edgesPart shelf s3) [] [] 0

@@ -15,15 +15,15 @@ use Rattle.definitions.specs.Faceting.{possibleFacets}
 use Rattle.laws.specs.Sets.{verticesOf}
 use Rattle.words.specs.Words.{put}
 use Rattle.compounds.specs.Labels.{labelOf}
-use Rattle.openers.specs.Meaning.{codeOf}
+use Rattle.openers.specs.Meaning.{pairCode}
 use Rattle.orbits.specs.Numbers.{orbitOf}
 use Rattle.shapes.specs.Polygons.{edgeVia, edgePairs}
 use Rattle.shapes.specs.Kept.{Kept, keptOf, endsOf}
 use Rattle.shelf.specs.declared.Shelf.{Shelf}
-use Rattle.shelf.specs.Keeps.{Keeps, Ridges, Fits, placesOf, edgesOf, raised, ridgeCode, ridgeCodes, labelsFrom, ownersOf}
+use Rattle.shelf.specs.Keeps.{Keeps, Ridges, ShelfFits, placesOf, edgesOf, raised, ridgeCode, ridgeCodes, labelsFrom, ownersOf}
 use Rattle.keep.specs.Short.{oneOrTwo}
-use Rattle.keep.specs.Storing.{Room, Stored}
-use Rattle.keep.specs.Stocked.{Stocked, Within, within-both, edges-within, ridges-within, places-within, stocked-edges, stocked-ridges, stocked-places, stocked-facet, put-within}
+use Rattle.keep.specs.Storing.{ListRoom, Stored}
+use Rattle.keep.specs.Stocked.{Stocked, ShelfWritten, within-both, edges-within, ridges-within, places-within, stocked-edges, stocked-ridges, stocked-places, stocked-facet, put-within}
 use Rattle.keep.specs.Adding.{StockedWith, stocked-with, withFacets, orbitAt, orbitLabels, labels-length, owners-length, stocked-more, kept-more}
 use Rattle.keep.specs.Rooms.{RoomFor, room-edges, room-ridges, room-places, places-number, edges-number, codes-items}
 
@@ -63,7 +63,7 @@ edge-kept swapped left i e = ap (λ (a : Answer). keptOf (record { orbit = i .or
 
 -- a vertex twice, as a ridge with a count
 pub ridge-code : (v count : ℕ) → ridgeCode (v, v) count ≡ 21 * v + 65536 * count
-unfolding ridgeCode codeOf
+unfolding ridgeCode pairCode
 ridge-code v count = omega arith
 
 pub edge-ridges : (swapped : Bool) (o : Orbit) (count : ℕ) → count ≡ cond swapped 2 1
@@ -83,16 +83,16 @@ endRidges swapped v w = oneOrTwo (not swapped) (21 * v + 65536 * cond swapped 2 
 
 -- t is s with the ends of an edge as ridges, and the edge's places among them
 pub record EndsStored (shelf : Shelf) (swapped : Bool) (v w : ℕ) (s t : List ℕ) : Type 0 where
-  pub within : Within shelf s t
+  pub within : ShelfWritten shelf s t
   pub stocked : (edges : List (List ℕ)) (labels : List (Option Pair)) (owners : List ℕ) (ridges places : List (List ℕ))
       → Stocked shelf edges labels owners ridges places s
       → Stocked shelf edges labels owners (ridges ++ (endRidges swapped v w ∷ [])) (places ++ (oneOrTwo (not swapped) 0 1 ∷ [])) t
 
-pub ends-stored : (shelf : Shelf) (swapped : Bool) (v w : ℕ) (s t u : List ℕ) → Fits shelf (length s)
+pub ends-stored : (shelf : Shelf) (swapped : Bool) (v w : ℕ) (s t u : List ℕ) → ShelfFits shelf (length s)
     → Stored 4 256 (shelf .ridges) (shelf .places - shelf .ridges) s t (endRidges swapped v w) → Stored 2 1024 (shelf .places) (shelf .end - shelf .places) t u (oneOrTwo (not swapped) 0 1)
     → EndsStored shelf swapped v w s u
 ends-stored shelf swapped v w s t u f r p =
-    let now : Fits shelf (length t) = rw (r .beside .long) f in
+    let now : ShelfFits shelf (length t) = rw (r .beside .long) f in
     record {
       within = within-both shelf (ridges-within f r) (places-within now p);
       stocked = λ edges labels owners ridges places k. stocked-places (stocked-ridges k r) p;
@@ -101,11 +101,11 @@ ends-stored shelf swapped v w s t u f r p =
 -- what the areas hold with an edge more
 abbrev WithEdge : Shelf → List Kept → Bool → ℕ → ℕ → List ℕ → Type 0
 WithEdge shelf kept swapped v w s =
-    Stocked shelf (map (map codeOf) (edgesOf kept) ++ (((20 * v + w) ∷ []) ∷ [])) (labelsFrom 0 kept ++ (none ∷ [])) (ownersOf kept ++ (length kept ∷ [])) (map ridgeCodes kept ++ (endRidges swapped v w ∷ []))
+    Stocked shelf (map (map pairCode) (edgesOf kept) ++ (((20 * v + w) ∷ []) ∷ [])) (labelsFrom 0 kept ++ (none ∷ [])) (ownersOf kept ++ (length kept ∷ [])) (map ridgeCodes kept ++ (endRidges swapped v w ∷ []))
     (placesOf kept ++ (oneOrTwo (not swapped) 0 1 ∷ [])) s
 
 edge-stocked : (shelf : Shelf) (kept : List Kept) (swapped : Bool) (o : Orbit) (t : List ℕ) → WithEdge shelf kept swapped (vertexOf o 0) (vertexOf o 1) t → StockedWith shelf (kept ++ (edgeKept swapped o ∷ [])) t
-unfolding edgeKept orbitLabels componentsOf raised countFrom codeOf
+unfolding edgeKept orbitLabels componentsOf raised countFrom pairCode
 edge-stocked shelf kept swapped o t stock = stocked-more kept (edgeKept swapped o) (rw (edge-ridges swapped o (cond swapped 2 1) refl) stock)
 
 -- the steps of `keep_edge`: the ends, the edge, then label and owner
@@ -115,7 +115,7 @@ module _ (shelf : Shelf) (swapped : Bool) (v w : ℕ) (s t u : List ℕ) (one : 
   last owner = put 2 (put 4 u (shelf .labels + 4 * shelf .facets) 0) (shelf .owners + 2 * shelf .facets) owner
 
   module _ {n : ℕ} {kept : List Kept} (keeps : Keeps n shelf kept s) (ridges : Ridges shelf kept s) (few : shelf .orbits < 256) (room : shelf .facets + 1 ≤ 1024) where
-    edge-listed : Stocked shelf (map (map codeOf) (edgesOf kept) ++ (((20 * v + w) ∷ []) ∷ [])) (labelsFrom 0 kept) (ownersOf kept) (map ridgeCodes kept ++ (endRidges swapped v w ∷ [])) (placesOf kept ++ (oneOrTwo (not swapped) 0 1 ∷ [])) u
+    edge-listed : Stocked shelf (map (map pairCode) (edgesOf kept) ++ (((20 * v + w) ∷ []) ∷ [])) (labelsFrom 0 kept) (ownersOf kept) (map ridgeCodes kept ++ (endRidges swapped v w ∷ [])) (placesOf kept ++ (oneOrTwo (not swapped) 0 1 ∷ [])) u
     unfolding oneOrTwo
     edge-listed = stocked-edges (one .stocked _ _ _ _ _ (stocked-with keeps ridges)) two
 
@@ -131,10 +131,10 @@ module _ (shelf : Shelf) (swapped : Bool) (v w : ℕ) (s t u : List ℕ) (one : 
         let r = stocked-facet edge-listed (shelf .facets) 0 (shelf .orbits) labels-there owners-there (omega arith) (omega arith) (omega arith) in
         rw (← (keeps .orbits)) r
 
-    pub edge-within : Within shelf s (last (shelf .orbits))
+    pub edge-within : ShelfWritten shelf s (last (shelf .orbits))
     edge-within =
-        let f : Fits shelf (length t) = rw (one .within .long) (keeps .fits) in
-        let now : Fits shelf (length u) = rw (two .beside .long) f in
+        let f : ShelfFits shelf (length t) = rw (one .within .long) (keeps .fits) in
+        let now : ShelfFits shelf (length u) = rw (two .beside .long) f in
         within-both shelf (within-both shelf (one .within) (edges-within f two)) (put-within shelf u (shelf .facets) 0 (shelf .orbits) now (omega arith))
 
     -- one edge more is kept
@@ -150,14 +150,14 @@ module _ (shelf : Shelf) (swapped : Bool) (v w : ℕ) (s t u : List ℕ) (one : 
 
 -- room for each of them
 module _ {n : ℕ} {shelf : Shelf} {kept : List Kept} {s : List ℕ} (keeps : Keeps n shelf kept s) (ridges : Ridges shelf kept s) (room : RoomFor shelf kept 1 1 2 2) where
-  pub end-rooms : Room 4 256 (shelf .ridges) (shelf .places - shelf .ridges) s 2 × Room 2 1024 (shelf .places) (shelf .end - shelf .places) s 2
+  pub end-rooms : ListRoom 4 256 (shelf .ridges) (shelf .places - shelf .ridges) s 2 × ListRoom 2 1024 (shelf .places) (shelf .end - shelf .places) s 2
   end-rooms =
       let stock = stocked-with keeps ridges in (
         room-ridges stock (room .small) 2 (omega (arith, room .orbitRoom, keeps .orbits, length-map kept ridgeCodes)) (room .ridgeRoom),
         room-places stock (room .small) 2 (omega (arith, room .facetRoom, keeps .facets, places-number kept)) (room .placeRoom),
       )
 
-  pub edge-room : {swapped : Bool} {v w : ℕ} {t : List ℕ} → EndsStored shelf swapped v w s t → Room 2 1024 (shelf .edges) (shelf .labels - shelf .edges) t 1
+  pub edge-room : {swapped : Bool} {v w : ℕ} {t : List ℕ} → EndsStored shelf swapped v w s t → ListRoom 2 1024 (shelf .edges) (shelf .labels - shelf .edges) t 1
   edge-room one =
       let stock = one .stocked _ _ _ _ _ (stocked-with keeps ridges) in
       room-edges stock (room .small) 1 (omega (arith, room .facetRoom, keeps .facets, edges-number kept (room .evenly))) (rw (codes-items (edgesOf kept)) (room .edgeRoom))

@@ -19,10 +19,10 @@ use Rattle.compounds.specs.Labels.{labelOf, labelsIn}
 use Rattle.shapes.specs.Kept.{Kept}
 use Rattle.shelf.specs.declared.Shelf.{Shelf}
 use Rattle.shelf.specs.declared.Level.{Level}
-use Rattle.shelf.specs.Keeps.{Fits, joined, raised}
+use Rattle.shelf.specs.Keeps.{ShelfFits, joined, raised}
 use Rattle.shelf.specs.Leaves.{listsLeft}
-use Rattle.keep.specs.Storing.{Stored, Room, beside-drop, beside-self}
-use Rattle.keep.specs.Stocked.{Stocked, Within, within-both, edges-within, places-within, stocked-edges, stocked-places, stocked-facet, put-within}
+use Rattle.keep.specs.Storing.{Stored, ListRoom, beside-drop, beside-self}
+use Rattle.keep.specs.Stocked.{Stocked, ShelfWritten, within-both, edges-within, places-within, stocked-edges, stocked-places, stocked-facet, put-within}
 use Rattle.keep.specs.Rooms.{room-edges, room-places}
 use Rattle.keep.specs.Labels.{label-some}
 use Rattle.keep.specs.Marked.{codesMarked}
@@ -53,15 +53,15 @@ unfolding codesOf
 codes-many n m rows inner vertices numbers = length-map (codesMarked (marksOf (rowsIn n m rows) inner numbers)) (movedCode vertices)
 
 -- the answer lies behind the shelf, and stays as the shelf is written
-pub behind-same : (shelf : Shelf) (at : ℕ) {s t : List ℕ} → shelf .edges ≤ shelf .end → shelf .end ≤ at → Within shelf s t → drop at t ≡ drop at s
+pub behind-same : (shelf : Shelf) (at : ℕ) {s t : List ℕ} → shelf .edges ≤ shelf .end → shelf .end ≤ at → ShelfWritten shelf s t → drop at t ≡ drop at s
 behind-same shelf at o h w = beside-drop w at (omega arith)
 
 -- as it is lent to the end
-pub within-lent : (shelf : Shelf) (at : ℕ) {s t : List ℕ} → shelf .edges ≤ shelf .end → shelf .end ≤ at → Within shelf s t → take (length t - at) (drop at t) ≡ drop at s
+pub within-lent : (shelf : Shelf) (at : ℕ) {s t : List ℕ} → shelf .edges ≤ shelf .end → shelf .end ≤ at → ShelfWritten shelf s t → take (length t - at) (drop at t) ≡ drop at s
 within-lent shelf at {s} {t} o h w = lent-tail at t ∙ behind-same shelf at o h w
 
 module _ {n m : ℕ} {inner : List Kept} {level : Level} {rows : List ℕ} {at : ℕ} {vertices s : List ℕ} where
-  pub source-kept : (shelf : Shelf) {t : List ℕ} → shelf .edges ≤ shelf .end → shelf .end ≤ at → Within shelf s t → Source n m inner level rows at vertices s → Source n m inner level rows at vertices t
+  pub source-kept : (shelf : Shelf) {t : List ℕ} → shelf .edges ≤ shelf .end → shelf .end ≤ at → ShelfWritten shelf s t → Source n m inner level rows at vertices s → Source n m inner level rows at vertices t
   source-kept shelf o h w src = record {
     left = rw (behind-same shelf at o h w) (src .left);
     inside = omega (arith, src .inside, w .long);
@@ -103,18 +103,18 @@ module _ {n m : ℕ} {inner : List Kept} {level : Level} {rows : List ℕ} {at :
 
 -- t is s with facet k of the orbit: its edges, its label, its places, and its orbit
 pub record FacetStored (shelf : Shelf) (k : ℕ) (codes : List ℕ) (label : Option Pair) (list s t : List ℕ) : Type 0 where
-  pub within : Within shelf s t
+  pub within : ShelfWritten shelf s t
   pub stocked : (edges : List (List ℕ)) (labels : List (Option Pair)) (owners : List ℕ) (ridges places : List (List ℕ)) → Stocked shelf edges labels owners ridges places s
       → length labels ≡ shelf .facets + k → length owners ≡ shelf .facets + k
       → Stocked shelf (edges ++ (codes ∷ [])) (labels ++ (label ∷ [])) (owners ++ (shelf .orbits ∷ [])) ridges (places ++ (list ∷ [])) t
 
-pub facet-stored : (shelf : Shelf) (k label : ℕ) (codes list s t u v : List ℕ) (is : Option Pair) → Fits shelf (length s) → shelf .orbits < 256 → shelf .facets + k < 1024 → label < 4294967296 → labelOf label ≡ is
+pub facet-stored : (shelf : Shelf) (k label : ℕ) (codes list s t u v : List ℕ) (is : Option Pair) → ShelfFits shelf (length s) → shelf .orbits < 256 → shelf .facets + k < 1024 → label < 4294967296 → labelOf label ≡ is
     → Stored 2 1024 (shelf .edges) (shelf .labels - shelf .edges) s t codes → Stored 2 1024 (shelf .places) (shelf .end - shelf .places) t u list
     → v ≡ put 2 (put 4 u (shelf .labels + 4 * (shelf .facets + k)) label) (shelf .owners + 2 * (shelf .facets + k)) (shelf .orbits)
     → FacetStored shelf k codes is list s v
 facet-stored shelf k label codes list s t u v is f o h small e a p q =
-    let ft : Fits shelf (length t) = rw (a .beside .long) f in
-    let fu : Fits shelf (length u) = rw (p .beside .long) ft in
+    let ft : ShelfFits shelf (length t) = rw (a .beside .long) f in
+    let fu : ShelfFits shelf (length u) = rw (p .beside .long) ft in
     rw q
     record {
       within = within-both shelf (within-both shelf (edges-within f a) (places-within ft p)) (put-within shelf u (shelf .facets + k) label (shelf .orbits) fu h);
@@ -125,7 +125,7 @@ facet-stored shelf k label codes list s t u v is f o h small e a p q =
 -- ---- some facets stored
 
 pub record FacetsStored (shelf : Shelf) (k : ℕ) (codes : List (List ℕ)) (new : List (Option Pair)) (lists : List (List ℕ)) (s t : List ℕ) : Type 0 where
-  pub within : Within shelf s t
+  pub within : ShelfWritten shelf s t
   pub stocked : (edges : List (List ℕ)) (labels : List (Option Pair)) (owners : List ℕ) (ridges places : List (List ℕ)) → Stocked shelf edges labels owners ridges places s
       → length labels ≡ shelf .facets → length owners ≡ shelf .facets
       → Stocked shelf (edges ++ codes) (labels ++ new) (owners ++ map (λ (f : ℕ). shelf .orbits) (countFrom 0 k)) ridges (places ++ lists) t
@@ -173,14 +173,14 @@ module _ {shelf : Shelf} {edges : List (List ℕ)} {labels : List (Option Pair)}
     (k : ℕ) (codes : List (List ℕ)) (new : List (Option Pair)) (lists : List (List ℕ)) (many : length labels ≡ shelf .facets) (same : length owners ≡ shelf .facets)
     (g : FacetsStored shelf k (take k codes) (take k new) (take k lists) s t) where
   pub next-edges : k < length codes → length edges + length codes ≤ 1024 → base 1024 + 2 * (length (joined edges) + length (joined codes)) ≤ shelf .labels - shelf .edges
-      → Room 2 1024 (shelf .edges) (shelf .labels - shelf .edges) t (length (getD codes k []))
+      → ListRoom 2 1024 (shelf .edges) (shelf .labels - shelf .edges) t (length (getD codes k []))
   next-edges h few room =
       let n = length-take-le k codes (omega arith) in
       let j = joined-some codes k h in
       room-edges (g .stocked edges labels owners ridges places stock many same) small (length (getD codes k [])) (omega (arith, length-append edges (take k codes))) (omega (arith, joined-both edges (take k codes)))
 
   pub next-places : k < length lists → length places + length lists ≤ 1024 → base 1024 + 2 * (length (joined places) + length (joined lists)) ≤ shelf .end - shelf .places
-      → Room 2 1024 (shelf .places) (shelf .end - shelf .places) t (length (getD lists k []))
+      → ListRoom 2 1024 (shelf .places) (shelf .end - shelf .places) t (length (getD lists k []))
   next-places h few room =
       let n = length-take-le k lists (omega arith) in
       let j = joined-some lists k h in
@@ -260,7 +260,7 @@ module _ (shelf : Shelf) (n m : ℕ) (inner : List Kept) (level : Level) (rows :
         record { stored = facets-next shelf k allCodes allLabels allLists s t u (omega (arith, codes-long)) (omega (arith, raised-long)) (omega (arith, lists-long)) (g .stored) one' }
 
     pub so-far-rooms : FacetsRoom
-        → Room 2 1024 (shelf .edges) (shelf .labels - shelf .edges) t (length (codesOf n m rows inner vertices (entryAt level at t k))) × Room 2 1024 (shelf .places) (shelf .end - shelf .places) t (length (entryAt level at t k))
+        → ListRoom 2 1024 (shelf .edges) (shelf .labels - shelf .edges) t (length (codesOf n m rows inner vertices (entryAt level at t k))) × ListRoom 2 1024 (shelf .places) (shelf .end - shelf .places) t (length (entryAt level at t k))
     so-far-rooms r =
         let e = next-edges (r .stock) (r .small) k allCodes allLabels allLists (r .labelled) (r .owned) (g .stored) (omega (arith, codes-long)) (omega (arith, codes-long, r .fewEdges)) (r .edgeRoom) in
         let p = next-places (r .stock) (r .small) k allCodes allLabels allLists (r .labelled) (r .owned) (g .stored) (omega (arith, lists-long)) (omega (arith, lists-long, r .fewPlaces)) (r .placeRoom) in

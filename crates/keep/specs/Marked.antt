@@ -19,7 +19,7 @@ use Rattle.laws.specs.Ascending.{Ascends, seenAmong, seen-member, member-seen}
 use Rattle.laws.specs.Ranges.{in-order-kept}
 use Rattle.openers.specs.Rows.{rowsIn, image-at, same-images}
 use Rattle.openers.specs.Marks.{marked, marked-at}
-use Rattle.openers.specs.Meaning.{codeOf, pairOf, pairCodes}
+use Rattle.openers.specs.Meaning.{pairCode, pairOf, pairCodes}
 use Rattle.shapes.specs.EdgeSets.{edgesInOrder}
 
 -- the codes that are marked
@@ -28,15 +28,15 @@ codesMarked marks = keep (λ (c : ℕ). getD marks c false) (countFrom 0 400)
 
 -- ---- pairs and their codes
 
-pub pair-code : (e : Pair) → e .1 < 20 → pairOf (codeOf e) ≡ e
-unfolding pairOf codeOf
+pub pair-code : (e : Pair) → e .1 < 20 → pairOf (pairCode e) ≡ e
+unfolding pairOf pairCode
 pair-code e h =
     let a : (20 * e .0 + e .1) / 20 ≡ e .0 = omega arith in
     let b : (20 * e .0 + e .1) % 20 ≡ e .1 = omega arith in
     λ t. (a t, b t)
 
-pub code-pair : (c : ℕ) → codeOf (pairOf c) ≡ c
-unfolding pairOf codeOf
+pub code-pair : (c : ℕ) → pairCode (pairOf c) ≡ c
+unfolding pairOf pairCode
 code-pair c = omega arith
 
 code-rises : (x y : ℕ) → x < y → comparePair (pairOf x) (pairOf y) ≡ Ordering·lt
@@ -60,11 +60,11 @@ abbrev Small : Pair → Type 0
 Small e = (e .0 < 20) × (e .1 < 20)
 
 in-all : (e : Pair) → Small e → Mem e all
-unfolding codeOf
+unfolding pairCode
 in-all e h =
     let a = h .0 in
     let b = h .1 in
-    subst (λ (d : Pair). Mem d all) (pair-code e b) (in-map pairOf (codeOf e) (countFrom 0 400) (in-count 0 400 (codeOf e) (omega arith) (omega arith)))
+    subst (λ (d : Pair). Mem d all) (pair-code e b) (in-map pairOf (pairCode e) (countFrom 0 400) (in-count 0 400 (pairCode e) (omega arith) (omega arith)))
 
 -- ---- kept by a test
 
@@ -91,51 +91,51 @@ or-false : (b : Bool) → (b || false) ≡ b
 or-false true = refl
 or-false false = refl
 
-seen-code : (l : List Pair) → ((e : Pair) → Mem e l → Small e) → (c : ℕ) → seenAmong comparePair pairs (pairOf c) l ≡ memberNat c (map codeOf l)
+seen-code : (l : List Pair) → ((e : Pair) → Mem e l → Small e) → (c : ℕ) → seenAmong comparePair pairs (pairOf c) l ≡ memberNat c (map pairCode l)
 unfolding memberNat
-seen-code l h c = same-test (seenAmong comparePair pairs (pairOf c) l) (anyOf (eqb c) (map codeOf l)) into back
+seen-code l h c = same-test (seenAmong comparePair pairs (pairOf c) l) (anyOf (eqb c) (map pairCode l)) into back
   where
-    into : T (seenAmong comparePair pairs (pairOf c) l) → T (anyOf (eqb c) (map codeOf l))
+    into : T (seenAmong comparePair pairs (pairOf c) l) → T (anyOf (eqb c) (map pairCode l))
     into t =
-        let m = in-map codeOf (pairOf c) l (seen-member comparePair pairs (pairOf c) l t) in
-        any-of (eqb c) (codeOf (pairOf c)) (map codeOf l) m (subst (λ (k : ℕ). T (eqb c k)) (sym (code-pair c)) (eqb-refl c))
+        let m = in-map pairCode (pairOf c) l (seen-member comparePair pairs (pairOf c) l t) in
+        any-of (eqb c) (pairCode (pairOf c)) (map pairCode l) m (subst (λ (k : ℕ). T (eqb c k)) (sym (code-pair c)) (eqb-refl c))
 
-    back : T (anyOf (eqb c) (map codeOf l)) → T (seenAmong comparePair pairs (pairOf c) l)
+    back : T (anyOf (eqb c) (map pairCode l)) → T (seenAmong comparePair pairs (pairOf c) l)
     back t =
-        let r = any-witness (eqb c) (map codeOf l) t in
-        let q = of-map codeOf (r .0) l (r .1) in
+        let r = any-witness (eqb c) (map pairCode l) t in
+        let q = of-map pairCode (r .0) l (r .1) in
         let e : pairOf c ≡ q .0 = ap pairOf (eqb→eq c (r .0) (r .2) ∙ q .2) ∙ pair-code (q .0) (h (q .0) (q .1) .1) in
         member-seen comparePair pairs (pairOf c) l (subst (λ (d : Pair). Mem d l) (sym e) (q .1))
 
-pub edges-marked : (l : List Pair) → ((e : Pair) → Mem e l → (e .0 < 20) × (e .1 < 20)) → edgesInOrder l ≡ map pairOf (codesMarked (marked (replicate 400 false) (map codeOf l)))
+pub edges-marked : (l : List Pair) → ((e : Pair) → Mem e l → (e .0 < 20) × (e .1 < 20)) → edgesInOrder l ≡ map pairOf (codesMarked (marked (replicate 400 false) (map pairCode l)))
 unfolding codesMarked
 edges-marked l h =
     in-order-kept comparePair pairs l all all-ascend (λ e m. in-all e (h e m))
     ∙ (keep-map (λ (e : Pair). seenAmong comparePair pairs e l) pairOf (countFrom 0 400)
-    ∙ ap (map pairOf) (keep-same (λ (c : ℕ). seenAmong comparePair pairs (pairOf c) l) (λ (c : ℕ). getD (marked (replicate 400 false) (map codeOf l)) c false) (countFrom 0 400) one))
+    ∙ ap (map pairOf) (keep-same (λ (c : ℕ). seenAmong comparePair pairs (pairOf c) l) (λ (c : ℕ). getD (marked (replicate 400 false) (map pairCode l)) c false) (countFrom 0 400) one))
   where
-    one : (c : ℕ) → Mem c (countFrom 0 400) → seenAmong comparePair pairs (pairOf c) l ≡ getD (marked (replicate 400 false) (map codeOf l)) c false
+    one : (c : ℕ) → Mem c (countFrom 0 400) → seenAmong comparePair pairs (pairOf c) l ≡ getD (marked (replicate 400 false) (map pairCode l)) c false
     one c m =
         let r = of-count 0 400 c m .1 in
         let n = length-replicate 400 false in
         seen-code l h c
-        ∙ sym (marked-at (replicate 400 false) (map codeOf l) c (omega arith) ∙ (ap (λ (b : Bool). memberNat c (map codeOf l) || b) (getD-replicate 400 c false false (omega arith)) ∙ or-false (memberNat c (map codeOf l))))
+        ∙ sym (marked-at (replicate 400 false) (map pairCode l) c (omega arith) ∙ (ap (λ (b : Bool). memberNat c (map pairCode l) || b) (getD-replicate 400 c false false (omega arith)) ∙ or-false (memberNat c (map pairCode l))))
 
 -- ---- images under rows in bytes
 
 code-at : (n i : ℕ) (s : List ℕ) (v w : ℕ) → v < n → w < n
-    → codeOf (pairImage (v, w) (take n (drop (32 * i) s))) ≡ 20 * min (getD s (32 * i + v) 0) (getD s (32 * i + w) 0) + max (getD s (32 * i + v) 0) (getD s (32 * i + w) 0)
-unfolding codeOf pairImage
+    → pairCode (pairImage (v, w) (take n (drop (32 * i) s))) ≡ 20 * min (getD s (32 * i + v) 0) (getD s (32 * i + w) 0) + max (getD s (32 * i + v) 0) (getD s (32 * i + w) 0)
+unfolding pairCode pairImage
 code-at n i s v w h k = rw (image-at n i s v h, image-at n i s w k) refl
 
 -- rows of n vertices, read with a width of 32
-pub codes-wide : (n m : ℕ) (e : Pair) (s : List ℕ) → e .0 < n → e .1 < n → n ≤ 20 → pairCodes (rowsIn 32 m s) e ≡ map codeOf (map (pairImage e) (rowsIn n m s))
+pub codes-wide : (n m : ℕ) (e : Pair) (s : List ℕ) → e .0 < n → e .1 < n → n ≤ 20 → pairCodes (rowsIn 32 m s) e ≡ map pairCode (map (pairImage e) (rowsIn n m s))
 unfolding pairCodes
 codes-wide n m e s h k l =
-    same-images (λ (row : Row). codeOf (pairImage e row)) (λ (row : Row). codeOf (pairImage e row)) 32 n m s
+    same-images (λ (row : Row). pairCode (pairImage e row)) (λ (row : Row). pairCode (pairImage e row)) 32 n m s
     (λ i _. code-at 32 i s (e .0) (e .1) (omega arith) (omega arith) ∙ sym (code-at n i s (e .0) (e .1) h k))
     ∙ sym (twice (rowsIn n m s))
   where
-    twice : (rs : List Row) → map codeOf (map (pairImage e) rs) ≡ map (λ (row : Row). codeOf (pairImage e row)) rs
+    twice : (rs : List Row) → map pairCode (map (pairImage e) rs) ≡ map (λ (row : Row). pairCode (pairImage e row)) rs
     twice [] = refl
-    twice (r ∷ rs) = ap (λ (m : List ℕ). codeOf (pairImage e r) ∷ m) (twice rs)
+    twice (r ∷ rs) = ap (λ (m : List ℕ). pairCode (pairImage e r) ∷ m) (twice rs)

@@ -15,7 +15,7 @@ use Rattle.definitions.specs.Faceting.{possibleFacets}
 use Rattle.laws.specs.Lists.{Mem, here, there, map-at, count-at, count-length, member-at, flatMap-same}
 use Rattle.laws.specs.Places.{map-same, map-self, flatMap-map}
 use Rattle.openers.specs.Rows.{rowsIn, RowsFit}
-use Rattle.openers.specs.Meaning.{codeOf}
+use Rattle.openers.specs.Meaning.{pairCode}
 use Rattle.compounds.specs.Labels.{labelsIn}
 use Rattle.compounds.specs.Numbers.{AllBelow, compoundsFrom}
 use Rattle.shapes.specs.Edges.{edgeFigure}
@@ -94,15 +94,15 @@ edges-ones n (k ∷ inner) h =
     ap (λ (l : List (List Pair)). l ++ edgesOf inner) (h k (here refl) .edges) ∙ ap (λ (l : List (List Pair)). (edgeIn k ∷ []) ∷ l) (edges-ones n inner (λ g m. h g (there m)))
 
 -- its list of edges, as it is stored
-pub edge-list : (n : ℕ) (inner : List Kept) → Each n inner → (x : ℕ) → x < length inner → getD (map (map codeOf) (edgesOf inner)) x [] ≡ codeOf (edgeAt inner x) ∷ []
+pub edge-list : (n : ℕ) (inner : List Kept) → Each n inner → (x : ℕ) → x < length inner → getD (map (map pairCode) (edgesOf inner)) x [] ≡ pairCode (edgeAt inner x) ∷ []
 unfolding edgeAt
 edge-list n inner h x k =
-    ap (λ (l : List (List Pair)). getD (map (map codeOf) l) x []) (edges-ones n inner h)
-    ∙ (ap (λ (l : List (List ℕ)). getD l x []) (map-map (map codeOf) (λ (g : Kept). edgeIn g ∷ []) inner ∙ sym (map-map (λ (e : Pair). codeOf e ∷ []) edgeIn inner))
-    ∙ map-at (λ (e : Pair). codeOf e ∷ []) (map edgeIn inner) x [] (0, 0) (omega (arith, length-map inner edgeIn)))
+    ap (λ (l : List (List Pair)). getD (map (map pairCode) l) x []) (edges-ones n inner h)
+    ∙ (ap (λ (l : List (List ℕ)). getD l x []) (map-map (map pairCode) (λ (g : Kept). edgeIn g ∷ []) inner ∙ sym (map-map (λ (e : Pair). pairCode e ∷ []) edgeIn inner))
+    ∙ map-at (λ (e : Pair). pairCode e ∷ []) (map edgeIn inner) x [] (0, 0) (omega (arith, length-map inner edgeIn)))
 
-pub edges-listed : (n : ℕ) (inner : List Kept) → Each n inner → length (map (map codeOf) (edgesOf inner)) ≡ length inner
-edges-listed n inner h = length-map (edgesOf inner) (map codeOf) ∙ (ap length (edges-ones n inner h) ∙ length-map inner (λ (k : Kept). edgeIn k ∷ []))
+pub edges-listed : (n : ℕ) (inner : List Kept) → Each n inner → length (map (map pairCode) (edgesOf inner)) ≡ length inner
+edges-listed n inner h = length-map (edgesOf inner) (map pairCode) ∙ (ap length (edges-ones n inner h) ∙ length-map inner (λ (k : Kept). edgeIn k ∷ []))
 
 -- where there is no orbit
 unfoldable pub noKept : Kept

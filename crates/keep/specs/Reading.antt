@@ -21,7 +21,7 @@ use Rattle.openers.specs.Rows.{rowsIn, RowsFit, ImagesBelow, image-at}
 use Rattle.compounds.specs.Areas.{lists-length}
 use Rattle.compounds.specs.Numbers.{AllBelow}
 use Rattle.openers.specs.Marks.{marked}
-use Rattle.openers.specs.Meaning.{codeOf, pairOf, pairCodes}
+use Rattle.openers.specs.Meaning.{pairCode, pairOf, pairCodes}
 use Rattle.orbits.specs.Numbers.{orbitOf}
 use Rattle.orbits.specs.Workspace.{orbitsIn, orbits-length}
 use Rattle.shapes.specs.EdgeSets.{edgesInOrder}
@@ -44,20 +44,20 @@ unfolding marked
 marked-append marks [] ys = refl
 marked-append marks (x ∷ xs) ys = marked-append (set marks x true) xs ys
 
-pub images-none : (rows : List Row) (inner : List Kept) (marks : List Bool) (l : List ℕ) → marks ≡ marked marks (map codeOf (imagesOf rows inner (take 0 l)))
+pub images-none : (rows : List Row) (inner : List Kept) (marks : List Bool) (l : List ℕ) → marks ≡ marked marks (map pairCode (imagesOf rows inner (take 0 l)))
 unfolding imagesOf marked flatMap
 images-none rows inner marks l = refl
 
 -- one facet more of a list
 pub images-more : (rows : List Row) (inner : List Kept) (marks : List Bool) (l : List ℕ) (i x : ℕ) → i < length l → x ≡ getD l i 0
-    → marked marks (map codeOf (imagesOf rows inner (take (i + 1) l))) ≡ marked (marked marks (map codeOf (imagesOf rows inner (take i l)))) (map codeOf (map (pairImage (edgeAt inner x)) rows))
+    → marked marks (map pairCode (imagesOf rows inner (take (i + 1) l))) ≡ marked (marked marks (map pairCode (imagesOf rows inner (take i l)))) (map pairCode (map (pairImage (edgeAt inner x)) rows))
 unfolding imagesOf flatMap
 images-more rows inner marks l i x h e =
     let send : ℕ → List Pair = λ (y : ℕ). map (pairImage (edgeAt inner y)) rows in
     let more : flatMap send (take (i + 1) l) ≡ flatMap send (take i l) ++ send x =
     ap (flatMap send) (take-more l i 0 h ∙ ap (λ (y : ℕ). take i l ++ (y ∷ [])) (sym e)) ∙ (flatMap-append send (take i l) (x ∷ []) ∙ ap (λ (m : List Pair). flatMap send (take i l) ++ m) (append-nil (send x))) in
-    ap (λ (m : List Pair). marked marks (map codeOf m)) more
-    ∙ (ap (marked marks) (map-append codeOf (flatMap send (take i l)) (send x)) ∙ marked-append marks (map codeOf (flatMap send (take i l))) (map codeOf (send x)))
+    ap (λ (m : List Pair). marked marks (map pairCode m)) more
+    ∙ (ap (marked marks) (map-append pairCode (flatMap send (take i l)) (send x)) ∙ marked-append marks (map pairCode (flatMap send (take i l))) (map pairCode (send x)))
 
 -- ---- codes moved to a call's vertices
 
@@ -171,7 +171,7 @@ images-below n m s inner numbers fits each b e i =
 
 -- the marks of an entry's images
 abbrev pub marksOf : List Row → List Kept → List ℕ → List Bool
-marksOf rows inner numbers = marked (replicate 400 false) (map codeOf (imagesOf rows inner numbers))
+marksOf rows inner numbers = marked (replicate 400 false) (map pairCode (imagesOf rows inner numbers))
 
 module _ (n m : ℕ) (s : List ℕ) (inner : List Kept) (numbers : List ℕ) (fits : RowsFit n m s) (each : (k : Kept) → Mem k inner → OneEdge n k) (b : (x : ℕ) → Mem x numbers → x < length inner) where
   in-order : edgesInOrder (imagesOf (rowsIn n m s) inner numbers) ≡ map pairOf (codesMarked (marksOf (rowsIn n m s) inner numbers))
@@ -192,14 +192,14 @@ module _ (n m : ℕ) (s : List ℕ) (inner : List Kept) (numbers : List ℕ) (fi
   marked-below c h e = code-below c (in-keep (Test (marksOf (rowsIn n m s) inner numbers)) c (countFrom 0 400) (in-count 0 400 c (omega arith) (omega arith)) (true→holds e))
 
   pub entry-codes : (vertices : List ℕ) (to : ℕ → ℕ) → ((p : ℕ) → p < n → getD vertices p 0 ≡ to p)
-      → map codeOf (entryEdges to (rowsIn n m s) inner numbers) ≡ map (movedCode vertices) (codesMarked (marksOf (rowsIn n m s) inner numbers))
-  unfolding entryEdges codeOf endsVia pairOf
+      → map pairCode (entryEdges to (rowsIn n m s) inner numbers) ≡ map (movedCode vertices) (codesMarked (marksOf (rowsIn n m s) inner numbers))
+  unfolding entryEdges pairCode endsVia pairOf
   entry-codes vertices to same =
       let codes = codesMarked (marksOf (rowsIn n m s) inner numbers) in
-      ap (λ (l : List Pair). map codeOf (map (endsVia to) l)) in-order
-      ∙ (map-map codeOf (endsVia to) (map pairOf codes)
-      ∙ (map-map (λ (e : Pair). codeOf (endsVia to e)) pairOf codes
-      ∙ map-same (λ (c : ℕ). codeOf (endsVia to (pairOf c))) (movedCode vertices) codes
+      ap (λ (l : List Pair). map pairCode (map (endsVia to) l)) in-order
+      ∙ (map-map pairCode (endsVia to) (map pairOf codes)
+      ∙ (map-map (λ (e : Pair). pairCode (endsVia to e)) pairOf codes
+      ∙ map-same (λ (c : ℕ). pairCode (endsVia to (pairOf c))) (movedCode vertices) codes
       (λ c i. let r = code-below c i in rw (same (c / 20) (r .0), same (c % 20) (r .1)) refl)))
 
 -- how many edges an entry has at most
@@ -253,18 +253,18 @@ module _ {n m : ℕ} {inner : List Kept} {level : Level} {rows s : List ℕ} (le
 
   module _ (x : ℕ) (h : x < length inner) where
     -- facet x has one edge
-    pub edge-known : (x < length (map (map codeOf) (edgesOf inner))) × (0 < length (getD (map (map codeOf) (edgesOf inner)) x []))
+    pub edge-known : (x < length (map (map pairCode) (edgesOf inner))) × (0 < length (getD (map (map pairCode) (edgesOf inner)) x []))
     edge-known = (omega (arith, edges-listed n inner (left .each)), rw (edge-list n inner (left .each) x h) (omega arith))
 
-    pub edge-code : (r : ℕ) → r ≡ getD (getD (map (map codeOf) (edgesOf inner)) x []) 0 0 → r ≡ codeOf (edgeAt inner x)
+    pub edge-code : (r : ℕ) → r ≡ getD (getD (map (map pairCode) (edgesOf inner)) x []) 0 0 → r ≡ pairCode (edgeAt inner x)
     edge-code r e = e ∙ ap (λ (l : List ℕ). getD l 0 0) (edge-list n inner (left .each) x h)
 
     edge-ends : (edgeAt inner x .0 < n) × (edgeAt inner x .1 < n) × (n ≤ 20)
     edge-ends = let p = edge-proper n inner (left .each) x h in (omega (arith, p .rises, p .below), p .below, left .rowsFit .n-fits)
 
     -- its code, taken apart
-    pub code-apart : (r : ℕ) → r ≡ codeOf (edgeAt inner x) → (r / 20 ≡ edgeAt inner x .0) × (r % 20 ≡ edgeAt inner x .1) × (r < 400) × (r / 20 < n) × (r % 20 < n)
-    unfolding codeOf
+    pub code-apart : (r : ℕ) → r ≡ pairCode (edgeAt inner x) → (r / 20 ≡ edgeAt inner x .0) × (r % 20 ≡ edgeAt inner x .1) × (r < 400) × (r / 20 < n) × (r % 20 < n)
+    unfolding pairCode
     code-apart r e =
         let b = edge-ends in
         let p = b .0 in
@@ -275,7 +275,7 @@ module _ {n m : ℕ} {inner : List Kept} {level : Level} {rows s : List ℕ} (le
         (a, c, omega arith, omega arith, omega arith)
 
     -- its images' codes
-    pub code-images : (r : ℕ) → r ≡ codeOf (edgeAt inner x) → pairCodes (rowsIn 32 m rows) (r / 20, r % 20) ≡ map codeOf (map (pairImage (edgeAt inner x)) (rowsIn n m rows))
+    pub code-images : (r : ℕ) → r ≡ pairCode (edgeAt inner x) → pairCodes (rowsIn 32 m rows) (r / 20, r % 20) ≡ map pairCode (map (pairImage (edgeAt inner x)) (rowsIn n m rows))
     code-images r e =
         let a = code-apart r e in
         let same : (r / 20, r % 20) ≡ edgeAt inner x = (λ t. (a .0 t, a .1 t)) in
@@ -290,7 +290,7 @@ images-under fits v few h k = record { below = λ i l. omega (arith, fits .image
 
 -- each orbit's edge, moved, with its count
 unfoldable pub ridgesMoved : List ℕ → List Kept → List ℕ
-ridgesMoved vertices inner = map (λ (k : Kept). movedCode vertices (codeOf (edgeIn k)) + 65536 * k .orbit .count) inner
+ridgesMoved vertices inner = map (λ (k : Kept). movedCode vertices (pairCode (edgeIn k)) + 65536 * k .orbit .count) inner
 
 orbit-there : (s : List ℕ) (count a : ℕ) → a < count → getD (orbitsIn s count) a (0, 0) ≡ (numberAt s (8 * a) 4, numberAt s (8 * a + 4) 4)
 unfolding orbitsIn
@@ -330,14 +330,14 @@ module _ {n m : ℕ} {inner : List Kept} {level : Level} {rows s : List ℕ} (le
       omega (arith, count-there, map-at (λ (k : Kept). k .orbit .count) inner a 0 noKept h)
 
   -- what is pushed is the next of the ridges
-  pub ridge-next : (vertices : List ℕ) (code count : ℕ) → code ≡ codeOf (edgeAt inner a) → count ≡ numberAt s (8 * a + 4) 4
+  pub ridge-next : (vertices : List ℕ) (code count : ℕ) → code ≡ pairCode (edgeAt inner a) → count ≡ numberAt s (8 * a + 4) 4
       → movedCode vertices code + 65536 * count ≡ getD (ridgesMoved vertices inner) a 0
   unfolding ridgesMoved edgeAt
   ridge-next vertices code count e f =
-      let p : code ≡ codeOf (edgeIn (getD inner a noKept)) = e ∙ ap codeOf (map-at edgeIn inner a (0, 0) noKept h) in
+      let p : code ≡ pairCode (edgeIn (getD inner a noKept)) = e ∙ ap pairCode (map-at edgeIn inner a (0, 0) noKept h) in
       let q : count ≡ getD inner a noKept .orbit .count = f ∙ (count-there ∙ map-at (λ (k : Kept). k .orbit .count) inner a 0 noKept h) in
-      rw (p, q) (sym (map-at (λ (k : Kept). movedCode vertices (codeOf (edgeIn k)) + 65536 * k .orbit .count) inner a 0 noKept h))
+      rw (p, q) (sym (map-at (λ (k : Kept). movedCode vertices (pairCode (edgeIn k)) + 65536 * k .orbit .count) inner a 0 noKept h))
 
 pub ridges-many : (vertices : List ℕ) (inner : List Kept) → length (ridgesMoved vertices inner) ≡ length inner
 unfolding ridgesMoved
-ridges-many vertices inner = length-map inner (λ (k : Kept). movedCode vertices (codeOf (edgeIn k)) + 65536 * k .orbit .count)
+ridges-many vertices inner = length-map inner (λ (k : Kept). movedCode vertices (pairCode (edgeIn k)) + 65536 * k .orbit .count)

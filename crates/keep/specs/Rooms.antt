@@ -1,4 +1,4 @@
--- Room on a shelf for one orbit more, in plain numbers. Leans on Adding.
+-- ListRoom on a shelf for one orbit more, in plain numbers. Leans on Adding.
 use mathlib.Core.Path.{_≡_, refl, sym, _∙_}
 use mathlib.Core.List.{List, [], _∷_, map, flatMap}
 use mathlib.Core.Option.{Option}
@@ -12,12 +12,12 @@ use Rattle.definitions.specs.Recursion.{Entry, Inner}
 use Rattle.definitions.specs.Faceting.{possibleFacets}
 use Rattle.laws.specs.Lists.{Mem, here, there, count-length}
 use Rattle.pool.specs.Pool.{base}
-use Rattle.openers.specs.Meaning.{codeOf}
+use Rattle.openers.specs.Meaning.{pairCode}
 use Rattle.shapes.specs.Polygons.{edgePairs}
 use Rattle.shapes.specs.Kept.{Kept, keptOf}
 use Rattle.shelf.specs.declared.Shelf.{Shelf}
-use Rattle.shelf.specs.Keeps.{Fits, joined, facetsIn, facetsOf, placesOf, edgesOf, ridgeCodes}
-use Rattle.keep.specs.Storing.{Room}
+use Rattle.shelf.specs.Keeps.{ShelfFits, joined, facetsIn, facetsOf, placesOf, edgesOf, ridgeCodes}
+use Rattle.keep.specs.Storing.{ListRoom}
 use Rattle.keep.specs.Stocked.{Stocked}
 use Rattle.keep.specs.Adding.{facetsFrom}
 
@@ -61,23 +61,23 @@ edges-sum (k ∷ kept) h =
     length-append (k .edges) (flatMap (λ (g : Kept). g .edges) kept)
     ∙ (omega (arith, h k (here refl), edges-sum kept (λ g m. h g (there m))) ∙ sym (length-append (k .places) (flatMap (λ (g : Kept). g .places) kept)))
 
-pub edges-number : (kept : List Kept) → ((k : Kept) → Mem k kept → length (k .edges) ≡ facetsIn k) → length (map (map codeOf) (edgesOf kept)) ≡ length (facetsOf kept)
+pub edges-number : (kept : List Kept) → ((k : Kept) → Mem k kept → length (k .edges) ≡ facetsIn k) → length (map (map pairCode) (edgesOf kept)) ≡ length (facetsOf kept)
 unfolding edgesOf placesOf
-edges-number kept h = length-map (edgesOf kept) (map codeOf) ∙ (edges-sum kept h ∙ places-number kept)
+edges-number kept h = length-map (edgesOf kept) (map pairCode) ∙ (edges-sum kept h ∙ places-number kept)
 
-pub codes-items : (ls : List (List Pair)) → length (joined (map (map codeOf) ls)) ≡ length (joined ls)
+pub codes-items : (ls : List (List Pair)) → length (joined (map (map pairCode) ls)) ≡ length (joined ls)
 unfolding flatMap
 codes-items [] = refl
 codes-items (l ∷ ls) =
-    length-append (map codeOf l) (joined (map (map codeOf) ls)) ∙ (omega (arith, length-map l codeOf, codes-items ls) ∙ sym (length-append l (joined ls)))
+    length-append (map pairCode l) (joined (map (map pairCode) ls)) ∙ (omega (arith, length-map l pairCode, codes-items ls) ∙ sym (length-append l (joined ls)))
 
 -- ---- room in each pool
 
 module _ {shelf : Shelf} {edges : List (List ℕ)} {labels : List (Option Pair)} {owners : List ℕ} {ridges places : List (List ℕ)} {s : List ℕ} (k : Stocked shelf edges labels owners ridges places s) (small : shelf .end < 4294967296) where
-  abbrev f : Fits shelf (length s)
+  abbrev f : ShelfFits shelf (length s)
   f = k .fits
 
-  pub room-edges : (items : ℕ) → length edges < 1024 → base 1024 + 2 * (length (joined edges) + items) ≤ shelf .labels - shelf .edges → Room 2 1024 (shelf .edges) (shelf .labels - shelf .edges) s items
+  pub room-edges : (items : ℕ) → length edges < 1024 → base 1024 + 2 * (length (joined edges) + items) ≤ shelf .labels - shelf .edges → ListRoom 2 1024 (shelf .edges) (shelf .labels - shelf .edges) s items
   room-edges items few room = record {
     inside = omega (arith, f .edgeRoom, f .labelRoom, f .ownerRoom, f .ridgeRoom, f .placeRoom, f .ends);
     lists = edges;
@@ -88,7 +88,7 @@ module _ {shelf : Shelf} {edges : List (List ℕ)} {labels : List (Option Pair)}
     small = omega (arith, f .labelRoom, f .ownerRoom, f .ridgeRoom, f .placeRoom);
   }
 
-  pub room-ridges : (items : ℕ) → length ridges < 256 → base 256 + 4 * (length (joined ridges) + items) ≤ shelf .places - shelf .ridges → Room 4 256 (shelf .ridges) (shelf .places - shelf .ridges) s items
+  pub room-ridges : (items : ℕ) → length ridges < 256 → base 256 + 4 * (length (joined ridges) + items) ≤ shelf .places - shelf .ridges → ListRoom 4 256 (shelf .ridges) (shelf .places - shelf .ridges) s items
   room-ridges items few room = record {
     inside = omega (arith, f .ridgeRoom, f .placeRoom, f .ends);
     lists = ridges;
@@ -99,7 +99,7 @@ module _ {shelf : Shelf} {edges : List (List ℕ)} {labels : List (Option Pair)}
     small = omega (arith, f .placeRoom);
   }
 
-  pub room-places : (items : ℕ) → length places < 1024 → base 1024 + 2 * (length (joined places) + items) ≤ shelf .end - shelf .places → Room 2 1024 (shelf .places) (shelf .end - shelf .places) s items
+  pub room-places : (items : ℕ) → length places < 1024 → base 1024 + 2 * (length (joined places) + items) ≤ shelf .end - shelf .places → ListRoom 2 1024 (shelf .places) (shelf .end - shelf .places) s items
   room-places items few room = record {
     inside = omega (arith, f .placeRoom, f .ends);
     lists = places;

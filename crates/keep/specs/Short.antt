@@ -13,7 +13,7 @@ use Rattle.laws.specs.Sets.{verticesFrom}
 use Rattle.pool.specs.Pool.{base, used, pushed}
 use Rattle.openers.specs.Meaning.{verticesIn, HoldsVertices}
 use Rattle.openers.specs.declared.Vertices.{Vertices}
-use Rattle.keep.specs.Storing.{Room, Growing, growing-none, growing-room, growing-push}
+use Rattle.keep.specs.Storing.{ListRoom, Growing, growing-none, growing-room, growing-push}
 
 -- a list of one item, or of two
 unfoldable pub oneOrTwo : Bool → ℕ → ℕ → List ℕ
@@ -29,7 +29,7 @@ unfolding oneOrTwo
 short-few true a b = omega arith
 short-few false a b = omega arith
 
-module _ {w most a n : ℕ} {s : List ℕ} (two : Bool) (first second : ℕ) (room : Room w most a n s (length (oneOrTwo two first second))) where
+module _ {w most a n : ℕ} {s : List ℕ} (two : Bool) (first second : ℕ) (room : ListRoom w most a n s (length (oneOrTwo two first second))) where
   pub first-room : (base most + w * (used (part a n s) + 1) ≤ length (part a n s)) × (used (part a n s) + 1 < 4294967296)
   first-room = growing-room room (growing-none w most a n s) (some-items two first second)
 

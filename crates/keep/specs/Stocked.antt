@@ -11,12 +11,12 @@ use Rattle.laws.specs.Segments.{part, part-length}
 use Rattle.words.specs.Words.{words, put, put-length, words-push, part-put-in, part-put-off}
 use Rattle.compounds.specs.Labels.{labelOf, labelsIn}
 use Rattle.shelf.specs.declared.Shelf.{Shelf}
-use Rattle.shelf.specs.Keeps.{Lists, Fits, edgesPart, labelsPart, ownersPart, ridgesPart, placesPart}
+use Rattle.shelf.specs.Keeps.{Lists, ShelfFits, edgesPart, labelsPart, ownersPart, ridgesPart, placesPart}
 use Rattle.keep.specs.Storing.{Beside, beside-both, beside-wider, beside-part, beside-put, Stored}
 
 -- the areas hold these lists of edges, labels, owners, ridges and places
 pub record Stocked (shelf : Shelf) (edges : List (List ℕ)) (labels : List (Option Pair)) (owners : List ℕ) (ridges places : List (List ℕ)) (s : List ℕ) : Type 0 where
-  pub fits : Fits shelf (length s)
+  pub fits : ShelfFits shelf (length s)
   pub edges-are : Lists 2 1024 (edgesPart shelf s) edges
   pub labels-are : labelsIn 0 (length labels) (labelsPart shelf s) ≡ labels
   pub owners-are : words 2 (ownersPart shelf s) (length owners) ≡ owners
@@ -24,11 +24,11 @@ pub record Stocked (shelf : Shelf) (edges : List (List ℕ)) (labels : List (Opt
   pub places-are : Lists 2 1024 (placesPart shelf s) places
 
 -- only the shelf is written, and not the orbits found
-abbrev pub Within : Shelf → List ℕ → List ℕ → Type 0
-Within shelf s t = Beside (shelf .edges) (shelf .end - shelf .edges) s t
+abbrev pub ShelfWritten : Shelf → List ℕ → List ℕ → Type 0
+ShelfWritten shelf s t = Beside (shelf .edges) (shelf .end - shelf .edges) s t
 
 module _ {shelf : Shelf} {edges : List (List ℕ)} {labels : List (Option Pair)} {owners : List ℕ} {ridges places : List (List ℕ)} {s : List ℕ} (k : Stocked shelf edges labels owners ridges places s) where
-  abbrev f : Fits shelf (length s)
+  abbrev f : ShelfFits shelf (length s)
   f = k .fits
 
   -- one list more in a pool
@@ -125,25 +125,25 @@ module _ {shelf : Shelf} {edges : List (List ℕ)} {labels : List (Option Pair)}
     }
 
 -- a label and an owner stay on the shelf
-pub put-within : (shelf : Shelf) (s : List ℕ) (x label owner : ℕ) → Fits shelf (length s) → x < 1024 → Within shelf s (put 2 (put 4 s (shelf .labels + 4 * x) label) (shelf .owners + 2 * x) owner)
+pub put-within : (shelf : Shelf) (s : List ℕ) (x label owner : ℕ) → ShelfFits shelf (length s) → x < 1024 → ShelfWritten shelf s (put 2 (put 4 s (shelf .labels + 4 * x) label) (shelf .owners + 2 * x) owner)
 put-within shelf s x label owner f h =
-    let one : Within shelf s (put 4 s (shelf .labels + 4 * x) label) = beside-wider (beside-put 4 s (shelf .labels + 4 * x) label) (omega (arith, f .edgeRoom)) (omega (arith, f .edgeRoom, f .labelRoom, f .ownerRoom, f .ridgeRoom, f .placeRoom)) in
+    let one : ShelfWritten shelf s (put 4 s (shelf .labels + 4 * x) label) = beside-wider (beside-put 4 s (shelf .labels + 4 * x) label) (omega (arith, f .edgeRoom)) (omega (arith, f .edgeRoom, f .labelRoom, f .ownerRoom, f .ridgeRoom, f .placeRoom)) in
     beside-both one (beside-put 2 (put 4 s (shelf .labels + 4 * x) label) (shelf .owners + 2 * x) owner) (omega (arith, f .edgeRoom, f .labelRoom)) (omega (arith, f .edgeRoom, f .labelRoom, f .ownerRoom, f .ridgeRoom, f .placeRoom))
 
 -- what is stored in a pool stays on the shelf
-module _ {shelf : Shelf} {s t l : List ℕ} (f : Fits shelf (length s)) where
-  pub edges-within : Stored 2 1024 (shelf .edges) (shelf .labels - shelf .edges) s t l → Within shelf s t
+module _ {shelf : Shelf} {s t l : List ℕ} (f : ShelfFits shelf (length s)) where
+  pub edges-within : Stored 2 1024 (shelf .edges) (shelf .labels - shelf .edges) s t l → ShelfWritten shelf s t
   edges-within r = beside-wider (r .beside) (omega arith) (omega (arith, f .edgeRoom, f .labelRoom, f .ownerRoom, f .ridgeRoom, f .placeRoom))
 
-  pub ridges-within : Stored 4 256 (shelf .ridges) (shelf .places - shelf .ridges) s t l → Within shelf s t
+  pub ridges-within : Stored 4 256 (shelf .ridges) (shelf .places - shelf .ridges) s t l → ShelfWritten shelf s t
   ridges-within r = beside-wider (r .beside) (omega (arith, f .edgeRoom, f .labelRoom, f .ownerRoom)) (omega (arith, f .edgeRoom, f .labelRoom, f .ownerRoom, f .ridgeRoom, f .placeRoom))
 
-  pub places-within : Stored 2 1024 (shelf .places) (shelf .end - shelf .places) s t l → Within shelf s t
+  pub places-within : Stored 2 1024 (shelf .places) (shelf .end - shelf .places) s t l → ShelfWritten shelf s t
   places-within r = beside-wider (r .beside) (omega (arith, f .edgeRoom, f .labelRoom, f .ownerRoom, f .ridgeRoom)) (omega (arith, f .edgeRoom, f .labelRoom, f .ownerRoom, f .ridgeRoom, f .placeRoom))
 
-pub within-both : (shelf : Shelf) {s t u : List ℕ} → Within shelf s t → Within shelf t u → Within shelf s u
+pub within-both : (shelf : Shelf) {s t u : List ℕ} → ShelfWritten shelf s t → ShelfWritten shelf t u → ShelfWritten shelf s u
 within-both shelf p q = beside-both p q (omega arith) (omega arith)
 
 -- the areas lie where they lay
-pub fits-after : {shelf : Shelf} {a n : ℕ} {s t : List ℕ} → Fits shelf (length s) → Beside a n s t → Fits shelf (length t)
+pub fits-after : {shelf : Shelf} {a n : ℕ} {s t : List ℕ} → ShelfFits shelf (length s) → Beside a n s t → ShelfFits shelf (length t)
 fits-after f q = rw (q .long) f

@@ -75,7 +75,7 @@ beside-put w s at v = record {
 -- ---- one list more in the pool of an area
 
 -- the pool has room for one list more, of so many items
-pub record Room (w most a n : ℕ) (s : List ℕ) (items : ℕ) : Type 0 where
+pub record ListRoom (w most a n : ℕ) (s : List ℕ) (items : ℕ) : Type 0 where
   pub inside : a + n ≤ length s
   pub lists : List (List ℕ)
   pub holds : Lists w most (part a n s) lists
@@ -107,7 +107,7 @@ joined-more lists l =
 same-many : {w most : ℕ} {s : List ℕ} {ls ms : List (List ℕ)} {l m : List ℕ} {i j : ℕ} → Holds w most s ls l i → Holds w most s ms m j → (length ms ≡ length ls) × (j ≡ i)
 same-many p q = (ap length (sym (q .lists-are) ∙ p .lists-are), sym (q .many-are) ∙ p .many-are)
 
-module _ {w most a n : ℕ} {s t l : List ℕ} {items : ℕ} (room : Room w most a n s items) (g : Growing w most a n s t l) where
+module _ {w most a n : ℕ} {s t l : List ℕ} {items : ℕ} (room : ListRoom w most a n s items) (g : Growing w most a n s t l) where
   inside-now : a + n ≤ length t
   inside-now = omega (arith, room .inside, g .beside .long)
 
@@ -164,7 +164,7 @@ module _ {w most a n : ℕ} {s t l : List ℕ} {items : ℕ} (room : Room w most
       }
 
 -- room for fewer items, and room that a step elsewhere leaves
-pub room-fewer : {w most a n : ℕ} {s : List ℕ} {items : ℕ} → Room w most a n s items → (less : ℕ) → less ≤ items → Room w most a n s less
+pub room-fewer : {w most a n : ℕ} {s : List ℕ} {items : ℕ} → ListRoom w most a n s items → (less : ℕ) → less ≤ items → ListRoom w most a n s less
 room-fewer {w} {most} {a} {n} {s} {items} r less h =
     let j : length (joined (r .lists)) + less ≤ length (joined (r .lists)) + items = omega arith in
     let k : w * (length (joined (r .lists)) + less) ≤ w * (length (joined (r .lists)) + items) = mul-le-mul-left w j in
@@ -178,7 +178,7 @@ room-fewer {w} {most} {a} {n} {s} {items} r less h =
       small = omega (arith, r .small);
     }
 
-pub room-beside : {w most a n : ℕ} {s : List ℕ} {items b m : ℕ} {t : List ℕ} → Room w most a n s items → Beside b m s t → (a + n ≤ b) ⊎ (b + m ≤ a) → Room w most a n t items
+pub room-beside : {w most a n : ℕ} {s : List ℕ} {items b m : ℕ} {t : List ℕ} → ListRoom w most a n s items → Beside b m s t → (a + n ≤ b) ⊎ (b + m ≤ a) → ListRoom w most a n t items
 room-beside {w} {most} {a} {n} {s} {items} r q o = record {
   inside = omega (arith, r .inside, q .long);
   lists = r .lists;
@@ -191,7 +191,7 @@ room-beside {w} {most} {a} {n} {s} {items} r q o = record {
 
 -- ---- a list that is pushed item by item
 
-module _ {w most a n : ℕ} {s t : List ℕ} {items : ℕ} (room : Room w most a n s items) (list : List ℕ) (i : ℕ) (g : Growing w most a n s t (take i list)) where
+module _ {w most a n : ℕ} {s t : List ℕ} {items : ℕ} (room : ListRoom w most a n s items) (list : List ℕ) (i : ℕ) (g : Growing w most a n s t (take i list)) where
   module _ (h : i < length list) (few : length list ≤ items) where
     pub taking-room : (base most + w * (used (part a n t) + 1) ≤ length (part a n t)) × (used (part a n t) + 1 < 4294967296)
     taking-room = growing-room room g (omega (arith, length-take-le i list (omega arith)))

@@ -11,7 +11,7 @@ use Rattle.laws.specs.Lists.{Mem, here, there}
 use Rattle.laws.specs.Places.{map-same}
 use Rattle.laws.specs.Sets.{verticesOf}
 use Rattle.openers.specs.Rows.{rowsIn}
-use Rattle.openers.specs.Meaning.{codeOf, HoldsVertices}
+use Rattle.openers.specs.Meaning.{pairCode, HoldsVertices}
 use Rattle.openers.specs.declared.Vertices.{Vertices}
 use Rattle.orbits.specs.Numbers.{orbitOf}
 use Rattle.compounds.specs.Areas.{lists-length}
@@ -22,7 +22,7 @@ use Rattle.shelf.specs.declared.Level.{Level}
 use Rattle.shelf.specs.Keeps.{Keeps, Ridges, joined, facetsOf, edgesOf, placesOf, ownersOf, labelsFrom, ridgeCode, ridgeCodes, raised}
 use Rattle.shelf.specs.Leaves.{answerLeft, listsLeft}
 use Rattle.keep.specs.Storing.{Stored}
-use Rattle.keep.specs.Stocked.{Stocked, Within, within-both, ridges-within, stocked-ridges}
+use Rattle.keep.specs.Stocked.{Stocked, ShelfWritten, within-both, ridges-within, stocked-ridges}
 use Rattle.keep.specs.Adding.{StockedWith, stocked-with, stocked-more, kept-more, withFacets, orbitAt, orbitLabels, labels-length, owners-length}
 use Rattle.keep.specs.Rooms.{RoomFor, places-number, edges-number, codes-items}
 use Rattle.keep.specs.Labels.{labels-raised}
@@ -60,8 +60,8 @@ ridges-zipped to [] = refl
 ridges-zipped to (k ∷ inner) = ap (λ (l : List ℕ). ridgeCode (endsVia to (edgeIn k)) (k .orbit .count) ∷ l) (ridges-zipped to inner)
 
 module _ (N : ℕ) (inner : List Kept) (each : (k : Kept) → Mem k inner → OneEdge N k) (to : ℕ → ℕ) (vertices : List ℕ) (same : (p : ℕ) → p < N → getD vertices p 0 ≡ to p) (few : N ≤ 20) where
-  ridge-same : (k : Kept) → OneEdge N k → ridgeCode (endsVia to (edgeIn k)) (k .orbit .count) ≡ movedCode vertices (codeOf (edgeIn k)) + 65536 * k .orbit .count
-  unfolding ridgeCode codeOf endsVia
+  ridge-same : (k : Kept) → OneEdge N k → ridgeCode (endsVia to (edgeIn k)) (k .orbit .count) ≡ movedCode vertices (pairCode (edgeIn k)) + 65536 * k .orbit .count
+  unfolding ridgeCode pairCode endsVia
   ridge-same k one =
       let e = edgeIn k in
       let r = one .proper .rises in
@@ -74,7 +74,7 @@ module _ (N : ℕ) (inner : List Kept) (each : (k : Kept) → Mem k inner → On
   unfolding ridgesMoved
   ridges-moved =
       ridges-zipped to inner
-      ∙ map-same (λ (k : Kept). ridgeCode (endsVia to (edgeIn k)) (k .orbit .count)) (λ (k : Kept). movedCode vertices (codeOf (edgeIn k)) + 65536 * k .orbit .count) inner (λ k m. ridge-same k (each k m))
+      ∙ map-same (λ (k : Kept). ridgeCode (endsVia to (edgeIn k)) (k .orbit .count)) (λ (k : Kept). movedCode vertices (pairCode (edgeIn k)) + 65536 * k .orbit .count) inner (λ k m. ridge-same k (each k m))
 
 -- ---- the steps of `keep_polygons`: the ridges, then the facets
 
@@ -96,11 +96,11 @@ module _ (n : ℕ) (shelf : Shelf) (m : ℕ) (inner : List Kept) (level : Level)
   source-here = record { left = left; inside = inside; small = vertex-small }
 
   -- each entry's edges, as codes
-  codes-are : map (map codeOf) (map (entryEdges to (rowsIn N m rows) inner) (listsLeft level (drop at s))) ≡ allCodes shelf N m inner level rows at (vs .at) s
+  codes-are : map (map pairCode) (map (entryEdges to (rowsIn N m rows) inner) (listsLeft level (drop at s))) ≡ allCodes shelf N m inner level rows at (vs .at) s
   unfolding codesOf
   codes-are = twice (listsLeft level (drop at s)) (λ l i. i)
     where
-      twice : (ls : List (List ℕ)) → ((l : List ℕ) → Mem l ls → Mem l (listsLeft level (drop at s))) → map (map codeOf) (map (entryEdges to (rowsIn N m rows) inner) ls) ≡ map (codesOf N m rows inner (vs .at)) ls
+      twice : (ls : List (List ℕ)) → ((l : List ℕ) → Mem l ls → Mem l (listsLeft level (drop at s))) → map (map pairCode) (map (entryEdges to (rowsIn N m rows) inner) ls) ≡ map (codesOf N m rows inner (vs .at)) ls
       twice [] h = refl
       twice (l ∷ ls) h =
           let one = entry-codes N m rows inner l (left .rowsFit) (left .each) (lists-below left l (h l (here refl))) (vs .at) to vertex-same in
@@ -112,10 +112,10 @@ module _ (n : ℕ) (shelf : Shelf) (m : ℕ) (inner : List Kept) (level : Level)
     order = let f = keeps .fits in omega (arith, f .edgeRoom, f .labelRoom, f .ownerRoom, f .ridgeRoom, f .placeRoom)
 
     module _ {t : List ℕ} (one : Stored 4 256 (shelf .ridges) (shelf .places - shelf .ridges) s t (ridgesMoved (vs .at) inner)) where
-      pub ridges-near : Within shelf s t
+      pub ridges-near : ShelfWritten shelf s t
       ridges-near = ridges-within (keeps .fits) one
 
-      ridges-stocked : Stocked shelf (map (map codeOf) (edgesOf kept)) (labelsFrom 0 kept) (ownersOf kept) (map ridgeCodes kept ++ (ridgesMoved (vs .at) inner ∷ [])) (placesOf kept) t
+      ridges-stocked : Stocked shelf (map (map pairCode) (edgesOf kept)) (labelsFrom 0 kept) (ownersOf kept) (map ridgeCodes kept ++ (ridgesMoved (vs .at) inner ∷ [])) (placesOf kept) t
       ridges-stocked = stocked-ridges (stocked-with keeps ridges) one
 
       tail : drop at t ≡ drop at s
@@ -136,7 +136,7 @@ module _ (n : ℕ) (shelf : Shelf) (m : ℕ) (inner : List Kept) (level : Level)
           let items : length (joined (allCodes shelf N m inner level rows at (vs .at) s)) ≡ length (joined (map (entryEdges to (rowsIn N m rows) inner) (listsLeft level (drop at s)))) =
           ap (λ (l : List (List ℕ)). length (joined l)) (sym codes-are) ∙ codes-items (map (entryEdges to (rowsIn N m rows) inner) (listsLeft level (drop at s))) in
           record {
-            edges = map (map codeOf) (edgesOf kept);
+            edges = map (map pairCode) (edgesOf kept);
             labels = labelsFrom 0 kept;
             owners = ownersOf kept;
             ridges = map ridgeCodes kept ++ (ridgesMoved (vs .at) inner ∷ []);
@@ -152,7 +152,7 @@ module _ (n : ℕ) (shelf : Shelf) (m : ℕ) (inner : List Kept) (level : Level)
           }
 
       module _ {u : List ℕ} (two : FacetsStored shelf (level .count) (allCodes shelf N m inner level rows at (vs .at) t) (allLabels shelf N m inner level rows at (vs .at) t) (allLists shelf N m inner level rows at (vs .at) t) t u) where
-        pub polygons-within : Within shelf s u
+        pub polygons-within : ShelfWritten shelf s u
         polygons-within = within-both shelf ridges-near (two .within)
 
         -- what is kept of the orbit
@@ -169,8 +169,8 @@ module _ (n : ℕ) (shelf : Shelf) (m : ℕ) (inner : List Kept) (level : Level)
             let r : ridgeCodes (k o) ≡ ridgesMoved (vs .at) inner =
             ap (λ (l : List ℕ). zipWith ridgeCode (map (λ (g : Kept). endsVia (vertexIn l) (edgeIn g)) inner) (map (λ (g : Kept). g .orbit .count) inner)) e
             ∙ ridges-moved N inner (left .each) to (vs .at) vertex-same (left .rowsFit .n-fits) in
-            let c : map (map codeOf) (k o .edges) ≡ allCodes shelf N m inner level rows at (vs .at) s =
-            ap (λ (l : List ℕ). map (map codeOf) (map (entryEdges (vertexIn l) (rowsIn N m rows) inner) (listsLeft level (drop at s)))) e ∙ codes-are in
+            let c : map (map pairCode) (k o .edges) ≡ allCodes shelf N m inner level rows at (vs .at) s =
+            ap (λ (l : List ℕ). map (map pairCode) (map (entryEdges (vertexIn l) (rowsIn N m rows) inner) (listsLeft level (drop at s)))) e ∙ codes-are in
             let b : orbitLabels (length (facetsOf kept)) (k o) ≡ allLabels shelf N m inner level rows at (vs .at) s =
             labels-raised (length (facetsOf kept)) (k o) (labelsLeft level at s) refl (lists-long ∙ sym (labels-long shelf N m inner level rows at (vs .at) s))
             ∙ ap (λ (first : ℕ). map (raised first) (labelsLeft level at s)) (sym (keeps .facets)) in

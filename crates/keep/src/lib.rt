@@ -18,15 +18,15 @@ ghost use Rattle.laws.specs.Sets.{verticesFrom, verticesOf};
 ghost use Rattle.words.specs.Words.{put};
 ghost use Rattle.openers.specs.Rows.{rowsIn};
 ghost use Rattle.openers.specs.Marks.{marked};
-ghost use Rattle.openers.specs.Meaning.{verticesIn, HoldsVertices, codeOf};
+ghost use Rattle.openers.specs.Meaning.{verticesIn, HoldsVertices, pairCode};
 ghost use Rattle.orbits.specs.Numbers.{orbitOf};
-ghost use Rattle.compounds.specs.Areas.{Holds};
+ghost use Rattle.compounds.specs.Areas.{HoldsOrder};
 ghost use Rattle.compounds.specs.Labels.{labelOf};
 ghost use Rattle.shapes.specs.Kept.{Kept, keptOf};
-ghost use Rattle.shelf.specs.Keeps.{Keeps, Ridges, Fits, Lists, edgesPart, raised};
+ghost use Rattle.shelf.specs.Keeps.{Keeps, Ridges, ShelfFits, Lists, edgesPart, raised};
 ghost use Rattle.shelf.specs.Leaves.{listsLeft};
-ghost use Rattle.keep.specs.Storing.{Room, Stored};
-ghost use Rattle.keep.specs.Stocked.{Within};
+ghost use Rattle.keep.specs.Storing.{ListRoom, Stored};
+ghost use Rattle.keep.specs.Stocked.{ShelfWritten};
 ghost use Rattle.keep.specs.Adding.{withFacets, orbitAt};
 ghost use Rattle.keep.specs.Rooms.{RoomFor};
 ghost use Rattle.keep.specs.Short.{oneOrTwo};
@@ -41,8 +41,8 @@ ghost use Rattle.keep.specs.Whole.{InnerLeft, PolygonRoom, innerAnswer};
 
 // The pools are emptied; the orbits found, in front of them, stay.
 pub fn clear_shelf(ws: &mut [u8], shelf: Shelf)
-    requires { ⌜ Fits shelf (length (now ws)) ⌝ }
-    ensures within { λ _. ⌜ Within shelf (now (ws .entry)) (now (ws .exit)) ⌝ }
+    requires { ⌜ ShelfFits shelf (length (now ws)) ⌝ }
+    ensures within { λ _. ⌜ ShelfWritten shelf (now (ws .entry)) (now (ws .exit)) ⌝ }
     ensures keeps { λ _. ⌜ ((n : ℕ) → shelf .orbits ≡ 0 → shelf .facets ≡ 0 → Keeps n shelf [] (now (ws .exit)) × Ridges shelf [] (now (ws .exit))) ⌝ }
 {
     let edges = shelf.edges;
@@ -98,7 +98,7 @@ fn second(vertices: Vertices) -> usize
 
 // A list of one or two items, in a pool of u16 items.
 fn store_u16(ws: &mut [u8], from: usize, to: usize, first: u16, second: u16, two: bool)
-    requires { ⌜ (from ≤ to) × Room 2 1024 from (to - from) (now ws) (length (oneOrTwo two first second)) ⌝ }
+    requires { ⌜ (from ≤ to) × ListRoom 2 1024 from (to - from) (now ws) (length (oneOrTwo two first second)) ⌝ }
     ensures { λ _. ⌜ Stored 2 1024 from (to - from) (now (ws .entry)) (now (ws .exit)) (oneOrTwo two first second) ⌝ }
 {
     pool::push_u16(&mut ws[from..to], 1024, first);
@@ -110,7 +110,7 @@ fn store_u16(ws: &mut [u8], from: usize, to: usize, first: u16, second: u16, two
 
 // The same in a pool of u32 items.
 fn store_u32(ws: &mut [u8], from: usize, to: usize, first: u32, second: u32, two: bool)
-    requires { ⌜ (from ≤ to) × Room 4 256 from (to - from) (now ws) (length (oneOrTwo two first second)) ⌝ }
+    requires { ⌜ (from ≤ to) × ListRoom 4 256 from (to - from) (now ws) (length (oneOrTwo two first second)) ⌝ }
     ensures { λ _. ⌜ Stored 4 256 from (to - from) (now (ws .entry)) (now (ws .exit)) (oneOrTwo two first second) ⌝ }
 {
     pool::push_u32(&mut ws[from..to], 256, first);
@@ -122,7 +122,7 @@ fn store_u32(ws: &mut [u8], from: usize, to: usize, first: u32, second: u32, two
 
 // The label and the owner of facet x.
 fn store_facet(ws: &mut [u8], shelf: Shelf, x: usize, label: u32, owner: u16)
-    requires { ⌜ Fits shelf (length (now ws)) × (x < 1024) ⌝ }
+    requires { ⌜ ShelfFits shelf (length (now ws)) × (x < 1024) ⌝ }
     ensures { λ _. ⌜ now (ws .exit) ≡ put 2 (put 4 (now (ws .entry)) (shelf .labels + 4 * x) label) (shelf .owners + 2 * x) owner ⌝ }
 {
     words::put_u32(ws, shelf.labels + 4 * x, label);
@@ -161,7 +161,7 @@ fn end_code(v: usize, swapped: bool) -> u32
 
 // The ends of an edge as ridges, one for both or one each, and the edge's places among them.
 fn keep_ends(ws: &mut [u8], shelf: Shelf, v: usize, w: usize, swapped: bool)
-    requires { ⌜ (v < 20) × (w < 20) × Fits shelf (length (now ws)) × Room 4 256 (shelf .ridges) (shelf .places - shelf .ridges) (now ws) 2 × Room 2 1024 (shelf .places) (shelf .end - shelf .places) (now ws) 2 ⌝ }
+    requires { ⌜ (v < 20) × (w < 20) × ShelfFits shelf (length (now ws)) × ListRoom 4 256 (shelf .ridges) (shelf .places - shelf .ridges) (now ws) 2 × ListRoom 2 1024 (shelf .places) (shelf .end - shelf .places) (now ws) 2 ⌝ }
     ensures { λ _. ⌜ EndsStored shelf swapped v w (now (ws .entry)) (now (ws .exit)) ⌝ }
 {
     let ridges = shelf.ridges;
@@ -177,7 +177,7 @@ fn keep_ends(ws: &mut [u8], shelf: Shelf, v: usize, w: usize, swapped: bool)
 pub fn keep_edge(ws: &mut [u8], shelf: Shelf, n: usize, swapped: bool) -> Shelf
     requires { ⌜ (n ≤ 20) × (2 ≤ length (verticesOf n (numberAt (now ws) (8 * shelf .orbits) 4))) × ((kept : List Kept) × Keeps n shelf kept (now ws) × Ridges shelf kept (now ws) × RoomFor shelf kept 1 1 2 2) ⌝ }
     ensures shelf { λ r. ⌜ r ≡ withFacets shelf 1 ⌝ }
-    ensures within { λ _. ⌜ (take 2048 (now (ws .exit)) ≡ take 2048 (now (ws .entry))) × Within shelf (now (ws .entry)) (now (ws .exit)) ⌝ }
+    ensures within { λ _. ⌜ (take 2048 (now (ws .exit)) ≡ take 2048 (now (ws .entry))) × ShelfWritten shelf (now (ws .entry)) (now (ws .exit)) ⌝ }
     ensures keeps { λ r. ⌜ ((kept : List Kept) (i : Inner) (left : ℕ) → Keeps n shelf kept (now (ws .entry)) → Ridges shelf kept (now (ws .entry)) → i .orbit ≡ orbitOf n (orbitAt (now (ws .entry)) (shelf .orbits)) → i .answer ≡ edgeAnswer swapped left → Keeps n r (kept ++ (keptOf i ∷ [])) (now (ws .exit)) × Ridges r (kept ++ (keptOf i ∷ [])) (now (ws .exit))) ⌝ }
 {
     let i = shelf.orbits;
@@ -196,7 +196,7 @@ pub fn keep_edge(ws: &mut [u8], shelf: Shelf, n: usize, swapped: bool) -> Shelf
 
 // How many facets entry k has.
 fn facets_of(s: &[u8], level: Level, k: usize) -> usize
-    requires { ⌜ (level .lists ≤ length (now s)) × Holds 1024 (level .bytes) (level .count) (drop (level .lists) (now s)) × (k < level .count) ⌝ }
+    requires { ⌜ (level .lists ≤ length (now s)) × HoldsOrder 1024 (level .bytes) (level .count) (drop (level .lists) (now s)) × (k < level .count) ⌝ }
     ensures { λ r. ⌜ r ≡ length (getD (listsLeft level (now (s .entry))) k []) ⌝ }
 {
     let lists = level.lists;
@@ -210,7 +210,7 @@ fn facets_of(s: &[u8], level: Level, k: usize) -> usize
 
 // Facet i of entry k.
 fn facet_at(s: &[u8], level: Level, k: usize, i: usize) -> u16
-    requires { ⌜ (level .lists ≤ length (now s)) × Holds 1024 (level .bytes) (level .count) (drop (level .lists) (now s)) × (k < level .count) × (i < length (getD (listsLeft level (now s)) k [])) ⌝ }
+    requires { ⌜ (level .lists ≤ length (now s)) × HoldsOrder 1024 (level .bytes) (level .count) (drop (level .lists) (now s)) × (k < level .count) × (i < length (getD (listsLeft level (now s)) k [])) ⌝ }
     ensures { λ r. ⌜ r ≡ getD (getD (listsLeft level (now (s .entry))) k []) i 0 ⌝ }
 {
     let lists = level.lists;
@@ -224,7 +224,7 @@ fn facet_at(s: &[u8], level: Level, k: usize, i: usize) -> u16
 
 // The first edge of facet x, as its code.
 fn edge_at(s: &[u8], shelf: Shelf, x: usize) -> usize
-    requires { ⌜ Fits shelf (length (now s)) × ((lists : List (List ℕ)) × Lists 2 1024 (edgesPart shelf (now s)) lists × (x < length lists) × (0 < length (getD lists x []))) ⌝ }
+    requires { ⌜ ShelfFits shelf (length (now s)) × ((lists : List (List ℕ)) × Lists 2 1024 (edgesPart shelf (now s)) lists × (x < length lists) × (0 < length (getD lists x []))) ⌝ }
     ensures { λ r. ⌜ ((lists : List (List ℕ)) → Lists 2 1024 (edgesPart shelf (now (s .entry))) lists → x < length lists → 0 < length (getD lists x []) → r ≡ getD (getD lists x []) 0 0) ⌝ }
 {
     let from = shelf.edges;
@@ -237,7 +237,7 @@ fn edge_at(s: &[u8], shelf: Shelf, x: usize) -> usize
 // The images of facet x's edge are marked.
 fn mark_facet(s: &[u8], level: Level, x: usize, rows: &[u8], m: usize, marks: &mut [bool; 400])
     requires { ⌜ ((n : ℕ) × (inner : List Kept) × EdgesLeft n m inner level (now rows) (now s) × (x < length inner)) ⌝ }
-    ensures { λ _. ⌜ ((n : ℕ) (inner : List Kept) → EdgesLeft n m inner level (now (rows .entry)) (now (s .entry)) → x < length inner → now (marks .exit) ≡ marked (now (marks .entry)) (map codeOf (map (pairImage (edgeAt inner x)) (rowsIn n m (now (rows .entry)))))) ⌝ }
+    ensures { λ _. ⌜ ((n : ℕ) (inner : List Kept) → EdgesLeft n m inner level (now (rows .entry)) (now (s .entry)) → x < length inner → now (marks .exit) ≡ marked (now (marks .entry)) (map pairCode (map (pairImage (edgeAt inner x)) (rowsIn n m (now (rows .entry)))))) ⌝ }
 {
     let code = edge_at(s, level.shelf, x);
     openers::mark_pair_images(rows, m, code / 20, code % 20, marks);
@@ -246,7 +246,7 @@ fn mark_facet(s: &[u8], level: Level, x: usize, rows: &[u8], m: usize, marks: &m
 // The images of the edges of entry k's facets are marked.
 fn mark_entry(s: &[u8], level: Level, k: usize, rows: &[u8], m: usize, marks: &mut [bool; 400])
     requires { ⌜ ((n : ℕ) × (inner : List Kept) × EdgesLeft n m inner level (now rows) (now s) × (k < level .count)) ⌝ }
-    ensures { λ _. ⌜ ((n : ℕ) (inner : List Kept) → EdgesLeft n m inner level (now (rows .entry)) (now (s .entry)) → now (marks .exit) ≡ marked (now (marks .entry)) (map codeOf (imagesOf (rowsIn n m (now (rows .entry))) inner (getD (listsLeft level (now (s .entry))) k [])))) ⌝ }
+    ensures { λ _. ⌜ ((n : ℕ) (inner : List Kept) → EdgesLeft n m inner level (now (rows .entry)) (now (s .entry)) → now (marks .exit) ≡ marked (now (marks .entry)) (map pairCode (imagesOf (rowsIn n m (now (rows .entry))) inner (getD (listsLeft level (now (s .entry))) k [])))) ⌝ }
 {
     let items = facets_of(s, level, k);
     let mut i = 0;
@@ -267,7 +267,7 @@ fn moved(code: usize, vertices: Vertices) -> usize
 
 // The marked edges, ascending, moved to the vertices, are one list more.
 fn store_edges(ws: &mut [u8], from: usize, to: usize, marks: &[bool; 400], vertices: Vertices)
-    requires { ⌜ (from ≤ to) × Room 2 1024 from (to - from) (now ws) (length (codesMarked (now marks))) × ((c : ℕ) → c < 400 → getD (now marks) c false ≡ true → (getD (vertices .at) (c / 20) 0 < 20) × (getD (vertices .at) (c % 20) 0 < 20)) ⌝ }
+    requires { ⌜ (from ≤ to) × ListRoom 2 1024 from (to - from) (now ws) (length (codesMarked (now marks))) × ((c : ℕ) → c < 400 → getD (now marks) c false ≡ true → (getD (vertices .at) (c / 20) 0 < 20) × (getD (vertices .at) (c % 20) 0 < 20)) ⌝ }
     ensures { λ _. ⌜ Stored 2 1024 from (to - from) (now (ws .entry)) (now (ws .exit)) (map (movedCode (vertices .at)) (codesMarked (now (marks .entry)))) ⌝ }
 {
     let mut c = 0;
@@ -285,7 +285,7 @@ fn store_edges(ws: &mut [u8], from: usize, to: usize, marks: &[bool; 400], verti
 
 // The facets of entry k of the inner call, which begins at a place behind the pool, are one list more.
 fn store_places(ws: &mut [u8], at: usize, level: Level, k: usize, from: usize, to: usize)
-    requires { ⌜ (from ≤ to) × (to ≤ at) × (at + level .lists ≤ length (now ws)) × Holds 1024 (level .bytes) (level .count) (drop (level .lists) (drop at (now ws))) × (k < level .count) × Room 2 1024 from (to - from) (now ws) (length (getD (listsLeft level (drop at (now ws))) k [])) ⌝ }
+    requires { ⌜ (from ≤ to) × (to ≤ at) × (at + level .lists ≤ length (now ws)) × HoldsOrder 1024 (level .bytes) (level .count) (drop (level .lists) (drop at (now ws))) × (k < level .count) × ListRoom 2 1024 from (to - from) (now ws) (length (getD (listsLeft level (drop at (now ws))) k [])) ⌝ }
     ensures { λ _. ⌜ Stored 2 1024 from (to - from) (now (ws .entry)) (now (ws .exit)) (getD (listsLeft level (drop at (now (ws .entry)))) k []) ⌝ }
 {
     let items = facets_of(&ws[at..], level, k);
@@ -300,7 +300,7 @@ fn store_places(ws: &mut [u8], at: usize, level: Level, k: usize, from: usize, t
 
 // Each inner orbit's edge, moved to the vertices, with its count: the orbit's ridges.
 fn store_ridges(ws: &mut [u8], at: usize, level: Level, from: usize, to: usize, vertices: Vertices)
-    requires { ⌜ (from ≤ to) × (to ≤ at) × (at ≤ length (now ws)) × ((n : ℕ) × (m : ℕ) × (rows : List ℕ) × (inner : List Kept) × EdgesLeft n m inner level rows (drop at (now ws)) × Room 4 256 from (to - from) (now ws) (length inner) × ((p : ℕ) → p < n → getD (vertices .at) p 0 < 20)) ⌝ }
+    requires { ⌜ (from ≤ to) × (to ≤ at) × (at ≤ length (now ws)) × ((n : ℕ) × (m : ℕ) × (rows : List ℕ) × (inner : List Kept) × EdgesLeft n m inner level rows (drop at (now ws)) × ListRoom 4 256 from (to - from) (now ws) (length inner) × ((p : ℕ) → p < n → getD (vertices .at) p 0 < 20)) ⌝ }
     ensures { λ _. ⌜ ((n m : ℕ) (rows : List ℕ) (inner : List Kept) → EdgesLeft n m inner level rows (drop at (now (ws .entry))) → Stored 4 256 from (to - from) (now (ws .entry)) (now (ws .exit)) (ridgesMoved (vertices .at) inner)) ⌝ }
 {
     let orbits = level.shelf.orbits;
@@ -338,7 +338,7 @@ fn keep_facet(
     m: usize,
     vertices: Vertices,
 )
-    requires { ⌜ Fits shelf (length (now ws)) × (shelf .end ≤ at) × (shelf .orbits < 256) × (shelf .facets + level .count ≤ 1024) × (k < level .count) × ((n : ℕ) × (inner : List Kept) × Source n m inner level (now rows) at (vertices .at) (now ws) × Room 2 1024 (shelf .edges) (shelf .labels - shelf .edges) (now ws) (length (codesOf n m (now rows) inner (vertices .at) (entryAt level at (now ws) k))) × Room 2 1024 (shelf .places) (shelf .end - shelf .places) (now ws) (length (entryAt level at (now ws) k))) ⌝ }
+    requires { ⌜ ShelfFits shelf (length (now ws)) × (shelf .end ≤ at) × (shelf .orbits < 256) × (shelf .facets + level .count ≤ 1024) × (k < level .count) × ((n : ℕ) × (inner : List Kept) × Source n m inner level (now rows) at (vertices .at) (now ws) × ListRoom 2 1024 (shelf .edges) (shelf .labels - shelf .edges) (now ws) (length (codesOf n m (now rows) inner (vertices .at) (entryAt level at (now ws) k))) × ListRoom 2 1024 (shelf .places) (shelf .end - shelf .places) (now ws) (length (entryAt level at (now ws) k))) ⌝ }
     ensures { λ _. ⌜ ((n : ℕ) (inner : List Kept) → Source n m inner level (now (rows .entry)) at (vertices .at) (now (ws .entry)) → FacetStored shelf k (codesOf n m (now (rows .entry)) inner (vertices .at) (entryAt level at (now (ws .entry)) k)) (raised (shelf .facets) (getD (labelsLeft level at (now (ws .entry))) k none)) (entryAt level at (now (ws .entry)) k) (now (ws .entry)) (now (ws .exit))) ⌝ }
 {
     let edges = shelf.edges;
@@ -385,7 +385,7 @@ pub fn keep_polygons(
 ) -> Shelf
     requires { ⌜ (n ≤ 20) × (shelf .end ≤ at) × (at ≤ length (now ws)) × ((kept : List Kept) × (inner : List Kept) × Keeps n shelf kept (now ws) × Ridges shelf kept (now ws) × InnerLeft n shelf at m inner level (now rows) (now ws) × PolygonRoom n shelf at m kept inner level (now rows) (now ws)) ⌝ }
     ensures shelf { λ r. ⌜ r ≡ withFacets shelf (level .count) ⌝ }
-    ensures within { λ _. ⌜ (take 2048 (now (ws .exit)) ≡ take 2048 (now (ws .entry))) × Within shelf (now (ws .entry)) (now (ws .exit)) ⌝ }
+    ensures within { λ _. ⌜ (take 2048 (now (ws .exit)) ≡ take 2048 (now (ws .entry))) × ShelfWritten shelf (now (ws .entry)) (now (ws .exit)) ⌝ }
     ensures keeps { λ r. ⌜ ((kept inner : List Kept) (i : Inner) (left : ℕ) → Keeps n shelf kept (now (ws .entry)) → Ridges shelf kept (now (ws .entry)) → InnerLeft n shelf at m inner level (now (rows .entry)) (now (ws .entry)) → i .orbit ≡ orbitOf n (orbitAt (now (ws .entry)) (shelf .orbits)) → i .answer ≡ innerAnswer n shelf at m inner level (now (rows .entry)) (now (ws .entry)) left → Keeps n r (kept ++ (keptOf i ∷ [])) (now (ws .exit)) × Ridges r (kept ++ (keptOf i ∷ [])) (now (ws .exit))) ⌝ }
 {
     let i = shelf.orbits;

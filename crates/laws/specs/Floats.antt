@@ -17,17 +17,17 @@ use lib.Ieee.Order.{round-mono}
 -- ---- sizes
 
 -- finite, and at most 2 ^ k in size
-abbrev pub Within : ℕ → Float → Type 0
-Within k nan = ⊥
-Within k (inf s) = ⊥
-Within k (fin s m e) = m * up e ≤ 2 ^ k * down e
+abbrev pub AtMostPower : ℕ → Float → Type 0
+AtMostPower k nan = ⊥
+AtMostPower k (inf s) = ⊥
+AtMostPower k (fin s m e) = m * up e ≤ 2 ^ k * down e
 
 -- a value that the format f holds, finite and at most 2 ^ k in size
 pub record Sized (f : Format) (k : ℕ) (x : Float) : Type 0 where
   pub holds : T (fits f x)
-  pub within : Within k x
+  pub within : AtMostPower k x
 
-pub within-wider : {j k : ℕ} (x : Float) → j ≤ k → Within j x → Within k x
+pub within-wider : {j k : ℕ} (x : Float) → j ≤ k → AtMostPower j x → AtMostPower k x
 within-wider nan h w = w
 within-wider (inf s) h w = w
 within-wider (fin s m e) h w = le-trans w (mul-le-mul-right (down e) (pow-mono h))
@@ -65,25 +65,25 @@ round-upright f a c =
     subst Upright (sym (round-is f false a c)) (units-upright f (nearest (n / (c * 2 ^ k)) (compare (n % (c * 2 ^ k) * 2) (c * 2 ^ k))) k)
 
 -- a size does not depend on the sign
-odd-signed : (j d : ℕ) (s : Bool) (q k l : ℕ) → Within j (odd d false q k l) → Within j (odd d s q k l)
+odd-signed : (j d : ℕ) (s : Bool) (q k l : ℕ) → AtMostPower j (odd d false q k l) → AtMostPower j (odd d s q k l)
 unfolding odd
 odd-signed j d s zero k l h = h
 odd-signed j d s (suc q) k l h = h
 
-units-signed : (j : ℕ) (f : Format) (s : Bool) (q k : ℕ) → Within j (units f false q k) → Within j (units f s q k)
+units-signed : (j : ℕ) (f : Format) (s : Bool) (q k : ℕ) → AtMostPower j (units f false q k) → AtMostPower j (units f s q k)
 unfolding units
 units-signed j f s q k = go (ltb (q * 2 ^ k) (2 ^ (low f + suc (emax f))))
   where
-    go : (b : Bool) → Within j (cond b (odd (suc (prec f)) false q k (low f)) (inf false)) → Within j (cond b (odd (suc (prec f)) s q k (low f)) (inf s))
+    go : (b : Bool) → AtMostPower j (cond b (odd (suc (prec f)) false q k (low f)) (inf false)) → AtMostPower j (cond b (odd (suc (prec f)) s q k (low f)) (inf s))
     go true h = odd-signed j (suc (prec f)) s q k (low f) h
     go false h = absurd h
 
-round-signed : (j : ℕ) (f : Format) (s : Bool) (a c : ℕ) → Within j (round f false a c) → Within j (round f s a c)
+round-signed : (j : ℕ) (f : Format) (s : Bool) (a c : ℕ) → AtMostPower j (round f false a c) → AtMostPower j (round f s a c)
 round-signed j f s a c h =
     let n = a * 2 ^ low f in
     let k = size (n / c) - prec f in
-    subst (Within j) (sym (round-is f s a c))
-    (units-signed j f s (nearest (n / (c * 2 ^ k)) (compare (n % (c * 2 ^ k) * 2) (c * 2 ^ k))) k (subst (Within j) (round-is f false a c) h))
+    subst (AtMostPower j) (sym (round-is f s a c))
+    (units-signed j f s (nearest (n / (c * 2 ^ k)) (compare (n % (c * 2 ^ k) * 2) (c * 2 ^ k))) k (subst (AtMostPower j) (round-is f false a c) h))
 
 -- ---- rounding keeps the bounds
 
@@ -99,7 +99,7 @@ not-above a b = go (ltb a b) (ltb→lt a b)
 under-whole : (x p n q b : ℕ) → 0 < q → x * q ≤ n * p → n * 1 ≡ b * q → x ≤ b * p
 under-whole x p n q b Q h e = le-of-mul-le-mul-right {k = q} (let g = ap (λ (z : ℕ). z * p) e in omega arith) Q
 
-le-within : (k : ℕ) (x y : Float) → Upright x → HasValue y false (2 ^ k) 1 → T (le x y) → Within k x
+le-within : (k : ℕ) (x y : Float) → Upright x → HasValue y false (2 ^ k) 1 → T (le x y) → AtMostPower k x
 unfolding le
 le-within k nan y u v t = absurd u
 le-within k (inf true) y u v t = absurd u
@@ -169,7 +169,7 @@ add-sized f k (fin s m e) (fin t n d) K a b =
     (common (m * up e) (down e) (down d) (2 ^ k) (a .within))
     (le-trans (common (n * up d) (down d) (down e) (2 ^ k) (b .within)) (le-of-eq (ap (λ (z : ℕ). 2 ^ k * z) (mul-comm (down d) (down e)))))
 
-neg-within : (k : ℕ) (x : Float) → Within k x → Within k (neg x)
+neg-within : (k : ℕ) (x : Float) → AtMostPower k x → AtMostPower k (neg x)
 unfolding neg
 neg-within k nan h = h
 neg-within k (inf s) h = h

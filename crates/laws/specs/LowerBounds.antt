@@ -15,7 +15,7 @@ use lib.Ieee.Fits.{down-pos, two, two-le-pos, and-r}
 use lib.Ieee.Exact.{HasValue, round-exact}
 use lib.Ieee.Order.{round-mono}
 use lib.Ieee.Positive.{through}
-use Rattle.laws.specs.Floats.{Within, Sized, Upright, round-upright, round-sized, not-above, one-below-power}
+use Rattle.laws.specs.Floats.{AtMostPower, Sized, Upright, round-upright, round-sized, not-above, one-below-power}
 
 -- finite, with the sign +
 abbrev pub Plus : Float → Type 0
@@ -41,7 +41,7 @@ Reaches f i (fin s m e) = 2 ^ i * down e ≤ m * up e * 2 ^ low f
 over-part : (b l n q x p : ℕ) → 0 < q → n * l ≡ b * q → n * p ≤ x * q → b * p ≤ x * l
 over-part b l n q x p Q e h = le-of-mul-le-mul-right {k = q} (let g = ap (λ (z : ℕ). z * p) e in let r = mul-le-mul-right l h in omega arith) Q
 
-le-at-least : (f : Format) (i k : ℕ) (x y : Float) → Within k x → Upright x → HasValue y false (2 ^ i) (2 ^ low f) → T (le y x) → AtLeast f i x
+le-at-least : (f : Format) (i k : ℕ) (x y : Float) → AtMostPower k x → Upright x → HasValue y false (2 ^ i) (2 ^ low f) → T (le y x) → AtLeast f i x
 unfolding le
 le-at-least f i k nan y w u v t = absurd u
 le-at-least f i k (inf s) y w u v t = absurd w
@@ -65,19 +65,19 @@ part-exact f i h =
     room : (l k e : ℕ) → k ≤ l + e → k < l + suc e
     room l k e h = omega arith
 
-pub round-at-least : (f : Format) (a c i k : ℕ) → 0 < c → i ≤ low f + emax f → 2 ^ i * c ≤ a * 2 ^ low f → Within k (round f false a c) → AtLeast f i (round f false a c)
+pub round-at-least : (f : Format) (a c i k : ℕ) → 0 < c → i ≤ low f + emax f → 2 ^ i * c ≤ a * 2 ^ low f → AtMostPower k (round f false a c) → AtLeast f i (round f false a c)
 round-at-least f a c i k C I h w =
     le-at-least f i k (round f false a c) (round f false (2 ^ i) (2 ^ low f)) w (round-upright f a c) (part-exact f i I) (round-mono f (2 ^ i) (2 ^ low f) a c (pow-pos (low f)) C h)
 
 -- ---- values with the sign +
 
-upright-plus : (k : ℕ) (x : Float) → Upright x → Within k x → Plus x
+upright-plus : (k : ℕ) (x : Float) → Upright x → AtMostPower k x → Plus x
 upright-plus k nan u w = w
 upright-plus k (inf s) u w = w
 upright-plus k (fin true m e) u w = u
 upright-plus k (fin false m e) u w = tt
 
-pub round-plus : (f : Format) (a c k : ℕ) → Within k (round f false a c) → Plus (round f false a c)
+pub round-plus : (f : Format) (a c k : ℕ) → AtMostPower k (round f false a c) → Plus (round f false a c)
 round-plus f a c k w = upright-plus k (round f false a c) (round-upright f a c) w
 
 pub at-least-plus : (f : Format) (i : ℕ) (x : Float) → AtLeast f i x → Plus x
@@ -86,7 +86,7 @@ at-least-plus f i (inf s) h = h
 at-least-plus f i (fin true m e) h = h
 at-least-plus f i (fin false m e) h = tt
 
-pub add-plus : (f : Format) (k : ℕ) (x y : Float) → Plus x → Plus y → Within k (add f x y) → Plus (add f x y)
+pub add-plus : (f : Format) (k : ℕ) (x y : Float) → Plus x → Plus y → AtMostPower k (add f x y) → Plus (add f x y)
 unfolding add sum
 add-plus f k nan y p q w = absurd p
 add-plus f k (inf s) y p q w = absurd p
@@ -97,7 +97,7 @@ add-plus f k (fin false m e) (fin true n d) p q w = absurd q
 add-plus f k (fin false m e) (fin false n d) p q w = round-plus f (m * up e * down d + n * up d * down e) (down e * down d) k w
 
 -- a square has the sign +
-pub square-plus : (f : Format) (k : ℕ) (x : Float) → Within k (mul f x x) → Plus (mul f x x)
+pub square-plus : (f : Format) (k : ℕ) (x : Float) → AtMostPower k (mul f x x) → Plus (mul f x x)
 unfolding mul
 square-plus f k nan w = w
 square-plus f k (inf true) w = w
@@ -109,7 +109,7 @@ square-plus f k (fin false m e) w = round-plus f (m * up e * (m * up e)) (down e
 sum-reaches : (b l x p y q : ℕ) → b * p ≤ x * l → b * (p * q) ≤ (x * q + y) * l
 sum-reaches b l x p y q h = let r = mul-le-mul-right q h in omega arith
 
-pub add-at-least-left : (f : Format) (i k : ℕ) (x y : Float) → i ≤ low f + emax f → AtLeast f i x → Plus y → Within k (add f x y) → AtLeast f i (add f x y)
+pub add-at-least-left : (f : Format) (i k : ℕ) (x y : Float) → i ≤ low f + emax f → AtLeast f i x → Plus y → AtMostPower k (add f x y) → AtLeast f i (add f x y)
 unfolding add sum
 add-at-least-left f i k nan y I h q w = absurd h
 add-at-least-left f i k (inf s) y I h q w = absurd h
@@ -121,7 +121,7 @@ add-at-least-left f i k (fin false m e) (fin false n d) I h q w =
     round-at-least f (m * up e * down d + n * up d * down e) (down e * down d) i k (mul-pos (down-pos e) (down-pos d)) I
     (sum-reaches (2 ^ i) (2 ^ low f) (m * up e) (down e) (n * up d * down e) (down d) h) w
 
-pub add-at-least-right : (f : Format) (i k : ℕ) (x y : Float) → i ≤ low f + emax f → Plus x → AtLeast f i y → Within k (add f x y) → AtLeast f i (add f x y)
+pub add-at-least-right : (f : Format) (i k : ℕ) (x y : Float) → i ≤ low f + emax f → Plus x → AtLeast f i y → AtMostPower k (add f x y) → AtLeast f i (add f x y)
 unfolding add sum
 add-at-least-right f i k nan y I p h w = absurd p
 add-at-least-right f i k (inf s) y I p h w = absurd p
@@ -139,7 +139,7 @@ square-reaches : (b c l x p : ℕ) → 0 < l → c * l ≡ b * b → b * p ≤ x
 square-reaches b c l x p L e h =
     le-of-mul-le-mul-right {k = l} (let g = ap (λ (z : ℕ). z * (p * p)) e in let r = mul-le-mul h h in omega arith) L
 
-pub square-at-least : (f : Format) (i j k : ℕ) (x : Float) → i ≤ low f + emax f → i + low f ≡ j + j → Reaches f j x → Within k (mul f x x) → AtLeast f i (mul f x x)
+pub square-at-least : (f : Format) (i j k : ℕ) (x : Float) → i ≤ low f + emax f → i + low f ≡ j + j → Reaches f j x → AtMostPower k (mul f x x) → AtLeast f i (mul f x x)
 unfolding mul
 square-at-least f i j k nan I e h w = h
 square-at-least f i j k (inf s) I e h w = absurd h
@@ -148,7 +148,7 @@ square-at-least f i j k (fin s m d) I e h w = go s w
     powers : 2 ^ i * 2 ^ low f ≡ 2 ^ j * 2 ^ j
     powers = sym (pow-add 2 i (low f)) ∙ ap (λ (z : ℕ). 2 ^ z) e ∙ pow-add 2 j j
 
-    go : (t : Bool) → Within k (round f (unlike t t) (m * up d * (m * up d)) (down d * down d)) → AtLeast f i (round f (unlike t t) (m * up d * (m * up d)) (down d * down d))
+    go : (t : Bool) → AtMostPower k (round f (unlike t t) (m * up d * (m * up d)) (down d * down d)) → AtLeast f i (round f (unlike t t) (m * up d * (m * up d)) (down d * down d))
     go true v =
         round-at-least f (m * up d * (m * up d)) (down d * down d) i k (mul-pos (down-pos d) (down-pos d)) I
         (square-reaches (2 ^ j) (2 ^ i) (2 ^ low f) (m * up d) (down d) (pow-pos (low f)) powers h) v
@@ -162,7 +162,7 @@ not-zero : (b p a l q : ℕ) → 0 < b → 0 < p → 0 < q → b * p ≤ a * l �
 not-zero b p a l q B P Q h e = let r = mul-pos (mul-pos B P) Q in let s = mul-le-mul-right q h in let g = ap (λ (z : ℕ). z * l) e in omega arith
 
 -- x at least 2 ^ i units, x ≤ y, and y < z: so is z
-pub below-at-least : (f : Format) (i k : ℕ) (x y z : Float) → AtLeast f i x → T (le x y) → T (lt y z) → Within k z → AtLeast f i z
+pub below-at-least : (f : Format) (i k : ℕ) (x y z : Float) → AtLeast f i x → T (le x y) → T (lt y z) → AtMostPower k z → AtLeast f i z
 unfolding le lt
 below-at-least f i k nan y z h s t w = absurd h
 below-at-least f i k (inf r) y z h s t w = absurd h

@@ -20,7 +20,7 @@ use Rattle.load.specs.declared.EntryLimit.the-variants.{Unlimited, Numbe
 use Rattle.load.specs.Places.{headerOf, placesOf, Counted, Exact}
 use Rattle.load.specs.declared.Fields.{Fields}
 use Rattle.openers.specs.Rows.{rowsIn, writtenRows, written-more}
-use Rattle.load.specs.Meaning.{limitOf, entryLimitOf, fieldsOf, rowsAt, Loadable}
+use Rattle.load.specs.Meaning.{lengthLimit, entryLimitOf, fieldsOf, rowsAt, Loadable}
 use Rattle.definitions.specs.Lists.{countFrom}
 use Rattle.definitions.specs.Vectors.{Vec}
 use Rattle.definitions.specs.Subspace.{Subspace}
@@ -48,12 +48,12 @@ module _ (flags weight : ℕ) where
   pub room-clear : (bytes : ℕ) → (1 ≡ flags / weight % 2 → ⊥) → 0 ≡ cond (flagSet flags weight) bytes 0
   room-clear bytes e = rw (flag-clear e) refl
 
-  pub limit-set : (x y : Float) → 1 ≡ flags / weight % 2 → x ≡ y → Length x ≡ limitOf (present (flagSet flags weight) y)
-  unfolding limitOf present
+  pub limit-set : (x y : Float) → 1 ≡ flags / weight % 2 → x ≡ y → Length x ≡ lengthLimit (present (flagSet flags weight) y)
+  unfolding lengthLimit present
   limit-set x y e p = rw (flag-set e, p) refl
 
-  pub limit-clear : (y : Float) → (1 ≡ flags / weight % 2 → ⊥) → Absent ≡ limitOf (present (flagSet flags weight) y)
-  unfolding limitOf present
+  pub limit-clear : (y : Float) → (1 ≡ flags / weight % 2 → ⊥) → Absent ≡ lengthLimit (present (flagSet flags weight) y)
+  unfolding lengthLimit present
   limit-clear y e = rw (flag-clear e) refl
 
   pub entries-set : (x y : ℕ) → 1 ≡ flags / weight % 2 → x ≡ y → AtMost x ≡ entryLimitOf (present (flagSet flags weight) y)
@@ -113,8 +113,8 @@ fitting bytes h p k e q = rw (q, e) (fitting-own bytes k)
 
 pub fields-are : (bytes : Bytes) (h : Header) (p : Places) (min max : Limit) (entries : EntryLimit) (budget : ℕ)
     → h ≡ headerOf bytes → p ≡ placesOf h
-    → min ≡ limitOf (present (flagSet (h .flags) 1) (floatAt bytes 11))
-    → max ≡ limitOf (present (flagSet (h .flags) 2) (floatAt bytes (p .max)))
+    → min ≡ lengthLimit (present (flagSet (h .flags) 1) (floatAt bytes 11))
+    → max ≡ lengthLimit (present (flagSet (h .flags) 2) (floatAt bytes (p .max)))
     → entries ≡ entryLimitOf (present (flagSet (h .flags) 4) (numberAt bytes (p .limit) 4))
     → budget ≡ numberAt bytes (p .budget) 4
     → _≡_ {A = Fields}

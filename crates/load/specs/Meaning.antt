@@ -20,12 +20,12 @@ use Rattle.load.specs.Places.{headerOf, placesOf, Exact}
 -- ---- limits
 
 -- a limit on lengths as the code holds it
-unfoldable pub limitOf : Option Float → Limit
-limitOf none = Absent
-limitOf (some length) = Length length
+unfoldable pub lengthLimit : Option Float → Limit
+lengthLimit none = Absent
+lengthLimit (some length) = Length length
 
-pub length-of-limit : (o : Option Float) → lengthOf (limitOf o) ≡ o
-unfolding limitOf lengthOf
+pub length-of-limit : (o : Option Float) → lengthOf (lengthLimit o) ≡ o
+unfolding lengthLimit lengthOf
 length-of-limit none = refl
 length-of-limit (some x) = refl
 
@@ -55,8 +55,8 @@ fieldsOf bytes =
       d = job .d;
       n = job .n;
       count = job .rowCount;
-      min = limitOf (job .shortest);
-      max = limitOf (job .longest);
+      min = lengthLimit (job .shortest);
+      max = lengthLimit (job .longest);
       entries = entryLimitOf (job .entryLimit);
       budget = job .budget;
       offset = places .offset;

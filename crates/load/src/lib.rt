@@ -13,7 +13,7 @@ ghost use Rattle.vectors.specs.Meaning.{five};
 ghost use Rattle.space.specs.Meaning.{HoldsSubspace, HoldsPoints};
 ghost use Rattle.load.specs.Places.{headerOf, placesOf, Counted, Exact};
 ghost use Rattle.openers.specs.Rows.{rowsIn, writtenRows};
-ghost use Rattle.load.specs.Meaning.{limitOf, entryLimitOf, fieldsOf};
+ghost use Rattle.load.specs.Meaning.{lengthLimit, entryLimitOf, fieldsOf};
 
 // ---- the header
 
@@ -102,7 +102,7 @@ pub fn float_at(job: &[u8], at: usize) -> f64
 // A limit on lengths that is there only where its flag is set.
 fn limit_at(job: &[u8], flags: usize, weight: usize, at: usize) -> Limit
     requires { ⌜ (0 < weight) × (at + 8 ≤ length (now job)) ⌝ }
-    ensures { λ r. ⌜ r ≡ limitOf (present (flagSet flags weight) (floatAt (now (job .entry)) at)) ⌝ }
+    ensures { λ r. ⌜ r ≡ lengthLimit (present (flagSet flags weight) (floatAt (now (job .entry)) at)) ⌝ }
 {
     if 1 == flags / weight % 2 {
         Limit::Length(float_at(job, at))

@@ -15,7 +15,7 @@ use Rattle.laws.specs.Parts.{rows, take-more, take-more-set}
 use Rattle.openers.specs.Rows.{rowsIn, RowsFit}
 use Rattle.openers.specs.Marks.{marked, marked-at, marked-length, passed, walked, marksAfter, walked-append, marks-append, walked-fewer, one-passed, one-opened}
 use Rattle.openers.specs.Codes.{pair-of-code, code-small, member-codes, map-codes, codes-wide, image-small}
-use Rattle.openers.specs.Meaning.{codeOf, pairOf, pairsIn, HoldsPairs, pairCodes, pairsAbove}
+use Rattle.openers.specs.Meaning.{pairCode, pairOf, pairsIn, HoldsPairs, pairCodes, pairsAbove}
 use Rattle.openers.specs.declared.Pairs.{Pairs}
 use Rattle.openers.proofs.Laws.{same-cond, count-more}
 
@@ -59,10 +59,10 @@ member-append p (x ∷ xs) ys = rw (member-append p xs ys) (assoc (isEq (compare
 
 pub record AgreePairs (marks : List Bool) (seen : List Pair) : Type 0 where
   pub long : length marks ≡ 400
-  pub at : (p : Pair) → p .0 < 20 → p .1 < 20 → getD marks (codeOf p) false ≡ memberPair p seen
+  pub at : (p : Pair) → p .0 < 20 → p .1 < 20 → getD marks (pairCode p) false ≡ memberPair p seen
 
 pub agree-none : AgreePairs (replicate 400 false) []
-unfolding memberPair anyOf codeOf
+unfolding memberPair anyOf pairCode
 agree-none = record { long = length-replicate 400 false; at = λ p h k. getD-replicate 400 (20 * p .0 + p .1) false false (omega arith) }
 
 module _ (n m : ℕ) (s : List ℕ) (fits : RowsFit n m s) where
@@ -71,14 +71,14 @@ module _ (n m : ℕ) (s : List ℕ) (fits : RowsFit n m s) where
     long = marked-length marks _ ∙ g .long;
     at = λ q h k.
         let new = map (pairImage p) (rowsIn n m s) in
-        let codes : pairCodes (rowsIn 32 m s) p ≡ map codeOf new = codes-wide n m (p .0) (p .1) s a b (fits .n-fits) ∙ map-codes (rowsIn n m s) p in
-        marked-at marks (pairCodes (rowsIn 32 m s) p) (codeOf q) (omega (arith, code-small q h k, g .long))
-        ∙ (ap (λ (l : List ℕ). memberNat (codeOf q) l || getD marks (codeOf q) false) codes
+        let codes : pairCodes (rowsIn 32 m s) p ≡ map pairCode new = codes-wide n m (p .0) (p .1) s a b (fits .n-fits) ∙ map-codes (rowsIn n m s) p in
+        marked-at marks (pairCodes (rowsIn 32 m s) p) (pairCode q) (omega (arith, code-small q h k, g .long))
+        ∙ (ap (λ (l : List ℕ). memberNat (pairCode q) l || getD marks (pairCode q) false) codes
         ∙ (rw (member-codes q new k (λ x i. image-small fits p x a b i), g .at q h k) refl ∙ sym (member-append q new seen)));
   }
 
   pub pairs-walked : (skip : Pair → Bool) (marks : List Bool) (seen ps : List Pair) → AgreePairs marks seen → ((p : Pair) → Mem p ps → (p .0 < n) × (p .1 < n))
-      → walked codeOf (pairCodes (rowsIn 32 m s)) skip marks ps ≡ pairOpeners skip (rowsIn n m s) seen ps
+      → walked pairCode (pairCodes (rowsIn 32 m s)) skip marks ps ≡ pairOpeners skip (rowsIn n m s) seen ps
   unfolding walked passed pairOpeners
   pairs-walked skip marks seen [] a h = refl
   pairs-walked skip marks seen (p ∷ ps) a h =
@@ -192,26 +192,26 @@ module _ (images : Pair → List ℕ) (skip : Pair → Bool) (marks : List Bool)
       ∙ map-append (λ (u : ℕ). (v, u)) (countFrom (suc v) (w - suc v)) (w ∷ []))
 
   abbrev pub foundUp : ℕ → ℕ → List Pair
-  foundUp v w = walked codeOf images skip marks (upTo v w)
+  foundUp v w = walked pairCode images skip marks (upTo v w)
 
   abbrev pub marksUp : ℕ → ℕ → List Bool
-  marksUp v w = marksAfter codeOf images skip marks (upTo v w)
+  marksUp v w = marksAfter pairCode images skip marks (upTo v w)
 
   pub up-none : (v : ℕ) → (foundUp v (v + 1) ≡ []) × (marksUp v (v + 1) ≡ marks)
   unfolding walked marksAfter countFrom
   up-none v = let e : v + 1 - suc v ≡ 0 = omega arith in (rw e refl, rw e refl)
 
-  pub found-up : (v w : ℕ) → v < w → foundUp v (w + 1) ≡ foundUp v w ++ walked codeOf images skip (marksUp v w) ((v, w) ∷ [])
-  found-up v w h = ap (walked codeOf images skip marks) (up-more v w h) ∙ walked-append codeOf images skip marks (upTo v w) ((v, w) ∷ [])
+  pub found-up : (v w : ℕ) → v < w → foundUp v (w + 1) ≡ foundUp v w ++ walked pairCode images skip (marksUp v w) ((v, w) ∷ [])
+  found-up v w h = ap (walked pairCode images skip marks) (up-more v w h) ∙ walked-append pairCode images skip marks (upTo v w) ((v, w) ∷ [])
 
-  pub marks-up : (v w : ℕ) → v < w → marksUp v (w + 1) ≡ marksAfter codeOf images skip (marksUp v w) ((v, w) ∷ [])
-  marks-up v w h = ap (marksAfter codeOf images skip marks) (up-more v w h) ∙ marks-append codeOf images skip marks (upTo v w) ((v, w) ∷ [])
+  pub marks-up : (v w : ℕ) → v < w → marksUp v (w + 1) ≡ marksAfter pairCode images skip (marksUp v w) ((v, w) ∷ [])
+  marks-up v w h = ap (marksAfter pairCode images skip marks) (up-more v w h) ∙ marks-append pairCode images skip marks (upTo v w) ((v, w) ∷ [])
 
   pub up-few : (v w : ℕ) → length (foundUp v w) ≤ w - suc v
   up-few v w =
       let e : length (upTo v w) ≡ length (countFrom (suc v) (w - suc v)) = length-map {B = Pair} (countFrom (suc v) (w - suc v)) (λ (u : ℕ). (v, u)) in
       let f = count-length (suc v) (w - suc v) in
-      omega (arith, walked-fewer codeOf images skip marks (upTo v w))
+      omega (arith, walked-fewer pairCode images skip marks (upTo v w))
 
   pub up-room : (r : Pairs) (before : List Pair) (v w count : ℕ) → HoldsPairs r (before ++ foundUp v w) → length before ≤ count → r .count ≤ count + (w - suc v)
   up-room r before v w count h l = omega (arith, h .count-is, length-append before (foundUp v w), up-few v w)
@@ -222,10 +222,10 @@ module _ (images : Pair → List ℕ) (skip : Pair → Bool) (marks : List Bool)
 
   module _ (n : ℕ) (l : List ℕ) where
     abbrev pub foundFrom : ℕ → List Pair
-    foundFrom k = walked codeOf images skip marks (pairsFrom n (take k l))
+    foundFrom k = walked pairCode images skip marks (pairsFrom n (take k l))
 
     abbrev pub marksFrom : ℕ → List Bool
-    marksFrom k = marksAfter codeOf images skip marks (pairsFrom n (take k l))
+    marksFrom k = marksAfter pairCode images skip marks (pairsFrom n (take k l))
 
     pub from-none : (foundFrom 0 ≡ []) × (marksFrom 0 ≡ marks)
     unfolding walked marksAfter pairsFrom flatMap
@@ -234,36 +234,36 @@ module _ (images : Pair → List ℕ) (skip : Pair → Bool) (marks : List Bool)
     next : (k : ℕ) → k < length l → pairsFrom n (take (k + 1) l) ≡ pairsFrom n (take k l) ++ pairsAbove n (getD l k 0)
     next k h = ap (pairsFrom n) (take-more l k 0 h) ∙ from-more n (take k l) (getD l k 0)
 
-    pub found-from : (k : ℕ) → k < length l → foundFrom (k + 1) ≡ foundFrom k ++ walked codeOf images skip (marksFrom k) (pairsAbove n (getD l k 0))
-    found-from k h = ap (walked codeOf images skip marks) (next k h) ∙ walked-append codeOf images skip marks (pairsFrom n (take k l)) (pairsAbove n (getD l k 0))
+    pub found-from : (k : ℕ) → k < length l → foundFrom (k + 1) ≡ foundFrom k ++ walked pairCode images skip (marksFrom k) (pairsAbove n (getD l k 0))
+    found-from k h = ap (walked pairCode images skip marks) (next k h) ∙ walked-append pairCode images skip marks (pairsFrom n (take k l)) (pairsAbove n (getD l k 0))
 
-    pub marks-from : (k : ℕ) → k < length l → marksFrom (k + 1) ≡ marksAfter codeOf images skip (marksFrom k) (pairsAbove n (getD l k 0))
-    marks-from k h = ap (marksAfter codeOf images skip marks) (next k h) ∙ marks-append codeOf images skip marks (pairsFrom n (take k l)) (pairsAbove n (getD l k 0))
+    pub marks-from : (k : ℕ) → k < length l → marksFrom (k + 1) ≡ marksAfter pairCode images skip (marksFrom k) (pairsAbove n (getD l k 0))
+    marks-from k h = ap (marksAfter pairCode images skip marks) (next k h) ∙ marks-append pairCode images skip marks (pairsFrom n (take k l)) (pairsAbove n (getD l k 0))
 
 -- ---- one pair
 
 module _ (rows : List Row) (skip : Pair → Bool) (marks : List Bool) (v w : ℕ) (found : Pairs) where
   abbrev joined : List Pair
-  joined = pairsIn found ++ walked codeOf (pairCodes rows) skip marks ((v, w) ∷ [])
+  joined = pairsIn found ++ walked pairCode (pairCodes rows) skip marks ((v, w) ∷ [])
 
   abbrev after : List Bool
-  after = marksAfter codeOf (pairCodes rows) skip marks ((v, w) ∷ [])
+  after = marksAfter pairCode (pairCodes rows) skip marks ((v, w) ∷ [])
 
-  passed-by : found .count ≤ 190 → length (found .codes) ≡ 190 → passed codeOf (pairCodes rows) skip marks (v, w) ≡ true → HoldsPairs found joined × (marks ≡ after)
+  passed-by : found .count ≤ 190 → length (found .codes) ≡ 190 → passed pairCode (pairCodes rows) skip marks (v, w) ≡ true → HoldsPairs found joined × (marks ≡ after)
   passed-by fits long e =
-      let one = one-passed codeOf (pairCodes rows) skip marks (v, w) e in
+      let one = one-passed pairCode (pairCodes rows) skip marks (v, w) e in
       (holds-pairs found joined fits long (sym (append-nil (pairsIn found)) ∙ ap (λ (l : List Pair). pairsIn found ++ l) (sym (one .0))), sym (one .1))
 
   pub pair-marked : found .count ≤ 190 → length (found .codes) ≡ 190 → getD marks (20 * v + w) false ≡ true → HoldsPairs found joined × (marks ≡ after)
-  unfolding passed codeOf
+  unfolding passed pairCode
   pair-marked fits long e = passed-by fits long (rw e refl)
 
   pub pair-skipped : found .count ≤ 190 → length (found .codes) ≡ 190 → getD marks (20 * v + w) false ≡ false → skip (v, w) ≡ true → HoldsPairs found joined × (marks ≡ after)
-  unfolding passed codeOf
+  unfolding passed pairCode
   pair-skipped fits long e f = passed-by fits long (rw (e, f) refl)
 
   pub pair-opened : getD marks (20 * v + w) false ≡ false → skip (v, w) ≡ false → (r : Pairs) (t : List Bool) → HoldsPairs r (pairsIn found ++ ((v, w) ∷ [])) → t ≡ marked marks (pairCodes rows (v, w)) → HoldsPairs r joined × (t ≡ after)
-  unfolding passed codeOf
+  unfolding passed pairCode
   pair-opened e f r t h g =
-      let one = one-opened codeOf (pairCodes rows) skip marks (v, w) (rw (e, f) refl) in
+      let one = one-opened pairCode (pairCodes rows) skip marks (v, w) (rw (e, f) refl) in
       (rw (one .0) h, g ∙ sym (one .1))

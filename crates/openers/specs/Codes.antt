@@ -12,7 +12,7 @@ use Rattle.laws.specs.Lists.{Mem, here, there, of-map, at-member}
 use Rattle.laws.specs.Orders.{pairs, is-eq}
 use Rattle.laws.specs.Parts.{rows, getD-rows, length-rows, map-rows-more}
 use Rattle.openers.specs.Rows.{rowsIn, RowsFit, image-at, same-images}
-use Rattle.openers.specs.Meaning.{codeOf, pairOf, pairCodes}
+use Rattle.openers.specs.Meaning.{pairCode, pairOf, pairCodes}
 
 -- ---- a pair is its code
 
@@ -26,48 +26,48 @@ pair-of-code v w h =
 pair-same : (p q : Pair) → p .0 ≡ q .0 → p .1 ≡ q .1 → p ≡ q
 pair-same p q e f = λ i. (e i, f i)
 
-pub same-code : (p q : Pair) → p .1 < 20 → q .1 < 20 → isEq (comparePair p q) ≡ eqb (codeOf p) (codeOf q)
-unfolding codeOf
+pub same-code : (p q : Pair) → p .1 < 20 → q .1 < 20 → isEq (comparePair p q) ≡ eqb (pairCode p) (pairCode q)
+unfolding pairCode
 same-code p q a b =
-    same-test (isEq (comparePair p q)) (eqb (codeOf p) (codeOf q))
-    (λ t. let e = pairs .equal p q (is-eq (comparePair p q) t) in subst (λ (x : Pair). T (eqb (codeOf p) (codeOf x))) e (eqb-refl (codeOf p)))
+    same-test (isEq (comparePair p q)) (eqb (pairCode p) (pairCode q))
+    (λ t. let e = pairs .equal p q (is-eq (comparePair p q) t) in subst (λ (x : Pair). T (eqb (pairCode p) (pairCode x))) e (eqb-refl (pairCode p)))
     (λ t.
-    let e : 20 * p .0 + p .1 ≡ 20 * q .0 + q .1 = eqb→eq (codeOf p) (codeOf q) t in
+    let e : 20 * p .0 + p .1 ≡ 20 * q .0 + q .1 = eqb→eq (pairCode p) (pairCode q) t in
     let same = pair-same p q (omega arith) (omega arith) in
     subst (λ (x : Pair). T (isEq (comparePair p x))) same (rw (pairs .self p) tt))
 
-pub code-small : (q : Pair) → q .0 < 20 → q .1 < 20 → codeOf q < 400
-unfolding codeOf
+pub code-small : (q : Pair) → q .0 < 20 → q .1 < 20 → pairCode q < 400
+unfolding pairCode
 code-small q h k = omega arith
 
-pub member-codes : (p : Pair) (ps : List Pair) → p .1 < 20 → ((q : Pair) → Mem q ps → q .1 < 20) → memberNat (codeOf p) (map codeOf ps) ≡ memberPair p ps
+pub member-codes : (p : Pair) (ps : List Pair) → p .1 < 20 → ((q : Pair) → Mem q ps → q .1 < 20) → memberNat (pairCode p) (map pairCode ps) ≡ memberPair p ps
 unfolding memberNat memberPair anyOf
 member-codes p [] a h = refl
 member-codes p (q ∷ ps) a h = rw (same-code p q a (h q (here refl)), member-codes p ps a (λ x k. h x (there k))) refl
 
 -- ---- images
 
-pub map-codes : (rows : List Row) (p : Pair) → pairCodes rows p ≡ map codeOf (map (pairImage p) rows)
+pub map-codes : (rows : List Row) (p : Pair) → pairCodes rows p ≡ map pairCode (map (pairImage p) rows)
 unfolding pairCodes
 map-codes [] p = refl
-map-codes (row ∷ rows) p = ap (λ (l : List ℕ). codeOf (pairImage p row) ∷ l) (map-codes rows p)
+map-codes (row ∷ rows) p = ap (λ (l : List ℕ). pairCode (pairImage p row) ∷ l) (map-codes rows p)
 
 pub code-at : (n i : ℕ) (s : List ℕ) (v w : ℕ) → v < n → w < n
-    → codeOf (pairImage (v, w) (take n (drop (32 * i) s))) ≡ 20 * min (getD s (32 * i + v) 0) (getD s (32 * i + w) 0) + max (getD s (32 * i + v) 0) (getD s (32 * i + w) 0)
-unfolding codeOf pairImage
+    → pairCode (pairImage (v, w) (take n (drop (32 * i) s))) ≡ 20 * min (getD s (32 * i + v) 0) (getD s (32 * i + w) 0) + max (getD s (32 * i + v) 0) (getD s (32 * i + w) 0)
+unfolding pairCode pairImage
 code-at n i s v w h k = rw (image-at n i s v h, image-at n i s w k) refl
 
 pub codes-more : (m v w : ℕ) (s : List ℕ) → v < 32 → w < 32
     → pairCodes (rowsIn 32 (m + 1) s) (v, w) ≡ pairCodes (rowsIn 32 m s) (v, w) ++ ((20 * min (getD s (32 * m + v) 0) (getD s (32 * m + w) 0) + max (getD s (32 * m + v) 0) (getD s (32 * m + w) 0)) ∷ [])
 unfolding pairCodes rowsIn
 codes-more m v w s h k =
-    map-rows-more (λ (row : Row). codeOf (pairImage (v, w) row)) 32 32 m s
-    ∙ ap (λ (u : ℕ). map (λ (row : Row). codeOf (pairImage (v, w) row)) (rowsIn 32 m s) ++ (u ∷ [])) (code-at 32 m s v w h k)
+    map-rows-more (λ (row : Row). pairCode (pairImage (v, w) row)) 32 32 m s
+    ∙ ap (λ (u : ℕ). map (λ (row : Row). pairCode (pairImage (v, w) row)) (rowsIn 32 m s) ++ (u ∷ [])) (code-at 32 m s v w h k)
 
 pub codes-wide : (n m v w : ℕ) (s : List ℕ) → v < n → w < n → n ≤ 20 → pairCodes (rowsIn 32 m s) (v, w) ≡ pairCodes (rowsIn n m s) (v, w)
 unfolding pairCodes
 codes-wide n m v w s h k l =
-    same-images (λ (row : Row). codeOf (pairImage (v, w) row)) (λ (row : Row). codeOf (pairImage (v, w) row)) 32 n m s
+    same-images (λ (row : Row). pairCode (pairImage (v, w) row)) (λ (row : Row). pairCode (pairImage (v, w) row)) 32 n m s
     (λ i _. code-at 32 i s v w (omega arith) (omega arith) ∙ sym (code-at n i s v w h k))
 
 -- rows that fit send vertices to vertices

@@ -33,8 +33,8 @@ noneSkipped v = false
 -- ---- pairs
 
 -- a pair's place among the marks
-unfoldable pub codeOf : Pair → ℕ
-codeOf p = 20 * p .0 + p .1
+unfoldable pub pairCode : Pair → ℕ
+pairCode p = 20 * p .0 + p .1
 
 unfoldable pub pairOf : ℕ → Pair
 pairOf code = (code / 20, code % 20)
@@ -54,7 +54,7 @@ pub record HoldsPairs (r : Pairs) (meaning : List Pair) : Type 0 where
 
 -- [5.4] the codes of a pair's images under the rows, the smaller vertex first
 unfoldable pub pairCodes : List Row → Pair → List ℕ
-pairCodes rows p = map (λ (row : Row). codeOf (pairImage p row)) rows
+pairCodes rows p = map (λ (row : Row). pairCode (pairImage p row)) rows
 
 -- whether the length of a pair breaks a limit
 unfoldable pub breaks : Float → Limits → List Vec → Pair → Bool

@@ -11,7 +11,7 @@ ghost use Rattle.definitions.specs.Orbits.{vertexOpeners, pairOpeners, pairsFro
 ghost use Rattle.space.specs.Meaning.{PointsFit, pointsOf, limitsOf};
 ghost use Rattle.openers.specs.Rows.{rowsIn, RowsFit, ImagesBelow};
 ghost use Rattle.openers.specs.Marks.{marked, walked, marksAfter};
-ghost use Rattle.openers.specs.Meaning.{verticesIn, HoldsVertices, vertexImages, noneSkipped, pairsIn, HoldsPairs, PairsFit, codeOf, pairCodes, breaks, pairsAbove};
+ghost use Rattle.openers.specs.Meaning.{verticesIn, HoldsVertices, vertexImages, noneSkipped, pairsIn, HoldsPairs, PairsFit, pairCode, pairCodes, breaks, pairsAbove};
 
 // ---- rows
 
@@ -162,8 +162,8 @@ fn try_pair(
     found: Pairs,
 ) -> Pairs
     requires { ⌜ PointsFit points × (v < points .n) × (w < points .n) × RowsFit (points .n) m (now rows) × (found .count < 190) ⌝ }
-    ensures joins { λ r. ⌜ HoldsPairs r (pairsIn found ++ walked codeOf (pairCodes (rowsIn 32 m (now (rows .entry)))) (breaks tolerance (limitsOf min max) (pointsOf points)) (now (marks .entry)) ((v, w) ∷ [])) ⌝ }
-    ensures marks { λ _. ⌜ now (marks .exit) ≡ marksAfter codeOf (pairCodes (rowsIn 32 m (now (rows .entry)))) (breaks tolerance (limitsOf min max) (pointsOf points)) (now (marks .entry)) ((v, w) ∷ []) ⌝ }
+    ensures joins { λ r. ⌜ HoldsPairs r (pairsIn found ++ walked pairCode (pairCodes (rowsIn 32 m (now (rows .entry)))) (breaks tolerance (limitsOf min max) (pointsOf points)) (now (marks .entry)) ((v, w) ∷ [])) ⌝ }
+    ensures marks { λ _. ⌜ now (marks .exit) ≡ marksAfter pairCode (pairCodes (rowsIn 32 m (now (rows .entry)))) (breaks tolerance (limitsOf min max) (pointsOf points)) (now (marks .entry)) ((v, w) ∷ []) ⌝ }
 {
     if marks[20 * v + w] {
         return found;
@@ -188,8 +188,8 @@ fn pairs_above(
     found: Pairs,
 ) -> Pairs
     requires { ⌜ PointsFit points × (v < points .n) × RowsFit (points .n) m (now rows) × PairsFit found × (found .count + (points .n - (v + 1)) ≤ 190) ⌝ }
-    ensures joins { λ r. ⌜ HoldsPairs r (pairsIn found ++ walked codeOf (pairCodes (rowsIn 32 m (now (rows .entry)))) (breaks tolerance (limitsOf min max) (pointsOf points)) (now (marks .entry)) (pairsAbove (points .n) v)) ⌝ }
-    ensures marks { λ _. ⌜ now (marks .exit) ≡ marksAfter codeOf (pairCodes (rowsIn 32 m (now (rows .entry)))) (breaks tolerance (limitsOf min max) (pointsOf points)) (now (marks .entry)) (pairsAbove (points .n) v) ⌝ }
+    ensures joins { λ r. ⌜ HoldsPairs r (pairsIn found ++ walked pairCode (pairCodes (rowsIn 32 m (now (rows .entry)))) (breaks tolerance (limitsOf min max) (pointsOf points)) (now (marks .entry)) (pairsAbove (points .n) v)) ⌝ }
+    ensures marks { λ _. ⌜ now (marks .exit) ≡ marksAfter pairCode (pairCodes (rowsIn 32 m (now (rows .entry)))) (breaks tolerance (limitsOf min max) (pointsOf points)) (now (marks .entry)) (pairsAbove (points .n) v) ⌝ }
 {
     let n = points.n;
     let mut pairs = found;

@@ -19,7 +19,7 @@ use Rattle.orbits.specs.Workspace.{seenIn}
 use Rattle.orbits.specs.Walks.{going, Walked}
 use Rattle.orbits.specs.Answers.{answerIn, orbitsOrRefusal, PairsRise, pairTuples, openers-rise, all-found, too-many}
 use Rattle.orbits.specs.declared.Progress.{Progress}
-use Rattle.orbits.specs.declared.Verdict.the-variants.{Going, Refused}
+use Rattle.orbits.specs.declared.Walk.the-variants.{Going, Refused}
 use Rattle.orbits.specs.declared.Answer.the-variants.{Orbits, Refused as RefusedAnswer}
 
 -- nothing was seen yet
@@ -43,8 +43,8 @@ openers-same tolerance limits points m s ps n k e h =
 
 module _ (tolerance : Float) (limits : Limits) (more : ℕ) (points flat : List Vec) (rows : List Row) (bound : ℕ) (ps : List Pair) (ws : List ℕ) (r : Progress) (after : List ℕ) where
   abbrev whole : ℕ → Type 0
-  whole n = (r .verdict ≡ Going → answerIn n (Orbits (r .count)) after ≡ orbitsOrRefusal bound (hyperplaneOrbits tolerance limits more points flat rows))
-      × (r .verdict ≡ Refused → answerIn n RefusedAnswer after ≡ orbitsOrRefusal bound (hyperplaneOrbits tolerance limits more points flat rows))
+  whole n = (r .walk ≡ Going → answerIn n (Orbits (r .count)) after ≡ orbitsOrRefusal bound (hyperplaneOrbits tolerance limits more points flat rows))
+      × (r .walk ≡ Refused → answerIn n RefusedAnswer after ≡ orbitsOrRefusal bound (hyperplaneOrbits tolerance limits more points flat rows))
 
   pub answers : (n : ℕ) → length flat ≡ n → length points ≡ n → ((row : Row) → Mem row rows → Permutes n row)
       → ps ≡ pairOpeners (breaks tolerance limits points) rows [] (pairsFrom n (vertexOpeners rows [] (countFrom 0 n)))

@@ -8,7 +8,7 @@ use lib.ListN.{length, length-append}
 use lib.Ieee.{Float}
 use Rattle.definitions.specs.Vectors.{Vec}
 use Rattle.definitions.specs.Orbits.{Row, Limits, pointAt, breaksLimit}
-use Rattle.orbits.specs.Workspace.{Room}
+use Rattle.orbits.specs.Workspace.{OrbitsRoom}
 use Rattle.orbits.specs.Walks.{keepsLimits, Walked, walked-none, walked-append, extensions, extensions-none, extensions-end, extensions-skip, extensions-take}
 use Rattle.orbits.specs.declared.Progress.{Progress}
 
@@ -19,7 +19,7 @@ pub record Extending (tolerance : Float) (flat : List Vec) (rows : List Row) (bo
   pub walked : Walked tolerance flat rows bound state ws done reached now
 
 module _ (tolerance : Float) (flat : List Vec) (rows : List Row) (bound : ℕ) (state : Progress) (ws : List ℕ) where
-  pub extend-start : (all : List (List Vec)) → Room bound (state .known) (state .count) ws → Extending tolerance flat rows bound state ws all all state ws
+  pub extend-start : (all : List (List Vec)) → OrbitsRoom bound (state .known) (state .count) ws → Extending tolerance flat rows bound state ws all all state ws
   extend-start all room = record { done = []; whole = refl; walked = walked-none tolerance flat rows bound state ws room }
 
   -- more of them are walked along

@@ -24,10 +24,10 @@ use Rattle.sorted.specs.Merging.{New, Merged}
 use Rattle.openers.specs.Rows.{rowsIn, rowAt}
 use Rattle.orbits.specs.Numbers.{imageNumbers, nearNumber, opensOrbit, orbitsFrom, seenAfter}
 use Rattle.orbits.specs.Walks.{going, Walked}
-use Rattle.orbits.specs.Workspace.{seenIn, orbitsIn, Room, Holds, ReachedBy, Reached, Opened, orbits-length, orbits-front}
+use Rattle.orbits.specs.Workspace.{seenIn, orbitsIn, OrbitsRoom, HoldsOrbits, ReachedBy, Reached, Opened, orbits-length, orbits-front}
 use Rattle.orbits.specs.declared.Progress.{Progress}
-use Rattle.orbits.specs.declared.Verdict.{Verdict}
-use Rattle.orbits.specs.declared.Verdict.the-variants.{Going, Refused}
+use Rattle.orbits.specs.declared.Walk.{Walk}
+use Rattle.orbits.specs.declared.Walk.the-variants.{Going, Refused}
 
 -- the sets seen, in the part that is lent
 pub seen-part : (known : ℕ) (ws : List ℕ) → 2048 + 4 * known ≤ length ws → words 4 (take (length ws - 2048) (drop 2048 ws)) known ≡ seenIn known ws
@@ -59,13 +59,13 @@ module _ (known : ℕ) (ws : List ℕ) (fits : 2048 + 4 * known ≤ length ws) (
 
 -- ---- an orbit opened
 
-pub opened-none : (bound known count : ℕ) (ws : List ℕ) (set : ℕ) (images : List ℕ) → Room bound known count ws → count ≡ bound → Opened bound known count ws set images (record { known = known; count = count; verdict = Refused }) ws
+pub opened-none : (bound known count : ℕ) (ws : List ℕ) (set : ℕ) (images : List ℕ) → OrbitsRoom bound known count ws → count ≡ bound → Opened bound known count ws set images (record { known = known; count = count; walk = Refused }) ws
 opened-none bound known count ws set images room e = record {
   room = room;
   reached = λ seen orbits h. let n : length orbits ≡ count = ap length (sym (h .orbits-are)) ∙ orbits-length ws count in omega (arith, length-append orbits ((set, length (added seen images) - length seen) ∷ []));
 }
 
-module _ (bound known count : ℕ) (ws : List ℕ) (set : ℕ) (images : List ℕ) (k : ℕ) (new : List ℕ) (room : Room bound known count ws) (few : k ≤ 120) (small : set < 256 ^ 4) (free : count < bound) where
+module _ (bound known count : ℕ) (ws : List ℕ) (set : ℕ) (images : List ℕ) (k : ℕ) (new : List ℕ) (room : OrbitsRoom bound known count ws) (few : k ≤ 120) (small : set < 256 ^ 4) (free : count < bound) where
   abbrev pub first : List ℕ
   first = put 4 ws (8 * count) set
 
@@ -143,7 +143,7 @@ module _ (bound known count : ℕ) (ws : List ℕ) (set : ℕ) (images : List �
         let d : length (drop (length both - 2048) (drop 2048 both)) ≡ 0 = length-drop (length both - 2048) (drop 2048 both) ∙ (omega (arith, length-drop 2048 both)) in
         length-append (take 2048 both) _ ∙ (omega (arith, length-append part (drop (length both - 2048) (drop 2048 both)), part-long, room .long))
 
-    pub opened-one : Opened bound known count ws set images (record { known = known + k; count = count + 1; verdict = Going }) after
+    pub opened-one : Opened bound known count ws set images (record { known = known + k; count = count + 1; walk = Going }) after
     unfolding seenIn
     opened-one = record {
       room = record {
@@ -164,10 +164,10 @@ module _ (bound known count : ℕ) (ws : List ℕ) (set : ℕ) (images : List �
 
   pub opened-by : (w₁ w₂ part : List ℕ) → w₁ ≡ put 4 ws (8 * count) set → w₂ ≡ put 4 w₁ (8 * count + 4) k → Merged (take (length w₂ - 2048) (drop 2048 w₂)) known (take k new) part
       → k ≤ length new → Gathering (seenIn known ws) images (take k new)
-      → Opened bound known count ws set images (record { known = known + k; count = count + 1; verdict = Going }) (take 2048 w₂ ++ (part ++ drop (length w₂ - 2048) (drop 2048 w₂)))
+      → Opened bound known count ws set images (record { known = known + k; count = count + 1; walk = Going }) (take 2048 w₂ ++ (part ++ drop (length w₂ - 2048) (drop 2048 w₂)))
   opened-by w₁ w₂ part e f merged wide gather =
       let same : w₂ ≡ both = f ∙ ap (λ (l : List ℕ). put 4 l (8 * count + 4) k) e in
-      subst (λ (w : List ℕ). Merged (take (length w - 2048) (drop 2048 w)) known (take k new) part → Opened bound known count ws set images (record { known = known + k; count = count + 1; verdict = Going }) (take 2048 w ++ (part ++ drop (length w - 2048) (drop 2048 w))))
+      subst (λ (w : List ℕ). Merged (take (length w - 2048) (drop 2048 w)) known (take k new) part → Opened bound known count ws set images (record { known = known + k; count = count + 1; walk = Going }) (take 2048 w ++ (part ++ drop (length w - 2048) (drop 2048 w))))
       (sym same) (λ m. opened-one part m wide gather) merged
 
 -- the part that is lent has room for the sets seen
@@ -194,17 +194,17 @@ module _ (tolerance : Float) (flat : List Vec) (rows : List Row) (seen : List �
   near-is set plane e f = f ∙ ap (λ (s : Subspace). setNumber (pointsNear tolerance s flat 0)) e
 
 module _ (tolerance : Float) (flat : List Vec) (rows : List Row) (bound : ℕ) (state : Progress) (ws : List ℕ) (ts : List (List Vec)) where
-  pub stays-refused : state .verdict ≡ Refused → Room bound (state .known) (state .count) ws → Walked tolerance flat rows bound state ws ts state ws
+  pub stays-refused : state .walk ≡ Refused → OrbitsRoom bound (state .known) (state .count) ws → Walked tolerance flat rows bound state ws ts state ws
   stays-refused e room = record {
     room = room;
     reached = λ seen orbits h.
-        let over : bound < length orbits = subst (λ (v : Verdict). ReachedBy v bound (state .known) (state .count) ws seen orbits) e h in
+        let over : bound < length orbits = subst (λ (v : Walk). ReachedBy v bound (state .known) (state .count) ws seen orbits) e h in
         let more = orbits ++ orbitsFrom tolerance flat rows seen ts in
-        subst (λ (v : Verdict). ReachedBy v bound (state .known) (state .count) ws (seenAfter tolerance flat rows seen ts) more) (sym e) (omega (arith, length-append orbits (orbitsFrom tolerance flat rows seen ts)));
+        subst (λ (v : Walk). ReachedBy v bound (state .known) (state .count) ws (seenAfter tolerance flat rows seen ts) more) (sym e) (omega (arith, length-append orbits (orbitsFrom tolerance flat rows seen ts)));
   }
 
-  pub goes-on : (r : Progress) (after : List ℕ) → state .verdict ≡ Going → Walked tolerance flat rows bound (going (state .known) (state .count)) ws ts r after → Walked tolerance flat rows bound state ws ts r after
+  pub goes-on : (r : Progress) (after : List ℕ) → state .walk ≡ Going → Walked tolerance flat rows bound (going (state .known) (state .count)) ws ts r after → Walked tolerance flat rows bound state ws ts r after
   goes-on r after e w = record {
     room = w .room;
-    reached = λ seen orbits h. w .reached seen orbits (subst (λ (v : Verdict). ReachedBy v bound (state .known) (state .count) ws seen orbits) e h);
+    reached = λ seen orbits h. w .reached seen orbits (subst (λ (v : Walk). ReachedBy v bound (state .known) (state .count) ws seen orbits) e h);
   }

@@ -13,7 +13,7 @@ use Rattle.laws.specs.Lists.{Mem, member-at, map-at, flatMap-append}
 use Rattle.laws.specs.Parts.{take-more}
 use Rattle.openers.specs.declared.Pairs.{Pairs}
 use Rattle.openers.specs.Meaning.{pairOf, pairsIn}
-use Rattle.orbits.specs.Workspace.{Room}
+use Rattle.orbits.specs.Workspace.{OrbitsRoom}
 use Rattle.orbits.specs.Walks.{Walked, walked-none, walked-append, extensions, keepsLimits}
 use Rattle.orbits.specs.Answers.{tuplesOf, pairTuples}
 use Rattle.orbits.specs.declared.Progress.{Progress}
@@ -33,7 +33,7 @@ module _ (pairs : Pairs) (fits : pairs .count ≤ 190) (long : length (pairs .co
   pair-in k h = subst (λ (p : Pair). Mem p (pairsIn pairs)) (pair-at k h) (member-at (pairsIn pairs) k (0, 0) (omega (arith, pairs-count)))
 
 module _ (tolerance : Float) (limits : Limits) (points flat : List Vec) (n more : ℕ) (rows : List Row) (bound : ℕ) (state : Progress) (ws : List ℕ) where
-  pub walk-start : (l : List Pair) → Room bound (state .known) (state .count) ws → Walked tolerance flat rows bound state ws (pairTuples tolerance limits points flat n more (take 0 l)) state ws
+  pub walk-start : (l : List Pair) → OrbitsRoom bound (state .known) (state .count) ws → Walked tolerance flat rows bound state ws (pairTuples tolerance limits points flat n more (take 0 l)) state ws
   unfolding pairTuples flatMap
   walk-start l room = walked-none tolerance flat rows bound state ws room
 

@@ -24,11 +24,11 @@ use Rattle.openers.specs.Meaning.{breaks}
 use Rattle.stabilizers.specs.Permutations.{Permutations}
 use Rattle.orbits.specs.Numbers.{orbitOf, orbitsFrom, seenAfter}
 use Rattle.orbits.specs.Hyperplanes.{Permutes, SeenAs, orbits-are}
-use Rattle.orbits.specs.Workspace.{seenIn, orbitsIn, Room, Holds, ReachedBy, Reached, orbits-length}
+use Rattle.orbits.specs.Workspace.{seenIn, orbitsIn, OrbitsRoom, HoldsOrbits, ReachedBy, Reached, orbits-length}
 use Rattle.orbits.specs.Walks.{going, Walked, keepsLimits, extensions}
 use Rattle.orbits.specs.declared.Progress.{Progress}
-use Rattle.orbits.specs.declared.Verdict.{Verdict}
-use Rattle.orbits.specs.declared.Verdict.the-variants.{Going, Refused}
+use Rattle.orbits.specs.declared.Walk.{Walk}
+use Rattle.orbits.specs.declared.Walk.the-variants.{Going, Refused}
 use Rattle.orbits.specs.declared.Answer.{Answer}
 use Rattle.orbits.specs.declared.Answer.the-variants.{Orbits, Refused as RefusedAnswer}
 
@@ -154,22 +154,22 @@ module _ (tolerance : Float) (limits : Limits) (more : ℕ) (points flat : List 
   found-length = sym (length-map (orbitsFrom tolerance flat rows [] all) (orbitOf (length flat))) ∙ ap length found
 
   module _ (ws : List ℕ) (r : Progress) (after : List ℕ) (walk : Walked tolerance flat rows bound (going 0 0) ws all r after) where
-    end : ReachedBy (r .verdict) bound (r .known) (r .count) after (seenAfter tolerance flat rows [] all) (orbitsFrom tolerance flat rows [] all)
+    end : ReachedBy (r .walk) bound (r .known) (r .count) after (seenAfter tolerance flat rows [] all) (orbitsFrom tolerance flat rows [] all)
     unfolding seenIn words orbitsIn
     end = walk .reached [] [] (record { seen-are = refl; orbits-are = refl })
 
-    pub all-found : r .verdict ≡ Going → answerIn (length flat) (Orbits (r .count)) after ≡ orbitsOrRefusal bound whole
+    pub all-found : r .walk ≡ Going → answerIn (length flat) (Orbits (r .count)) after ≡ orbitsOrRefusal bound whole
     unfolding answerIn orbitsOrRefusal refuseIf
     all-found e =
-        let held : Holds (r .known) (r .count) after (seenAfter tolerance flat rows [] all) (orbitsFrom tolerance flat rows [] all) =
-        subst (λ (v : Verdict). ReachedBy v bound (r .known) (r .count) after (seenAfter tolerance flat rows [] all) (orbitsFrom tolerance flat rows [] all)) e end in
+        let held : HoldsOrbits (r .known) (r .count) after (seenAfter tolerance flat rows [] all) (orbitsFrom tolerance flat rows [] all) =
+        subst (λ (v : Walk). ReachedBy v bound (r .known) (r .count) after (seenAfter tolerance flat rows [] all) (orbitsFrom tolerance flat rows [] all)) e end in
         let count : r .count ≡ length whole = sym (orbits-length after (r .count)) ∙ (ap length (held .orbits-are) ∙ found-length) in
         let is : map (orbitOf (length flat)) (orbitsIn after (r .count)) ≡ whole = ap (map (orbitOf (length flat))) (held .orbits-are) ∙ found in
         rw (is, le-ltb bound (length whole) (omega (arith, walk .room .count-fits))) refl
 
-    pub too-many : r .verdict ≡ Refused → answerIn (length flat) RefusedAnswer after ≡ orbitsOrRefusal bound whole
+    pub too-many : r .walk ≡ Refused → answerIn (length flat) RefusedAnswer after ≡ orbitsOrRefusal bound whole
     unfolding answerIn orbitsOrRefusal refuseIf
     too-many e =
         let over : bound < length (orbitsFrom tolerance flat rows [] all) =
-        subst (λ (v : Verdict). ReachedBy v bound (r .known) (r .count) after (seenAfter tolerance flat rows [] all) (orbitsFrom tolerance flat rows [] all)) e end in
+        subst (λ (v : Walk). ReachedBy v bound (r .known) (r .count) after (seenAfter tolerance flat rows [] all) (orbitsFrom tolerance flat rows [] all)) e end in
         rw (lt-ltb bound (length whole) (omega (arith, found-length))) refl

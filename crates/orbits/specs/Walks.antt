@@ -15,13 +15,13 @@ use Rattle.space.specs.declared.Points.{Points}
 use Rattle.space.specs.Meaning.{PointsFit}
 use Rattle.stabilizers.specs.Permutations.{Permutations}
 use Rattle.orbits.specs.Numbers.{imageNumbers, nearNumber, opensOrbit, withImages, orbitsFrom, seenAfter, orbits-append, seen-append, one-closed, one-opened}
-use Rattle.orbits.specs.Workspace.{seenIn, Room, Holds, Reached, ReachedBy, Opened}
+use Rattle.orbits.specs.Workspace.{seenIn, OrbitsRoom, HoldsOrbits, Reached, ReachedBy, Opened}
 use Rattle.orbits.specs.declared.Progress.{Progress}
-use Rattle.orbits.specs.declared.Verdict.{Verdict}
-use Rattle.orbits.specs.declared.Verdict.the-variants.{Going, Refused}
+use Rattle.orbits.specs.declared.Walk.{Walk}
+use Rattle.orbits.specs.declared.Walk.the-variants.{Going, Refused}
 
 abbrev pub going : ℕ → ℕ → Progress
-going known count = record { known = known; count = count; verdict = Going }
+going known count = record { known = known; count = count; walk = Going }
 
 -- what a step on a tuple asks of its points and of the rows
 pub record TupleFits (flat tuple : Points) (m : ℕ) (rows : List ℕ) : Type 0 where
@@ -34,7 +34,7 @@ pub record TupleFits (flat tuple : Points) (m : ℕ) (rows : List ℕ) : Type 0 
 
 -- a walk along tuples of points, from a state on
 pub record Walked (tolerance : Float) (flat : List Vec) (rows : List Row) (bound : ℕ) (state : Progress) (ws : List ℕ) (tuples : List (List Vec)) (r : Progress) (after : List ℕ) : Type 0 where
-  pub room : Room bound (r .known) (r .count) after
+  pub room : OrbitsRoom bound (r .known) (r .count) after
   pub reached : (seen : List ℕ) (orbits : List Pair) → Reached bound state ws seen orbits → Reached bound r after (seenAfter tolerance flat rows seen tuples) (orbits ++ orbitsFrom tolerance flat rows seen tuples)
 
 -- [5.5] an added vertex that breaks a limit takes its tuples with it
@@ -48,7 +48,7 @@ extensions passes flat tuple n from more = map (λ (joining : List ℕ). tuple +
 -- ---- walks
 
 module _ (tolerance : Float) (flat : List Vec) (rows : List Row) (bound : ℕ) where
-  pub walked-none : (state : Progress) (ws : List ℕ) → Room bound (state .known) (state .count) ws → Walked tolerance flat rows bound state ws [] state ws
+  pub walked-none : (state : Progress) (ws : List ℕ) → OrbitsRoom bound (state .known) (state .count) ws → Walked tolerance flat rows bound state ws [] state ws
   unfolding seenAfter orbitsFrom
   walked-none state ws room = record { room = room; reached = λ seen orbits h. rw append-nil h }
 
@@ -62,15 +62,15 @@ module _ (tolerance : Float) (flat : List Vec) (rows : List Row) (bound : ℕ) w
   }
 
   -- behind a refusal there are only more orbits
-  pub walked-refused : (known count : ℕ) (ws : List ℕ) (ts : List (List Vec)) → Room bound known count ws
-      → Walked tolerance flat rows bound (record { known = known; count = count; verdict = Refused }) ws ts (record { known = known; count = count; verdict = Refused }) ws
+  pub walked-refused : (known count : ℕ) (ws : List ℕ) (ts : List (List Vec)) → OrbitsRoom bound known count ws
+      → Walked tolerance flat rows bound (record { known = known; count = count; walk = Refused }) ws ts (record { known = known; count = count; walk = Refused }) ws
   walked-refused known count ws ts room = record {
     room = room;
     reached = λ seen orbits h. omega (arith, length-append orbits (orbitsFrom tolerance flat rows seen ts));
   }
 
   -- a tuple that opens nothing
-  pub walked-closed : (known count : ℕ) (ws : List ℕ) (points : List Vec) → Room bound known count ws → opensOrbit tolerance flat rows (seenIn known ws) points ≡ false
+  pub walked-closed : (known count : ℕ) (ws : List ℕ) (points : List Vec) → OrbitsRoom bound known count ws → opensOrbit tolerance flat rows (seenIn known ws) points ≡ false
       → Walked tolerance flat rows bound (going known count) ws (points ∷ []) (going known count) ws
   walked-closed known count ws points room e = record {
     room = room;

@@ -10,8 +10,8 @@ use Rattle.words.specs.Words.{words, numberAt-take}
 use Rattle.sorted.specs.Ascending.{Ascending}
 use Rattle.sorted.specs.Gathering.{added}
 use Rattle.orbits.specs.declared.Progress.{Progress}
-use Rattle.orbits.specs.declared.Verdict.{Verdict}
-use Rattle.orbits.specs.declared.Verdict.the-variants.{Going, Refused}
+use Rattle.orbits.specs.declared.Walk.{Walk}
+use Rattle.orbits.specs.declared.Walk.the-variants.{Going, Refused}
 
 -- the numbers of the sets seen
 unfoldable pub seenIn : ℕ → List ℕ → List ℕ
@@ -23,7 +23,7 @@ orbitsIn ws zero = []
 orbitsIn ws (suc count) = orbitsIn ws count ++ ((numberAt ws (8 * count) 4, numberAt ws (8 * count + 4) 4) ∷ [])
 
 -- what every step asks: space for 256 orbits of 120 sets each, and sets that ascend
-pub record Room (bound known count : ℕ) (ws : List ℕ) : Type 0 where
+pub record OrbitsRoom (bound known count : ℕ) (ws : List ℕ) : Type 0 where
   pub long : 124928 ≤ length ws
   pub bound-fits : bound ≤ 256
   pub count-fits : count ≤ bound
@@ -31,22 +31,22 @@ pub record Room (bound known count : ℕ) (ws : List ℕ) : Type 0 where
   pub ascends : Ascending (seenIn known ws)
 
 -- the workspace holds sets seen and orbits
-pub record Holds (known count : ℕ) (ws seen : List ℕ) (orbits : List Pair) : Type 0 where
+pub record HoldsOrbits (known count : ℕ) (ws seen : List ℕ) (orbits : List Pair) : Type 0 where
   pub seen-are : seenIn known ws ≡ seen
   pub orbits-are : orbitsIn ws count ≡ orbits
 
 -- how far a walk has come: it holds what the definition has so far, or the definition has more orbits than the bound
-abbrev pub ReachedBy : Verdict → ℕ → ℕ → ℕ → List ℕ → List ℕ → List Pair → Type 0
-ReachedBy Going bound known count ws seen orbits = Holds known count ws seen orbits
+abbrev pub ReachedBy : Walk → ℕ → ℕ → ℕ → List ℕ → List ℕ → List Pair → Type 0
+ReachedBy Going bound known count ws seen orbits = HoldsOrbits known count ws seen orbits
 ReachedBy Refused bound known count ws seen orbits = bound < length orbits
 
 abbrev pub Reached : ℕ → Progress → List ℕ → List ℕ → List Pair → Type 0
-Reached bound p ws seen orbits = ReachedBy (p .verdict) bound (p .known) (p .count) ws seen orbits
+Reached bound p ws seen orbits = ReachedBy (p .walk) bound (p .known) (p .count) ws seen orbits
 
 -- what was opened: one orbit more, and its sets among those seen
 pub record Opened (bound known count : ℕ) (ws : List ℕ) (set : ℕ) (images : List ℕ) (r : Progress) (after : List ℕ) : Type 0 where
-  pub room : Room bound (r .known) (r .count) after
-  pub reached : (seen : List ℕ) (orbits : List Pair) → Holds known count ws seen orbits → Reached bound r after (added seen images) (orbits ++ ((set, length (added seen images) - length seen) ∷ []))
+  pub room : OrbitsRoom bound (r .known) (r .count) after
+  pub reached : (seen : List ℕ) (orbits : List Pair) → HoldsOrbits known count ws seen orbits → Reached bound r after (added seen images) (orbits ++ ((set, length (added seen images) - length seen) ∷ []))
 
 -- ---- laws
 

@@ -23,12 +23,12 @@ ghost use Rattle.openers.specs.Rows.{rowsIn};
 ghost use Rattle.openers.specs.Meaning.{pairsIn};
 ghost use Rattle.stabilizers.specs.Permutations.{Permutations};
 ghost use Rattle.orbits.specs.Numbers.{imageNumbers, nearNumber, orbitsFrom, seenAfter};
-ghost use Rattle.orbits.specs.Workspace.{seenIn, Room, Opened};
+ghost use Rattle.orbits.specs.Workspace.{seenIn, OrbitsRoom, Opened};
 ghost use Rattle.orbits.specs.Walks.{going, Walked, TupleFits, extensions, keepsLimits};
 ghost use Rattle.orbits.specs.Answers.{CallFits, PairsRise, pairTuples, answerIn, orbitsOrRefusal};
 
 // Whether another orbit was due than the bound allows.
-pub enum Verdict {
+pub enum Walk {
     Going,
     Refused,
 }
@@ -37,7 +37,7 @@ pub enum Verdict {
 pub struct Progress {
     pub known: usize,
     pub count: usize,
-    pub verdict: Verdict,
+    pub walk: Walk,
 }
 
 // ---- sets seen
@@ -87,14 +87,14 @@ fn open_orbit(
     count: usize,
     ws: &mut [u8],
 ) -> Progress
-    requires { ⌜ Permutations n m (now rows) × (m ≤ 120) × Room bound known count (now ws) ⌝ }
+    requires { ⌜ Permutations n m (now rows) × (m ≤ 120) × OrbitsRoom bound known count (now ws) ⌝ }
     ensures { λ r. ⌜ Opened bound known count (now (ws .entry)) set (imageNumbers n set (rowsIn n m (now (rows .entry)))) r (now (ws .exit)) ⌝ }
 {
     if count == bound {
         return Progress {
             known: known,
             count: count,
-            verdict: Verdict::Refused,
+            walk: Walk::Refused,
         };
     }
     let mut new = [0; 120];
@@ -105,7 +105,7 @@ fn open_orbit(
     Progress {
         known: known + k,
         count: count + 1,
-        verdict: Verdict::Going,
+        walk: Walk::Going,
     }
 }
 
@@ -123,7 +123,7 @@ fn fit_tuple(
     count: usize,
     ws: &mut [u8],
 ) -> Progress
-    requires { ⌜ TupleFits flat tuple m (now rows) × Room bound known count (now ws) ⌝ }
+    requires { ⌜ TupleFits flat tuple m (now rows) × OrbitsRoom bound known count (now ws) ⌝ }
     ensures { λ r. ⌜ Walked tolerance (pointsOf flat) (rowsIn (flat .n) m (now (rows .entry))) bound (going known count) (now (ws .entry)) (pointsOf tuple ∷ []) r (now (ws .exit)) ⌝ }
 {
     let plane = Subspace::from_points(tuple, tolerance);
@@ -131,7 +131,7 @@ fn fit_tuple(
         return Progress {
             known: known,
             count: count,
-            verdict: Verdict::Going,
+            walk: Walk::Going,
         };
     }
     let set = points_near(flat, plane, tolerance);
@@ -139,7 +139,7 @@ fn fit_tuple(
         return Progress {
             known: known,
             count: count,
-            verdict: Verdict::Going,
+            walk: Walk::Going,
         };
     }
     open_orbit(rows, m, flat.n, set, bound, known, count, ws)
@@ -156,13 +156,13 @@ fn try_tuple(
     state: Progress,
     ws: &mut [u8],
 ) -> Progress
-    requires { ⌜ TupleFits flat tuple m (now rows) × Room bound (state .known) (state .count) (now ws) ⌝ }
+    requires { ⌜ TupleFits flat tuple m (now rows) × OrbitsRoom bound (state .known) (state .count) (now ws) ⌝ }
     ensures { λ r. ⌜ Walked tolerance (pointsOf flat) (rowsIn (flat .n) m (now (rows .entry))) bound state (now (ws .entry)) (pointsOf tuple ∷ []) r (now (ws .exit)) ⌝ }
 {
-    let verdict = state.verdict;
-    match verdict {
-        Verdict::Refused => state,
-        Verdict::Going => fit_tuple(
+    let walk = state.walk;
+    match walk {
+        Walk::Refused => state,
+        Walk::Going => fit_tuple(
             flat,
             tuple,
             rows,
@@ -193,7 +193,7 @@ fn extend(
     state: Progress,
     ws: &mut [u8],
 ) -> Progress
-    requires { ⌜ TupleFits flat tuple m (now rows) × Room bound (state .known) (state .count) (now ws) × PointsFit points × (v < points .n) × (points .n ≡ flat .n) × (tuple .n ≤ from) ⌝ }
+    requires { ⌜ TupleFits flat tuple m (now rows) × OrbitsRoom bound (state .known) (state .count) (now ws) × PointsFit points × (v < points .n) × (points .n ≡ flat .n) × (tuple .n ≤ from) ⌝ }
     ensures { λ r. ⌜ Walked tolerance (pointsOf flat) (rowsIn (flat .n) m (now (rows .entry))) bound state (now (ws .entry)) (extensions (keepsLimits tolerance (limitsOf min max) (pointsOf points) v) (pointsOf flat) (pointsOf tuple) (flat .n) from more) r (now (ws .exit)) ⌝ }
 {
     if more == 0 {
@@ -256,7 +256,7 @@ fn walk_pairs(
     state: Progress,
     ws: &mut [u8],
 ) -> Progress
-    requires { ⌜ CallFits points flat m (now rows) × PairsRise (flat .n) (pairsIn pairs) × (pairs .count ≤ 190) × Room bound (state .known) (state .count) (now ws) ⌝ }
+    requires { ⌜ CallFits points flat m (now rows) × PairsRise (flat .n) (pairsIn pairs) × (pairs .count ≤ 190) × OrbitsRoom bound (state .known) (state .count) (now ws) ⌝ }
     ensures { λ r. ⌜ Walked tolerance (pointsOf flat) (rowsIn (flat .n) m (now (rows .entry))) bound state (now (ws .entry)) (pairTuples tolerance (limitsOf min max) (pointsOf points) (pointsOf flat) (flat .n) more (pairsIn pairs)) r (now (ws .exit)) ⌝ }
 {
     let count = pairs.count;
@@ -313,7 +313,7 @@ pub fn find_orbits(
     let state = Progress {
         known: 0,
         count: 0,
-        verdict: Verdict::Going,
+        walk: Walk::Going,
     };
     let done = walk_pairs(
         points,
@@ -329,10 +329,10 @@ pub fn find_orbits(
         state,
         ws,
     );
-    let verdict = done.verdict;
-    match verdict {
-        Verdict::Refused => Answer::Refused,
-        Verdict::Going => Answer::Orbits(done.count),
+    let walk = done.walk;
+    match walk {
+        Walk::Refused => Answer::Refused,
+        Walk::Going => Answer::Orbits(done.count),
     }
 }
 

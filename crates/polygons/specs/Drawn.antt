@@ -16,7 +16,7 @@ use Rattle.laws.specs.Places.{map-same, keeps-compare, compare-map, ascends-map
 use Rattle.laws.specs.Parts.{getD-rows, length-rows}
 use Rattle.sorted.specs.Ascending.{Ascending, ascending-nil, ascending-head, ascending-tail}
 use Rattle.sorted.specs.Gathering.{added, ascending-added, member-added}
-use Rattle.openers.specs.Meaning.{codeOf}
+use Rattle.openers.specs.Meaning.{pairCode}
 use Rattle.openers.specs.Rows.{rowsIn, RowsFit}
 use Rattle.openers.specs.Codes.{code-at}
 use Rattle.compounds.specs.Areas.{listAt}
@@ -36,8 +36,8 @@ use Rattle.polygons.specs.Images.{imageCode, imageAt, EdgeLists, Named}
 
 -- ---- codes keep the order of pairs
 
-codes-rise : (p q : Pair) → Ends 20 p → Ends 20 q → comparePair p q ≡ Ordering·lt → compare (codeOf p) (codeOf q) ≡ Ordering·lt
-unfolding codeOf comparePair thenBy
+codes-rise : (p q : Pair) → Ends 20 p → Ends 20 q → comparePair p q ≡ Ordering·lt → compare (pairCode p) (pairCode q) ≡ Ordering·lt
+unfolding pairCode comparePair thenBy
 codes-rise p q a b e = lt-compare (20 * p .0 + p .1) (20 * q .0 + q .1) (by (compare (p .0) (q .0)) refl e)
   where
     by : (o : Ordering) → compare (p .0) (q .0) ≡ o → thenBy o (compare (p .1) (q .1)) ≡ Ordering·lt → 20 * p .0 + p .1 < 20 * q .0 + q .1
@@ -68,28 +68,28 @@ of-added z l i =
     (either (memberNat z l) (memberNat z []) (subst T (member-added z [] l) (of-member z (added [] l) i)))
 
 -- the codes of pairs as a set are those of the pairs in order
-pub codes-in-order : (ps : List Pair) → ((p : Pair) → Mem p ps → Ends 20 p) → added [] (map codeOf ps) ≡ map codeOf (edgesInOrder ps)
+pub codes-in-order : (ps : List Pair) → ((p : Pair) → Mem p ps → Ends 20 p) → added [] (map pairCode ps) ≡ map pairCode (edgesInOrder ps)
 codes-in-order ps small =
-    same-ascending compare nats (added [] (map codeOf ps)) (map codeOf (edgesInOrder ps)) (members (added [] (map codeOf ps)) (ascending-added [] (map codeOf ps) ascending-nil))
-    (ascends-map comparePair pairs compare nats codeOf (Ends 20) codes-rise (edgesInOrder ps) (λ p i. small p (of-in-order comparePair pairs p ps i)) (in-order-ascends comparePair pairs ps))
+    same-ascending compare nats (added [] (map pairCode ps)) (map pairCode (edgesInOrder ps)) (members (added [] (map pairCode ps)) (ascending-added [] (map pairCode ps) ascending-nil))
+    (ascends-map comparePair pairs compare nats pairCode (Ends 20) codes-rise (edgesInOrder ps) (λ p i. small p (of-in-order comparePair pairs p ps i)) (in-order-ascends comparePair pairs ps))
     (record {
       into = λ z i.
-          let r = of-map codeOf z ps (of-added z (map codeOf ps) i) in
-          subst (λ (y : ℕ). Mem y (map codeOf (edgesInOrder ps))) (sym (r .2)) (in-map codeOf (r .0) (edgesInOrder ps) (in-in-order comparePair pairs (r .0) ps (r .1)));
+          let r = of-map pairCode z ps (of-added z (map pairCode ps) i) in
+          subst (λ (y : ℕ). Mem y (map pairCode (edgesInOrder ps))) (sym (r .2)) (in-map pairCode (r .0) (edgesInOrder ps) (in-in-order comparePair pairs (r .0) ps (r .1)));
       back = λ z i.
-          let r = of-map codeOf z (edgesInOrder ps) i in
-          in-added z (map codeOf ps) (subst (λ (y : ℕ). Mem y (map codeOf ps)) (sym (r .2)) (in-map codeOf (r .0) ps (of-in-order comparePair pairs (r .0) ps (r .1))));
+          let r = of-map pairCode z (edgesInOrder ps) i in
+          in-added z (map pairCode ps) (subst (λ (y : ℕ). Mem y (map pairCode ps)) (sym (r .2)) (in-map pairCode (r .0) ps (of-in-order comparePair pairs (r .0) ps (r .1))));
     })
 
 -- ---- an image
 
 module _ {n m : ℕ} {bytes : List ℕ} (fits : RowsFit n m bytes) where
-  edge-code : (row : ℕ) → row < m → (e : Pair) → Ends n e → imageCode bytes row (codeOf e) ≡ codeOf (pairImage e (getD (rowsIn n m bytes) row []))
-  unfolding imageCode rowsIn codeOf
+  edge-code : (row : ℕ) → row < m → (e : Pair) → Ends n e → imageCode bytes row (pairCode e) ≡ pairCode (pairImage e (getD (rowsIn n m bytes) row []))
+  unfolding imageCode rowsIn pairCode
   edge-code row r e h =
       let a : (20 * e .0 + e .1) / 20 ≡ e .0 = omega (arith, h .second, fits .n-fits) in
       let b : (20 * e .0 + e .1) % 20 ≡ e .1 = omega (arith, h .second, fits .n-fits) in
-      rw (a, b) (sym (code-at n row bytes (e .0) (e .1) (h .first) (h .second)) ∙ ap (λ (l : Row). codeOf (pairImage e l)) (sym (getD-rows 32 n m bytes row r)))
+      rw (a, b) (sym (code-at n row bytes (e .0) (e .1) (h .first) (h .second)) ∙ ap (λ (l : Row). pairCode (pairImage e l)) (sym (getD-rows 32 n m bytes row r)))
 
   row-ends : (row : ℕ) → row < m → (es : List Pair) → ((e : Pair) → Mem e es → Ends n e) → (p : Pair) → Mem p (map (λ (e : Pair). pairImage e (getD (rowsIn n m bytes) row [])) es) → Ends 20 p
   unfolding rowsIn
@@ -100,12 +100,12 @@ module _ {n m : ℕ} {bytes : List ℕ} (fits : RowsFit n m bytes) where
       image-ends fits (q .0) p (h (q .0) (q .1)) (subst (λ (x : Pair). Mem x (map (pairImage (q .0)) (rowsIn n m bytes))) (sym (q .2)) (in-map (pairImage (q .0)) row-is (rowsIn n m bytes) in-rows))
 
   image-codes : (row : ℕ) → row < m → (es : List Pair) → ((e : Pair) → Mem e es → Ends n e)
-      → added [] (map (imageCode bytes row) (map codeOf es)) ≡ map codeOf (edgesInOrder (map (λ (e : Pair). pairImage e (getD (rowsIn n m bytes) row [])) es))
+      → added [] (map (imageCode bytes row) (map pairCode es)) ≡ map pairCode (edgesInOrder (map (λ (e : Pair). pairImage e (getD (rowsIn n m bytes) row [])) es))
   image-codes row r es h =
       let image : Pair → Pair = λ e. pairImage e (getD (rowsIn n m bytes) row []) in
       ap (added [])
-      (map-map (imageCode bytes row) codeOf es
-      ∙ (map-same (λ (e : Pair). imageCode bytes row (codeOf e)) (λ (e : Pair). codeOf (image e)) es (λ e i. edge-code row r e (h e i)) ∙ sym (map-map codeOf image es)))
+      (map-map (imageCode bytes row) pairCode es
+      ∙ (map-same (λ (e : Pair). imageCode bytes row (pairCode e)) (λ (e : Pair). pairCode (image e)) es (λ e i. edge-code row r e (h e i)) ∙ sym (map-map pairCode image es)))
       ∙ codes-in-order (map image es) (row-ends row r es h)
 
 -- ---- the images of what is kept
@@ -126,14 +126,14 @@ module _ {n m : ℕ} {bytes : List ℕ} {kept : List Kept} {shelf : Shelf} {s : 
   polygonAt = imageEdges (rowsIn n m bytes) (edgesOf kept)
 
   many-lists : count pool ≡ length (edgesOf kept)
-  many-lists = holds-count (keeps .edges) ∙ length-map (edgesOf kept) (map codeOf)
+  many-lists = holds-count (keeps .edges) ∙ length-map (edgesOf kept) (map pairCode)
 
   pub many-facets : shelf .facets ≡ count pool
   many-facets = keeps .facets ∙ (sym (many-edges kept (all-each h)) ∙ sym many-lists)
 
-  list-is : (x : ℕ) → x < count pool → listAt 1024 pool x ≡ map codeOf (getD (edgesOf kept) x [])
+  list-is : (x : ℕ) → x < count pool → listAt 1024 pool x ≡ map pairCode (getD (edgesOf kept) x [])
   unfolding listAt
-  list-is x l = ap (λ (ls : List (List ℕ)). getD ls x []) (keeps .edges .lists-are) ∙ map-at (map codeOf) (edgesOf kept) x [] [] (omega (arith, many-lists))
+  list-is x l = ap (λ (ls : List (List ℕ)). getD ls x []) (keeps .edges .lists-are) ∙ map-at (map pairCode) (edgesOf kept) x [] [] (omega (arith, many-lists))
 
   at-in : (x : ℕ) → x < count pool → Mem (getD (edgesOf kept) x []) (edgesOf kept)
   at-in x l = member-at (edgesOf kept) x [] (omega (arith, many-lists))
@@ -143,13 +143,13 @@ module _ {n m : ℕ} {bytes : List ℕ} {kept : List Kept} {shelf : Shelf} {s : 
 
   -- what ordering the images asks for
   pub edge-lists : FewEdges kept → EdgeLists n m pool bytes
-  unfolding edgesOf codeOf
+  unfolding edgesOf pairCode
   edge-lists f = record {
     sound = keeps .edges .sound;
     few = λ x l.
         let es = getD (edgesOf kept) x [] in
         let r = of-flatMap (λ (k : Kept). k .edges) es kept (at-in x l) in
-        omega (arith, ap length (list-is x l), length-map es codeOf, f .few (r .0) (r .1) es (r .2));
+        omega (arith, ap length (list-is x l), length-map es pairCode, f .few (r .0) (r .1) es (r .2));
     ends = λ x l i k. code-ends x l i k;
     rows-fit = fits;
     few-rows = few-rows;
@@ -158,9 +158,9 @@ module _ {n m : ℕ} {bytes : List ℕ} {kept : List Kept} {shelf : Shelf} {s : 
       code-ends : (x : ℕ) → x < count pool → (i : ℕ) → i < length (listAt 1024 pool x) → (getD (listAt 1024 pool x) i 0 / 20 < n) × (getD (listAt 1024 pool x) i 0 % 20 < n)
       code-ends x l i k =
           let es = getD (edgesOf kept) x [] in
-          let inside : i < length es = omega (arith, k, ap length (list-is x l), length-map es codeOf) in
+          let inside : i < length es = omega (arith, k, ap length (list-is x l), length-map es pairCode) in
           let e = getD es i (0, 0) in
-          let is : getD (listAt 1024 pool x) i 0 ≡ 20 * e .0 + e .1 = ap (λ (cs : List ℕ). getD cs i 0) (list-is x l) ∙ map-at codeOf es i 0 (0, 0) inside in
+          let is : getD (listAt 1024 pool x) i 0 ≡ 20 * e .0 + e .1 = ap (λ (cs : List ℕ). getD cs i 0) (list-is x l) ∙ map-at pairCode es i 0 (0, 0) inside in
           let ends = ends-at x l e (member-at es i (0, 0) inside) in
           (omega (arith, is, ends .first, ends .second, fits .n-fits), omega (arith, is, ends .first, ends .second, fits .n-fits))
 
@@ -176,14 +176,14 @@ module _ {n m : ℕ} {bytes : List ℕ} {kept : List Kept} {shelf : Shelf} {s : 
       let b : (id + 131072) % 1024 ≡ id % 1024 = omega arith in
       λ t. edgesInOrder (map (λ (e : Pair). pairImage e (getD (rowsIn n m bytes) (a t) [])) (getD (edgesOf kept) (b t) []))
 
-  image-drawn : (id : ℕ) → Named m pool id → imageAt pool bytes id ≡ map codeOf (polygonAt id)
+  image-drawn : (id : ℕ) → Named m pool id → imageAt pool bytes id ≡ map pairCode (polygonAt id)
   unfolding imageEdges imageAt
   image-drawn id d =
       let x = id % 1024 in
       let es = getD (edgesOf kept) x [] in
       let a : id / 1024 ≡ id % 131072 / 1024 = omega (arith, small-id id d) in
       ap (λ (l : List ℕ). added [] (map (imageCode bytes (id / 1024)) l)) (list-is x (d .facet))
-      ∙ (image-codes fits (id / 1024) (d .row) es (ends-at x (d .facet)) ∙ ap (λ (r : ℕ). map codeOf (edgesInOrder (map (λ (e : Pair). pairImage e (getD (rowsIn n m bytes) r [])) es))) a)
+      ∙ (image-codes fits (id / 1024) (d .row) es (ends-at x (d .facet)) ∙ ap (λ (r : ℕ). map pairCode (edgesInOrder (map (λ (e : Pair). pairImage e (getD (rowsIn n m bytes) r [])) es))) a)
 
   polygon-ends : (id : ℕ) → Named m pool id → (p : Pair) → Mem p (polygonAt id) → Ends 20 p
   unfolding imageEdges
@@ -197,4 +197,4 @@ module _ {n m : ℕ} {bytes : List ℕ} {kept : List Kept} {shelf : Shelf} {s : 
   unfolding compareNats comparePairs
   compare-drawn a b d e =
       (λ t. compareNats (image-drawn a d t) (image-drawn b e t))
-      ∙ compare-map comparePair pairs compare nats codeOf (Ends 20) (keeps-compare comparePair pairs compare nats codeOf (Ends 20) codes-rise) (polygonAt a) (polygonAt b) (polygon-ends a d) (polygon-ends b e)
+      ∙ compare-map comparePair pairs compare nats pairCode (Ends 20) (keeps-compare comparePair pairs compare nats pairCode (Ends 20) codes-rise) (polygonAt a) (polygonAt b) (polygon-ends a d) (polygon-ends b e)

@@ -5,7 +5,7 @@ use Prim.Native.Nat.{ℕ}
 use lib.ListN.{replicate}
 use Rattle.definitions.specs.Job.{little, numberAt}
 use Rattle.words.specs.Words.{bytesOf, put, words}
-use Rattle.pool.specs.Pool.{count, used, start, items, ends, cuts, closed, opened, emptied, pushed, ended}
+use Rattle.pool.specs.Pool.{count, used, start, items, ends, cuts, closedLists, opened, emptied, pushed, ended}
 
 two-lists : List ℕ
 two-lists = ended (pushed 2 2 (ended (pushed 2 2 (pushed 2 2 (emptied (replicate 28 255)) 5) 7)) 257)
@@ -15,8 +15,8 @@ bytes : two-lists ≡ 2 ∷ 0 ∷ 0 ∷ 0 ∷ 3 ∷ 0 ∷ 0 ∷ 0 ∷ 0 ∷ 0 �
 unfolding two-lists emptied pushed ended put bytesOf count used numberAt little
 bytes = refl
 
-holds : closed 2 2 two-lists ≡ (5 ∷ 7 ∷ []) ∷ (257 ∷ []) ∷ []
-unfolding two-lists emptied pushed ended put bytesOf count used start items ends cuts closed words numberAt little
+holds : closedLists 2 2 two-lists ≡ (5 ∷ 7 ∷ []) ∷ (257 ∷ []) ∷ []
+unfolding two-lists emptied pushed ended put bytesOf count used start items ends cuts closedLists words numberAt little
 holds = refl
 
 nothing-open : opened 2 2 two-lists ≡ []

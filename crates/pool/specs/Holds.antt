@@ -1,4 +1,4 @@
--- What a region of lists holds, said at once: these closed lists, this open one, so many items in all. Each function's effect, and each reading, is one law.
+-- What a region of lists holds, said at once: these closedLists lists, this open one, so many items in all. Each function's effect, and each reading, is one law.
 -- Leans on Pool. Assumes nothing.
 use mathlib.Core.Path.{_≡_, refl, sym, ap, _∙_}
 use mathlib.Core.List.{List, [], _∷_, _++_}
@@ -7,11 +7,11 @@ use native.Mathlib.Nat.{mul-le-mul-left}
 use native.Mathlib.Omega.{arith}
 use lib.ListN.{length, getD}
 use Rattle.definitions.specs.Job.{numberAt}
-use Rattle.pool.specs.Pool.{base, count, used, start, closed, opened, emptied, pushed, ended, lengthAt, placeAt, Sound, closed-length, list-length, list-item, item-inside, emptied-sound, emptied-closed, emptied-opened, emptied-used, pushed-sound, pushed-closed, pushed-opened, pushed-used, ended-sound, ended-closed, ended-opened, ended-used}
+use Rattle.pool.specs.Pool.{base, count, used, start, closedLists, opened, emptied, pushed, ended, lengthAt, placeAt, Sound, closed-length, list-length, list-item, item-inside, emptied-sound, emptied-closed, emptied-opened, emptied-used, pushed-sound, pushed-closed, pushed-opened, pushed-used, ended-sound, ended-closed, ended-opened, ended-used}
 
 pub record Holds (w most : ℕ) (s : List ℕ) (lists : List (List ℕ)) (open-list : List ℕ) (many : ℕ) : Type 0 where
   pub sound : Sound w most s
-  pub lists-are : closed w most s ≡ lists
+  pub lists-are : closedLists w most s ≡ lists
   pub open-is : opened w most s ≡ open-list
   pub many-are : used s ≡ many
 

@@ -1,6 +1,6 @@
--- Lists of any length in one region of bytes. The region has the number of closed lists (u32 at 0), the number of items in all (u32 at 4), the starts of the lists
--- (u32 at 8, 12, ..: list k begins at start k and ends at start k + 1), room for `most` lists; then the items, w bytes each. Behind the closed lists one is open:
--- it takes items until it is closed. What a region holds is `closed` and `opened`, functions of its own bytes. Leans on Words. Assumes nothing.
+-- Lists of any length in one region of bytes. The region has the number of closedLists lists (u32 at 0), the number of items in all (u32 at 4), the starts of the lists
+-- (u32 at 8, 12, ..: list k begins at start k and ends at start k + 1), room for `most` lists; then the items, w bytes each. Behind the closedLists lists one is open:
+-- it takes items until it is closedLists. What a region holds is `closedLists` and `opened`, functions of its own bytes. Leans on Words. Assumes nothing.
 use mathlib.Core.Path.{_≡_, refl, sym, ap, _∙_}
 use mathlib.Core.List.{List, [], _∷_, _++_}
 use mathlib.Core.Logic.{_⊎_, inl, inr, ⊎-elim}
@@ -32,7 +32,7 @@ base most = 12 + 4 * most
 unfoldable pub items : ℕ → ℕ → List ℕ → List ℕ
 items w most s = words w (drop (base most) s) (used s)
 
--- where each closed list ends
+-- where each closedLists list ends
 unfoldable pub ends : List ℕ → List ℕ
 ends s = words 4 (drop 12 s) (count s)
 
@@ -43,8 +43,8 @@ unfoldable pub cuts : ℕ → List ℕ → List ℕ → List (List ℕ)
 cuts a [] l = []
 cuts a (b ∷ bs) l = take (b - a) (drop a l) ∷ cuts b bs l
 
-unfoldable pub closed : ℕ → ℕ → List ℕ → List (List ℕ)
-closed w most s = cuts (start s 0) (ends s) (items w most s)
+unfoldable pub closedLists : ℕ → ℕ → List ℕ → List (List ℕ)
+closedLists w most s = cuts (start s 0) (ends s) (items w most s)
 
 unfoldable pub opened : ℕ → ℕ → List ℕ → List ℕ
 opened w most s = drop (start s (count s)) (items w most s)
@@ -59,7 +59,7 @@ emptied s = put 4 (put 4 (put 4 s 0 0) 4 0) 8 0
 unfoldable pub pushed : ℕ → ℕ → List ℕ → ℕ → List ℕ
 pushed w most s v = put 4 (put w s (base most + w * used s) v) 4 (used s + 1)
 
--- the open list is closed, and an empty one is open behind it
+-- the open list is closedLists, and an empty one is open behind it
 unfoldable pub ended : List ℕ → List ℕ
 ended s = put 4 (put 4 s (12 + 4 * count s) (used s)) 0 (count s + 1)
 
@@ -121,8 +121,8 @@ pub items-length : (w most : ℕ) (s : List ℕ) → length (items w most s) ≡
 unfolding items
 items-length w most s = words-length w (drop (base most) s) (used s)
 
-pub closed-length : (w most : ℕ) (s : List ℕ) → length (closed w most s) ≡ count s
-unfolding closed
+pub closed-length : (w most : ℕ) (s : List ℕ) → length (closedLists w most s) ≡ count s
+unfolding closedLists
 closed-length w most s = cuts-length (start s 0) (ends s) (items w most s) ∙ ends-length s
 
 -- an end is the next start
@@ -138,14 +138,14 @@ starts-at s (suc k) h = ends-at s k (omega arith) ∙ ap (start s) (add-one k)
 
 -- list k of a sound region, its length and its items
 module _ (w most : ℕ) (s : List ℕ) (ok : Sound w most s) (k : ℕ) (h : k < count s) where
-  list-is : getD (closed w most s) k [] ≡ take (lengthAt s k) (drop (start s k) (items w most s))
-  unfolding closed lengthAt
+  list-is : getD (closedLists w most s) k [] ≡ take (lengthAt s k) (drop (start s k) (items w most s))
+  unfolding closedLists lengthAt
   list-is =
       let l = ends-length s in
       getD-cuts (start s 0) (ends s) (items w most s) k (omega arith)
       ∙ (rw (ends-at s k h, starts-at s k (omega arith)) refl)
 
-  pub list-length : length (getD (closed w most s) k []) ≡ lengthAt s k
+  pub list-length : length (getD (closedLists w most s) k []) ≡ lengthAt s k
   unfolding lengthAt
   list-length =
       let m = items-length w most s in
@@ -157,7 +157,7 @@ module _ (w most : ℕ) (s : List ℕ) (ok : Sound w most s) (k : ℕ) (h : k < 
   unfolding lengthAt
   item-inside i l = let b = ok .below (k + 1) (omega arith) in omega arith
 
-  pub list-item : (i : ℕ) → i < lengthAt s k → getD (getD (closed w most s) k []) i 0 ≡ numberAt s (placeAt w most s k i) w
+  pub list-item : (i : ℕ) → i < lengthAt s k → getD (getD (closedLists w most s) k []) i 0 ≡ numberAt s (placeAt w most s k i) w
   unfolding placeAt items
   list-item i l =
       ap (λ (r : List ℕ). getD r i 0) list-is
@@ -202,8 +202,8 @@ module _ (w most : ℕ) (s : List ℕ) (fits : base most ≤ length s) where
     ascend = λ k h. absurd (omega (arith, empty-count));
   }
 
-  pub emptied-closed : closed w most (emptied s) ≡ []
-  unfolding closed ends cuts words
+  pub emptied-closed : closedLists w most (emptied s) ≡ []
+  unfolding closedLists ends cuts words
   emptied-closed = rw empty-count refl
 
   pub emptied-opened : opened w most (emptied s) ≡ []
@@ -280,8 +280,8 @@ module _ (w most : ℕ) (s : List ℕ) (v : ℕ) (ok : Sound w most s) (room : b
       ends-at (pushed w most s v) k (omega arith)
       ∙ (pushed-start (k + 1) (omega (arith, pushed-count)) ∙ sym (ends-at s k (omega (arith, pushed-count)))))
 
-  pub pushed-closed : closed w most (pushed w most s v) ≡ closed w most s
-  unfolding closed
+  pub pushed-closed : closedLists w most (pushed w most s v) ≡ closedLists w most s
+  unfolding closedLists
   pushed-closed =
       let m = items-length w most s in
       let n = ends-length s in
@@ -397,8 +397,8 @@ module _ (w most : ℕ) (s : List ℕ) (ok : Sound w most s) (more : count s < m
       let d = length-drop (start s (count s)) (items w most s) in
       take-all (used s - start s (count s)) (drop (start s (count s)) (items w most s)) (omega arith)
 
-  pub ended-closed : closed w most (ended s) ≡ closed w most s ++ (opened w most s ∷ [])
-  unfolding closed
+  pub ended-closed : closedLists w most (ended s) ≡ closedLists w most s ++ (opened w most s ∷ [])
+  unfolding closedLists
   ended-closed =
       rw (ended-start 0 (omega arith), ended-ends, ended-items)
       (cuts-end (start s 0) (ends s) (used s) (items w most s)

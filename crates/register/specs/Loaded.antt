@@ -27,7 +27,7 @@ use Rattle.job.specs.declared.Checked.the-variants.{Refused, Passed}
 use Rattle.job.specs.Refusal.{checkedOf, firstRefused, pass-all-passed}
 use Rattle.job.specs.Passed.{refused-means, passed-means, passed-exact, passed-rows, outcome-refused, outcome-passed}
 use Rattle.calls.specs.declared.Rules.{Rules}
-use Rattle.faceting.specs.Stocks.{rulesOf}
+use Rattle.faceting.specs.Stocks.{callRules}
 use Rattle.calls.specs.declared.Called.{Called}
 use Rattle.faceting.specs.Asked.{Asked}
 use Rattle.faceting.specs.Says.{Says}
@@ -45,7 +45,7 @@ pub record Loaded (bytes : Bytes) (f : Fields) (plane : Subspace) (points : Poin
   pub points-n : points .n ≡ f .n
   pub rows-held : rowsIn (f .n) (f .count) rows ≡ readJob bytes .rows
   pub rows-room : 32 * f .count ≤ length rows
-  pub rules-are : rulesOf rules ≡ jobRules f
+  pub rules-are : callRules rules ≡ jobRules f
 
 module _ (bytes : Bytes) (workspace : ℕ) (f : Fields) (passed : Passed f ≡ checkedOf bytes workspace) where
   none-refused : firstRefused (tests bytes workspace) ≡ none
@@ -62,7 +62,7 @@ module _ (bytes : Bytes) (workspace : ℕ) (f : Fields) (passed : Passed f ≡ c
 
   -- what the functions of loading ensure, with room for 120 rows of 32 bytes
   pub loads : {plane : Subspace} {points : Points} {rows : List ℕ} {rules : Rules} → HoldsSubspace plane (planeOf (readJob bytes)) × (plane .d ≡ f .d) × (plane .rank ≡ f .rank - 1)
-      → HoldsPoints points (f .d) (readJob bytes .points) × (points .n ≡ f .n) → (rowsIn (f .n) (f .count) rows ≡ readJob bytes .rows) × (length rows ≡ 3840) → rulesOf rules ≡ jobRules f
+      → HoldsPoints points (f .d) (readJob bytes .points) × (points .n ≡ f .n) → (rowsIn (f .n) (f .count) rows ≡ readJob bytes .rows) × (length rows ≡ 3840) → callRules rules ≡ jobRules f
       → Loaded bytes f plane points rows rules
   loads p q r u = record {
     plane-held = p .0;
@@ -102,7 +102,7 @@ module _ (bytes : Bytes) (workspace : ℕ) (f : Fields) (passed : Passed f ≡ c
 
     -- what the call is asked
     pub call-asked : (ws : List ℕ) → length ws ≡ workspace → Asked (f .rank) plane points rows (f .count) rules ws
-    unfolding jobRules bounds1 rulesOf workspaceFor
+    unfolding jobRules bounds1 callRules workspaceFor
     call-asked ws long = record {
       rank-least = counts .rank-least;
       rank-most = counts .rank-most;
@@ -120,22 +120,22 @@ module _ (bytes : Bytes) (workspace : ℕ) (f : Fields) (passed : Passed f ≡ c
     }
 
     -- the rules are the job's
-    rules-job : rulesOf rules ≡ job.rulesOf bounds1 (readJob bytes)
+    rules-job : callRules rules ≡ job.rulesOf bounds1 (readJob bytes)
     unfolding jobRules job.rulesOf limitsOf
     rules-job = l .rules-are ∙ (λ i. record { tolerance = tolerance1; lengths = record { shortest = counts .min-is i; longest = counts .max-is i }; entryLimit = counts .entries-is i; bounds = bounds1 })
 
     -- the call on what is loaded is the job's call
-    pub call-is : faceting (f .rank - 2) (rulesOf rules) (subspaceOf plane) (pointsOf points) (rowsIn (points .n) (f .count) rows) (f .budget) ≡ callOf bounds1 (readJob bytes)
+    pub call-is : faceting (f .rank - 2) (callRules rules) (subspaceOf plane) (pointsOf points) (rowsIn (points .n) (f .count) rows) (f .budget) ≡ callOf bounds1 (readJob bytes)
     unfolding callOf
     call-is = λ i. faceting (counts .rank-is i - 2) (rules-job i) (l .plane-held .means i) (l .points-held .means i) (rows-are i) (counts .budget-is i)
 
     -- and so is what it says
     pub call-said : (called : Called) (s : List ℕ) → length s ≡ workspace
-        → Says (f .rank - 2) (rulesOf rules) (subspaceOf plane) (pointsOf points) (rowsIn (points .n) (f .count) rows) (f .budget) called s
-        → Said (f .rank) (rulesOf rules) (subspaceOf plane) (pointsOf points) (f .n) (f .count) rows (f .budget) called s
+        → Says (f .rank - 2) (callRules rules) (subspaceOf plane) (pointsOf points) (rowsIn (points .n) (f .count) rows) (f .budget) called s
+        → Said (f .rank) (callRules rules) (subspaceOf plane) (pointsOf points) (f .n) (f .count) rows (f .budget) called s
     call-said called s long h =
         let asked = call-asked s long in
-        subst (λ (n : ℕ). Said (f .rank) (rulesOf rules) (subspaceOf plane) (pointsOf points) n (f .count) rows (f .budget) called s) (l .points-n) (record {
+        subst (λ (n : ℕ). Said (f .rank) (callRules rules) (subspaceOf plane) (pointsOf points) n (f .count) rows (f .budget) called s) (l .points-n) (record {
           rank-least = asked .rank-least;
           rank-most = asked .rank-most;
           says = h;
@@ -147,10 +147,10 @@ module _ (bytes : Bytes) (workspace : ℕ) (f : Fields) (passed : Passed f ≡ c
         })
 
     -- the outcome of the job, from the call's
-    pub outcome-is : (space : ℕ) → rest space (f .budget) (faceting (f .rank - 2) (rulesOf rules) (subspaceOf plane) (pointsOf points) (rowsIn (f .n) (f .count) rows) (f .budget)) ≡ outcome bytes workspace space
+    pub outcome-is : (space : ℕ) → rest space (f .budget) (faceting (f .rank - 2) (callRules rules) (subspaceOf plane) (pointsOf points) (rowsIn (f .n) (f .count) rows) (f .budget)) ≡ outcome bytes workspace space
     unfolding outcome
     outcome-is space =
-        let same = ap (λ (n : ℕ). faceting (f .rank - 2) (rulesOf rules) (subspaceOf plane) (pointsOf points) (rowsIn n (f .count) rows) (f .budget)) (sym (l .points-n)) ∙ call-is in
+        let same = ap (λ (n : ℕ). faceting (f .rank - 2) (callRules rules) (subspaceOf plane) (pointsOf points) (rowsIn n (f .count) rows) (f .budget)) (sym (l .points-n)) ∙ call-is in
         (λ i. rest space (counts .budget-is i) (same i)) ∙ sym (outcome-passed bounds1 bytes workspace space none-refused)
 
 -- ---- a job that is refused

@@ -32,7 +32,7 @@ use Rattle.polygons.specs.Drawn.{FewEdges, many-facets}
 use Rattle.polygons.specs.Arranges.{images-room, order-asks, standing-after, images-after, answer-written}
 use Rattle.polygons.specs.Orders.{Ordered}
 use Rattle.polygons.specs.declared.Images.{Images}
-use Rattle.faceting.specs.Says.{Stands}
+use Rattle.faceting.specs.Says.{AnswerStands}
 use Rattle.register.specs.Spent.{call-spends}
 
 pub record Writable (more n m : ℕ) (rows : List ℕ) (kept : List Kept) (level : Level) (budget rest : ℕ) (s : List ℕ) : Type 0 where
@@ -102,7 +102,7 @@ module _ {n m : ℕ} {rows : List ℕ} {kept : List Kept} {level : Level} {budge
 -- ---- what a call leaves is so
 
 module _ (more : ℕ) (rules : Rules) (plane : Subspace) (points : List Vec) (m : ℕ) (rows : List ℕ) (budget : ℕ) (level : Level) (rest : ℕ) (s : List ℕ)
-    (stands : Stands more rules plane points (rowsIn (length points) m rows) budget level rest s) where
+    (stands : AnswerStands more rules plane points (rowsIn (length points) m rows) budget level rest s) where
   -- what it keeps
   abbrev pub keptBy : List Kept
   keptBy = map keptOf (stands .before .inner)

@@ -27,8 +27,8 @@ ghost use Rattle.keep.specs.Edges.{edgeAnswer};
 ghost use Rattle.load.specs.Meaning.{limitNumber};
 ghost use Rattle.job.specs.Refusal.{checkedOf};
 ghost use Rattle.job.specs.declared.Checked.the-variants.{Passed};
-ghost use Rattle.search.specs.Outcomes.{limitOf};
-ghost use Rattle.faceting.specs.Stocks.{rulesOf};
+ghost use Rattle.search.specs.Outcomes.{entryLimitOf};
+ghost use Rattle.faceting.specs.Stocks.{callRules};
 ghost use Rattle.writing.specs.Wrote.{Wrote};
 ghost use Rattle.register.specs.Writable.{Writable};
 ghost use Rattle.register.specs.Closed.{WroteAll};
@@ -131,7 +131,7 @@ fn close(answer: &mut [u8], at: usize) -> i64
 
 // The entry limit as the search takes it.
 fn limit_of(entries: EntryLimit) -> Limit
-    ensures { λ r. ⌜ limitOf r ≡ limitNumber entries ⌝ }
+    ensures { λ r. ⌜ entryLimitOf r ≡ limitNumber entries ⌝ }
 {
     match entries {
         EntryLimit::Unlimited => Limit::Absent,
@@ -141,7 +141,7 @@ fn limit_of(entries: EntryLimit) -> Limit
 
 // What is alike at every depth of a job's call: the tolerance and bounds of [12.2], and the job's own limits.
 fn rules_of(fields: Fields) -> Rules
-    ensures { λ r. ⌜ rulesOf r ≡ jobRules fields ⌝ }
+    ensures { λ r. ⌜ callRules r ≡ jobRules fields ⌝ }
 {
     let min = fields.min;
     let max = fields.max;

@@ -10,22 +10,22 @@ use Rattle.definitions.specs.Lists.{Pair, comparePair, fresh}
 use Rattle.definitions.specs.Orbits.{Row, image, pairImage}
 use Rattle.laws.specs.Parts.{rows, length-rows}
 use Rattle.openers.specs.Rows.{rowsIn, rowAt}
-use Rattle.openers.specs.Meaning.{codeOf, pairOf, pairCodes}
+use Rattle.openers.specs.Meaning.{pairCode, pairOf, pairCodes}
 use Rattle.shapes.specs.Polygons.{edgeVia}
 use Rattle.shapes.specs.Ridges.{KnownKeys, openKeyOrbit}
 use Rattle.shapes.specs.Kept.{numberEnds}
-use Rattle.ridges.specs.Numbering.{Sent, Stands, number-held, number-opened, opened-stands, many-few, unmarked, is-unmarked, is-marked, markedAt, marksJoined, manyJoined, marks-more, many-more}
+use Rattle.ridges.specs.Numbering.{Sent, MarksStand, number-held, number-opened, opened-stands, many-few, unmarked, is-unmarked, is-marked, markedAt, marksJoined, manyJoined, marks-more, many-more}
 use Rattle.openers.specs.Codes.{code-at, codes-more}
 use Rattle.laws.specs.Parts as parts
 
 -- the code of an image, from the row's bytes
 pub key-is : (i key : ℕ) (s : List ℕ) → key < 400
-    → codeOf (pairImage (pairOf key) (rowAt 32 i s)) ≡ 20 * min (getD s (32 * i + key / 20) 0) (getD s (32 * i + key % 20) 0) + max (getD s (32 * i + key / 20) 0) (getD s (32 * i + key % 20) 0)
+    → pairCode (pairImage (pairOf key) (rowAt 32 i s)) ≡ 20 * min (getD s (32 * i + key / 20) 0) (getD s (32 * i + key % 20) 0) + max (getD s (32 * i + key / 20) 0) (getD s (32 * i + key % 20) 0)
 unfolding pairOf rowAt
 key-is i key s h = code-at 32 i s (key / 20) (key % 20) (omega arith) (omega arith)
 
 pub keys-more : (m key : ℕ) (s : List ℕ) → key < 400
-    → pairCodes (rowsIn 32 (m + 1) s) (pairOf key) ≡ pairCodes (rowsIn 32 m s) (pairOf key) ++ (codeOf (pairImage (pairOf key) (rowAt 32 m s)) ∷ [])
+    → pairCodes (rowsIn 32 (m + 1) s) (pairOf key) ≡ pairCodes (rowsIn 32 m s) (pairOf key) ++ (pairCode (pairImage (pairOf key) (rowAt 32 m s)) ∷ [])
 unfolding pairOf rowAt
 keys-more m key s h =
     codes-more m (key / 20) (key % 20) s (omega arith) (omega arith)
@@ -35,8 +35,8 @@ pub keys-none : (key : ℕ) (s : List ℕ) → pairCodes (rowsIn 32 0 s) (pairOf
 unfolding pairCodes rowsIn rows
 keys-none key s = refl
 
-pub code-of-key : (key : ℕ) → codeOf (pairOf key) ≡ key
-unfolding codeOf pairOf
+pub code-of-key : (key : ℕ) → pairCode (pairOf key) ≡ key
+unfolding pairCode pairOf
 code-of-key key = omega arith
 
 -- ---- the turns of `open_ridge`
@@ -59,7 +59,7 @@ opening-start rows m key mark marks = record {
   count-is = rw keys-none refl;
 }
 
-module _ {rows : List ℕ} {m key mark : ℕ} {marks₀ marks : List ℕ} {count i : ℕ} (o : Opening rows m key mark marks₀ marks count i) (h : i < m) (k : key < 400) (at : ℕ) (e : at ≡ codeOf (pairImage (pairOf key) (rowAt 32 i rows))) where
+module _ {rows : List ℕ} {m key mark : ℕ} {marks₀ marks : List ℕ} {count i : ℕ} (o : Opening rows m key mark marks₀ marks count i) (h : i < m) (k : key < 400) (at : ℕ) (e : at ≡ pairCode (pairImage (pairOf key) (rowAt 32 i rows))) where
   before : List ℕ
   before = pairCodes (rowsIn 32 i rows) (pairOf key)
 
@@ -99,7 +99,7 @@ module _ {rows : List ℕ} {m key mark : ℕ} {marks₀ marks : List ℕ} {count
   }
 
 -- an image's code is a place among the marks
-pub key-small : (i key : ℕ) (s : List ℕ) → key < 400 → getD s (32 * i + key / 20) 0 < 20 → getD s (32 * i + key % 20) 0 < 20 → codeOf (pairImage (pairOf key) (rowAt 32 i s)) < 400
+pub key-small : (i key : ℕ) (s : List ℕ) → key < 400 → getD s (32 * i + key / 20) 0 < 20 → getD s (32 * i + key % 20) 0 < 20 → pairCode (pairImage (pairOf key) (rowAt 32 i s)) < 400
 key-small i key s h a b = omega (arith, key-is i key s h)
 
 -- what the rows make of a ridge's ends
@@ -109,14 +109,14 @@ sent-below key sent i h = (sent .first .below i h, sent .second .below i h)
 
 -- ---- the number of a ridge
 
-module _ (key : ℕ) {rows : List ℕ} {m : ℕ} {marks counts : List ℕ} {known : ℕ} {keys : KnownKeys Pair} (sent : Sent m rows (pairOf key)) (st : Stands marks counts known keys) where
-  same-mark : getD marks (codeOf (pairOf key)) 0 ≡ getD marks key 0
+module _ (key : ℕ) {rows : List ℕ} {m : ℕ} {marks counts : List ℕ} {known : ℕ} {keys : KnownKeys Pair} (sent : Sent m rows (pairOf key)) (st : MarksStand marks counts known keys) where
+  same-mark : getD marks (pairCode (pairOf key)) 0 ≡ getD marks key 0
   same-mark = ap (λ (k : ℕ). getD marks k 0) (code-of-key key)
 
-  pub ridge-held : 0 < getD marks key 0 → (getD marks key 0 - 1 ≡ numberEnds (rowsIn 32 m rows) keys (pairOf key) .0) × Stands marks counts known (numberEnds (rowsIn 32 m rows) keys (pairOf key) .1)
+  pub ridge-held : 0 < getD marks key 0 → (getD marks key 0 - 1 ≡ numberEnds (rowsIn 32 m rows) keys (pairOf key) .0) × MarksStand marks counts known (numberEnds (rowsIn 32 m rows) keys (pairOf key) .1)
   ridge-held h =
       let e = number-held m rows (pairOf key) sent marks counts known keys st (rw same-mark h) in
-      (sym (ap (λ (r : ℕ × KnownKeys Pair). r .0) e ∙ ap (λ (k : ℕ). k - 1) same-mark), subst (λ (r : ℕ × KnownKeys Pair). Stands marks counts known (r .1)) (sym e) st)
+      (sym (ap (λ (r : ℕ × KnownKeys Pair). r .0) e ∙ ap (λ (k : ℕ). k - 1) same-mark), subst (λ (r : ℕ × KnownKeys Pair). MarksStand marks counts known (r .1)) (sym e) st)
 
   opens : getD marks key 0 ≡ 0 → numberEnds (rowsIn 32 m rows) keys (pairOf key) ≡ (known, openKeyOrbit comparePair edgeVia (rowsIn 32 m rows) keys (pairOf key))
   opens z = number-opened m rows (pairOf key) sent marks counts known keys st (same-mark ∙ z)
@@ -130,18 +130,18 @@ module _ (key : ℕ) {rows : List ℕ} {m : ℕ} {marks counts : List ℕ} {know
 
   pub ridge-opened : getD marks key 0 ≡ 0 → known < length counts → (number : ℕ) → number ≡ known → (joined : List ℕ) (many : ℕ)
       → joined ≡ marksJoined marks (known + 1) (pairCodes (rowsIn 32 m rows) (pairOf key)) → many ≡ manyJoined marks (known + 1) (pairCodes (rowsIn 32 m rows) (pairOf key))
-      → (number ≡ numberEnds (rowsIn 32 m rows) keys (pairOf key) .0) × Stands joined (set counts known many) (known + 1) (numberEnds (rowsIn 32 m rows) keys (pairOf key) .1)
+      → (number ≡ numberEnds (rowsIn 32 m rows) keys (pairOf key) .0) × MarksStand joined (set counts known many) (known + 1) (numberEnds (rowsIn 32 m rows) keys (pairOf key) .1)
   ridge-opened z h number n joined many e f =
       let o = opens z in (
         n ∙ sym (ap (λ (r : ℕ × KnownKeys Pair). r .0) o),
-        rw (e, f, add-one known) (subst (λ (r : ℕ × KnownKeys Pair). Stands (marksJoined marks (suc known) (pairCodes (rowsIn 32 m rows) (pairOf key))) (set counts known (manyJoined marks (suc known) (pairCodes (rowsIn 32 m rows) (pairOf key)))) (suc known) (r .1)) (sym o)
+        rw (e, f, add-one known) (subst (λ (r : ℕ × KnownKeys Pair). MarksStand (marksJoined marks (suc known) (pairCodes (rowsIn 32 m rows) (pairOf key))) (set counts known (manyJoined marks (suc known) (pairCodes (rowsIn 32 m rows) (pairOf key)))) (suc known) (r .1)) (sym o)
             (rw add-one at (opened-stands m rows (pairOf key) sent marks counts known keys st h))),
       )
 
   pub many-small : (many : ℕ) → m ≤ 120 → many ≡ manyJoined marks (known + 1) (pairCodes (rowsIn 32 m rows) (pairOf key)) → many ≤ 120
   unfolding pairCodes rowsIn
   many-small many h e =
-      let l = length-map (parts.rows 32 32 m rows) (λ (row : Row). codeOf (pairImage (pairOf key) row)) in
+      let l = length-map (parts.rows 32 32 m rows) (λ (row : Row). pairCode (pairImage (pairOf key) row)) in
       omega (arith, many-few marks (known + 1) (pairCodes (rowsIn 32 m rows) (pairOf key)), length-rows 32 32 m rows)
 
 pub sent-small : {m : ℕ} {s : List ℕ} (key : ℕ) → Sent m s (pairOf key) → key < 400

@@ -10,7 +10,7 @@ use Rattle.definitions.specs.Orbits.{Row}
 use Rattle.definitions.specs.Job.{numberAt}
 use Rattle.laws.specs.Parts.{take-more}
 use Rattle.laws.specs.Segments.{placed}
-use Rattle.pool.specs.Pool.{count, base, used, closed, opened, emptied, pushed, ended, lengthAt, placeAt, Sound, closed-length}
+use Rattle.pool.specs.Pool.{count, base, used, closedLists, opened, emptied, pushed, ended, lengthAt, placeAt, Sound, closed-length}
 use Rattle.pool.specs.Holds.{Holds, holds-length, holds-item, item-room, holds-count}
 use Rattle.openers.specs.Rows.{rowsIn}
 use Rattle.openers.specs.Meaning.{pairOf}
@@ -18,31 +18,31 @@ use Rattle.shapes.specs.Ridges.{KnownKeys, noKeys}
 use Rattle.shapes.specs.Kept.{numberEnds}
 use Rattle.shelf.specs.declared.Shelf.{Shelf}
 use Rattle.shelf.specs.Keeps.{ridgesPart}
-use Rattle.ridges.specs.Areas.{area, flat, Space, clear-kept, clear-ready, area-kept, flat-more, grown-none, grown-ready, grown-more, grown-all, Ready, Joined, Grown, joined-none, push-asks, joined-push, end-asks, joined-end}
-use Rattle.ridges.specs.Numbering.{Stands, stands-none}
+use Rattle.ridges.specs.Areas.{area, flat, Space, clear-kept, clear-ready, area-kept, flat-more, grown-none, grown-ready, grown-more, grown-all, AreaEmpty, Joined, AreaGrown, joined-none, push-asks, joined-push, end-asks, joined-end}
+use Rattle.ridges.specs.Numbering.{MarksStand, stands-none}
 use Rattle.ridges.specs.Ends.{Reads, reads-kept, ridgesAt, allNumbered, AllNumbered, all-more, all-few, all-long, all-count, endsIn, numbered, with-more, with-append, with-length, counts-up, number-up}
 
 -- ---- lists of a pool, read
 
 -- a sound pool holds what it holds
-pub own : (w most : ℕ) (s : List ℕ) → Sound w most s → Holds w most s (closed w most s) (opened w most s) (used s)
+pub own : (w most : ℕ) (s : List ℕ) → Sound w most s → Holds w most s (closedLists w most s) (opened w most s) (used s)
 own w most s h = record { sound = h; lists-are = refl; open-is = refl; many-are = refl }
 
 module _ (w most : ℕ) (s : List ℕ) (sound : Sound w most s) (k : ℕ) (h : k < count s) where
-  inside : k < length (closed w most s)
+  inside : k < length (closedLists w most s)
   inside = omega (arith, holds-count (own w most s sound))
 
   pub length-asks : 16 + 4 * k ≤ length s
   length-asks = omega (arith, sound .few, sound .fits)
 
-  pub length-read : lengthAt s k ≡ length (getD (closed w most s) k [])
+  pub length-read : lengthAt s k ≡ length (getD (closedLists w most s) k [])
   length-read = sym (holds-length (own w most s sound) k inside)
 
-  module _ (i : ℕ) (g : i < length (getD (closed w most s) k [])) where
+  module _ (i : ℕ) (g : i < length (getD (closedLists w most s) k [])) where
     pub item-asks : (12 + 4 * k ≤ length s) × (placeAt w most s k i + w ≤ length s)
     item-asks = item-room (own w most s sound) k i inside g
 
-    pub item-read : numberAt s (placeAt w most s k i) w ≡ getD (getD (closed w most s) k []) i 0
+    pub item-read : numberAt s (placeAt w most s k i) w ≡ getD (getD (closedLists w most s) k []) i 0
     item-read = sym (holds-item (own w most s sound) k i inside g)
 
 -- ---- one orbit
@@ -73,16 +73,16 @@ module _ (rows : List Row) (keys : KnownKeys Pair) where
 
 -- the first i ridges of an orbit are numbered
 pub record Turn (m : ℕ) (rows : List ℕ) (from to : ℕ) (codes ws₀ : List ℕ) (keys : KnownKeys Pair) (marks counts ws : List ℕ) (reached i : ℕ) : Type 0 where
-  pub stands : Stands marks counts reached (numbered (rowsIn 32 m rows) keys (take i codes) .1)
+  pub stands : MarksStand marks counts reached (numbered (rowsIn 32 m rows) keys (take i codes) .1)
   pub joined : Joined from to 2 256 ws₀ ws (numbered (rowsIn 32 m rows) keys (take i codes) .0)
 
 pub record Numbers (m : ℕ) (rows : List ℕ) (from to : ℕ) (codes marks₀ counts₀ : List ℕ) (known : ℕ) (ws₀ marks counts ws : List ℕ) (reached i : ℕ) : Type 0 where
   pub within : i ≤ length codes
   pub long : length ws ≡ length ws₀
   pub front : take from ws ≡ take from ws₀
-  pub each : (keys : KnownKeys Pair) → Stands marks₀ counts₀ known keys → Turn m rows from to codes ws₀ keys marks counts ws reached i
+  pub each : (keys : KnownKeys Pair) → MarksStand marks₀ counts₀ known keys → Turn m rows from to codes ws₀ keys marks counts ws reached i
 
-module _ {m : ℕ} {rows : List ℕ} {from to : ℕ} {codes ws₀ : List ℕ} (ready : Ready from to 2 256 ws₀ (length codes) 1) where
+module _ {m : ℕ} {rows : List ℕ} {from to : ℕ} {codes ws₀ : List ℕ} (ready : AreaEmpty from to 2 256 ws₀ (length codes) 1) where
   pub numbers-start : (marks counts : List ℕ) (known : ℕ) → Numbers m rows from to codes marks counts known ws₀ marks counts ws₀ known 0
   unfolding numbered endsIn mapWith
   numbers-start marks counts known = record { within = omega arith; long = refl; front = refl; each = λ keys st. record { stands = st; joined = joined-none (ready .space) } }
@@ -93,18 +93,18 @@ module _ {m : ℕ} {rows : List ℕ} {from to : ℕ} {codes ws₀ : List ℕ} (r
 
     module _ (h : i < length codes) where
       -- what `number_ridge` and `push_u16` ask
-      pub turn-asks : (key : ℕ) → key ≡ getD codes i 0 % 65536 → (keys : KnownKeys Pair) → Stands marks₀ counts₀ known keys → length (numbered (rowsIn 32 m rows) keys codes .1 .counts) ≤ 190
-          → (keys : KnownKeys Pair) × Stands marks counts reached keys × (length (numberEnds (rowsIn 32 m rows) keys (pairOf key) .1 .counts) ≤ 190)
+      pub turn-asks : (key : ℕ) → key ≡ getD codes i 0 % 65536 → (keys : KnownKeys Pair) → MarksStand marks₀ counts₀ known keys → length (numbered (rowsIn 32 m rows) keys codes .1 .counts) ≤ 190
+          → (keys : KnownKeys Pair) × MarksStand marks counts reached keys × (length (numberEnds (rowsIn 32 m rows) keys (pairOf key) .1 .counts) ≤ 190)
       turn-asks key e keys st few =
           let n = ap (λ (r : List ℕ × KnownKeys Pair). length (r .1 .counts)) (numbered-more (rowsIn 32 m rows) keys codes i h) in
           (numbered (rowsIn 32 m rows) keys (take i codes) .1, t .each keys st .stands, rw e (omega (arith, numbered-few (rowsIn 32 m rows) keys codes (i + 1))))
 
-      pub turn-push : (keys : KnownKeys Pair) → Stands marks₀ counts₀ known keys → (base 256 + 2 * (used (area from to ws) + 1) ≤ length (area from to ws)) × (used (area from to ws) + 1 < 4294967296)
+      pub turn-push : (keys : KnownKeys Pair) → MarksStand marks₀ counts₀ known keys → (base 256 + 2 * (used (area from to ws) + 1) ≤ length (area from to ws)) × (used (area from to ws) + 1 < 4294967296)
       turn-push keys st = push-asks (ready .space) (t .each keys st .joined) (omega (arith, new-length keys))
 
       pub turn-more : (key : ℕ) → key ≡ getD codes i 0 % 65536 → (number : ℕ) → number < 65536 → (marks' counts' : List ℕ) (reached' : ℕ)
-          → ((keys : KnownKeys Pair) → Stands marks counts reached keys → (number ≡ numberEnds (rowsIn 32 m rows) keys (pairOf key) .0) × Stands marks' counts' reached' (numberEnds (rowsIn 32 m rows) keys (pairOf key) .1))
-          → (p : List ℕ) → p ≡ pushed 2 256 (area from to ws) number → (keys : KnownKeys Pair) → Stands marks₀ counts₀ known keys
+          → ((keys : KnownKeys Pair) → MarksStand marks counts reached keys → (number ≡ numberEnds (rowsIn 32 m rows) keys (pairOf key) .0) × MarksStand marks' counts' reached' (numberEnds (rowsIn 32 m rows) keys (pairOf key) .1))
+          → (p : List ℕ) → p ≡ pushed 2 256 (area from to ws) number → (keys : KnownKeys Pair) → MarksStand marks₀ counts₀ known keys
           → Numbers m rows from to codes marks₀ counts₀ known ws₀ marks' counts' (placed from (to - from) ws p) reached' (i + 1)
       turn-more key e number small marks' counts' reached' f p q keys₀ st₀ = let j = joined-push (ready .space) (t .each keys₀ st₀ .joined) (omega (arith, new-length keys₀)) number p (omega arith) q in record {
         within = omega arith;
@@ -116,7 +116,7 @@ module _ {m : ℕ} {rows : List ℕ} {from to : ℕ} {codes ws₀ : List ℕ} (r
             let more : numbered (rowsIn 32 m rows) keys (take (i + 1) codes) ≡ (before .0 ++ (number ∷ []), numberEnds (rowsIn 32 m rows) (before .1) (pairOf key) .1) =
             numbered-more (rowsIn 32 m rows) keys codes i h ∙ (rw (g .0, e) refl) in
             record {
-              stands = subst (λ (r : List ℕ × KnownKeys Pair). Stands marks' counts' reached' (r .1)) (sym more) (g .1);
+              stands = subst (λ (r : List ℕ × KnownKeys Pair). MarksStand marks' counts' reached' (r .1)) (sym more) (g .1);
               joined = subst (λ (r : List ℕ × KnownKeys Pair). Joined from to 2 256 ws₀ (placed from (to - from) ws p) (r .0)) (sym more) (joined-push (ready .space) (t .each keys st .joined) (omega (arith, new-length keys)) number p (omega arith) q);
             };
       }
@@ -125,15 +125,15 @@ module _ {m : ℕ} {rows : List ℕ} {from to : ℕ} {codes ws₀ : List ℕ} (r
       all-taken : take i codes ≡ codes
       all-taken = take-all i codes h
 
-      pub turn-end-asks : (keys : KnownKeys Pair) → Stands marks₀ counts₀ known keys → (16 + 4 * count (area from to ws) ≤ length (area from to ws)) × (count (area from to ws) + 1 < 4294967296)
+      pub turn-end-asks : (keys : KnownKeys Pair) → MarksStand marks₀ counts₀ known keys → (16 + 4 * count (area from to ws) ≤ length (area from to ws)) × (count (area from to ws) + 1 < 4294967296)
       turn-end-asks keys st = end-asks ready (t .each keys st .joined) (omega arith)
 
-      pub turn-end : (p : List ℕ) → p ≡ ended (area from to ws) → (keys : KnownKeys Pair) → Stands marks₀ counts₀ known keys
-          → Stands marks counts reached (numbered (rowsIn 32 m rows) keys codes .1) × Grown from to 2 256 ws₀ (placed from (to - from) ws p) (numbered (rowsIn 32 m rows) keys codes .0 ∷ [])
+      pub turn-end : (p : List ℕ) → p ≡ ended (area from to ws) → (keys : KnownKeys Pair) → MarksStand marks₀ counts₀ known keys
+          → MarksStand marks counts reached (numbered (rowsIn 32 m rows) keys codes .1) × AreaGrown from to 2 256 ws₀ (placed from (to - from) ws p) (numbered (rowsIn 32 m rows) keys codes .0 ∷ [])
       turn-end p q keys st =
           let r = t .each keys st in (
-            subst (λ (l : List ℕ). Stands marks counts reached (numbered (rowsIn 32 m rows) keys l .1)) all-taken (r .stands),
-            subst (λ (l : List ℕ). Grown from to 2 256 ws₀ (placed from (to - from) ws p) (numbered (rowsIn 32 m rows) keys l .0 ∷ [])) all-taken (joined-end ready (r .joined) (omega arith) p q),
+            subst (λ (l : List ℕ). MarksStand marks counts reached (numbered (rowsIn 32 m rows) keys l .1)) all-taken (r .stands),
+            subst (λ (l : List ℕ). AreaGrown from to 2 256 ws₀ (placed from (to - from) ws p) (numbered (rowsIn 32 m rows) keys l .0 ∷ [])) all-taken (joined-end ready (r .joined) (omega arith) p q),
           )
 
 -- ---- all orbits
@@ -141,18 +141,18 @@ module _ {m : ℕ} {rows : List ℕ} {from to : ℕ} {codes ws₀ : List ℕ} (r
 -- what the loop over the orbits begins with
 pub record Begun (m : ℕ) (rows : List ℕ) (shelf : Shelf) (from to : ℕ) (ws₀ : List ℕ) (orbits : ℕ) : Type 0 where
   pub reads : Reads m rows shelf ws₀ from
-  pub ready : Ready from to 2 256 ws₀ (length (flat (closed 4 256 (ridgesPart shelf ws₀)))) orbits
+  pub ready : AreaEmpty from to 2 256 ws₀ (length (flat (closedLists 4 256 (ridgesPart shelf ws₀)))) orbits
   pub many : orbits ≡ count (ridgesPart shelf ws₀)
-  pub few : length (allNumbered (rowsIn 32 m rows) (noKeys Pair) (closed 4 256 (ridgesPart shelf ws₀)) .1 .counts) ≤ 190
+  pub few : length (allNumbered (rowsIn 32 m rows) (noKeys Pair) (closedLists 4 256 (ridgesPart shelf ws₀)) .1 .counts) ≤ 190
 
 -- the first o orbits are numbered
 pub record Orbits (m : ℕ) (rows : List ℕ) (shelf : Shelf) (from to : ℕ) (ws₀ counts ws marks : List ℕ) (known o : ℕ) : Type 0 where
-  pub stands : Stands marks counts known (allNumbered (rowsIn 32 m rows) (noKeys Pair) (take o (closed 4 256 (ridgesPart shelf ws₀))) .1)
-  pub grown : Grown from to 2 256 ws₀ ws (allNumbered (rowsIn 32 m rows) (noKeys Pair) (take o (closed 4 256 (ridgesPart shelf ws₀))) .0)
+  pub stands : MarksStand marks counts known (allNumbered (rowsIn 32 m rows) (noKeys Pair) (take o (closedLists 4 256 (ridgesPart shelf ws₀))) .1)
+  pub grown : AreaGrown from to 2 256 ws₀ ws (allNumbered (rowsIn 32 m rows) (noKeys Pair) (take o (closedLists 4 256 (ridgesPart shelf ws₀))) .0)
 
 module _ {m : ℕ} {rows : List ℕ} {shelf : Shelf} {from to : ℕ} {ws₀ : List ℕ} {orbits : ℕ} (b : Begun m rows shelf from to ws₀ orbits) where
   lists : List (List ℕ)
-  lists = closed 4 256 (ridgesPart shelf ws₀)
+  lists = closedLists 4 256 (ridgesPart shelf ws₀)
 
   all : ℕ → List (List ℕ) × KnownKeys Pair
   all o = allNumbered (rowsIn 32 m rows) (noKeys Pair) (take o lists)
@@ -187,8 +187,8 @@ module _ {m : ℕ} {rows : List ℕ} {shelf : Shelf} {from to : ℕ} {ws₀ : Li
           let e = ap (λ (r : List (List ℕ) × KnownKeys Pair). length (r .1 .counts)) (all-more (rowsIn 32 m rows) (noKeys Pair) lists o inside-lists) in
           omega (arith, all-few (rowsIn 32 m rows) (noKeys Pair) lists (o + 1), b .few)
 
-      pub orbit-asks : Reads m rows shelf ws from × (o < count (ridgesPart shelf ws)) × Ready from to 2 256 ws (length (ridgesAt shelf ws o)) 1
-          × ((keys : KnownKeys Pair) × Stands marks counts known keys × (length (numbered (rowsIn 32 m rows) keys (ridgesAt shelf ws o) .1 .counts) ≤ 190))
+      pub orbit-asks : Reads m rows shelf ws from × (o < count (ridgesPart shelf ws)) × AreaEmpty from to 2 256 ws (length (ridgesAt shelf ws o)) 1
+          × ((keys : KnownKeys Pair) × MarksStand marks counts known keys × (length (numbered (rowsIn 32 m rows) keys (ridgesAt shelf ws o) .1 .counts) ≤ 190))
       unfolding all lists
       orbit-asks = (
         reads-kept m rows shelf ws₀ ws from (r .grown .front) (r .grown .long) (b .reads),
@@ -198,26 +198,26 @@ module _ {m : ℕ} {rows : List ℕ} {shelf : Shelf} {from to : ℕ} {ws₀ : Li
       )
 
       pub orbits-more : {counts' ws' marks' : List ℕ} {known' : ℕ}
-          → ((keys : KnownKeys Pair) → Stands marks counts known keys → length (numbered (rowsIn 32 m rows) keys (ridgesAt shelf ws o) .1 .counts) ≤ 190
-          → Stands marks' counts' known' (numbered (rowsIn 32 m rows) keys (ridgesAt shelf ws o) .1) × Grown from to 2 256 ws ws' (numbered (rowsIn 32 m rows) keys (ridgesAt shelf ws o) .0 ∷ []))
+          → ((keys : KnownKeys Pair) → MarksStand marks counts known keys → length (numbered (rowsIn 32 m rows) keys (ridgesAt shelf ws o) .1 .counts) ≤ 190
+          → MarksStand marks' counts' known' (numbered (rowsIn 32 m rows) keys (ridgesAt shelf ws o) .1) × AreaGrown from to 2 256 ws ws' (numbered (rowsIn 32 m rows) keys (ridgesAt shelf ws o) .0 ∷ []))
           → Orbits m rows shelf from to ws₀ counts' ws' marks' known' (o + 1)
       unfolding all lists
       orbits-more {counts'} {ws'} {marks'} {known'} f =
           let g = rw same at (f (all o .1) (r .stands) (rw same few-then)) in
           let e = all-more (rowsIn 32 m rows) (noKeys Pair) lists o inside-lists in
           record {
-            stands = subst (λ (q : List (List ℕ) × KnownKeys Pair). Stands marks' counts' known' (q .1)) (sym e) (g .0);
-            grown = subst (λ (q : List (List ℕ) × KnownKeys Pair). Grown from to 2 256 ws₀ ws' (q .0)) (sym e) (grown-more (b .ready) (r .grown) (g .1));
+            stands = subst (λ (q : List (List ℕ) × KnownKeys Pair). MarksStand marks' counts' known' (q .1)) (sym e) (g .0);
+            grown = subst (λ (q : List (List ℕ) × KnownKeys Pair). AreaGrown from to 2 256 ws₀ ws' (q .0)) (sym e) (grown-more (b .ready) (r .grown) (g .1));
           }
 
     pub orbits-end : orbits ≤ o → Holds 2 256 (area from to ws₀) [] [] 0 → (s : List ℕ) → length ws₀ ≡ length s → take from ws₀ ≡ take from s
-        → AllNumbered m rows from to (closed 4 256 (ridgesPart shelf s)) s ws counts known
+        → AllNumbered m rows from to (closedLists 4 256 (ridgesPart shelf s)) s ws counts known
     unfolding all lists
     orbits-end h none s long front =
         let e : take o lists ≡ lists = take-all o lists (omega (arith, lists-long)) in
         let p : ridgesPart shelf s ≡ ridgesPart shelf ws₀ = sym (area-kept from (shelf .ridges) (shelf .places) s ws₀ front (b .reads .order) (b .reads .before)) in
-        let st = subst (λ (l : List (List ℕ)). Stands marks counts known (allNumbered (rowsIn 32 m rows) (noKeys Pair) l .1)) e (r .stands) in
-        let g = subst (λ (l : List (List ℕ)). Grown from to 2 256 ws₀ ws (allNumbered (rowsIn 32 m rows) (noKeys Pair) l .0)) e (r .grown) in
+        let st = subst (λ (l : List (List ℕ)). MarksStand marks counts known (allNumbered (rowsIn 32 m rows) (noKeys Pair) l .1)) e (r .stands) in
+        let g = subst (λ (l : List (List ℕ)). AreaGrown from to 2 256 ws₀ ws (allNumbered (rowsIn 32 m rows) (noKeys Pair) l .0)) e (r .grown) in
         let a = grown-all none g in
         let n = all-long (rowsIn 32 m rows) (noKeys Pair) lists in
         rw p record {
@@ -230,8 +230,8 @@ module _ {m : ℕ} {rows : List ℕ} {shelf : Shelf} {from to : ℕ} {ws₀ : Li
         }
 
 pub begun : {m : ℕ} {rows : List ℕ} {shelf : Shelf} {from to : ℕ} (s : List ℕ) {orbits : ℕ} → Reads m rows shelf s from → orbits ≡ count (ridgesPart shelf s)
-    → Space from to 2 256 (length s) (length (flat (closed 4 256 (ridgesPart shelf s)))) orbits
-    → length (allNumbered (rowsIn 32 m rows) (noKeys Pair) (closed 4 256 (ridgesPart shelf s)) .1 .counts) ≤ 190
+    → Space from to 2 256 (length s) (length (flat (closedLists 4 256 (ridgesPart shelf s)))) orbits
+    → length (allNumbered (rowsIn 32 m rows) (noKeys Pair) (closedLists 4 256 (ridgesPart shelf s)) .1 .counts) ≤ 190
     → (p : List ℕ) → p ≡ emptied (area from to s) → Begun m rows shelf from to (placed from (to - from) s p) orbits
 begun {m} {rows} {shelf} {from} {to} s {orbits} reads many space few p e =
     let k = clear-kept s space p e in

@@ -9,11 +9,11 @@ use lib.Seq.{take-suc, take-all, length-take-le}
 use Rattle.definitions.specs.Job.{numberAt}
 use Rattle.laws.specs.Lists.{flatMap-append}
 use Rattle.laws.specs.Segments.{placed}
-use Rattle.pool.specs.Pool.{count, base, used, closed, pushed, ended, placeAt, lengthAt, closed-length}
+use Rattle.pool.specs.Pool.{count, base, used, closedLists, pushed, ended, placeAt, lengthAt, closed-length}
 use Rattle.shelf.specs.declared.Shelf.{Shelf}
 use Rattle.shelf.specs.Keeps.{ownersPart, ridgesPart, placesPart}
 use Rattle.ridges.specs.declared.Desk.{Desk}
-use Rattle.ridges.specs.Areas.{area, flat, area-kept, Ready, Joined, Grown, area-long, joined-none, push-asks, joined-push, joined-end, flat-more, listsTo}
+use Rattle.ridges.specs.Areas.{area, flat, area-kept, AreaEmpty, Joined, AreaGrown, area-long, joined-none, push-asks, joined-push, joined-end, flat-more, listsTo}
 use Rattle.ridges.specs.Codes.{shareCode}
 use Rattle.ridges.specs.Shares.{Sources, sources-kept, sourcesOf, countOf, ownerOf, ridgesIn, numbersIn, placesIn, codeAt, facetCodes, Orders, SourcesFit, share-small, codes-more, codes-long}
 use Rattle.ridges.proofs.Numbers.{length-asks, length-read, item-asks, item-read}
@@ -127,7 +127,7 @@ module _ (shelf : Shelf) (desk : Desk) (s counts : List ℕ) (ord : Orders shelf
         (rw l ord, rw k fit, rw r (omega (arith, owner-inside)), rw (k, eo) (omega (arith, fit .place-small x i hx hi)))
 
 -- the shares of the first i places
-module _ (src : Sources) (counts : List ℕ) (x : ℕ) {from to : ℕ} {ws₀ : List ℕ} (ready : Ready from to 4 1024 ws₀ (length (placesIn src x)) 1) where
+module _ (src : Sources) (counts : List ℕ) (x : ℕ) {from to : ℕ} {ws₀ : List ℕ} (ready : AreaEmpty from to 4 1024 ws₀ (length (placesIn src x)) 1) where
   pub codes-start : Joined from to 4 1024 ws₀ ws₀ (map (codeAt src counts (ownerOf src x)) (take 0 (placesIn src x)))
   codes-start = joined-none (ready .space)
 
@@ -143,19 +143,19 @@ module _ (src : Sources) (counts : List ℕ) (x : ℕ) {from to : ℕ} {ws₀ : 
           → Joined from to 4 1024 ws₀ (placed from (to - from) ws p) (map (codeAt src counts (ownerOf src x)) (take (i + 1) (placesIn src x)))
       codes-push v e small p q = rw (codes-more src counts x i h, ← e) (joined-push (ready .space) j so-far v p (omega arith) q)
 
-    pub codes-end : length (placesIn src x) ≤ i → (p : List ℕ) → p ≡ ended (area from to ws) → Grown from to 4 1024 ws₀ (placed from (to - from) ws p) (facetCodes src counts x ∷ [])
+    pub codes-end : length (placesIn src x) ≤ i → (p : List ℕ) → p ≡ ended (area from to ws) → AreaGrown from to 4 1024 ws₀ (placed from (to - from) ws p) (facetCodes src counts x ∷ [])
     unfolding facetCodes
     codes-end h p q =
-        subst (λ (l : List ℕ). Grown from to 4 1024 ws₀ (placed from (to - from) ws p) (map (codeAt src counts (ownerOf src x)) l ∷ [])) (take-all i (placesIn src x) h)
+        subst (λ (l : List ℕ). AreaGrown from to 4 1024 ws₀ (placed from (to - from) ws p) (map (codeAt src counts (ownerOf src x)) l ∷ [])) (take-all i (placesIn src x) h)
         (joined-end ready j (omega arith) p q)
 
 -- ---- all facets
 
-codes-flat : (src : Sources) (counts : List ℕ) (n : ℕ) → n ≤ length (closed 2 1024 (src .places)) → length (flat (listsTo (facetCodes src counts) n)) ≡ length (flat (take n (closed 2 1024 (src .places))))
+codes-flat : (src : Sources) (counts : List ℕ) (n : ℕ) → n ≤ length (closedLists 2 1024 (src .places)) → length (flat (listsTo (facetCodes src counts) n)) ≡ length (flat (take n (closedLists 2 1024 (src .places))))
 unfolding listsTo flatMap
 codes-flat src counts zero h = refl
 codes-flat src counts (suc n) h =
-    let lists = closed 2 1024 (src .places) in
+    let lists = closedLists 2 1024 (src .places) in
     let a = ap length (flatMap-append (λ (l : List ℕ). l) (listsTo (facetCodes src counts) n) (facetCodes src counts n ∷ []) ∙ ap (λ (l : List ℕ). flat (listsTo (facetCodes src counts) n) ++ l) (append-nil (facetCodes src counts n)))
     ∙ length-append (flat (listsTo (facetCodes src counts) n)) (facetCodes src counts n) in
     let e : take (suc n) lists ≡ take n lists ++ (getD lists n [] ∷ []) = take-suc lists n [] h in
@@ -165,20 +165,20 @@ codes-flat src counts (suc n) h =
     omega (arith, codes-flat src counts n (omega arith), codes-long src counts n)
 
 -- room for the shares of one facet more
-pub codes-room : (src : Sources) (counts : List ℕ) (x : ℕ) → x < count (src .places) → length (flat (listsTo (facetCodes src counts) x)) + length (placesIn src x) ≤ length (flat (closed 2 1024 (src .places)))
+pub codes-room : (src : Sources) (counts : List ℕ) (x : ℕ) → x < count (src .places) → length (flat (listsTo (facetCodes src counts) x)) + length (placesIn src x) ≤ length (flat (closedLists 2 1024 (src .places)))
 codes-room src counts x h =
     let c = closed-length 2 1024 (src .places) in
-    omega (arith, codes-flat src counts x (omega arith), flat-more (closed 2 1024 (src .places)) x (omega arith))
+    omega (arith, codes-flat src counts x (omega arith), flat-more (closedLists 2 1024 (src .places)) x (omega arith))
 
 -- what `share_facet` asks, where only shares were written
 pub facet-requires : (shelf : Shelf) (desk : Desk) (s counts : List ℕ) → Orders shelf desk (length s) → SourcesFit (sourcesOf shelf desk s) counts (shelf .facets)
-    → (t : List ℕ) → length t ≡ length s → take (desk .shares) t ≡ take (desk .shares) s → (x : ℕ) → Ready (desk .shares) (desk .touched) 4 1024 t (length (placesIn (sourcesOf shelf desk s) x)) 1
-    → Orders shelf desk (length t) × SourcesFit (sourcesOf shelf desk t) counts (shelf .facets) × Ready (desk .shares) (desk .touched) 4 1024 t (length (placesIn (sourcesOf shelf desk t) x)) 1
+    → (t : List ℕ) → length t ≡ length s → take (desk .shares) t ≡ take (desk .shares) s → (x : ℕ) → AreaEmpty (desk .shares) (desk .touched) 4 1024 t (length (placesIn (sourcesOf shelf desk s) x)) 1
+    → Orders shelf desk (length t) × SourcesFit (sourcesOf shelf desk t) counts (shelf .facets) × AreaEmpty (desk .shares) (desk .touched) 4 1024 t (length (placesIn (sourcesOf shelf desk t) x)) 1
 facet-requires shelf desk s counts ord fit t l e x ready =
     let k = sources-kept shelf desk s t ord e in
     (rw l ord, rw k fit, rw k ready)
 
 pub facets-room : (shelf : Shelf) (desk : Desk) (s counts : List ℕ) → SourcesFit (sourcesOf shelf desk s) counts (shelf .facets) → (x : ℕ) → x < shelf .facets
-    → length (flat (listsTo (facetCodes (sourcesOf shelf desk s) counts) x)) + length (placesIn (sourcesOf shelf desk s) x) ≤ length (flat (closed 2 1024 (placesPart shelf s)))
+    → length (flat (listsTo (facetCodes (sourcesOf shelf desk s) counts) x)) + length (placesIn (sourcesOf shelf desk s) x) ≤ length (flat (closedLists 2 1024 (placesPart shelf s)))
 unfolding sourcesOf
 facets-room shelf desk s counts fit x h = codes-room (sourcesOf shelf desk s) counts x (omega (arith, fit .facets-are))

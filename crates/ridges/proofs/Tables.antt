@@ -10,7 +10,7 @@ use Rattle.definitions.specs.Search.{lastShare}
 use Rattle.laws.specs.Parts.{take-more}
 use Rattle.laws.specs.Segments.{placed}
 use Rattle.pool.specs.Pool.{base, used, emptied, pushed, ended}
-use Rattle.ridges.specs.Areas.{area, flat, Room, Ready, Joined, Grown, Space, Made, area-kept, flat-few, clear-kept, clear-ready, clear-holds, grown-none, grown-more, grown-ready, grown-all, listsTo, lists-more, lists-long, lists-at, joined-room, joined-more, joined-none, push-asks, joined-push, joined-end}
+use Rattle.ridges.specs.Areas.{area, flat, AreaRoom, AreaEmpty, Joined, AreaGrown, Space, Made, area-kept, flat-few, clear-kept, clear-ready, clear-holds, grown-none, grown-more, grown-ready, grown-all, listsTo, lists-more, lists-long, lists-at, joined-room, joined-more, joined-none, push-asks, joined-push, joined-end}
 use Rattle.ridges.specs.Codes.{touchedOf, onesIn, onesTo, ones-append, one-joins, one-stays, ones-left, ones-to-few, ones-more, sharesHere, amountOf, here-none, here-joins, here-stays, touchedTo, touchedCode, touched-more, code-some, code-none, touched-few, amount-small}
 
 -- ---- what a facet adds to one ridge orbit
@@ -73,7 +73,7 @@ module _ {codes : List ℕ} {ridge places last i : ℕ} (a : Adding codes ridge 
 
 -- ---- what a facet adds, as a list
 
-module _ {from to most : ℕ} {ws₀ : List ℕ} {ridges : ℕ} (codes : List ℕ) (ready : Ready from to 2 most ws₀ ridges 1) where
+module _ {from to most : ℕ} {ws₀ : List ℕ} {ridges : ℕ} (codes : List ℕ) (ready : AreaEmpty from to 2 most ws₀ ridges 1) where
   pub touch-start : Joined from to 2 most ws₀ ws₀ (touchedTo 0 codes)
   unfolding touchedTo
   touch-start = joined-none (ready .space)
@@ -99,15 +99,15 @@ module _ {from to most : ℕ} {ws₀ : List ℕ} {ridges : ℕ} (codes : List �
 -- ---- pools laid list by list
 
 module _ {from to w most : ℕ} (s : List ℕ) {items lists : ℕ} (space : Space from to w most (length s) items lists) (p : List ℕ) (e : p ≡ emptied (area from to s)) (at : ℕ → List ℕ) where
-  pub laid-start : Grown from to w most (placed from (to - from) s p) (placed from (to - from) s p) (listsTo at 0)
+  pub laid-start : AreaGrown from to w most (placed from (to - from) s p) (placed from (to - from) s p) (listsTo at 0)
   unfolding listsTo
   laid-start = grown-none (clear-ready s space p e)
 
-  module _ {ws : List ℕ} (n : ℕ) (g : Grown from to w most (placed from (to - from) s p) ws (listsTo at n)) where
-    pub laid-more : {t : List ℕ} → Grown from to w most ws t (at n ∷ []) → Grown from to w most (placed from (to - from) s p) t (listsTo at (n + 1))
+  module _ {ws : List ℕ} (n : ℕ) (g : AreaGrown from to w most (placed from (to - from) s p) ws (listsTo at n)) where
+    pub laid-more : {t : List ℕ} → AreaGrown from to w most ws t (at n ∷ []) → AreaGrown from to w most (placed from (to - from) s p) t (listsTo at (n + 1))
     laid-more {t} k = rw (lists-more at n) (grown-more (clear-ready s space p e) g k)
 
-    pub laid-ready : (k : ℕ) → length (flat (listsTo at n)) + k ≤ items → n < lists → Ready from to w most ws k 1
+    pub laid-ready : (k : ℕ) → length (flat (listsTo at n)) + k ≤ items → n < lists → AreaEmpty from to w most ws k 1
     laid-ready k h l = grown-ready (clear-ready s space p e) g k 1 h (omega (arith, lists-long at n))
 
     pub laid-end : Made from to w most s ws (listsTo at n)
@@ -134,7 +134,7 @@ touched-room ridges lists x facets h =
 
 -- ---- shares of 1
 
-module _ {from to most : ℕ} {ws₀ : List ℕ} {lists : ℕ} (ridge x : ℕ) (codes : List ℕ) (room : Room from to 2 most ws₀ (length (onesIn ridge x codes)) lists) where
+module _ {from to most : ℕ} {ws₀ : List ℕ} {lists : ℕ} (ridge x : ℕ) (codes : List ℕ) (room : AreaRoom from to 2 most ws₀ (length (onesIn ridge x codes)) lists) where
   pub ones-start : Joined from to 2 most ws₀ ws₀ (onesIn ridge x (take 0 codes))
   unfolding onesIn
   ones-start = joined-none room
@@ -157,17 +157,17 @@ module _ {from to most : ℕ} {ws₀ : List ℕ} {lists : ℕ} (ridge x : ℕ) (
   ones-end {ws} i j h = subst (λ (l : List ℕ). Joined from to 2 most ws₀ ws (onesIn ridge x l)) (take-all i codes h) j
 
 -- facet by facet
-module _ {from to most : ℕ} {ws₀ : List ℕ} (ridge : ℕ) (lists : List (List ℕ)) (facets : ℕ) (ready : Ready from to 2 most ws₀ (length (onesTo ridge lists facets)) 1) where
+module _ {from to most : ℕ} {ws₀ : List ℕ} (ridge : ℕ) (lists : List (List ℕ)) (facets : ℕ) (ready : AreaEmpty from to 2 most ws₀ (length (onesTo ridge lists facets)) 1) where
   pub ridge-start : Joined from to 2 most ws₀ ws₀ (onesTo ridge lists 0)
   unfolding onesTo
   ridge-start = joined-none (ready .space)
 
   module _ {ws : List ℕ} (x : ℕ) (j : Joined from to 2 most ws₀ ws (onesTo ridge lists x)) where
-    pub ridge-room : x < facets → Room from to 2 most ws (length (onesIn ridge x (getD lists x []))) 1
+    pub ridge-room : x < facets → AreaRoom from to 2 most ws (length (onesIn ridge x (getD lists x []))) 1
     ridge-room h = joined-room (ready .space) j (length (onesIn ridge x (getD lists x []))) (ones-to-few ridge lists x facets h)
 
     pub ridge-more : {t : List ℕ} → Joined from to 2 most ws t (onesIn ridge x (getD lists x [])) → Joined from to 2 most ws₀ t (onesTo ridge lists (x + 1))
     ridge-more {t} k = rw (ones-more ridge lists x) (joined-more (ready .space) j k)
 
-    pub ridge-end : facets ≤ x → x ≤ facets → (p : List ℕ) → p ≡ ended (area from to ws) → Grown from to 2 most ws₀ (placed from (to - from) ws p) (onesTo ridge lists facets ∷ [])
+    pub ridge-end : facets ≤ x → x ≤ facets → (p : List ℕ) → p ≡ ended (area from to ws) → AreaGrown from to 2 most ws₀ (placed from (to - from) ws p) (onesTo ridge lists facets ∷ [])
     ridge-end a b p e = let q : x ≡ facets = omega arith in rw (← q) (joined-end ready j (omega arith) p e)

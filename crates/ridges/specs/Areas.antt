@@ -11,7 +11,7 @@ use lib.ListN.{length, getD, take, length-append, List·getD-append}
 use lib.Seq.{take-take}
 use Rattle.laws.specs.Lists.{flatMap-append}
 use Rattle.laws.specs.Segments.{part, placed, le-or-lt, part-take, part-length, placed-length, part-placed, take-placed}
-use Rattle.pool.specs.Pool.{base, count, used, closed, opened, emptied, pushed, ended, Sound, pushed-length, ended-length}
+use Rattle.pool.specs.Pool.{base, count, used, closedLists, opened, emptied, pushed, ended, Sound, pushed-length, ended-length}
 use Rattle.pool.specs.Holds.{Holds, holds-none, holds-push, holds-end, holds-count}
 use Rattle.words.specs.Words.{put-length}
 
@@ -23,7 +23,7 @@ abbrev pub flat : List (List ℕ) → List ℕ
 flat ls = flatMap (λ (l : List ℕ). l) ls
 
 -- a pool in an area, with room for so many items and lists more
-pub record Room (from to w most : ℕ) (s : List ℕ) (items lists : ℕ) : Type 0 where
+pub record AreaRoom (from to w most : ℕ) (s : List ℕ) (items lists : ℕ) : Type 0 where
   pub order : from ≤ to
   pub inside : to ≤ length s
   pub sound : Sound w most (area from to s)
@@ -33,21 +33,21 @@ pub record Room (from to w most : ℕ) (s : List ℕ) (items lists : ℕ) : Type
   pub most-few : most < 4294967296
 
 -- and with an empty open list
-pub record Ready (from to w most : ℕ) (s : List ℕ) (items lists : ℕ) : Type 0 where
-  pub space : Room from to w most s items lists
+pub record AreaEmpty (from to w most : ℕ) (s : List ℕ) (items lists : ℕ) : Type 0 where
+  pub space : AreaRoom from to w most s items lists
   pub empty : opened w most (area from to s) ≡ []
 
 -- items joined the open list
 pub record Joined (from to w most : ℕ) (s t new : List ℕ) : Type 0 where
   pub long : length t ≡ length s
   pub front : take from t ≡ take from s
-  pub pool : Holds w most (area from to t) (closed w most (area from to s)) (opened w most (area from to s) ++ new) (used (area from to s) + length new)
+  pub pool : Holds w most (area from to t) (closedLists w most (area from to s)) (opened w most (area from to s) ++ new) (used (area from to s) + length new)
 
 -- lists are more, the open list being empty before and after
-pub record Grown (from to w most : ℕ) (s t : List ℕ) (new : List (List ℕ)) : Type 0 where
+pub record AreaGrown (from to w most : ℕ) (s t : List ℕ) (new : List (List ℕ)) : Type 0 where
   pub long : length t ≡ length s
   pub front : take from t ≡ take from s
-  pub pool : Holds w most (area from to t) (closed w most (area from to s) ++ new) [] (used (area from to s) + length (flat new))
+  pub pool : Holds w most (area from to t) (closedLists w most (area from to s) ++ new) [] (used (area from to s) + length (flat new))
 
 -- an area before the one that is written
 pub area-kept : (from a b : ℕ) (s t : List ℕ) → take from t ≡ take from s → a ≤ b → b ≤ from → area a b t ≡ area a b s
@@ -82,8 +82,8 @@ module _ (from to w most : ℕ) (s : List ℕ) (order : from ≤ to) (inside : t
       let l = area-long from to w most s order inside in
       rw (back-area from to w most s order inside p (ap length e ∙ emptied-long)) (holds-none w most (area from to s) p e (omega arith))
 
-module _ {from to w most : ℕ} {s : List ℕ} {items lists : ℕ} (r : Room from to w most s items lists) where
-  own-pool : Holds w most (area from to s) (closed w most (area from to s)) (opened w most (area from to s)) (used (area from to s))
+module _ {from to w most : ℕ} {s : List ℕ} {items lists : ℕ} (r : AreaRoom from to w most s items lists) where
+  own-pool : Holds w most (area from to s) (closedLists w most (area from to s)) (opened w most (area from to s)) (used (area from to s))
   own-pool = record { sound = r .sound; lists-are = refl; open-is = refl; many-are = refl }
 
   pub joined-none : Joined from to w most s s []
@@ -130,7 +130,7 @@ module _ {from to w most : ℕ} {s : List ℕ} {items lists : ℕ} (r : Room fro
                 (holds-push (j .pool) v p e room-here small-here small);
           }
 
-    pub joined-room : (k : ℕ) → length new + k ≤ items → Room from to w most t k lists
+    pub joined-room : (k : ℕ) → length new + k ≤ items → AreaRoom from to w most t k lists
     joined-room k h =
         let c = holds-count (j .pool) in
         let d = holds-count own-pool in
@@ -159,15 +159,15 @@ module _ {from to w most : ℕ} {s : List ℕ} {items lists : ℕ} (r : Room fro
           };
         }
 
-module _ {from to w most : ℕ} {s : List ℕ} {items lists : ℕ} (ready : Ready from to w most s items lists) where
-  pub grown-none : Grown from to w most s s []
+module _ {from to w most : ℕ} {s : List ℕ} {items lists : ℕ} (ready : AreaEmpty from to w most s items lists) where
+  pub grown-none : AreaGrown from to w most s s []
   unfolding flatMap
   grown-none = record {
     long = refl;
     front = refl;
     pool = record {
       sound = ready .space .sound;
-      lists-are = sym (append-nil (closed w most (area from to s)));
+      lists-are = sym (append-nil (closedLists w most (area from to s)));
       open-is = ready .empty;
       many-are = omega arith;
     };
@@ -176,13 +176,13 @@ module _ {from to w most : ℕ} {s : List ℕ} {items lists : ℕ} (ready : Read
   module _ {t new : List ℕ} (j : Joined from to w most s t new) where
     -- what `end_list` asks
     module _ (h : 0 < lists) where
-      free : length (closed w most (area from to s)) < most
+      free : length (closedLists w most (area from to s)) < most
       free = omega (arith, ready .space .few, holds-count (own-pool (ready .space)))
 
       pub end-asks : (16 + 4 * count (area from to t) ≤ length (area from to t)) × (count (area from to t) + 1 < 4294967296)
       end-asks = let c = holds-count (j .pool) in (omega (arith, free, j .pool .sound .fits), omega (arith, free, ready .space .most-few))
 
-      pub joined-end : (p : List ℕ) → p ≡ ended (area from to t) → Grown from to w most s (placed from (to - from) t p) (new ∷ [])
+      pub joined-end : (p : List ℕ) → p ≡ ended (area from to t) → AreaGrown from to w most s (placed from (to - from) t p) (new ∷ [])
       unfolding flatMap
       joined-end p e =
           let c = holds-count (j .pool) in
@@ -193,19 +193,19 @@ module _ {from to w most : ℕ} {s : List ℕ} {items lists : ℕ} (ready : Read
             front = back-front from to w most t (ready .space .order) (within (ready .space) j) p n ∙ j .front;
             pool = rw (back-area from to w most t (ready .space .order) (within (ready .space) j) p n, append-nil new) record {
               sound = g .sound;
-              lists-are = g .lists-are ∙ ap (λ (o : List ℕ). closed w most (area from to s) ++ ((o ++ new) ∷ [])) (ready .empty);
+              lists-are = g .lists-are ∙ ap (λ (o : List ℕ). closedLists w most (area from to s) ++ ((o ++ new) ∷ [])) (ready .empty);
               open-is = g .open-is;
               many-are = g .many-are;
             };
           }
 
   -- lists and then lists
-  module _ {t : List ℕ} {new : List (List ℕ)} (g : Grown from to w most s t new) where
-    pub grown-ready : (k l : ℕ) → length (flat new) + k ≤ items → length new + l ≤ lists → Ready from to w most t k l
+  module _ {t : List ℕ} {new : List (List ℕ)} (g : AreaGrown from to w most s t new) where
+    pub grown-ready : (k l : ℕ) → length (flat new) + k ≤ items → length new + l ≤ lists → AreaEmpty from to w most t k l
     grown-ready k l h f =
         let c = holds-count (g .pool) in
         let d = holds-count (own-pool (ready .space)) in
-        let a = length-append (closed w most (area from to s)) new in
+        let a = length-append (closedLists w most (area from to s)) new in
         let m : w * (used (area from to t) + k) ≤ w * (used (area from to s) + items) = mul-le-mul-left w (omega (arith, g .pool .many-are)) in
         record {
           empty = g .pool .open-is;
@@ -220,7 +220,7 @@ module _ {from to w most : ℕ} {s : List ℕ} {items lists : ℕ} (ready : Read
           };
         }
 
-    pub grown-more : {u : List ℕ} {more : List (List ℕ)} → Grown from to w most t u more → Grown from to w most s u (new ++ more)
+    pub grown-more : {u : List ℕ} {more : List (List ℕ)} → AreaGrown from to w most t u more → AreaGrown from to w most s u (new ++ more)
     grown-more {u} {more} k =
         let h = k .pool in
         let f : length (flat (new ++ more)) ≡ length (flat new) + length (flat more) = ap length (flatMap-append (λ (l : List ℕ). l) new more) ∙ length-append (flat new) (flat more) in
@@ -229,7 +229,7 @@ module _ {from to w most : ℕ} {s : List ℕ} {items lists : ℕ} (ready : Read
           front = k .front ∙ g .front;
           pool = record {
             sound = h .sound;
-            lists-are = h .lists-are ∙ (ap (λ (l : List (List ℕ)). l ++ more) (g .pool .lists-are) ∙ append-assoc (closed w most (area from to s)) new more);
+            lists-are = h .lists-are ∙ (ap (λ (l : List (List ℕ)). l ++ more) (g .pool .lists-are) ∙ append-assoc (closedLists w most (area from to s)) new more);
             open-is = h .open-is;
             many-are = omega (arith, h .many-are, g .pool .many-are);
           };
@@ -257,7 +257,7 @@ module _ {from to w most : ℕ} (s : List ℕ) {items lists : ℕ} (h : Space fr
   pub clear-holds : Holds w most (area from to (placed from (to - from) s p)) [] [] 0
   clear-holds = cleared from to w most s (h .order) (h .inside) (omega (arith, h .room)) p e
 
-  pub clear-ready : Ready from to w most (placed from (to - from) s p) items lists
+  pub clear-ready : AreaEmpty from to w most (placed from (to - from) s p) items lists
   clear-ready =
       let c = holds-count clear-holds in
       let z : used (area from to (placed from (to - from) s p)) + items ≡ items = omega (arith, clear-holds .many-are) in
@@ -275,7 +275,7 @@ module _ {from to w most : ℕ} (s : List ℕ) {items lists : ℕ} (h : Space fr
       }
 
 -- a pool that grew from none
-pub grown-all : {from to w most : ℕ} {s t : List ℕ} {new : List (List ℕ)} → Holds w most (area from to s) [] [] 0 → Grown from to w most s t new → Holds w most (area from to t) new [] (length (flat new))
+pub grown-all : {from to w most : ℕ} {s t : List ℕ} {new : List (List ℕ)} → Holds w most (area from to s) [] [] 0 → AreaGrown from to w most s t new → Holds w most (area from to t) new [] (length (flat new))
 grown-all {from} {to} {w} {most} {s} {t} {new} h g = record {
   sound = g .pool .sound;
   lists-are = g .pool .lists-are ∙ ap (λ (l : List (List ℕ)). l ++ new) (h .lists-are);

@@ -18,14 +18,14 @@ use Rattle.shapes.specs.KeyMarks.{orElse, marks-after}
 use Rattle.shapes.specs.Kept.{Kept, numberEnds, numbersKept}
 use Rattle.ridges.specs.Ends.{counts-up, number-up, with-length}
 
-record Below (keys : KnownKeys Pair) : Type 0 where
+record HeldNumbered (keys : KnownKeys Pair) : Type 0 where
   pub held : (p : Pair) (number : ℕ) → keyHeldBy comparePair edgeVia p (keys .held) ≡ some number → number < length (keys .counts)
 
 some-same : (a b : ℕ) → some a ≡ some b → a ≡ b
 some-same a b e = ap (λ (o : Option ℕ). elim o [ none ↦ 0 | some x ↦ x ]) e
 
 module _ (rows : List Row) where
-  opened-below : (keys : KnownKeys Pair) (k : Pair) → Below keys → Below (openKeyOrbit comparePair edgeVia rows keys k)
+  opened-below : (keys : KnownKeys Pair) (k : Pair) → HeldNumbered keys → HeldNumbered (openKeyOrbit comparePair edgeVia rows keys k)
   unfolding openKeyOrbit orElse
   opened-below keys k b = record {
     held = λ p number e.
@@ -43,20 +43,20 @@ module _ (rows : List Row) where
           go none q false e = absurd (none-is-not-some number e)
 
   -- the number given, and what is held then
-  number-below : (keys : KnownKeys Pair) (p : Pair) → Below keys → (numberEnds rows keys p .0 < length (numberEnds rows keys p .1 .counts)) × Below (numberEnds rows keys p .1)
+  number-below : (keys : KnownKeys Pair) (p : Pair) → HeldNumbered keys → (numberEnds rows keys p .0 < length (numberEnds rows keys p .1 .counts)) × HeldNumbered (numberEnds rows keys p .1)
   unfolding numberEnds numberOrOpenKey openKeyOrbit
   number-below keys p b = go (keyHeldBy comparePair edgeVia p (keys .held)) refl
     where
       go : (o : Option ℕ) → keyHeldBy comparePair edgeVia p (keys .held) ≡ o
-          → (numberOrOpenKey comparePair edgeVia rows keys p o .0 < length (numberOrOpenKey comparePair edgeVia rows keys p o .1 .counts)) × Below (numberOrOpenKey comparePair edgeVia rows keys p o .1)
+          → (numberOrOpenKey comparePair edgeVia rows keys p o .0 < length (numberOrOpenKey comparePair edgeVia rows keys p o .1 .counts)) × HeldNumbered (numberOrOpenKey comparePair edgeVia rows keys p o .1)
       go (some number) e = (b .held p number e, b)
       go none e = (opened-longer, opened-below keys p b)
         where
           opened-longer : length (keys .counts) < length (openKeyOrbit comparePair edgeVia rows keys p .counts)
           opened-longer = omega (arith, length-append (keys .counts) (length (fresh comparePair (map (λ (h : Pair × ℕ). h .0) (keys .held)) (map (λ (row : Row). edgeVia (image row) p) rows)) ∷ []))
 
-  ends-below : (keys : KnownKeys Pair) (ends : List Pair) → Below keys
-      → ((v : ℕ) → Mem v (mapWith (numberEnds rows) keys ends .0) → v < length (mapWith (numberEnds rows) keys ends .1 .counts)) × Below (mapWith (numberEnds rows) keys ends .1)
+  ends-below : (keys : KnownKeys Pair) (ends : List Pair) → HeldNumbered keys
+      → ((v : ℕ) → Mem v (mapWith (numberEnds rows) keys ends .0) → v < length (mapWith (numberEnds rows) keys ends .1 .counts)) × HeldNumbered (mapWith (numberEnds rows) keys ends .1)
   unfolding mapWith
   ends-below keys [] b = (λ v m. elim m [ ], b)
   ends-below keys (e ∷ ends) b =
@@ -75,7 +75,7 @@ module _ (rows : List Row) where
   lists-up : (keys : KnownKeys Pair) (ends : List Pair) → length (keys .counts) ≤ length (mapWith (numberEnds rows) keys ends .1 .counts)
   lists-up keys ends = counts-up (numberEnds rows) (number-up rows) keys ends
 
-  lists-below : (keys : KnownKeys Pair) (lists : List (List Pair)) → Below keys
+  lists-below : (keys : KnownKeys Pair) (lists : List (List Pair)) → HeldNumbered keys
       → (l : List ℕ) → Mem l (mapWith (mapWith (numberEnds rows)) keys lists .0) → (v : ℕ) → Mem v l → v < length (mapWith (mapWith (numberEnds rows)) keys lists .1 .counts)
   unfolding mapWith
   lists-below keys [] b l m v i = elim m [ ]
@@ -84,7 +84,7 @@ module _ (rows : List Row) where
       omega (arith, one .0 v (subst (λ (z : List ℕ). Mem v z) q i), counts-up (mapWith (numberEnds rows)) lists-up (mapWith (numberEnds rows) keys ends .1) lists)
   lists-below keys (ends ∷ lists) b l (List·Memᴰ.List·Memᴰ·tail m) v i = lists-below (mapWith (numberEnds rows) keys ends .1) lists (ends-below keys ends b .1) l m v i
 
-  none-below : Below (noKeys Pair)
+  none-below : HeldNumbered (noKeys Pair)
   unfolding noKeys keyHeldBy
   none-below = record { held = λ p number e. absurd (none-is-not-some number e) }
 

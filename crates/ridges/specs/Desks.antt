@@ -14,7 +14,7 @@ use Rattle.definitions.specs.Search.{Facet, Share, allFacets, sharesOf}
 use Rattle.laws.specs.Lists.{Mem, map-at, member-at, of-map, of-flatMap, at-member}
 use Rattle.laws.specs.Segments.{part, le-or-lt}
 use Rattle.words.specs.Words.{words, words-take, getD-words, numberAt-take}
-use Rattle.pool.specs.Pool.{base, count, closed, Sound, closed-length}
+use Rattle.pool.specs.Pool.{base, count, closedLists, Sound, closed-length}
 use Rattle.pool.specs.Holds.{holds-count}
 use Rattle.openers.specs.Rows.{rowsIn, RowsFit}
 use Rattle.openers.specs.Meaning.{pairOf}
@@ -145,7 +145,7 @@ module _ (n most ridges m : ℕ) (rows : List ℕ) (kept : List Kept) (shelf : S
   sent-is : (o i : ℕ) → i < length (ridgesAt shelf s o) → Sent m rows (pairOf (getD (ridgesAt shelf s o) i 0 % 65536))
   unfolding ridgeCodes
   sent-is o i h = ⊎-elim
-      (λ k. absurd (let e = ap length (none-behind (closed 4 256 (ridgesPart shelf s)) o [] (omega (arith, closed-length 4 256 (ridgesPart shelf s), ridges-count))) in omega arith))
+      (λ k. absurd (let e = ap length (none-behind (closedLists 4 256 (ridgesPart shelf s)) o [] (omega (arith, closed-length 4 256 (ridgesPart shelf s), ridges-count))) in omega arith))
       (λ k.
       let r = item-at kept o k in
       let l = g .small .long (r .item) (r .member) in
@@ -166,10 +166,10 @@ module _ (n most ridges m : ℕ) (rows : List ℕ) (kept : List Kept) (shelf : S
       }))
       (le-or-lt (length kept) o)
 
-  numbers-same : allNumbered (rowsIn 32 m rows) (noKeys Pair) (closed 4 256 (ridgesPart shelf s)) ≡ numbersKept (rowsIn n m rows) kept
+  numbers-same : allNumbered (rowsIn 32 m rows) (noKeys Pair) (closedLists 4 256 (ridgesPart shelf s)) ≡ numbersKept (rowsIn n m rows) kept
   numbers-same = ap (allNumbered (rowsIn 32 m rows) (noKeys Pair)) (g .made .ridges .lists-are) ∙ numbers-are n m rows (g .rows-fit) most kept (g .small)
 
-  ridges-few : length (flat (closed 4 256 (ridgesPart shelf s))) ≤ 256 * most
+  ridges-few : length (flat (closedLists 4 256 (ridgesPart shelf s))) ≤ 256 * most
   ridges-few =
       let e = ap (λ (l : List (List ℕ)). length (flat l)) (g .made .ridges .lists-are) in
       let b = flat-bound (map ridgeCodes kept) most 256
@@ -179,8 +179,8 @@ module _ (n most ridges m : ℕ) (rows : List ℕ) (kept : List Kept) (shelf : S
 
   -- what `number_ridges` asks
   pub numbering-asks : Reads m rows shelf s (desk .numbers) × (shelf .orbits ≡ count (ridgesPart shelf s))
-      × Space (desk .numbers) (desk .shares) 2 256 (length s) (length (flat (closed 4 256 (ridgesPart shelf s)))) (shelf .orbits)
-      × (length (allNumbered (rowsIn 32 m rows) (noKeys Pair) (closed 4 256 (ridgesPart shelf s)) .1 .counts) ≤ 190)
+      × Space (desk .numbers) (desk .shares) 2 256 (length s) (length (flat (closedLists 4 256 (ridgesPart shelf s)))) (shelf .orbits)
+      × (length (allNumbered (rowsIn 32 m rows) (noKeys Pair) (closedLists 4 256 (ridgesPart shelf s)) .1 .counts) ≤ 190)
   numbering-asks =
       let f = g .fits in
       let k = g .keeps .fits in (
@@ -210,7 +210,7 @@ module _ (n most ridges m : ℕ) (rows : List ℕ) (kept : List Kept) (shelf : S
 
   -- ---- the shares
 
-  module _ (s1 counts : List ℕ) (known : ℕ) (a : AllNumbered m rows (desk .numbers) (desk .shares) (closed 4 256 (ridgesPart shelf s)) s s1 counts known) where
+  module _ (s1 counts : List ℕ) (known : ℕ) (a : AllNumbered m rows (desk .numbers) (desk .shares) (closedLists 4 256 (ridgesPart shelf s)) s s1 counts known) where
     known-is : known ≡ length (numbersKept (rowsIn n m rows) kept .1 .counts)
     known-is = a .known-is ∙ ap (λ (r : List (List ℕ) × KnownKeys Pair). length (r .1 .counts)) numbers-same
 
@@ -282,7 +282,7 @@ module _ (n most ridges m : ℕ) (rows : List ℕ) (kept : List Kept) (shelf : S
     unfolding placesOf
     place-short l i = let r = of-flatMap (λ (k : Kept). k .places) l kept i in g .small .few-places (r .0) (r .1) l (r .2)
 
-    places-few : length (flat (closed 2 1024 (placesPart shelf s1))) ≤ 1024 * most
+    places-few : length (flat (closedLists 2 1024 (placesPart shelf s1))) ≤ 1024 * most
     unfolding sourcesOf
     places-few =
         let e = ap (λ (l : List (List ℕ)). length (flat l)) (holding .places) in
@@ -290,7 +290,7 @@ module _ (n most ridges m : ℕ) (rows : List ℕ) (kept : List Kept) (shelf : S
         omega arith
 
     -- what `share_facets` asks
-    pub sharing-space : Space (desk .shares) (desk .touched) 4 1024 (length s1) (length (flat (closed 2 1024 (placesPart shelf s1)))) (shelf .facets)
+    pub sharing-space : Space (desk .shares) (desk .touched) 4 1024 (length s1) (length (flat (closedLists 2 1024 (placesPart shelf s1)))) (shelf .facets)
     sharing-space =
         let f = g .fits in
         record {
@@ -339,16 +339,16 @@ module _ (n most ridges m : ℕ) (rows : List ℕ) (kept : List Kept) (shelf : S
               let e = ap length (sym (r .2) ∙ lists-at (facetCodes (sourcesOf shelf desk s1) counts) (shelf .facets) (r .0) [] h) in
               omega (arith, few-places-at (r .0) h)
 
-      module _ (s3 : List ℕ) (c : Made (desk .touched) (desk .ones) 2 (shelf .facets) s2 s3 (listsTo (touchedOf known (closed 4 1024 (area (desk .shares) (desk .touched) s2))) (shelf .facets))) where
+      module _ (s3 : List ℕ) (c : Made (desk .touched) (desk .ones) 2 (shelf .facets) s2 s3 (listsTo (touchedOf known (closedLists 4 1024 (area (desk .shares) (desk .touched) s2))) (shelf .facets))) where
         shares-kept : area (desk .shares) (desk .touched) s3 ≡ area (desk .shares) (desk .touched) s2
         shares-kept = area-kept (desk .touched) (desk .shares) (desk .touched) s2 s3 (c .front) (omega (arith, g .fits .shareRoom)) (omega arith)
 
         -- what `lay_ones` asks
         pub ones-asks : Sound 4 1024 (area (desk .shares) (desk .touched) s3) × (shelf .facets ≡ count (area (desk .shares) (desk .touched) s3))
-            × Space (desk .ones) (desk .frames) 2 known (length s3) (length (flat (closed 4 1024 (area (desk .shares) (desk .touched) s3)))) known
+            × Space (desk .ones) (desk .frames) 2 known (length s3) (length (flat (closedLists 4 1024 (area (desk .shares) (desk .touched) s3)))) known
         ones-asks =
             let f = g .fits in
-            let e : length (flat (closed 4 1024 (area (desk .shares) (desk .touched) s2))) ≤ 1024 * most = omega (arith, ap (λ (l : List (List ℕ)). length (flat l)) (b .pool .lists-are), codes-few) in
+            let e : length (flat (closedLists 4 1024 (area (desk .shares) (desk .touched) s2))) ≤ 1024 * most = omega (arith, ap (λ (l : List (List ℕ)). length (flat l)) (b .pool .lists-are), codes-few) in
             rw shares-kept (
               b .pool .sound,
               facets-count,
@@ -362,7 +362,7 @@ module _ (n most ridges m : ℕ) (rows : List ℕ) (kept : List Kept) (shelf : S
               },
             )
 
-        module _ (s4 : List ℕ) (d : Made (desk .ones) (desk .frames) 2 known s3 s4 (listsTo (made.onesOf (closed 4 1024 (area (desk .shares) (desk .touched) s3)) (shelf .facets)) known)) where
+        module _ (s4 : List ℕ) (d : Made (desk .ones) (desk .frames) 2 known s3 s4 (listsTo (made.onesOf (closedLists 4 1024 (area (desk .shares) (desk .touched) s3)) (shelf .facets)) known)) where
           all-long : length s4 ≡ length s
           all-long = d .long ∙ (c .long ∙ (b .long ∙ a .long))
 
@@ -376,7 +376,7 @@ module _ (n most ridges m : ℕ) (rows : List ℕ) (kept : List Kept) (shelf : S
               x ∙ (y ∙ (z ∙ take-kept (desk .numbers) (shelf .end) s s1 (a .front) (f .before)))
 
           lists : List (List ℕ)
-          lists = closed 4 1024 (area (desk .shares) (desk .touched) s2)
+          lists = closedLists 4 1024 (area (desk .shares) (desk .touched) s2)
 
           facet-is : (x : ℕ) → facetOf (keptTable (rowsIn n m rows) kept) x ≡ getD (facetsOf kept) x (0, 0)
           unfolding facetOf
@@ -419,7 +419,7 @@ module _ (n most ridges m : ℕ) (rows : List ℕ) (kept : List Kept) (shelf : S
           unfolding areasOf
           ones-area = part-shift (shelf .owners) (desk .ones) (desk .frames) s4 (omega (arith, behind .0, behind .1)) (behind .2)
 
-          search-fits : layout.Fits (areasOf shelf desk known) (length (drop (shelf .owners) s4))
+          search-fits : layout.AreasFit (areasOf shelf desk known) (length (drop (shelf .owners) s4))
           unfolding areasOf
           search-fits =
               let f = g .fits in

@@ -9,7 +9,7 @@ use lib.ListN.{length, getD, take, drop, length-append, length-map, take-append-
 use Rattle.definitions.specs.Lists.{Pair, comparePair, mapWith}
 use Rattle.definitions.specs.Orbits.{Row}
 use Rattle.laws.specs.Parts.{take-more}
-use Rattle.pool.specs.Pool.{closed, Sound}
+use Rattle.pool.specs.Pool.{closedLists, Sound}
 use Rattle.pool.specs.Holds.{Holds}
 use Rattle.openers.specs.Rows.{rowsIn}
 use Rattle.openers.specs.Meaning.{pairOf}
@@ -26,7 +26,7 @@ unfoldable pub endsIn : List ℕ → List Pair
 endsIn codes = map (λ (c : ℕ). pairOf (c % 65536)) codes
 
 abbrev pub ridgesAt : Shelf → List ℕ → ℕ → List ℕ
-ridgesAt shelf s o = getD (closed 4 256 (ridgesPart shelf s)) o []
+ridgesAt shelf s o = getD (closedLists 4 256 (ridgesPart shelf s)) o []
 
 -- the numbers of the ridges of one orbit, and of all
 unfoldable pub numbered : List Row → KnownKeys Pair → List ℕ → List ℕ × KnownKeys Pair

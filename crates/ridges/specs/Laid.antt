@@ -9,7 +9,7 @@ use Rattle.definitions.specs.Lists.{countFrom, keep}
 use Rattle.definitions.specs.Search.{Table, Share, Facet, sharesOf, sharesAt, lastShare, adds, allFacets, onesAt}
 use Rattle.laws.specs.Lists.{Mem, flatMap-append, of-count}
 use Rattle.laws.specs.Places.{map-self, map-same}
-use Rattle.pool.specs.Pool.{closed}
+use Rattle.pool.specs.Pool.{closedLists}
 use Rattle.pool.specs.Holds.{Holds, holds-count}
 use Rattle.facets.specs.Sums.{amount}
 use Rattle.facets.specs.Layout.{facetOf, onesOf, amountIn, Tables, codes}
@@ -74,5 +74,5 @@ module _ (t : Table) (lists : List (List ℕ)) (facets : ℕ)
     onesAre = q .lists-are ∙ (lists-map (made.onesOf lists (a .facets)) (a .ridges) ∙ map-same (made.onesOf lists (a .facets)) (onesOf t) (countFrom 0 (a .ridges)) (λ ridge i. let c = of-count 0 (a .ridges) ridge i in ones-are ridge (omega (arith, c .1)) (a .facets) (omega arith) ∙ ap (λ (n : ℕ). flatMap (λ (x : ℕ). replicate (onesAt t ridge (facetOf t x)) x) (countFrom 0 n)) (ef ∙ f)));
   }
     where
-      codes-at : (x : ℕ) → x < a .facets → getD (closed 2 (a .facets) touched) x [] ≡ touchedTo (a .ridges) (getD lists x [])
+      codes-at : (x : ℕ) → x < a .facets → getD (closedLists 2 (a .facets) touched) x [] ≡ touchedTo (a .ridges) (getD lists x [])
       codes-at x h = ap (λ (l : List (List ℕ)). getD l x []) (p .lists-are) ∙ lists-at (touchedOf (a .ridges) lists) (a .facets) x [] h

@@ -19,7 +19,7 @@ use Rattle.laws.specs.Orders.{pairs}
 use Rattle.laws.specs.Ascending.{seen-member}
 use Rattle.laws.specs.Parts.{rows, getD-rows, length-rows, take-more-set}
 use Rattle.openers.specs.Rows.{rowsIn, ImagesBelow, image-at}
-use Rattle.openers.specs.Meaning.{codeOf, pairCodes}
+use Rattle.openers.specs.Meaning.{pairCode, pairCodes}
 use Rattle.openers.specs.Codes.{same-code, code-small, member-codes, map-codes}
 use Rattle.shapes.specs.Polygons.{edgeVia}
 use Rattle.shapes.specs.Ridges.{KnownKeys, noKeys, keyHeldBy, openKeyOrbit, numberOrOpenKey}
@@ -161,15 +161,15 @@ markOf (some number) = suc number
 abbrev heldIn : Pair → KnownKeys Pair → Option ℕ
 heldIn p keys = keyHeldBy comparePair edgeVia p (keys .held)
 
-pub record Stands (marks counts : List ℕ) (known : ℕ) (keys : KnownKeys Pair) : Type 0 where
+pub record MarksStand (marks counts : List ℕ) (known : ℕ) (keys : KnownKeys Pair) : Type 0 where
   pub long : length marks ≡ 400
   pub room : length counts ≡ 190
-  pub marks-are : (p : Pair) → p .0 < 20 → p .1 < 20 → getD marks (codeOf p) 0 ≡ markOf (keyHeldBy comparePair edgeVia p (keys .held))
+  pub marks-are : (p : Pair) → p .0 < 20 → p .1 < 20 → getD marks (pairCode p) 0 ≡ markOf (keyHeldBy comparePair edgeVia p (keys .held))
   pub known-is : known ≡ length (keys .counts)
   pub counts-are : take known counts ≡ keys .counts
 
-pub stands-none : (counts : List ℕ) → length counts ≡ 190 → Stands (replicate 400 0) counts 0 (noKeys Pair)
-unfolding noKeys keyHeldBy markOf codeOf
+pub stands-none : (counts : List ℕ) → length counts ≡ 190 → MarksStand (replicate 400 0) counts 0 (noKeys Pair)
+unfolding noKeys keyHeldBy markOf pairCode
 stands-none counts h = record {
   room = h;
   long = length-replicate {A = ℕ} 400 0;
@@ -182,9 +182,9 @@ stands-none counts h = record {
 
 -- a pair has no mark where it was not seen
 Unseen : List ℕ → List Pair → Type 0
-Unseen marks seen = (p : Pair) → p .0 < 20 → p .1 < 20 → unmarked (getD marks (codeOf p) 0) ≡ not (memberPair p seen)
+Unseen marks seen = (p : Pair) → p .0 < 20 → p .1 < 20 → unmarked (getD marks (pairCode p) 0) ≡ not (memberPair p seen)
 
-held-unseen : (marks counts : List ℕ) (known : ℕ) (keys : KnownKeys Pair) → Stands marks counts known keys → Unseen marks (map (λ (h : Pair × ℕ). h .0) (keys .held))
+held-unseen : (marks counts : List ℕ) (known : ℕ) (keys : KnownKeys Pair) → MarksStand marks counts known keys → Unseen marks (map (λ (h : Pair × ℕ). h .0) (keys .held))
 unfolding markOf memberPair Unseen unmarked
 held-unseen marks counts known keys s p h k = ap (λ (g : ℕ). unmarked g) (s .marks-are p h k) ∙ go (heldIn p keys) refl
   where
@@ -204,40 +204,40 @@ held-unseen marks counts known keys s p h k = ap (λ (g : ℕ). unmarked g) (s .
         present false t = absurd t
 
 many-fresh : (marks : List ℕ) (k : ℕ) (seen images : List Pair) → length marks ≡ 400 → Unseen marks seen → ((q : Pair) → Mem q images → (q .0 < 20) × (q .1 < 20))
-    → manyJoined marks (suc k) (map codeOf images) ≡ length (fresh comparePair seen images)
+    → manyJoined marks (suc k) (map pairCode images) ≡ length (fresh comparePair seen images)
 unfolding manyJoined fresh Unseen markedAt memberPair anyOf unmarked
 many-fresh marks k seen [] l u small = refl
 many-fresh marks k seen (x ∷ images) l u small =
     let s = small x (here refl) in
     go (memberPair x seen) refl (u x (s .0) (s .1)) (many-fresh marks k seen images l u (λ q i. small q (there i)))
-    (many-fresh (set marks (codeOf x) (suc k)) k (x ∷ seen) images (length-set marks (codeOf x) (suc k) ∙ l) (more s) (λ q i. small q (there i)))
+    (many-fresh (set marks (pairCode x) (suc k)) k (x ∷ seen) images (length-set marks (pairCode x) (suc k) ∙ l) (more s) (λ q i. small q (there i)))
   where
-    one : (p : Pair) → p .0 < 20 → p .1 < 20 → (x .0 < 20) × (x .1 < 20) → Dec (codeOf p ≡ codeOf x) → unmarked (getD (set marks (codeOf x) (suc k)) (codeOf p) 0) ≡ not (eqb (codeOf p) (codeOf x) || memberPair p seen)
-    one p h i s (yes e) = rw (e, eq-eqb (codeOf x) (codeOf x) refl, getD-set-same marks (codeOf x) (suc k) 0 (omega (arith, code-small x (s .0) (s .1), l))) refl
-    one p h i s (no n) = rw (getD-set-other marks (codeOf x) (codeOf p) (suc k) 0 n, ne-eqb (codeOf p) (codeOf x) n) (u p h i)
+    one : (p : Pair) → p .0 < 20 → p .1 < 20 → (x .0 < 20) × (x .1 < 20) → Dec (pairCode p ≡ pairCode x) → unmarked (getD (set marks (pairCode x) (suc k)) (pairCode p) 0) ≡ not (eqb (pairCode p) (pairCode x) || memberPair p seen)
+    one p h i s (yes e) = rw (e, eq-eqb (pairCode x) (pairCode x) refl, getD-set-same marks (pairCode x) (suc k) 0 (omega (arith, code-small x (s .0) (s .1), l))) refl
+    one p h i s (no n) = rw (getD-set-other marks (pairCode x) (pairCode p) (suc k) 0 n, ne-eqb (pairCode p) (pairCode x) n) (u p h i)
 
-    more : (x .0 < 20) × (x .1 < 20) → Unseen (set marks (codeOf x) (suc k)) (x ∷ seen)
+    more : (x .0 < 20) × (x .1 < 20) → Unseen (set marks (pairCode x) (suc k)) (x ∷ seen)
     more s p h i =
-        one p h i s (ℕ-discrete (codeOf p) (codeOf x)) ∙ ap (λ (b : Bool). not (b || memberPair p seen)) (sym (same-code p x i (s .1)))
+        one p h i s (ℕ-discrete (pairCode p) (pairCode x)) ∙ ap (λ (b : Bool). not (b || memberPair p seen)) (sym (same-code p x i (s .1)))
 
-    go : (b : Bool) → memberPair x seen ≡ b → unmarked (getD marks (codeOf x) 0) ≡ not (memberPair x seen)
-        → manyJoined marks (suc k) (map codeOf images) ≡ length (fresh comparePair seen images)
-        → manyJoined (set marks (codeOf x) (suc k)) (suc k) (map codeOf images) ≡ length (fresh comparePair (x ∷ seen) images)
-        → cond (unmarked (getD marks (codeOf x) 0)) 1 0 + manyJoined (cond (unmarked (getD marks (codeOf x) 0)) (set marks (codeOf x) (suc k)) marks) (suc k) (map codeOf images)
+    go : (b : Bool) → memberPair x seen ≡ b → unmarked (getD marks (pairCode x) 0) ≡ not (memberPair x seen)
+        → manyJoined marks (suc k) (map pairCode images) ≡ length (fresh comparePair seen images)
+        → manyJoined (set marks (pairCode x) (suc k)) (suc k) (map pairCode images) ≡ length (fresh comparePair (x ∷ seen) images)
+        → cond (unmarked (getD marks (pairCode x) 0)) 1 0 + manyJoined (cond (unmarked (getD marks (pairCode x) 0)) (set marks (pairCode x) (suc k)) marks) (suc k) (map pairCode images)
         ≡ length (cond (memberPair x seen) (fresh comparePair seen images) (x ∷ fresh comparePair (x ∷ seen) images))
     go true e f a b = rw (f, e) (omega (arith, a))
     go false e f a b = rw (f, e) (omega (arith, b))
 
 -- ---- a ridge orbit is opened
 
-module _ (m : ℕ) (s : List ℕ) (p : Pair) (sent : Sent m s p) (marks counts : List ℕ) (known : ℕ) (keys : KnownKeys Pair) (stands : Stands marks counts known keys) where
+module _ (m : ℕ) (s : List ℕ) (p : Pair) (sent : Sent m s p) (marks counts : List ℕ) (known : ℕ) (keys : KnownKeys Pair) (stands : MarksStand marks counts known keys) where
   images : List Pair
   images = map (pairImage p) (rowsIn 32 m s)
 
   codes : List ℕ
   codes = pairCodes (rowsIn 32 m s) p
 
-  codes-are : codes ≡ map codeOf images
+  codes-are : codes ≡ map pairCode images
   unfolding codes images
   codes-are = map-codes (rowsIn 32 m s) p
 
@@ -246,12 +246,12 @@ module _ (m : ℕ) (s : List ℕ) (p : Pair) (sent : Sent m s p) (marks counts :
   small = image-small m s p sent
 
   opened-marks : (q : Pair) → q .0 < 20 → q .1 < 20
-      → getD (marksJoined marks (suc known) codes) (codeOf q) 0 ≡ markOf (keyHeldBy comparePair edgeVia q (openKeyOrbit comparePair edgeVia (rowsIn 32 m s) keys p .held))
+      → getD (marksJoined marks (suc known) codes) (pairCode q) 0 ≡ markOf (keyHeldBy comparePair edgeVia q (openKeyOrbit comparePair edgeVia (rowsIn 32 m s) keys p .held))
   unfolding images edgeVia pairImage memberPair orMark markOf orElse unmarked
   opened-marks q h k =
-      joined-at marks known codes (codeOf q) (omega (arith, code-small q h k, stands .long))
-      ∙ (ap (λ (c : List ℕ). orMark (getD marks (codeOf q) 0) (memberNat (codeOf q) c) (suc known)) codes-are
-      ∙ (ap (λ (b : Bool). orMark (getD marks (codeOf q) 0) b (suc known)) (member-codes q images k (λ x i. small x i .1))
+      joined-at marks known codes (pairCode q) (omega (arith, code-small q h k, stands .long))
+      ∙ (ap (λ (c : List ℕ). orMark (getD marks (pairCode q) 0) (memberNat (pairCode q) c) (suc known)) codes-are
+      ∙ (ap (λ (b : Bool). orMark (getD marks (pairCode q) 0) b (suc known)) (member-codes q images k (λ x i. small x i .1))
       ∙ (ap (λ (g : ℕ). orMark g (memberPair q images) (suc known)) (stands .marks-are q h k)
       ∙ (both (heldIn q keys) (memberPair q images) ∙ ap markOf (sym (marks-after comparePair pairs edgeVia (rowsIn 32 m s) keys p q))))))
     where
@@ -261,7 +261,7 @@ module _ (m : ℕ) (s : List ℕ) (p : Pair) (sent : Sent m s p) (marks counts :
       both (some number) b = refl
 
   pub opened-stands : known < length counts
-      → Stands (marksJoined marks (suc known) (pairCodes (rowsIn 32 m s) p)) (set counts known (manyJoined marks (suc known) (pairCodes (rowsIn 32 m s) p))) (known + 1) (openKeyOrbit comparePair edgeVia (rowsIn 32 m s) keys p)
+      → MarksStand (marksJoined marks (suc known) (pairCodes (rowsIn 32 m s) p)) (set counts known (manyJoined marks (suc known) (pairCodes (rowsIn 32 m s) p))) (known + 1) (openKeyOrbit comparePair edgeVia (rowsIn 32 m s) keys p)
   unfolding openKeyOrbit codes images edgeVia pairImage
   opened-stands room = record {
     room = length-set counts known (manyJoined marks (suc known) codes) ∙ stands .room;
@@ -276,18 +276,18 @@ module _ (m : ℕ) (s : List ℕ) (p : Pair) (sent : Sent m s p) (marks counts :
   }
 
   -- the number of a pair with a mark, and of one without
-  pub number-held : 0 < getD marks (codeOf p) 0 → numberEnds (rowsIn 32 m s) keys p ≡ (getD marks (codeOf p) 0 - 1, keys)
+  pub number-held : 0 < getD marks (pairCode p) 0 → numberEnds (rowsIn 32 m s) keys p ≡ (getD marks (pairCode p) 0 - 1, keys)
   unfolding numberEnds numberOrOpenKey markOf
   number-held h = go (heldIn p keys) (stands .marks-are p (sent .first-small) (sent .second-small))
     where
-      go : (o : Option ℕ) → getD marks (codeOf p) 0 ≡ markOf o → numberOrOpenKey comparePair edgeVia (rowsIn 32 m s) keys p o ≡ (getD marks (codeOf p) 0 - 1, keys)
+      go : (o : Option ℕ) → getD marks (pairCode p) 0 ≡ markOf o → numberOrOpenKey comparePair edgeVia (rowsIn 32 m s) keys p o ≡ (getD marks (pairCode p) 0 - 1, keys)
       go none e = absurd (omega arith)
-      go (some number) e = let f : number ≡ getD marks (codeOf p) 0 - 1 = omega arith in λ t. (f t, keys)
+      go (some number) e = let f : number ≡ getD marks (pairCode p) 0 - 1 = omega arith in λ t. (f t, keys)
 
-  pub number-opened : getD marks (codeOf p) 0 ≡ 0 → numberEnds (rowsIn 32 m s) keys p ≡ (known, openKeyOrbit comparePair edgeVia (rowsIn 32 m s) keys p)
+  pub number-opened : getD marks (pairCode p) 0 ≡ 0 → numberEnds (rowsIn 32 m s) keys p ≡ (known, openKeyOrbit comparePair edgeVia (rowsIn 32 m s) keys p)
   unfolding numberEnds numberOrOpenKey markOf
   number-opened h = go (heldIn p keys) (stands .marks-are p (sent .first-small) (sent .second-small))
     where
-      go : (o : Option ℕ) → getD marks (codeOf p) 0 ≡ markOf o → numberOrOpenKey comparePair edgeVia (rowsIn 32 m s) keys p o ≡ (known, openKeyOrbit comparePair edgeVia (rowsIn 32 m s) keys p)
+      go : (o : Option ℕ) → getD marks (pairCode p) 0 ≡ markOf o → numberOrOpenKey comparePair edgeVia (rowsIn 32 m s) keys p o ≡ (known, openKeyOrbit comparePair edgeVia (rowsIn 32 m s) keys p)
       go none e = λ t. (sym (stands .known-is) t, openKeyOrbit comparePair edgeVia (rowsIn 32 m s) keys p)
       go (some number) e = absurd (omega arith)

@@ -11,7 +11,7 @@ use Rattle.definitions.specs.Search.{Facet, Share, allFacets, sharesOf}
 use Rattle.laws.specs.Lists.{Mem, map-at, member-at, of-map}
 use Rattle.laws.specs.Places.{map-same}
 use Rattle.laws.specs.Segments.{le-or-lt}
-use Rattle.pool.specs.Pool.{count, closed, Sound, closed-length}
+use Rattle.pool.specs.Pool.{count, closedLists, Sound, closed-length}
 use Rattle.shapes.specs.Kept.{Kept, numbersKept, keptShare, keptShares, keptTable}
 use Rattle.shelf.specs.Keeps.{facetsIn, facetsOf, ownersOf, placesOf, ridgeCode, ridgeCodes}
 use Rattle.ridges.specs.Areas.{none-behind}
@@ -26,9 +26,9 @@ pub record Holding (rows : List Row) (kept : List Kept) (src : Sources) : Type 0
   pub ridgesSound : Sound 4 256 (src .ridges)
   pub numbersSound : Sound 2 256 (src .numbers)
   pub placesSound : Sound 2 1024 (src .places)
-  pub ridges : closed 4 256 (src .ridges) ≡ map ridgeCodes kept
-  pub numbers : closed 2 256 (src .numbers) ≡ numbersKept rows kept .0
-  pub places : closed 2 1024 (src .places) ≡ placesOf kept
+  pub ridges : closedLists 4 256 (src .ridges) ≡ map ridgeCodes kept
+  pub numbers : closedLists 2 256 (src .numbers) ≡ numbersKept rows kept .0
+  pub places : closedLists 2 1024 (src .places) ≡ placesOf kept
   pub owners : (x : ℕ) → x < length (facetsOf kept) → ownerOf src x ≡ getD (ownersOf kept) x 0
   pub counts : (o : ℕ) → o < length kept → countOf src o ≡ getD (map (λ (k : Kept). k .orbit .count) kept) o 0
 

@@ -8,7 +8,7 @@ use native.Mathlib.Nat.{div-le-self, mul-le-mul-left}
 use lib.ListN.{length, getD, take, length-map}
 use Rattle.definitions.specs.Job.{numberAt}
 use Rattle.laws.specs.Parts.{take-more}
-use Rattle.pool.specs.Pool.{count, closed, Sound}
+use Rattle.pool.specs.Pool.{count, closedLists, Sound}
 use Rattle.shelf.specs.declared.Shelf.{Shelf}
 use Rattle.shelf.specs.Keeps.{ownersPart, ridgesPart, placesPart}
 use Rattle.ridges.specs.declared.Desk.{Desk}
@@ -40,13 +40,13 @@ unfoldable pub ownerOf : Sources → ℕ → ℕ
 ownerOf src x = numberAt (src .owners) (2 * x) 2
 
 abbrev pub ridgesIn : Sources → ℕ → List ℕ
-ridgesIn src o = getD (closed 4 256 (src .ridges)) o []
+ridgesIn src o = getD (closedLists 4 256 (src .ridges)) o []
 
 abbrev pub numbersIn : Sources → ℕ → List ℕ
-numbersIn src o = getD (closed 2 256 (src .numbers)) o []
+numbersIn src o = getD (closedLists 2 256 (src .numbers)) o []
 
 abbrev pub placesIn : Sources → ℕ → List ℕ
-placesIn src x = getD (closed 2 1024 (src .places)) x []
+placesIn src x = getD (closedLists 2 1024 (src .places)) x []
 
 -- [6.8] the share of a place, with its ridge orbit
 unfoldable pub codeAt : Sources → List ℕ → ℕ → ℕ → ℕ

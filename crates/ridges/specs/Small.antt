@@ -10,7 +10,7 @@ use Rattle.definitions.specs.Lists.{Pair, comparePair, mapWith, fresh}
 use Rattle.definitions.specs.Orbits.{Row, image}
 use Rattle.laws.specs.Lists.{Mem, here, there}
 use Rattle.openers.specs.Rows.{rowsIn, RowsFit, image-at, same-images}
-use Rattle.openers.specs.Meaning.{codeOf, pairOf}
+use Rattle.openers.specs.Meaning.{pairCode, pairOf}
 use Rattle.openers.specs.Codes.{pair-of-code}
 use Rattle.shapes.specs.Polygons.{edgeVia}
 use Rattle.shapes.specs.Ridges.{KnownKeys, noKeys, keyHeldBy, openKeyOrbit, numberOrOpenKey}
@@ -31,13 +31,13 @@ pub record Small (n most : ℕ) (kept : List Kept) : Type 0 where
 -- ---- a ridge's code
 
 pub ends-of-code : (e : Pair) (c : ℕ) → e .0 < 20 → e .1 < 20 → pairOf (ridgeCode e c % 65536) ≡ e
-unfolding ridgeCode codeOf
+unfolding ridgeCode pairCode
 ends-of-code e c h k =
     let a : (20 * e .0 + e .1 + 65536 * c) % 65536 ≡ 20 * e .0 + e .1 = omega arith in
     ap pairOf a ∙ pair-of-code (e .0) (e .1) k
 
 pub count-of-code : (e : Pair) (c : ℕ) → e .0 < 20 → e .1 < 20 → ridgeCode e c / 65536 ≡ c
-unfolding ridgeCode codeOf
+unfolding ridgeCode pairCode
 count-of-code e c h k = omega arith
 
 ends-back : (ends : List Pair) (counts : List ℕ) → length ends ≡ length counts → ((e : Pair) → Mem e ends → (e .0 < 20) × (e .1 < 20)) → endsIn (zipWith ridgeCode ends counts) ≡ ends

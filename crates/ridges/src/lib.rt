@@ -8,18 +8,18 @@ ghost use Prim.Native.Nat.{ℕ, _+_, _*_, _/_, _%_, _≤_, _<_};
 ghost use lib.ListN.{length, getD, take, drop};
 ghost use Rattle.definitions.specs.Lists.{Pair};
 ghost use Rattle.definitions.specs.Orbits.{pairImage};
-ghost use Rattle.pool.specs.Pool.{count, closed, Sound};
+ghost use Rattle.pool.specs.Pool.{count, closedLists, Sound};
 ghost use Rattle.openers.specs.Rows.{rowsIn, rowAt};
-ghost use Rattle.openers.specs.Meaning.{codeOf, pairOf, pairCodes};
+ghost use Rattle.openers.specs.Meaning.{pairCode, pairOf, pairCodes};
 ghost use Rattle.shapes.specs.Ridges.{KnownKeys, noKeys};
 ghost use Rattle.shapes.specs.Kept.{Kept, numberEnds, keptTable};
 ghost use Rattle.shelf.specs.Keeps.{ridgesPart, placesPart};
 ghost use Rattle.facets.specs.Layout.{Inputs};
 ghost use Rattle.ridges.specs.Desks.{Given, areasOf};
-ghost use Rattle.ridges.specs.Areas.{area, Room, Ready, Joined, Grown, Space, Made, flat, listsTo};
+ghost use Rattle.ridges.specs.Areas.{area, AreaRoom, AreaEmpty, Joined, AreaGrown, Space, Made, flat, listsTo};
 ghost use Rattle.ridges.specs.Shares.{Orders, SourcesFit, sourcesOf, ridgesIn, placesIn, codeAt, facetCodes};
 ghost use Rattle.ridges.specs.Codes.{amountOf, touchedTo, touchedOf, onesIn, onesTo, onesOf};
-ghost use Rattle.ridges.specs.Numbering.{Sent, Stands, marksJoined, manyJoined};
+ghost use Rattle.ridges.specs.Numbering.{Sent, MarksStand, marksJoined, manyJoined};
 ghost use Rattle.ridges.specs.Ends.{Reads, ridgesAt, numbered, allNumbered, AllNumbered};
 
 // ---- ridge orbits
@@ -27,7 +27,7 @@ ghost use Rattle.ridges.specs.Ends.{Reads, ridgesAt, numbered, allNumber
 // The code of row i's image of a pair with this code.
 fn image_key(rows: &[u8], i: usize, key: usize) -> usize
     requires { ⌜ (32 * i + 32 ≤ length (now rows)) × (key < 400) × (getD (now rows) (32 * i + key / 20) 0 < 20) × (getD (now rows) (32 * i + key % 20) 0 < 20) ⌝ }
-    ensures { λ r. ⌜ r ≡ codeOf (pairImage (pairOf key) (rowAt 32 i (now (rows .entry)))) ⌝ }
+    ensures { λ r. ⌜ r ≡ pairCode (pairImage (pairOf key) (rowAt 32 i (now (rows .entry)))) ⌝ }
 {
     openers::code(
         openers::image(rows, i, key / 20),
@@ -69,8 +69,8 @@ fn number_ridge(
     counts: &mut [u32; 190],
     known: usize,
 ) -> Numbered
-    requires { ⌜ (32 * m ≤ length (now rows)) × (m ≤ 120) × (key < 400) × Sent m (now rows) (pairOf key) × ((keys : KnownKeys Pair) × Stands (now marks) (now counts) known keys × (length (numberEnds (rowsIn 32 m (now rows)) keys (pairOf key) .1 .counts) ≤ 190)) ⌝ }
-    ensures { λ r. ⌜ ((keys : KnownKeys Pair) → Stands (now (marks .entry)) (now (counts .entry)) known keys → (r .number ≡ numberEnds (rowsIn 32 m (now (rows .entry))) keys (pairOf key) .0) × Stands (now (marks .exit)) (now (counts .exit)) (r .known) (numberEnds (rowsIn 32 m (now (rows .entry))) keys (pairOf key) .1)) ⌝ }
+    requires { ⌜ (32 * m ≤ length (now rows)) × (m ≤ 120) × (key < 400) × Sent m (now rows) (pairOf key) × ((keys : KnownKeys Pair) × MarksStand (now marks) (now counts) known keys × (length (numberEnds (rowsIn 32 m (now rows)) keys (pairOf key) .1 .counts) ≤ 190)) ⌝ }
+    ensures { λ r. ⌜ ((keys : KnownKeys Pair) → MarksStand (now (marks .entry)) (now (counts .entry)) known keys → (r .number ≡ numberEnds (rowsIn 32 m (now (rows .entry))) keys (pairOf key) .0) × MarksStand (now (marks .exit)) (now (counts .exit)) (r .known) (numberEnds (rowsIn 32 m (now (rows .entry))) keys (pairOf key) .1)) ⌝ }
 {
     let mark = marks[key];
     if 0 < mark {
@@ -114,8 +114,8 @@ fn number_orbit(
     known: usize,
     ws: &mut [u8],
 ) -> usize
-    requires { ⌜ Reads m (now rows) shelf (now ws) (desk .numbers) × (o < count (ridgesPart shelf (now ws))) × Ready (desk .numbers) (desk .shares) 2 256 (now ws) (length (ridgesAt shelf (now ws) o)) 1 × ((keys : KnownKeys Pair) × Stands (now marks) (now counts) known keys × (length (numbered (rowsIn 32 m (now rows)) keys (ridgesAt shelf (now ws) o) .1 .counts) ≤ 190)) ⌝ }
-    ensures { λ r. ⌜ ((keys : KnownKeys Pair) → Stands (now (marks .entry)) (now (counts .entry)) known keys → (length (numbered (rowsIn 32 m (now (rows .entry))) keys (ridgesAt shelf (now (ws .entry)) o) .1 .counts) ≤ 190) → Stands (now (marks .exit)) (now (counts .exit)) r (numbered (rowsIn 32 m (now (rows .entry))) keys (ridgesAt shelf (now (ws .entry)) o) .1) × Grown (desk .numbers) (desk .shares) 2 256 (now (ws .entry)) (now (ws .exit)) (numbered (rowsIn 32 m (now (rows .entry))) keys (ridgesAt shelf (now (ws .entry)) o) .0 ∷ [])) ⌝ }
+    requires { ⌜ Reads m (now rows) shelf (now ws) (desk .numbers) × (o < count (ridgesPart shelf (now ws))) × AreaEmpty (desk .numbers) (desk .shares) 2 256 (now ws) (length (ridgesAt shelf (now ws) o)) 1 × ((keys : KnownKeys Pair) × MarksStand (now marks) (now counts) known keys × (length (numbered (rowsIn 32 m (now rows)) keys (ridgesAt shelf (now ws) o) .1 .counts) ≤ 190)) ⌝ }
+    ensures { λ r. ⌜ ((keys : KnownKeys Pair) → MarksStand (now (marks .entry)) (now (counts .entry)) known keys → (length (numbered (rowsIn 32 m (now (rows .entry))) keys (ridgesAt shelf (now (ws .entry)) o) .1 .counts) ≤ 190) → MarksStand (now (marks .exit)) (now (counts .exit)) r (numbered (rowsIn 32 m (now (rows .entry))) keys (ridgesAt shelf (now (ws .entry)) o) .1) × AreaGrown (desk .numbers) (desk .shares) 2 256 (now (ws .entry)) (now (ws .exit)) (numbered (rowsIn 32 m (now (rows .entry))) keys (ridgesAt shelf (now (ws .entry)) o) .0 ∷ [])) ⌝ }
 {
     let ridges = shelf.ridges;
     let places = shelf.places;
@@ -144,8 +144,8 @@ fn number_ridges(
     counts: &mut [u32; 190],
     ws: &mut [u8],
 ) -> usize
-    requires { ⌜ Reads m (now rows) shelf (now ws) (desk .numbers) × (shelf .orbits ≡ count (ridgesPart shelf (now ws))) × (length (now counts) ≡ 190) × Space (desk .numbers) (desk .shares) 2 256 (length (now ws)) (length (flat (closed 4 256 (ridgesPart shelf (now ws))))) (shelf .orbits) × (length (allNumbered (rowsIn 32 m (now rows)) (noKeys Pair) (closed 4 256 (ridgesPart shelf (now ws))) .1 .counts) ≤ 190) ⌝ }
-    ensures { λ r. ⌜ AllNumbered m (now (rows .entry)) (desk .numbers) (desk .shares) (closed 4 256 (ridgesPart shelf (now (ws .entry)))) (now (ws .entry)) (now (ws .exit)) (now (counts .exit)) r ⌝ }
+    requires { ⌜ Reads m (now rows) shelf (now ws) (desk .numbers) × (shelf .orbits ≡ count (ridgesPart shelf (now ws))) × (length (now counts) ≡ 190) × Space (desk .numbers) (desk .shares) 2 256 (length (now ws)) (length (flat (closedLists 4 256 (ridgesPart shelf (now ws))))) (shelf .orbits) × (length (allNumbered (rowsIn 32 m (now rows)) (noKeys Pair) (closedLists 4 256 (ridgesPart shelf (now ws))) .1 .counts) ≤ 190) ⌝ }
+    ensures { λ r. ⌜ AllNumbered m (now (rows .entry)) (desk .numbers) (desk .shares) (closedLists 4 256 (ridgesPart shelf (now (ws .entry)))) (now (ws .entry)) (now (ws .exit)) (now (counts .exit)) r ⌝ }
 {
     let numbers = desk.numbers;
     let shares = desk.shares;
@@ -185,8 +185,8 @@ fn share_code(ws: &[u8], shelf: Shelf, desk: Desk, counts: &[u32], o: usize, a: 
 
 // The shares of facet x, as one list more.
 fn share_facet(ws: &mut [u8], shelf: Shelf, desk: Desk, counts: &[u32], x: usize)
-    requires { ⌜ Orders shelf desk (length (now ws)) × SourcesFit (sourcesOf shelf desk (now ws)) (now counts) (shelf .facets) × (x < shelf .facets) × Ready (desk .shares) (desk .touched) 4 1024 (now ws) (length (placesIn (sourcesOf shelf desk (now ws)) x)) 1 ⌝ }
-    ensures { λ _. ⌜ Grown (desk .shares) (desk .touched) 4 1024 (now (ws .entry)) (now (ws .exit)) (facetCodes (sourcesOf shelf desk (now (ws .entry))) (now (counts .entry)) x ∷ []) ⌝ }
+    requires { ⌜ Orders shelf desk (length (now ws)) × SourcesFit (sourcesOf shelf desk (now ws)) (now counts) (shelf .facets) × (x < shelf .facets) × AreaEmpty (desk .shares) (desk .touched) 4 1024 (now ws) (length (placesIn (sourcesOf shelf desk (now ws)) x)) 1 ⌝ }
+    ensures { λ _. ⌜ AreaGrown (desk .shares) (desk .touched) 4 1024 (now (ws .entry)) (now (ws .exit)) (facetCodes (sourcesOf shelf desk (now (ws .entry))) (now (counts .entry)) x ∷ []) ⌝ }
 {
     let owners = shelf.owners;
     let ridges = shelf.ridges;
@@ -208,7 +208,7 @@ fn share_facet(ws: &mut [u8], shelf: Shelf, desk: Desk, counts: &[u32], x: usize
 
 // The shares of each facet.
 fn share_facets(ws: &mut [u8], shelf: Shelf, desk: Desk, counts: &[u32])
-    requires { ⌜ Orders shelf desk (length (now ws)) × SourcesFit (sourcesOf shelf desk (now ws)) (now counts) (shelf .facets) × Space (desk .shares) (desk .touched) 4 1024 (length (now ws)) (length (flat (closed 2 1024 (placesPart shelf (now ws))))) (shelf .facets) ⌝ }
+    requires { ⌜ Orders shelf desk (length (now ws)) × SourcesFit (sourcesOf shelf desk (now ws)) (now counts) (shelf .facets) × Space (desk .shares) (desk .touched) 4 1024 (length (now ws)) (length (flat (closedLists 2 1024 (placesPart shelf (now ws))))) (shelf .facets) ⌝ }
     ensures { λ _. ⌜ Made (desk .shares) (desk .touched) 4 1024 (now (ws .entry)) (now (ws .exit)) (listsTo (facetCodes (sourcesOf shelf desk (now (ws .entry))) (now (counts .entry))) (shelf .facets)) ⌝ }
 {
     let shares = desk.shares;
@@ -227,7 +227,7 @@ fn share_facets(ws: &mut [u8], shelf: Shelf, desk: Desk, counts: &[u32])
 // What facet x adds to a ridge orbit [7.2], cut off at 3.
 fn amount(shares: &[u8], x: usize, ridge: usize) -> usize
     requires { ⌜ Sound 4 1024 (now shares) × (x < count (now shares)) ⌝ }
-    ensures { λ r. ⌜ r ≡ amountOf ridge (getD (closed 4 1024 (now (shares .entry))) x []) ⌝ }
+    ensures { λ r. ⌜ r ≡ amountOf ridge (getD (closedLists 4 1024 (now (shares .entry))) x []) ⌝ }
 {
     let n = pool::list_length(shares, x) as usize;
     let mut places = 0;
@@ -247,8 +247,8 @@ fn amount(shares: &[u8], x: usize, ridge: usize) -> usize
 
 // What facet x adds, as one list more: 4 × ridge orbit + amount for each ridge orbit where it adds something.
 fn touch_facet(ws: &mut [u8], desk: Desk, facets: usize, ridges: usize, x: usize)
-    requires { ⌜ (desk .shares ≤ desk .touched) × Sound 4 1024 (area (desk .shares) (desk .touched) (now ws)) × (x < count (area (desk .shares) (desk .touched) (now ws))) × (ridges ≤ 190) × Ready (desk .touched) (desk .ones) 2 facets (now ws) ridges 1 ⌝ }
-    ensures { λ _. ⌜ Grown (desk .touched) (desk .ones) 2 facets (now (ws .entry)) (now (ws .exit)) (touchedTo ridges (getD (closed 4 1024 (area (desk .shares) (desk .touched) (now (ws .entry)))) x []) ∷ []) ⌝ }
+    requires { ⌜ (desk .shares ≤ desk .touched) × Sound 4 1024 (area (desk .shares) (desk .touched) (now ws)) × (x < count (area (desk .shares) (desk .touched) (now ws))) × (ridges ≤ 190) × AreaEmpty (desk .touched) (desk .ones) 2 facets (now ws) ridges 1 ⌝ }
+    ensures { λ _. ⌜ AreaGrown (desk .touched) (desk .ones) 2 facets (now (ws .entry)) (now (ws .exit)) (touchedTo ridges (getD (closedLists 4 1024 (area (desk .shares) (desk .touched) (now (ws .entry)))) x []) ∷ []) ⌝ }
 {
     let shares = desk.shares;
     let touched = desk.touched;
@@ -267,7 +267,7 @@ fn touch_facet(ws: &mut [u8], desk: Desk, facets: usize, ridges: usize, x: usize
 // What each facet adds. A facet's places are looked at once for each ridge orbit.
 fn touch_facets(ws: &mut [u8], desk: Desk, facets: usize, ridges: usize)
     requires { ⌜ (desk .shares ≤ desk .touched) × Sound 4 1024 (area (desk .shares) (desk .touched) (now ws)) × (facets ≡ count (area (desk .shares) (desk .touched) (now ws))) × (ridges ≤ 190) × Space (desk .touched) (desk .ones) 2 facets (length (now ws)) (facets * ridges) facets ⌝ }
-    ensures { λ _. ⌜ Made (desk .touched) (desk .ones) 2 facets (now (ws .entry)) (now (ws .exit)) (listsTo (touchedOf ridges (closed 4 1024 (area (desk .shares) (desk .touched) (now (ws .entry))))) facets) ⌝ }
+    ensures { λ _. ⌜ Made (desk .touched) (desk .ones) 2 facets (now (ws .entry)) (now (ws .exit)) (listsTo (touchedOf ridges (closedLists 4 1024 (area (desk .shares) (desk .touched) (now (ws .entry))))) facets) ⌝ }
 {
     let touched = desk.touched;
     let ones = desk.ones;
@@ -281,8 +281,8 @@ fn touch_facets(ws: &mut [u8], desk: Desk, facets: usize, ridges: usize)
 
 // Facet x joins the open list, once for each share of 1 that it has in a ridge orbit.
 fn ones_of_facet(ws: &mut [u8], desk: Desk, ridges: usize, ridge: usize, x: usize)
-    requires { ⌜ (desk .shares ≤ desk .touched) × (desk .touched ≤ desk .ones) × Sound 4 1024 (area (desk .shares) (desk .touched) (now ws)) × (x < count (area (desk .shares) (desk .touched) (now ws))) × (ridge < 65536) × (x < 65536) × Room (desk .ones) (desk .frames) 2 ridges (now ws) (length (onesIn ridge x (getD (closed 4 1024 (area (desk .shares) (desk .touched) (now ws))) x []))) 1 ⌝ }
-    ensures { λ _. ⌜ Joined (desk .ones) (desk .frames) 2 ridges (now (ws .entry)) (now (ws .exit)) (onesIn ridge x (getD (closed 4 1024 (area (desk .shares) (desk .touched) (now (ws .entry)))) x [])) ⌝ }
+    requires { ⌜ (desk .shares ≤ desk .touched) × (desk .touched ≤ desk .ones) × Sound 4 1024 (area (desk .shares) (desk .touched) (now ws)) × (x < count (area (desk .shares) (desk .touched) (now ws))) × (ridge < 65536) × (x < 65536) × AreaRoom (desk .ones) (desk .frames) 2 ridges (now ws) (length (onesIn ridge x (getD (closedLists 4 1024 (area (desk .shares) (desk .touched) (now ws))) x []))) 1 ⌝ }
+    ensures { λ _. ⌜ Joined (desk .ones) (desk .frames) 2 ridges (now (ws .entry)) (now (ws .exit)) (onesIn ridge x (getD (closedLists 4 1024 (area (desk .shares) (desk .touched) (now (ws .entry)))) x [])) ⌝ }
 {
     let shares = desk.shares;
     let touched = desk.touched;
@@ -301,8 +301,8 @@ fn ones_of_facet(ws: &mut [u8], desk: Desk, ridges: usize, ridge: usize, x: usiz
 
 // The facets with shares of 1 in a ridge orbit, as one list more.
 fn ones_of_ridge(ws: &mut [u8], desk: Desk, facets: usize, ridges: usize, ridge: usize)
-    requires { ⌜ (desk .shares ≤ desk .touched) × (desk .touched ≤ desk .ones) × Sound 4 1024 (area (desk .shares) (desk .touched) (now ws)) × (facets ≡ count (area (desk .shares) (desk .touched) (now ws))) × (ridge < 65536) × (facets ≤ 1024) × Ready (desk .ones) (desk .frames) 2 ridges (now ws) (length (onesTo ridge (closed 4 1024 (area (desk .shares) (desk .touched) (now ws))) facets)) 1 ⌝ }
-    ensures { λ _. ⌜ Grown (desk .ones) (desk .frames) 2 ridges (now (ws .entry)) (now (ws .exit)) (onesTo ridge (closed 4 1024 (area (desk .shares) (desk .touched) (now (ws .entry)))) facets ∷ []) ⌝ }
+    requires { ⌜ (desk .shares ≤ desk .touched) × (desk .touched ≤ desk .ones) × Sound 4 1024 (area (desk .shares) (desk .touched) (now ws)) × (facets ≡ count (area (desk .shares) (desk .touched) (now ws))) × (ridge < 65536) × (facets ≤ 1024) × AreaEmpty (desk .ones) (desk .frames) 2 ridges (now ws) (length (onesTo ridge (closedLists 4 1024 (area (desk .shares) (desk .touched) (now ws))) facets)) 1 ⌝ }
+    ensures { λ _. ⌜ AreaGrown (desk .ones) (desk .frames) 2 ridges (now (ws .entry)) (now (ws .exit)) (onesTo ridge (closedLists 4 1024 (area (desk .shares) (desk .touched) (now (ws .entry)))) facets ∷ []) ⌝ }
 {
     let ones = desk.ones;
     let frames = desk.frames;
@@ -316,8 +316,8 @@ fn ones_of_ridge(ws: &mut [u8], desk: Desk, facets: usize, ridges: usize, ridge:
 
 // For each ridge orbit the facets with shares of 1 in it. Every place is looked at once for each ridge orbit.
 fn lay_ones(ws: &mut [u8], desk: Desk, facets: usize, ridges: usize)
-    requires { ⌜ (desk .shares ≤ desk .touched) × (desk .touched ≤ desk .ones) × Sound 4 1024 (area (desk .shares) (desk .touched) (now ws)) × (facets ≡ count (area (desk .shares) (desk .touched) (now ws))) × (ridges ≤ 190) × Space (desk .ones) (desk .frames) 2 ridges (length (now ws)) (length (flat (closed 4 1024 (area (desk .shares) (desk .touched) (now ws))))) ridges ⌝ }
-    ensures { λ _. ⌜ Made (desk .ones) (desk .frames) 2 ridges (now (ws .entry)) (now (ws .exit)) (listsTo (onesOf (closed 4 1024 (area (desk .shares) (desk .touched) (now (ws .entry)))) facets) ridges) ⌝ }
+    requires { ⌜ (desk .shares ≤ desk .touched) × (desk .touched ≤ desk .ones) × Sound 4 1024 (area (desk .shares) (desk .touched) (now ws)) × (facets ≡ count (area (desk .shares) (desk .touched) (now ws))) × (ridges ≤ 190) × Space (desk .ones) (desk .frames) 2 ridges (length (now ws)) (length (flat (closedLists 4 1024 (area (desk .shares) (desk .touched) (now ws))))) ridges ⌝ }
+    ensures { λ _. ⌜ Made (desk .ones) (desk .frames) 2 ridges (now (ws .entry)) (now (ws .exit)) (listsTo (onesOf (closedLists 4 1024 (area (desk .shares) (desk .touched) (now (ws .entry)))) facets) ridges) ⌝ }
 {
     let ones = desk.ones;
     let frames = desk.frames;

@@ -5,6 +5,6 @@ use Rattle.root.specs.declared.answer.Root.{Root}
 use Rattle.root.specs.declared.answer.Root.the-variants.{Value, Refused}
 
 -- the value, or none [3.2]
-unfoldable pub meaning : Root → Option Float
-meaning (Value x) = some x
-meaning Refused = none
+unfoldable pub rootMeaning : Root → Option Float
+rootMeaning (Value x) = some x
+rootMeaning Refused = none

@@ -7,7 +7,7 @@ ghost use Prim.Native.Nat.{_+_, _*_, _/_, _%_, _^_, _≤_, _<_};
 ghost use lib.Ieee.{binary64, ofBits, lt};
 ghost use Rattle.definitions.specs.Vectors.{squareRoot, valueOf};
 ghost use Rattle.laws.specs.Squares.{WholeRoot};
-ghost use Rattle.root.specs.Answer.{meaning};
+ghost use Rattle.root.specs.Answer.{rootMeaning};
 ghost use Rattle.root.specs.Scaled.{ScaledBy};
 ghost use Rattle.root.specs.Newton.{Close};
 
@@ -109,7 +109,7 @@ fn root_bits(bits: u64) -> u64
 
 // The square root [3.2].
 pub fn root(x: f64) -> Root
-    ensures { λ r. ⌜ meaning r ≡ squareRoot x ⌝ }
+    ensures { λ r. ⌜ rootMeaning r ≡ squareRoot x ⌝ }
 {
     if x != x {
         return Root::Refused;

@@ -1,4 +1,4 @@
--- The limit on entries and the outcome of a search, in the definition's words. Leans on the emitted lists.
+-- The limit on entries and the searchOutcome of a search, in the definition's words. Leans on the emitted lists.
 use mathlib.Core.Path.{_≡_}
 use mathlib.Core.List.{List}
 use mathlib.Core.Option.{Option, some, none}
@@ -15,23 +15,23 @@ use Rattle.search.specs.declared.Outcome.the-variants.{Found, Refused}
 use Rattle.facets.specs.Layout.{listsPart}
 use Rattle.frames.specs.Paths.{Emitted, emittedIn}
 
-unfoldable pub limitOf : Limit → Option ℕ
-limitOf Absent = none
-limitOf (Entries m) = some m
+unfoldable pub entryLimitOf : Limit → Option ℕ
+entryLimitOf Absent = none
+entryLimitOf (Entries m) = some m
 
-unfoldable pub limitsOf : Areas → Limit → def.EntryLimits
-limitsOf a limit = record { limit = limitOf limit; bound = a .bound }
+unfoldable pub entryLimitsOf : Areas → Limit → def.EntryLimits
+entryLimitsOf a limit = record { limit = entryLimitOf limit; bound = a .bound }
 
--- the outcome with the lists that the workspace holds
-unfoldable pub outcome : Table → Areas → Outcome → List ℕ → result.Outcome def.Found
-outcome t a (Found n left) s = result.answered (record { lists = emittedIn t a (listsPart a s); left = left })
-outcome t a (Refused number) s = result.refused number
+-- the searchOutcome with the lists that the workspace holds
+unfoldable pub searchOutcome : Table → Areas → Outcome → List ℕ → result.Outcome def.Found
+searchOutcome t a (Found n left) s = result.answered (record { lists = emittedIn t a (listsPart a s); left = left })
+searchOutcome t a (Refused number) s = result.refused number
 
 -- what is found lies sound in its area, so many lists, every item a facet's number
 pub record Counted (t : Table) (a : Areas) (n : ℕ) (l : List ℕ) : Type 0 where
   pub many : n ≡ length (emittedIn t a l)
   pub emitted : Emitted a l
 
-unfoldable pub counted : Table → Areas → Outcome → List ℕ → Type 0
-counted t a (Found n left) s = Counted t a n (listsPart a s)
-counted t a (Refused number) s = Unit {0}
+unfoldable pub countedLists : Table → Areas → Outcome → List ℕ → Type 0
+countedLists t a (Found n left) s = Counted t a n (listsPart a s)
+countedLists t a (Refused number) s = Unit {0}

@@ -19,11 +19,11 @@ use Rattle.search.specs.declared.Step.the-variants.{On, Stopped, Full}
 use Rattle.facets.specs.declared.Verdict.{Verdict}
 use Rattle.facets.specs.Frames.{Frame, pending, moved, child, pending-none, pending-latest, search-starts, examine-none, examine-spent, examine-over, examine-open, examine-fifteen, examine-stop, examine-closed}
 use Rattle.facets.specs.Sums.{judge-sums}
-use Rattle.facets.specs.Judged.{Within, judge-light, judge-inside}
-use Rattle.facets.specs.Layout.{verdict, Inputs, Fits, holds-kept, ridgeOf, totalsPart, framesPart, listsPart}
-use Rattle.frames.specs.Paths.{listTo, frameAt, framesTo, itemAt, Stands, Emitted, emittedIn}
-use Rattle.search.specs.Outcomes.{limitOf, limitsOf}
-use Rattle.frames.specs.Steps.{Light, Next, Ready, Visited, Withdrawn, Entered, path-short, candidateOf}
+use Rattle.facets.specs.Judged.{NotOver, judge-light, judge-inside}
+use Rattle.facets.specs.Layout.{verdict, Inputs, AreasFit, holds-kept, ridgeOf, totalsPart, framesPart, listsPart}
+use Rattle.frames.specs.Paths.{listTo, frameAt, framesTo, itemAt, PathStands, Emitted, emittedIn}
+use Rattle.search.specs.Outcomes.{entryLimitOf, entryLimitsOf}
+use Rattle.frames.specs.Steps.{Light, Next, CandidateDue, Visited, Withdrawn, Entered, path-short, candidateOf}
 use Rattle.frames.specs.Emission.{Started, emitted-count}
 
 -- the list that is examined, and the lists that are due behind it
@@ -32,29 +32,29 @@ due t p d = itemAt t p d ∷ pending t (framesTo t p d)
 
 -- a list of d facets with its verdict
 pub record Judged (t : Table) (a : Areas) (s : List ℕ) (d : ℕ) (v : def.Verdict) : Type 0 where
-  pub stands : Stands t a s d d
+  pub stands : PathStands t a s d d
   pub deep : 0 < d
   pub emitted : Emitted a (listsPart a s)
   pub is : v ≡ judge (totalsPart a s)
 
 -- the search goes on with d' frames and one list less to examine
 pub record Goes (t : Table) (a : Areas) (limit : Limit) (s s' : List ℕ) (d d' : ℕ) : Type 0 where
-  pub stands : Stands t a s' d' (d' - 1)
+  pub stands : PathStands t a s' d' (d' - 1)
   pub emitted : Emitted a (listsPart a s')
-  pub same : (left : ℕ) → examine t (limitsOf a limit) (suc left) (due t (framesPart a s) d) (emittedIn t a (listsPart a s))
-      ≡ examine t (limitsOf a limit) left (pending t (framesTo t (framesPart a s') d')) (emittedIn t a (listsPart a s'))
+  pub same : (left : ℕ) → examine t (entryLimitsOf a limit) (suc left) (due t (framesPart a s) d) (emittedIn t a (listsPart a s))
+      ≡ examine t (entryLimitsOf a limit) left (pending t (framesTo t (framesPart a s') d')) (emittedIn t a (listsPart a s'))
   pub tables : take (a .frames) s' ≡ take (a .frames) s
 
 -- the limit is reached
 pub record Stops (t : Table) (a : Areas) (limit : Limit) (s s' : List ℕ) (d : ℕ) : Type 0 where
   pub inputs : Inputs t a s'
   pub emitted : Emitted a (listsPart a s')
-  pub same : (left : ℕ) → examine t (limitsOf a limit) (suc left) (due t (framesPart a s) d) (emittedIn t a (listsPart a s)) ≡ answered (record { lists = emittedIn t a (listsPart a s'); left = left })
+  pub same : (left : ℕ) → examine t (entryLimitsOf a limit) (suc left) (due t (framesPart a s) d) (emittedIn t a (listsPart a s)) ≡ answered (record { lists = emittedIn t a (listsPart a s'); left = left })
   pub tables : take (a .frames) s' ≡ take (a .frames) s
 
 -- an entry is past the bound
 pub record Fills (t : Table) (a : Areas) (limit : Limit) (s s' : List ℕ) (d : ℕ) : Type 0 where
-  pub same : (left : ℕ) → examine t (limitsOf a limit) (suc left) (due t (framesPart a s) d) (emittedIn t a (listsPart a s)) ≡ refused 15
+  pub same : (left : ℕ) → examine t (entryLimitsOf a limit) (suc left) (due t (framesPart a s) d) (emittedIn t a (listsPart a s)) ≡ refused 15
   pub tables : take (a .frames) s' ≡ take (a .frames) s
 
 unfoldable pub Followed : Table → Areas → Limit → List ℕ → List ℕ → ℕ → Step → Type 0
@@ -73,7 +73,7 @@ module _ (t : Table) (a : Areas) (s : List ℕ) (d : ℕ) (v : def.Verdict) (j :
       let e = j .stands .inputs .holds .ridges in
       judge-sums t (listTo t (framesPart a s) d) (totalsPart a s) (totals-length ∙ e) (λ ridge r. j .stands .totals ridge (omega arith)) ∙ sym (j .is)
 
-  pub judged-light : Within v → Light t a (listTo t (framesPart a s) d)
+  pub judged-light : NotOver v → Light t a (listTo t (framesPart a s) d)
   judged-light w ridge r =
       let l = judge-light (totalsPart a s) (rw (j .is) at w) ridge (omega (arith, totals-length)) in
       let e = j .stands .totals ridge r in
@@ -89,11 +89,11 @@ unfolding due itemAt
 follow-over t a limit s s' d j w = record {
   stands = w .stands;
   emitted = rw (w .lists) (j .emitted);
-  same = λ left. rw (w .frames, w .lists) (examine-over t (limitsOf a limit) left (itemAt t (framesPart a s) d) (framesTo t (framesPart a s) d) (emittedIn t a (listsPart a s)) (judged-is t a s d over j));
+  same = λ left. rw (w .frames, w .lists) (examine-over t (entryLimitsOf a limit) left (itemAt t (framesPart a s) d) (framesTo t (framesPart a s) d) (emittedIn t a (listsPart a s)) (judged-is t a s d over j));
   tables = w .tables;
 }
 
-entered-depth : (t : Table) (a : Areas) (s' : List ℕ) (d : ℕ) → Stands t a s' (d + 1) d → Stands t a s' (d + 1) (d + 1 - 1)
+entered-depth : (t : Table) (a : Areas) (s' : List ℕ) (d : ℕ) → PathStands t a s' (d + 1) d → PathStands t a s' (d + 1) (d + 1 - 1)
 entered-depth t a s' d st = let e : d + 1 - 1 ≡ d = omega arith in rw e st
 
 pub follow-open : (t : Table) (a : Areas) (limit : Limit) (s s' : List ℕ) (d ridge : ℕ) → Judged t a s d (openAt ridge) → Entered t a s s' d (ridge + 1) → Goes t a limit s s' d (d + 1)
@@ -104,7 +104,7 @@ follow-open t a limit s s' d ridge j w =
       stands = entered-depth t a s' d (w .stands);
       emitted = rw (w .lists) (j .emitted);
       same = λ left.
-          examine-open t (limitsOf a limit) left (itemAt t (framesPart a s) d) ridge (framesTo t (framesPart a s) d) (emittedIn t a (listsPart a s)) (judged-is t a s d (openAt ridge) j)
+          examine-open t (entryLimitsOf a limit) left (itemAt t (framesPart a s) d) ridge (framesTo t (framesPart a s) d) (emittedIn t a (listsPart a s)) (judged-is t a s d (openAt ridge) j)
           ∙ sym (rw (w .frames, w .lists, k) refl);
       tables = w .tables;
     }
@@ -112,7 +112,7 @@ follow-open t a limit s s' d ridge j w =
 -- a closed list, with the emitted lists counted
 module _ (t : Table) (a : Areas) (limit : Limit) (s : List ℕ) (d : ℕ) (j : Judged t a s d closed) where
   abbrev limits : def.EntryLimits
-  limits = limitsOf a limit
+  limits = entryLimitsOf a limit
 
   abbrev emitted : List (List Facet)
   emitted = emittedIn t a (listsPart a s)
@@ -121,33 +121,33 @@ module _ (t : Table) (a : Areas) (limit : Limit) (s : List ℕ) (d : ℕ) (j : J
   many = emitted-count t a (listsPart a s)
 
   pub follow-full : a .bound ≤ count (listsPart a s) → Fills t a limit s s d
-  unfolding due itemAt limitsOf
+  unfolding due itemAt entryLimitsOf
   follow-full h = record {
     same = λ left. examine-fifteen t limits left (itemAt t (framesPart a s) d) (pending t (framesTo t (framesPart a s) d)) emitted (judged-is t a s d closed j) (omega (arith, many));
     tables = refl;
   }
 
-  module _ (h : count (listsPart a s) < a .bound) (s1 : List ℕ) (st : Stands t a s1 d d) (fr : framesPart a s1 ≡ framesPart a s) (ls : emittedIn t a (listsPart a s1) ≡ emitted ++ (listTo t (framesPart a s) d ∷ [])) (tb : take (a .frames) s1 ≡ take (a .frames) s) (em : Emitted a (listsPart a s1)) where
-    pub follow-stop : limitReached (limitOf limit) (count (listsPart a s) + 1) ≡ true → Stops t a limit s s1 d
-    unfolding due itemAt limitsOf
+  module _ (h : count (listsPart a s) < a .bound) (s1 : List ℕ) (st : PathStands t a s1 d d) (fr : framesPart a s1 ≡ framesPart a s) (ls : emittedIn t a (listsPart a s1) ≡ emitted ++ (listTo t (framesPart a s) d ∷ [])) (tb : take (a .frames) s1 ≡ take (a .frames) s) (em : Emitted a (listsPart a s1)) where
+    pub follow-stop : limitReached (entryLimitOf limit) (count (listsPart a s) + 1) ≡ true → Stops t a limit s s1 d
+    unfolding due itemAt entryLimitsOf
     follow-stop r = record {
       inputs = st .inputs;
       emitted = em;
       same = λ left.
           rw ls (examine-stop t limits left (itemAt t (framesPart a s) d) (pending t (framesTo t (framesPart a s) d)) emitted (judged-is t a s d closed j) (omega (arith, many))
-          (ap (limitReached (limitOf limit)) (omega (arith, many)) ∙ r));
+          (ap (limitReached (entryLimitOf limit)) (omega (arith, many)) ∙ r));
       tables = tb;
     }
 
-    pub follow-closed : limitReached (limitOf limit) (count (listsPart a s) + 1) ≡ false → (s' : List ℕ) → Entered t a s1 s' d 0 → Goes t a limit s s' d (d + 1)
-    unfolding due itemAt limitsOf ridgeOf
+    pub follow-closed : limitReached (entryLimitOf limit) (count (listsPart a s) + 1) ≡ false → (s' : List ℕ) → Entered t a s1 s' d 0 → Goes t a limit s s' d (d + 1)
+    unfolding due itemAt entryLimitsOf ridgeOf
     follow-closed r s' w =
         record {
           stands = entered-depth t a s' d (w .stands);
           emitted = rw (w .lists) em;
           same = λ left.
               examine-closed t limits left (itemAt t (framesPart a s) d) (framesTo t (framesPart a s) d) emitted (judged-is t a s d closed j) (omega (arith, many))
-              (ap (limitReached (limitOf limit)) (omega (arith, many)) ∙ r)
+              (ap (limitReached (entryLimitOf limit)) (omega (arith, many)) ∙ r)
               ∙ sym (rw (w .frames, w .lists, ls, fr) refl);
           tables = w .tables ∙ tb;
         }
@@ -155,9 +155,9 @@ module _ (t : Table) (a : Areas) (limit : Limit) (s : List ℕ) (d : ℕ) (j : J
 -- ---- the turns
 
 pub record Turn (t : Table) (a : Areas) (limit : Limit) (budget : ℕ) (s : List ℕ) (d left : ℕ) : Type 0 where
-  pub stands : Stands t a s d (d - 1)
+  pub stands : PathStands t a s d (d - 1)
   pub emitted : Emitted a (listsPart a s)
-  pub same : examine t (limitsOf a limit) left (pending t (framesTo t (framesPart a s) d)) (emittedIn t a (listsPart a s)) ≡ search t (limitsOf a limit) budget
+  pub same : examine t (entryLimitsOf a limit) left (pending t (framesTo t (framesPart a s) d)) (emittedIn t a (listsPart a s)) ≡ search t (entryLimitsOf a limit) budget
 
 pub turn-start : (t : Table) (a : Areas) (limit : Limit) (budget : ℕ) (s₀ s : List ℕ) → Started t a s₀ s → Turn t a limit budget s 1 budget
 turn-start t a limit budget s₀ s st =
@@ -165,11 +165,11 @@ turn-start t a limit budget s₀ s st =
     record {
       stands = st .stands;
       emitted = st .emitted;
-      same = rw (st .frames, st .none) (sym (search-starts t (limitsOf a limit) budget));
+      same = rw (st .frames, st .none) (sym (search-starts t (entryLimitsOf a limit) budget));
     }
 
 -- a frame goes
-pub stands-drop : (t : Table) (a : Areas) (s : List ℕ) (d : ℕ) → Stands t a s d (d - 1) → 0 < d → Stands t a s (d - 1) (d - 1)
+pub stands-drop : (t : Table) (a : Areas) (s : List ℕ) (d : ℕ) → PathStands t a s d (d - 1) → 0 < d → PathStands t a s (d - 1) (d - 1)
 stands-drop t a s d st h = record {
   inputs = st .inputs;
   frames = record {
@@ -197,12 +197,12 @@ module _ (t : Table) (a : Areas) (limit : Limit) (budget : ℕ) (s : List ℕ) (
         emitted = rw (w .lists) (turn .emitted);
         same =
             rw (w .frames, w .lists)
-            (ap (λ (l : List Item). examine t (limitsOf a limit) left l (emittedIn t a (listsPart a s))) (sym (ap (pending t) top ∙ pending-none t (frameAt t (framesPart a s) (d - 1)) (framesTo t (framesPart a s) (d - 1)) (n .none refl)))
+            (ap (λ (l : List Item). examine t (entryLimitsOf a limit) left l (emittedIn t a (listsPart a s))) (sym (ap (pending t) top ∙ pending-none t (frameAt t (framesPart a s) (d - 1)) (framesTo t (framesPart a s) (d - 1)) (n .none refl)))
             ∙ turn .same);
       }
 
   module _ (r : ℕ) (n : Next t (frameAt t (framesPart a s) (d - 1)) r) (z : 0 < r) where
-    pub turn-ready : Ready t a s d r
+    pub turn-ready : CandidateDue t a s d r
     unfolding frameAt
     turn-ready = record { stands = turn .stands; deep = h; positive = z; inside = n .inside; free = n .free z }
 
@@ -213,11 +213,11 @@ module _ (t : Table) (a : Areas) (limit : Limit) (budget : ℕ) (s : List ℕ) (
     latest-first = ap (pending t) top ∙ pending-latest t fr (framesTo t (framesPart a s) (d - 1)) (r - 1) (candidateOf t fr r) (n .found z)
 
     -- the budget is used up
-    pub turn-spent : left ≡ 0 → refused 16 ≡ search t (limitsOf a limit) budget
+    pub turn-spent : left ≡ 0 → refused 16 ≡ search t (entryLimitsOf a limit) budget
     turn-spent e =
-        sym (ap (λ (l : List Item). examine t (limitsOf a limit) left l (emittedIn t a (listsPart a s))) latest-first
-        ∙ (ap (λ (k : ℕ). examine t (limitsOf a limit) k (child (fr .list) (fr .mark) (fr .ridge) (candidateOf t fr r) ∷ pending t (moved fr (r - 1) ∷ framesTo t (framesPart a s) (d - 1))) (emittedIn t a (listsPart a s))) e
-        ∙ examine-spent t (limitsOf a limit) (child (fr .list) (fr .mark) (fr .ridge) (candidateOf t fr r)) (pending t (moved fr (r - 1) ∷ framesTo t (framesPart a s) (d - 1))) (emittedIn t a (listsPart a s))))
+        sym (ap (λ (l : List Item). examine t (entryLimitsOf a limit) left l (emittedIn t a (listsPart a s))) latest-first
+        ∙ (ap (λ (k : ℕ). examine t (entryLimitsOf a limit) k (child (fr .list) (fr .mark) (fr .ridge) (candidateOf t fr r) ∷ pending t (moved fr (r - 1) ∷ framesTo t (framesPart a s) (d - 1))) (emittedIn t a (listsPart a s))) e
+        ∙ examine-spent t (entryLimitsOf a limit) (child (fr .list) (fr .mark) (fr .ridge) (candidateOf t fr r)) (pending t (moved fr (r - 1) ∷ framesTo t (framesPart a s) (d - 1))) (emittedIn t a (listsPart a s))))
         ∙ turn .same
 
     module _ (s1 : List ℕ) (v : Verdict) (w : Visited t a s s1 d r v) (some-left : 0 < left) where
@@ -228,26 +228,26 @@ module _ (t : Table) (a : Areas) (limit : Limit) (budget : ℕ) (s : List ℕ) (
       unfolding due frameAt
       due-is = latest-first ∙ rw (w .frames, w .item) refl
 
-      examined : examine t (limitsOf a limit) (suc (left - 1)) (due t (framesPart a s1) d) (emittedIn t a (listsPart a s1)) ≡ search t (limitsOf a limit) budget
+      examined : examine t (entryLimitsOf a limit) (suc (left - 1)) (due t (framesPart a s1) d) (emittedIn t a (listsPart a s1)) ≡ search t (entryLimitsOf a limit) budget
       examined =
           let e : suc (left - 1) ≡ left = omega arith in
-          rw (w .lists, e) (ap (λ (l : List Item). examine t (limitsOf a limit) left l (emittedIn t a (listsPart a s))) (sym due-is) ∙ turn .same)
+          rw (w .lists, e) (ap (λ (l : List Item). examine t (entryLimitsOf a limit) left l (emittedIn t a (listsPart a s))) (sym due-is) ∙ turn .same)
 
       pub turn-on : (s2 : List ℕ) (deep : ℕ) → Goes t a limit s1 s2 d deep → Turn t a limit budget s2 deep (left - 1)
       turn-on s2 deep g = record { stands = g .stands; emitted = g .emitted; same = sym (g .same (left - 1)) ∙ examined }
 
-      pub turn-stopped : (s2 : List ℕ) → Stops t a limit s1 s2 d → answered (record { lists = emittedIn t a (listsPart a s2); left = left - 1 }) ≡ search t (limitsOf a limit) budget
+      pub turn-stopped : (s2 : List ℕ) → Stops t a limit s1 s2 d → answered (record { lists = emittedIn t a (listsPart a s2); left = left - 1 }) ≡ search t (entryLimitsOf a limit) budget
       turn-stopped s2 g = sym (g .same (left - 1)) ∙ examined
 
-      pub turn-full : (s2 : List ℕ) → Fills t a limit s1 s2 d → refused 15 ≡ search t (limitsOf a limit) budget
+      pub turn-full : (s2 : List ℕ) → Fills t a limit s1 s2 d → refused 15 ≡ search t (entryLimitsOf a limit) budget
       turn-full s2 g = sym (g .same (left - 1)) ∙ examined
 
 -- no frame is left
 pub turn-end : (t : Table) (a : Areas) (limit : Limit) (budget : ℕ) (s : List ℕ) (d left : ℕ) → Turn t a limit budget s d left → d ≡ 0
-    → answered (record { lists = emittedIn t a (listsPart a s); left = left }) ≡ search t (limitsOf a limit) budget
+    → answered (record { lists = emittedIn t a (listsPart a s); left = left }) ≡ search t (entryLimitsOf a limit) budget
 unfolding framesTo pending
 turn-end t a limit budget s d left turn e =
-    sym (examine-none t (limitsOf a limit) left (emittedIn t a (listsPart a s))) ∙ rw e at (turn .same)
+    sym (examine-none t (entryLimitsOf a limit) left (emittedIn t a (listsPart a s))) ∙ rw e at (turn .same)
 
 -- ---- the loop ends: a turn takes one from the budget or from the depth, and the depth is bounded
 
@@ -260,5 +260,5 @@ budget-falls zero n deep d h k = absurd (omega arith)
 budget-falls (suc left) n deep d h k = let e : suc left - 1 ≡ left = omega arith in rw e (omega arith)
 
 -- a table that the workspace holds after a turn was held before
-pub inputs-before : (t : Table) (a : Areas) (s s' : List ℕ) → Fits a (length s) → take (a .frames) s' ≡ take (a .frames) s → Inputs t a s' → Inputs t a s
+pub inputs-before : (t : Table) (a : Areas) (s s' : List ℕ) → AreasFit a (length s) → take (a .frames) s' ≡ take (a .frames) s → Inputs t a s' → Inputs t a s
 inputs-before t a s s' f e h = record { fits = f; holds = holds-kept t a s' s (h .fits) (sym e) (h .holds) }

@@ -4,9 +4,9 @@ ghost use mathlib.Core.Path.{_≡_};
 ghost use Prim.Native.Nat.{_+_, _-_, _<_};
 ghost use lib.ListN.{length, take};
 ghost use Rattle.definitions.specs.Search.{Table, closed, limitReached, search as searchOf};
-ghost use Rattle.facets.specs.Layout.{Fits, Inputs, verdict, listsPart};
-ghost use Rattle.frames.specs.Paths.{Stands};
-ghost use Rattle.search.specs.Outcomes.{limitOf, limitsOf, outcome, counted};
+ghost use Rattle.facets.specs.Layout.{AreasFit, Inputs, verdict, listsPart};
+ghost use Rattle.frames.specs.Paths.{PathStands};
+ghost use Rattle.search.specs.Outcomes.{entryLimitOf, entryLimitsOf, searchOutcome, countedLists};
 ghost use Rattle.search.specs.Turns.{Judged, Followed};
 ghost use Rattle.search.specs.declared.Outcome.the-variants.{Found};
 ghost use Rattle.pool.specs.Pool.{count};
@@ -36,7 +36,7 @@ pub enum Step {
 
 // [7.9] whether the entry limit ends the search, with so many lists emitted
 fn reached(limit: Limit, emitted: u32) -> bool
-    ensures { λ r. ⌜ r ≡ limitReached (limitOf limit) emitted ⌝ }
+    ensures { λ r. ⌜ r ≡ limitReached (entryLimitOf limit) emitted ⌝ }
 {
     match limit {
         Limit::Absent => false,
@@ -86,8 +86,8 @@ fn follow(ws: &mut [u8], a: Areas, limit: Limit, s: State) -> Step
 
 // The deepest frame has no candidate left and goes; the facet that led to it leaves the list.
 fn back(ws: &mut [u8], a: Areas, s: State) -> State
-    requires { ⌜ ((t : Table) × Stands t a (now ws) (s .depth) (s .depth - 1) × (0 < s .depth)) ⌝ }
-    ensures { λ r. ⌜ (r .depth ≡ s .depth - 1) × (r .left ≡ s .left) × ((t : Table) → Stands t a (now (ws .entry)) (s .depth) (s .depth - 1) → Withdrawn t a (now (ws .entry)) (now (ws .exit)) (s .depth - 1)) ⌝ }
+    requires { ⌜ ((t : Table) × PathStands t a (now ws) (s .depth) (s .depth - 1) × (0 < s .depth)) ⌝ }
+    ensures { λ r. ⌜ (r .depth ≡ s .depth - 1) × (r .left ≡ s .left) × ((t : Table) → PathStands t a (now (ws .entry)) (s .depth) (s .depth - 1) → Withdrawn t a (now (ws .entry)) (now (ws .exit)) (s .depth - 1)) ⌝ }
 {
     let depth = s.depth - 1;
     let left = s.left;
@@ -115,9 +115,9 @@ fn at_depth(s: State, depth: usize) -> State
     }
 }
 
-// The outcome with the lists that were emitted.
+// The searchOutcome with the lists that were emitted.
 fn found(ws: &[u8], a: Areas, left: u32) -> Outcome
-    requires { ⌜ Fits a (length (now ws)) ⌝ }
+    requires { ⌜ AreasFit a (length (now ws)) ⌝ }
     ensures { λ r. ⌜ r ≡ Found (count (listsPart a (now (ws .entry)))) left ⌝ }
 {
     let lists = a.lists;
@@ -128,8 +128,8 @@ fn found(ws: &[u8], a: Areas, left: u32) -> Outcome
 // The search [7.8]: the lists emitted, in order, and what is left of the budget.
 pub fn search(ws: &mut [u8], a: Areas, limit: Limit, budget: u32) -> Outcome
     requires { ⌜ ((t : Table) × Inputs t a (now ws)) ⌝ }
-    ensures found { λ r. ⌜ ((t : Table) → Inputs t a (now (ws .entry)) → outcome t a r (now (ws .exit)) ≡ searchOf t (limitsOf a limit) budget) ⌝ }
-    ensures many { λ r. ⌜ ((t : Table) → counted t a r (now (ws .exit))) ⌝ }
+    ensures found { λ r. ⌜ ((t : Table) → Inputs t a (now (ws .entry)) → searchOutcome t a r (now (ws .exit)) ≡ searchOf t (entryLimitsOf a limit) budget) ⌝ }
+    ensures many { λ r. ⌜ ((t : Table) → countedLists t a r (now (ws .exit))) ⌝ }
     ensures kept { λ _. ⌜ take (a .frames) (now (ws .exit)) ≡ take (a .frames) (now (ws .entry)) ⌝ }
 {
     frames::start(ws, a);

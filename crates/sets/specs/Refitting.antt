@@ -17,11 +17,11 @@ fitted Fitted plane = some plane
 fitted Refused plane = none
 
 -- the plane of an answer, or none where it is a refusal
-unfoldable pub planeOf : SetPlane → Option Subspace
-planeOf r = fitted (r .fit) (subspaceOf (r .plane))
+unfoldable pub refittedPlane : SetPlane → Option Subspace
+refittedPlane r = fitted (r .fit) (subspaceOf (r .plane))
 
 -- refusal 14: exactly where the number of basis vectors is not the one wanted. The struct holds the plane either way, with the d of the points.
 pub record Refitted (r : SetPlane) (points : Points) (plane : Subspace) (wanted : ℕ) : Type 0 where
-  pub answer : planeOf r ≡ cond (eqb (length (plane .basis)) wanted) (some plane) none
+  pub answer : refittedPlane r ≡ cond (eqb (length (plane .basis)) wanted) (some plane) none
   pub holds : HoldsSubspace (r .plane) plane
   pub same-d : 0 < points .n → r .plane .d ≡ points .d

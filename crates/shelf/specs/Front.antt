@@ -9,11 +9,11 @@ use Rattle.words.specs.Words.{words, words-take}
 use Rattle.orbits.specs.Workspace.{orbitsIn, orbits-front}
 use Rattle.shapes.specs.Kept.{Kept}
 use Rattle.shelf.specs.declared.Shelf.{Shelf}
-use Rattle.shelf.specs.Keeps.{Keeps, Fits, edgesPart, labelsPart, ownersPart}
+use Rattle.shelf.specs.Keeps.{Keeps, ShelfFits, edgesPart, labelsPart, ownersPart}
 
 module _ (n : ℕ) (shelf : Shelf) (kept : List Kept) (s t : List ℕ) (same : take (shelf .owners + 2048) t ≡ take (shelf .owners + 2048) s) (long : length t ≡ length s)
     (k : Keeps n shelf kept s) where
-  abbrev f : Fits shelf (length s)
+  abbrev f : ShelfFits shelf (length s)
   f = k .fits
 
   -- a part of the front

@@ -13,7 +13,7 @@ use Rattle.laws.specs.Segments.{part}
 use Rattle.words.specs.Words.{words}
 use Rattle.pool.specs.Pool.{base}
 use Rattle.pool.specs.Holds.{Holds}
-use Rattle.openers.specs.Meaning.{codeOf}
+use Rattle.openers.specs.Meaning.{pairCode}
 use Rattle.orbits.specs.Numbers.{orbitOf}
 use Rattle.orbits.specs.Workspace.{orbitsIn}
 use Rattle.compounds.specs.Labels.{labelsIn}
@@ -60,7 +60,7 @@ labelsFrom first (k ∷ kept) = map (λ (f : ℕ). raised first (componentsOf (k
 
 -- a ridge's ends and its inner orbit's count as one number
 unfoldable pub ridgeCode : Pair → ℕ → ℕ
-ridgeCode ends count = codeOf ends + 65536 * count
+ridgeCode ends count = pairCode ends + 65536 * count
 
 unfoldable pub ridgeCodes : Kept → List ℕ
 ridgeCodes k = zipWith ridgeCode (k .ends) (k .counts)
@@ -83,7 +83,7 @@ abbrev pub placesPart : Shelf → List ℕ → List ℕ
 placesPart shelf s = part (shelf .places) (shelf .end - shelf .places) s
 
 -- the areas lie one behind another, each with room for its heads: 256 orbits, 1,024 facets
-pub record Fits (shelf : Shelf) (size : ℕ) : Type 0 where
+pub record ShelfFits (shelf : Shelf) (size : ℕ) : Type 0 where
   pub orbitRoom : 2048 ≤ shelf .edges
   pub edgeRoom : shelf .edges + base 1024 ≤ shelf .labels
   pub labelRoom : shelf .labels + 4096 ≤ shelf .owners
@@ -98,13 +98,13 @@ Lists w most s lists = Holds w most s lists [] (length (joined lists))
 
 -- what outlives the search: the orbits' first sets and counts, each facet's edges, components and orbit
 pub record Keeps (n : ℕ) (shelf : Shelf) (kept : List Kept) (s : List ℕ) : Type 0 where
-  pub fits : Fits shelf (length s)
+  pub fits : ShelfFits shelf (length s)
   pub orbits : shelf .orbits ≡ length kept
   pub facets : shelf .facets ≡ length (facetsOf kept)
   pub fewOrbits : shelf .orbits ≤ 256
   pub fewFacets : shelf .facets ≤ 1024
   pub sets : map (orbitOf n) (orbitsIn s (shelf .orbits)) ≡ map (λ (k : Kept). k .orbit) kept
-  pub edges : Lists 2 1024 (edgesPart shelf s) (map (map codeOf) (edgesOf kept))
+  pub edges : Lists 2 1024 (edgesPart shelf s) (map (map pairCode) (edgesOf kept))
   pub labels : labelsIn 0 (shelf .facets) (labelsPart shelf s) ≡ labelsFrom 0 kept
   pub owners : words 2 (ownersPart shelf s) (shelf .facets) ≡ ownersOf kept
 

@@ -7,7 +7,7 @@ use lib.ListN.{length, getD, drop}
 use Rattle.definitions.specs.Orbits.{Row}
 use Rattle.definitions.specs.Search.{Facet}
 use Rattle.definitions.specs.Recursion.{Entry, Answer}
-use Rattle.compounds.specs.Areas.{Holds, listsIn}
+use Rattle.compounds.specs.Areas.{HoldsOrder, listsIn}
 use Rattle.compounds.specs.Labels.{labelsIn}
 use Rattle.compounds.specs.Numbers.{AllBelow, compoundsFrom}
 use Rattle.shapes.specs.Kept.{Kept, keptFigure, keptPossible}
@@ -41,7 +41,7 @@ answerLeft more n rows kept level s left = record {
 pub record Leaves (more n : ℕ) (rows : List Row) (kept : List Kept) (level : Level) (s : List ℕ) : Type 0 where
   pub keeps : Keeps n (level .shelf) kept s
   pub behind : level .shelf .owners + 2048 ≤ level .lists
-  pub area : Holds 1024 (level .bytes) (level .count) (drop (level .lists) s)
+  pub area : HoldsOrder 1024 (level .bytes) (level .count) (drop (level .lists) s)
   pub fewEntries : level .count ≤ 1024
   pub room : level .lists + (level .bytes + 2048 + 4 * level .count) ≤ length s
   pub numbers : AllBelow (level .shelf .facets) (listsLeft level s)

@@ -9,24 +9,24 @@ use Rattle.definitions.specs.Job.{counted, compoundWords}
 use Rattle.laws.specs.Lists.{member-at}
 use Rattle.laws.specs.Segments.{part-length}
 use Rattle.pool.specs.Pool.{count}
-use Rattle.compounds.specs.Areas.{Holds, listsIn, lists-length}
+use Rattle.compounds.specs.Areas.{HoldsOrder, listsIn, lists-length}
 use Rattle.compounds.specs.Labels.{labelsIn}
-use Rattle.compounds.specs.Numbers.{Below, compoundsFrom}
+use Rattle.compounds.specs.Numbers.{ItemsBelow, compoundsFrom}
 use Rattle.shelf.specs.Keeps.{ownersPart}
 use Rattle.shelf.specs.Leaves.{listsLeft}
 use Rattle.shelf.specs.declared.Level.{Level}
-use Rattle.writing.specs.Standing.{Listed}
+use Rattle.writing.specs.Standing.{ListsStanding}
 
 -- a part to the end is the rest
 pub rest-is : {A : Type 0} (a : ℕ) (s : List A) → take (length s - a) (drop a s) ≡ drop a s
 rest-is a s = take-all (length s - a) (drop a s) (omega (arith, length-drop a s))
 
-module _ {level : Level} {s : List ℕ} (h : Listed level s) where
+module _ {level : Level} {s : List ℕ} (h : ListsStanding level s) where
   abbrev rest : List ℕ
   rest = take (length s - level .lists) (drop (level .lists) s)
 
-  pub area-asked : Holds 1024 (level .bytes) (level .count) rest
-  area-asked = subst (Holds 1024 (level .bytes) (level .count)) (sym (rest-is (level .lists) s)) (h .area)
+  pub area-asked : HoldsOrder 1024 (level .bytes) (level .count) rest
+  area-asked = subst (HoldsOrder 1024 (level .bytes) (level .count)) (sym (rest-is (level .lists) s)) (h .area)
 
   pub lists-are : listsIn 1024 (level .bytes) (level .count) rest ≡ listsLeft level s
   lists-are = ap (listsIn 1024 (level .bytes) (level .count)) (rest-is (level .lists) s)
@@ -34,9 +34,9 @@ module _ {level : Level} {s : List ℕ} (h : Listed level s) where
   pub many-lists : length (listsLeft level s) ≡ level .count
   many-lists = lists-length 1024 (level .bytes) (level .count) (drop (level .lists) s)
 
-  pub numbers-asked : (bound k : ℕ) → level .shelf .facets ≤ bound → k < level .count → Below bound (getD (listsIn 1024 (level .bytes) (level .count) rest) k [])
+  pub numbers-asked : (bound k : ℕ) → level .shelf .facets ≤ bound → k < level .count → ItemsBelow bound (getD (listsIn 1024 (level .bytes) (level .count) rest) k [])
   numbers-asked bound k b g =
-      subst (λ (ls : List (List ℕ)). Below bound (getD ls k [])) (sym lists-are)
+      subst (λ (ls : List (List ℕ)). ItemsBelow bound (getD ls k [])) (sym lists-are)
       (λ x i. omega (arith, h .numbers (getD (listsLeft level s) k []) (member-at (listsLeft level s) k [] (omega (arith, many-lists))) x i))
 
   pub owners-asked : 2 * level .shelf .facets ≤ length (ownersPart (level .shelf) s)

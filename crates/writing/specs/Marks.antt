@@ -19,7 +19,7 @@ use Rattle.laws.specs.Places.{ascends-map, flatMap-map, map-flatMap}
 use Rattle.laws.specs.Ranges.{count-ascending}
 use Rattle.pool.specs.Pool.{count, Sound}
 use Rattle.openers.specs.Marks.{marked, marked-at}
-use Rattle.openers.specs.Meaning.{codeOf, pairOf, pairCodes}
+use Rattle.openers.specs.Meaning.{pairCode, pairOf, pairCodes}
 use Rattle.openers.specs.Rows.{ImagesBelow, rowsIn, RowsFit}
 use Rattle.openers.specs.Codes.{pair-of-code, code-small, row-below, codes-wide, map-codes}
 use Rattle.compounds.specs.Areas.{listAt}
@@ -59,8 +59,8 @@ pub record EdgesFit (m : ℕ) (rows edges : List ℕ) : Type 0 where
 
 -- ---- pairs and codes
 
-pub pair-code : (p : Pair) → p .1 < 20 → pairOf (codeOf p) ≡ p
-unfolding codeOf
+pub pair-code : (p : Pair) → p .1 < 20 → pairOf (pairCode p) ≡ p
+unfolding pairCode
 pair-code p h = pair-of-code (p .0) (p .1) h
 
 -- both vertices are below a bound
@@ -100,31 +100,31 @@ keep-append p (x ∷ l) m = go (p x) (keep-append p l m)
 
 module _ (ps : List Pair) (small : (p : Pair) → Mem p ps → Ends 20 p) where
   abbrev marks : List Bool
-  marks = marked (replicate 400 false) (map codeOf ps)
+  marks = marked (replicate 400 false) (map pairCode ps)
 
-  at-code : (c : ℕ) → c < 400 → getD marks c false ≡ (memberNat c (map codeOf ps) || false)
+  at-code : (c : ℕ) → c < 400 → getD marks c false ≡ (memberNat c (map pairCode ps) || false)
   at-code c h =
       let e = length-replicate 400 false in
-      marked-at (replicate 400 false) (map codeOf ps) c (omega arith) ∙ ap (λ (b : Bool). memberNat c (map codeOf ps) || b) (getD-replicate 400 c false false h)
+      marked-at (replicate 400 false) (map pairCode ps) c (omega arith) ∙ ap (λ (b : Bool). memberNat c (map pairCode ps) || b) (getD-replicate 400 c false false h)
 
-  is-marked : (p : Pair) → Mem p ps → T (getD marks (codeOf p) false)
+  is-marked : (p : Pair) → Mem p ps → T (getD marks (pairCode p) false)
   unfolding memberNat
   is-marked p i =
       let s = small p i in
-      subst T (sym (at-code (codeOf p) (code-small p (s .first) (s .second))))
-      (left-of (memberNat (codeOf p) (map codeOf ps)) false (any-of (eqb (codeOf p)) (codeOf p) (map codeOf ps) (in-map codeOf p ps i) (eqb-refl (codeOf p))))
+      subst T (sym (at-code (pairCode p) (code-small p (s .first) (s .second))))
+      (left-of (memberNat (pairCode p) (map pairCode ps)) false (any-of (eqb (pairCode p)) (pairCode p) (map pairCode ps) (in-map pairCode p ps i) (eqb-refl (pairCode p))))
 
   of-marked : (c : ℕ) → c < 400 → T (getD marks c false) → Mem (pairOf c) ps
   unfolding memberNat
   of-marked c h t =
       ⊎-elim
-      (λ (m : T (memberNat c (map codeOf ps))).
-      let w = any-witness (eqb c) (map codeOf ps) m in
-      let r = of-map codeOf (w .0) ps (w .1) in
-      let e : c ≡ codeOf (r .0) = eqb→eq c (w .0) (w .2) ∙ r .2 in
+      (λ (m : T (memberNat c (map pairCode ps))).
+      let w = any-witness (eqb c) (map pairCode ps) m in
+      let r = of-map pairCode (w .0) ps (w .1) in
+      let e : c ≡ pairCode (r .0) = eqb→eq c (w .0) (w .2) ∙ r .2 in
       subst (λ (p : Pair). Mem p ps) (sym (ap pairOf e ∙ pair-code (r .0) (small (r .0) (r .1) .second))) (r .1))
       (λ f. absurd f)
-      (either (memberNat c (map codeOf ps)) false (subst T (at-code c h) t))
+      (either (memberNat c (map pairCode ps)) false (subst T (at-code c h) t))
 
   pub marked-in-order : edgesMarked marks ≡ edgesInOrder ps
   unfolding edgesMarked codesMarked
@@ -139,9 +139,9 @@ module _ (ps : List Pair) (small : (p : Pair) → Mem p ps → Ends 20 p) where
         back = λ x i.
             let m = of-in-order comparePair pairs x ps i in
             let s = small x m in
-            let low : codeOf x < 400 = code-small x (s .first) (s .second) in
+            let low : pairCode x < 400 = code-small x (s .first) (s .second) in
             subst (λ (p : Pair). Mem p (map pairOf (codesMarked marks 400))) (pair-code x (s .second))
-            (in-map pairOf (codeOf x) (codesMarked marks 400) (in-keep (λ (code : ℕ). getD marks code false) (codeOf x) (countFrom 0 400) (in-count 0 400 (codeOf x) (omega arith) (omega arith)) (is-marked x m)));
+            (in-map pairOf (pairCode x) (codesMarked marks 400) (in-keep (λ (code : ℕ). getD marks code false) (pairCode x) (countFrom 0 400) (in-count 0 400 (pairCode x) (omega arith) (omega arith)) (is-marked x m)));
       })
 
 -- ---- the images of facets' edges, as codes and as pairs
@@ -158,17 +158,17 @@ module _ {n m : ℕ} {s : List ℕ} (fits : RowsFit n m s) where
       let g : p .1 ≡ max (image (r .0) (e .0)) (image (r .0) (e .1)) = ap (λ (x : Pair). x .1) (r .2) in
       record { first = omega (arith, fits .n-fits); second = omega (arith, fits .n-fits) }
 
-  one-edge : (e : Pair) → Ends n e → pairCodes (rowsIn 32 m s) (pairOf (codeOf e)) ≡ map codeOf (map (pairImage e) (rowsIn n m s))
+  one-edge : (e : Pair) → Ends n e → pairCodes (rowsIn 32 m s) (pairOf (pairCode e)) ≡ map pairCode (map (pairImage e) (rowsIn n m s))
   one-edge e h =
       ap (pairCodes (rowsIn 32 m s)) (pair-code e (omega (arith, h .second, fits .n-fits)))
       ∙ (codes-wide n m (e .0) (e .1) s (h .first) (h .second) (fits .n-fits) ∙ map-codes (rowsIn n m s) e)
 
-  pub edge-images : (es : List Pair) → ((e : Pair) → Mem e es → Ends n e) → imageCodes (rowsIn 32 m s) (map codeOf es) ≡ map codeOf (flatMap (λ (e : Pair). map (pairImage e) (rowsIn n m s)) es)
+  pub edge-images : (es : List Pair) → ((e : Pair) → Mem e es → Ends n e) → imageCodes (rowsIn 32 m s) (map pairCode es) ≡ map pairCode (flatMap (λ (e : Pair). map (pairImage e) (rowsIn n m s)) es)
   unfolding imageCodes
   edge-images es h =
-      flatMap-map (λ (code : ℕ). pairCodes (rowsIn 32 m s) (pairOf code)) codeOf es
-      ∙ (flatMap-same (λ (e : Pair). pairCodes (rowsIn 32 m s) (pairOf (codeOf e))) (λ (e : Pair). map codeOf (map (pairImage e) (rowsIn n m s))) es (λ e i. one-edge e (h e i))
-      ∙ sym (map-flatMap codeOf (λ (e : Pair). map (pairImage e) (rowsIn n m s)) es))
+      flatMap-map (λ (code : ℕ). pairCodes (rowsIn 32 m s) (pairOf code)) pairCode es
+      ∙ (flatMap-same (λ (e : Pair). pairCodes (rowsIn 32 m s) (pairOf (pairCode e))) (λ (e : Pair). map pairCode (map (pairImage e) (rowsIn n m s))) es (λ e i. one-edge e (h e i))
+      ∙ sym (map-flatMap pairCode (λ (e : Pair). map (pairImage e) (rowsIn n m s)) es))
 
   -- the edges marked for numbered facets are all row images of their edges, in order
   module _ (edges : List (List Pair)) (proper : (l : List Pair) → Mem l edges → (e : Pair) → Mem e l → Ends n e) where
@@ -178,16 +178,16 @@ module _ {n m : ℕ} {s : List ℕ} (fits : RowsFit n m s) where
     ends-at : (x : ℕ) → x < length edges → (e : Pair) → Mem e (getD edges x []) → Ends n e
     ends-at x h e i = proper (getD edges x []) (member-at edges x [] h) e i
 
-    facet-images : (x : ℕ) → x < length edges → imageCodes (rowsIn 32 m s) (getD (map (map codeOf) edges) x []) ≡ map codeOf (images x)
-    facet-images x h = ap (imageCodes (rowsIn 32 m s)) (map-at (map codeOf) edges x [] [] h) ∙ edge-images (getD edges x []) (ends-at x h)
+    facet-images : (x : ℕ) → x < length edges → imageCodes (rowsIn 32 m s) (getD (map (map pairCode) edges) x []) ≡ map pairCode (images x)
+    facet-images x h = ap (imageCodes (rowsIn 32 m s)) (map-at (map pairCode) edges x [] [] h) ∙ edge-images (getD edges x []) (ends-at x h)
 
     pub marked-edges : (numbers : List ℕ) → ((x : ℕ) → Mem x numbers → x < length edges)
-        → edgesMarked (marksOf (rowsIn 32 m s) (map (map codeOf) edges) numbers) ≡ edgesInOrder (flatMap images numbers)
+        → edgesMarked (marksOf (rowsIn 32 m s) (map (map pairCode) edges) numbers) ≡ edgesInOrder (flatMap images numbers)
     unfolding marksOf facetCodes
     marked-edges numbers h =
-        let codes : flatMap (λ (x : ℕ). imageCodes (rowsIn 32 m s) (getD (map (map codeOf) edges) x [])) numbers ≡ map codeOf (flatMap images numbers) =
-        flatMap-same (λ (x : ℕ). imageCodes (rowsIn 32 m s) (getD (map (map codeOf) edges) x [])) (λ (x : ℕ). map codeOf (images x)) numbers (λ x i. facet-images x (h x i))
-        ∙ sym (map-flatMap codeOf images numbers) in
+        let codes : flatMap (λ (x : ℕ). imageCodes (rowsIn 32 m s) (getD (map (map pairCode) edges) x [])) numbers ≡ map pairCode (flatMap images numbers) =
+        flatMap-same (λ (x : ℕ). imageCodes (rowsIn 32 m s) (getD (map (map pairCode) edges) x [])) (λ (x : ℕ). map pairCode (images x)) numbers (λ x i. facet-images x (h x i))
+        ∙ sym (map-flatMap pairCode images numbers) in
         ap (λ (l : List ℕ). edgesMarked (marked (replicate 400 false) l)) codes
         ∙ marked-in-order (flatMap images numbers) (λ p i.
         let r = of-flatMap images p numbers i in

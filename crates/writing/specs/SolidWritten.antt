@@ -26,7 +26,7 @@ use Rattle.pool.specs.Pool.{count}
 use Rattle.orbits.specs.Workspace.{orbitsIn}
 use Rattle.orbits.specs.Numbers.{orbitOf}
 use Rattle.openers.specs.Marks.{marked, marked-at}
-use Rattle.openers.specs.Meaning.{codeOf, pairOf}
+use Rattle.openers.specs.Meaning.{pairCode, pairOf}
 use Rattle.openers.specs.Rows.{rowsIn, RowsFit}
 use Rattle.compounds.specs.Labels.{labelsIn}
 use Rattle.compounds.specs.Numbers.{compoundsFrom}
@@ -131,7 +131,7 @@ module _ {n m : ℕ} {bytes : List ℕ} (fits : RowsFit n m bytes) (row : ℕ) (
   }
 
   row-image : (es : List Pair) → ((e : Pair) → Mem e es → Ends n e)
-      → edgesMarked (marked (replicate 400 false) (imageCodes (rowsIn 32 1 (drop (32 * row) bytes)) (map codeOf es))) ≡ edgesInOrder (map (λ (e : Pair). pairImage e (getD (rowsIn n m bytes) row [])) es)
+      → edgesMarked (marked (replicate 400 false) (imageCodes (rowsIn 32 1 (drop (32 * row) bytes)) (map pairCode es))) ≡ edgesInOrder (map (λ (e : Pair). pairImage e (getD (rowsIn n m bytes) row [])) es)
   row-image es h =
       let one = rowsIn n 1 (drop (32 * row) bytes) in
       let images = flatMap (λ (e : Pair). map (pairImage e) one) es in
@@ -196,10 +196,10 @@ kept-sizes n orbits kept-all e =
     sym (map-map (λ (o : Orbit). length (o .vertices)) (orbitOf n) orbits) ∙ (ap (map (λ (o : Orbit). length (o .vertices))) e ∙ map-map (λ (o : Orbit). length (o .vertices)) (λ (k : Kept). k .orbit) kept-all)
 
 -- the polygon of a facet, from its edges' codes
-one-polygon : (n z : ℕ) (l : List Pair) → n ≤ 20 → ((e : Pair) → Mem e l → Proper n e) → polygonWords z (map codeOf l) ≡ figureWords (polygon z l)
+one-polygon : (n z : ℕ) (l : List Pair) → n ≤ 20 → ((e : Pair) → Mem e l → Proper n e) → polygonWords z (map pairCode l) ≡ figureWords (polygon z l)
 unfolding polygonWords
 one-polygon n z l b h =
-    ap (λ (es : List Pair). figureWords (polygon z es)) (map-map pairOf codeOf l ∙ map-self (λ (e : Pair). pairOf (codeOf e)) l (λ e i. pair-code e (omega (arith, h e i .below))))
+    ap (λ (es : List Pair). figureWords (polygon z es)) (map-map pairOf pairCode l ∙ map-self (λ (e : Pair). pairOf (pairCode e)) l (λ e i. pair-code e (omega (arith, h e i .below))))
 
 polygons-figured : (n o : ℕ) (s : List ℕ) (kept-all : List Kept) → n ≤ 20 → EdgesKept n kept-all → map (sizeIn n s) (countFrom o (length kept-all)) ≡ map (λ (k : Kept). length (k .orbit .vertices)) kept-all
     → Figured (λ (orbit : ℕ). polygonWords (sizeIn n s orbit)) (keptPossible 1) o kept-all
@@ -211,9 +211,9 @@ polygons-figured n o s (k ∷ kept-all) b h e =
     let z = length (k .orbit .vertices) in
     let tail-same = ap (λ (l : List ℕ). drop 1 l) e in (
       (
-        ap (λ (w : ℕ). flatMap (polygonWords w) (map (map codeOf) (k .edges))) size
-            ∙ (flatMap-map (polygonWords z) (map codeOf) (k .edges)
-            ∙ (flatMap-same (λ (l : List Pair). polygonWords z (map codeOf l)) (λ (l : List Pair). figureWords (polygon z l)) (k .edges) (λ l i. one-polygon n z l b (h .proper k (here refl) l i))
+        ap (λ (w : ℕ). flatMap (polygonWords w) (map (map pairCode) (k .edges))) size
+            ∙ (flatMap-map (polygonWords z) (map pairCode) (k .edges)
+            ∙ (flatMap-same (λ (l : List Pair). polygonWords z (map pairCode l)) (λ (l : List Pair). figureWords (polygon z l)) (k .edges) (λ l i. one-polygon n z l b (h .proper k (here refl) l i))
             ∙ sym (flatMap-map figureWords (polygon z) (k .edges)))),
         length-map (k .edges) (polygon z),
       ),

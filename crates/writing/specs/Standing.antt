@@ -6,13 +6,13 @@ use lib.ListN.{length, drop}
 use Rattle.definitions.specs.Job.{counted, figureWords, compoundWords}
 use Rattle.definitions.specs.Orbits.{Row}
 use Rattle.words.specs.Words.{words}
-use Rattle.pool.specs.Pool.{count, closed}
+use Rattle.pool.specs.Pool.{count, closedLists}
 use Rattle.orbits.specs.Workspace.{orbitsIn}
-use Rattle.compounds.specs.Areas.{Holds}
+use Rattle.compounds.specs.Areas.{HoldsOrder}
 use Rattle.compounds.specs.Labels.{labelsIn}
 use Rattle.compounds.specs.Numbers.{AllBelow, compoundsFrom}
 use Rattle.shapes.specs.EdgeSets.{polygon}
-use Rattle.shelf.specs.Keeps.{Fits, ownersPart, edgesPart}
+use Rattle.shelf.specs.Keeps.{ShelfFits, ownersPart, edgesPart}
 use Rattle.shelf.specs.Leaves.{listsLeft}
 use Rattle.shelf.specs.declared.Level.{Level}
 use Rattle.writing.specs.Facets.{OwnersBelow, listWords}
@@ -24,21 +24,21 @@ abbrev pub ownersIn : Level → List ℕ → List ℕ
 ownersIn level s = words 2 (ownersPart (level .shelf) s) (level .shelf .facets)
 
 abbrev pub edgesIn : Level → List ℕ → List (List ℕ)
-edgesIn level s = closed 2 1024 (edgesPart (level .shelf) s)
+edgesIn level s = closedLists 2 1024 (edgesPart (level .shelf) s)
 
 -- the split lists, and the orbits of their facets
-pub record Listed (level : Level) (s : List ℕ) : Type 0 where
-  pub fits : Fits (level .shelf) (length s)
+pub record ListsStanding (level : Level) (s : List ℕ) : Type 0 where
+  pub fits : ShelfFits (level .shelf) (length s)
   pub fewFacets : level .shelf .facets ≤ 1024
   pub owners : OwnersBelow 256 (ownersIn level s)
-  pub area : Holds 1024 (level .bytes) (level .count) (drop (level .lists) s)
+  pub area : HoldsOrder 1024 (level .bytes) (level .count) (drop (level .lists) s)
   pub fewEntries : level .count ≤ 1024
   pub room : level .lists + (level .bytes + 2048 + 4 * level .count) ≤ length s
   pub numbers : AllBelow (level .shelf .facets) (listsLeft level s)
 
 -- and the edges of the facets, and what the rows do to them
 pub record Standing (m : ℕ) (rows : List ℕ) (level : Level) (s : List ℕ) : Type 0 where
-  pub listed : Listed level s
+  pub listed : ListsStanding level s
   pub fewOrbits : level .shelf .orbits ≤ 256
   pub rowsFit : 32 * m ≤ length rows
   pub edges : EdgesFit m rows (edgesPart (level .shelf) s)

@@ -13,10 +13,10 @@ use Rattle.definitions.specs.Recursion.{Entry}
 use Rattle.definitions.specs.Job.{counted, figureWords, entryWords, compoundWords, summaryWords, answerWords}
 use Rattle.laws.specs.Lists.{Mem, here, there, of-flatMap, flatMap-same, member-at, map-at}
 use Rattle.laws.specs.Places.{flat-singles, flatMap-map}
-use Rattle.pool.specs.Pool.{count, closed, closed-length}
+use Rattle.pool.specs.Pool.{count, closedLists, closed-length}
 use Rattle.orbits.specs.Numbers.{orbitOf}
 use Rattle.orbits.specs.Workspace.{orbitsIn}
-use Rattle.openers.specs.Meaning.{codeOf, pairOf}
+use Rattle.openers.specs.Meaning.{pairCode, pairOf}
 use Rattle.openers.specs.Rows.{rowsIn, RowsFit, ImagesBelow}
 use Rattle.compounds.specs.Areas.{listAt}
 use Rattle.compounds.specs.Labels.{labelsIn}
@@ -53,14 +53,14 @@ module _ {n : ℕ} {kept : List Kept} (h : EdgesKept n kept) where
 -- ---- possible facets
 
 -- the figure of a facet's first edge, from its code
-first-edge : (n : ℕ) (l : List Pair) → n ≤ 20 → ((e : Pair) → Mem e l → Ends n e) → edgeFigureWords (map codeOf l) ≡ figureWords (edgeFigure (getD l 0 (0, 0)))
+first-edge : (n : ℕ) (l : List Pair) → n ≤ 20 → ((e : Pair) → Mem e l → Ends n e) → edgeFigureWords (map pairCode l) ≡ figureWords (edgeFigure (getD l 0 (0, 0)))
 unfolding edgeFigureWords pairOf
 first-edge n [] b h = refl
 first-edge n (e ∷ l) b h = ap (λ (p : Pair). figureWords (edgeFigure p)) (pair-code e (omega (arith, h e (here refl) .second)))
 
-split-edges : (k : Kept) (kept : List Kept) → map (map codeOf) (edgesOf (k ∷ kept)) ≡ map (map codeOf) (k .edges) ++ map (map codeOf) (edgesOf kept)
+split-edges : (k : Kept) (kept : List Kept) → map (map pairCode) (edgesOf (k ∷ kept)) ≡ map (map pairCode) (k .edges) ++ map (map pairCode) (edgesOf kept)
 unfolding edgesOf flatMap
-split-edges k kept = map-append (map codeOf) (k .edges) (edgesOf kept)
+split-edges k kept = map-append (map pairCode) (k .edges) (edgesOf kept)
 
 split-owners : (o : ℕ) (k : Kept) (kept : List Kept) → drop (facetsIn k) (ownersFrom o (k ∷ kept)) ≡ ownersFrom (suc o) kept
 unfolding ownersFrom
@@ -70,11 +70,11 @@ possible-length : (k : Kept) → length (keptPossible 0 k) ≡ length (k .edges)
 unfolding keptPossible
 possible-length k = length-map (k .edges) (λ (edges : List Pair). edgeFigure (getD edges 0 (0, 0)))
 
-figures-of : (n : ℕ) (k : Kept) → n ≤ 20 → ((l : List Pair) → Mem l (k .edges) → (e : Pair) → Mem e l → Proper n e) → flatMap edgeFigureWords (map (map codeOf) (k .edges)) ≡ flatMap figureWords (keptPossible 0 k)
+figures-of : (n : ℕ) (k : Kept) → n ≤ 20 → ((l : List Pair) → Mem l (k .edges) → (e : Pair) → Mem e l → Proper n e) → flatMap edgeFigureWords (map (map pairCode) (k .edges)) ≡ flatMap figureWords (keptPossible 0 k)
 unfolding keptPossible
 figures-of n k b proper =
-    flatMap-map edgeFigureWords (map codeOf) (k .edges)
-    ∙ (flatMap-same (λ (l : List Pair). edgeFigureWords (map codeOf l)) (λ (l : List Pair). figureWords (edgeFigure (getD l 0 (0, 0)))) (k .edges) (λ l i. first-edge n l b (λ e j. ends (proper l i e j)))
+    flatMap-map edgeFigureWords (map pairCode) (k .edges)
+    ∙ (flatMap-same (λ (l : List Pair). edgeFigureWords (map pairCode l)) (λ (l : List Pair). figureWords (edgeFigure (getD l 0 (0, 0)))) (k .edges) (λ l i. first-edge n l b (λ e j. ends (proper l i e j)))
     ∙ sym (flatMap-map figureWords (λ (edges : List Pair). edgeFigure (getD edges 0 (0, 0))) (k .edges)))
   where
     ends : {e : Pair} → Proper n e → Ends n e
@@ -84,18 +84,18 @@ figures-of n k b proper =
 abbrev pub Figured : (ℕ → List ℕ → List ℕ) → (Kept → List Figure) → ℕ → List Kept → Type 0
 Figured figure says o [] = Unit {0}
 Figured figure says o (k ∷ kept) =
-    ((flatMap (figure o) (map (map codeOf) (k .edges)) ≡ flatMap figureWords (says k)) × (length (says k) ≡ length (k .edges))) × Figured figure says (suc o) kept
+    ((flatMap (figure o) (map (map pairCode) (k .edges)) ≡ flatMap figureWords (says k)) × (length (says k) ≡ length (k .edges))) × Figured figure says (suc o) kept
 
 pub possible-of : (figure : ℕ → List ℕ → List ℕ) (says : Kept → List Figure) (o : ℕ) (kept : List Kept) → Each kept → Figured figure says o kept
-    → possibleFrom figure (length kept) o (ownersFrom o kept) (map (map codeOf) (edgesOf kept)) ≡ flatMap (counted figureWords) (map says kept)
+    → possibleFrom figure (length kept) o (ownersFrom o kept) (map (map pairCode) (edgesOf kept)) ≡ flatMap (counted figureWords) (map says kept)
 unfolding possibleFrom flatMap counted
 possible-of figure says o [] each h = refl
 possible-of figure says o (k ∷ kept) each h =
     let m = facetsIn k in
     let many : length (k .edges) ≡ m = each .each k (here refl) in
-    let codes : List (List ℕ) = map (map codeOf) (k .edges) in
-    let rest : List (List ℕ) = map (map codeOf) (edgesOf kept) in
-    let codes-many : length codes ≡ m = length-map (k .edges) (map codeOf) ∙ many in
+    let codes : List (List ℕ) = map (map pairCode) (k .edges) in
+    let rest : List (List ℕ) = map (map pairCode) (edgesOf kept) in
+    let codes-many : length codes ≡ m = length-map (k .edges) (map pairCode) ∙ many in
     let later : Each kept = record { each = λ j i. each .each j (there i) } in
     let number : m ≡ length (says k) = sym (h .0 .1 ∙ many) in
     let owners-left = split-owners o k kept in
@@ -117,7 +117,7 @@ module _ {more n m : ℕ} {bytes : List ℕ} {kept : List Kept} {level : Level} 
   abbrev pub pool : List ℕ
   pool = edgesPart (level .shelf) s
 
-  pub edges-are : closed 2 1024 pool ≡ map (map codeOf) (edgesOf kept)
+  pub edges-are : closedLists 2 1024 pool ≡ map (map pairCode) (edgesOf kept)
   edges-are = left .keeps .edges .lists-are
 
   pub owners-are : ownersIn level s ≡ ownersFrom 0 kept
@@ -127,12 +127,12 @@ module _ {more n m : ℕ} {bytes : List ℕ} {kept : List Kept} {level : Level} 
   many-facets = left .keeps .facets ∙ sym (many-edges kept (all-each h))
 
   pub many-lists : count pool ≡ length (edgesOf kept)
-  many-lists = sym (closed-length 2 1024 pool) ∙ (ap length edges-are ∙ length-map (edgesOf kept) (map codeOf))
+  many-lists = sym (closed-length 2 1024 pool) ∙ (ap length edges-are ∙ length-map (edgesOf kept) (map pairCode))
 
   -- a facet's edges as codes
-  pub list-is : (k : ℕ) → k < count pool → listAt 1024 pool k ≡ map codeOf (getD (edgesOf kept) k [])
+  pub list-is : (k : ℕ) → k < count pool → listAt 1024 pool k ≡ map pairCode (getD (edgesOf kept) k [])
   unfolding listAt
-  list-is k l = ap (λ (ls : List (List ℕ)). getD ls k []) edges-are ∙ map-at (map codeOf) (edgesOf kept) k [] [] (omega (arith, many-lists))
+  list-is k l = ap (λ (ls : List (List ℕ)). getD ls k []) edges-are ∙ map-at (map pairCode) (edgesOf kept) k [] [] (omega (arith, many-lists))
 
   -- an edge's code, read in the pool
   record Read (code : ℕ) : Type 0 where
@@ -141,15 +141,15 @@ module _ {more n m : ℕ} {bytes : List ℕ} {kept : List Kept} {level : Level} 
     is : code ≡ 20 * edge .0 + edge .1
 
   code-read : (k i : ℕ) → k < count pool → i < length (listAt 1024 pool k) → Read (getD (listAt 1024 pool k) i 0)
-  unfolding codeOf
+  unfolding pairCode
   code-read k i a b =
       let es = getD (edgesOf kept) k [] in
       let e = list-is k a in
-      let inside : i < length es = omega (arith, b, ap length e, length-map es codeOf) in
+      let inside : i < length es = omega (arith, b, ap length e, length-map es pairCode) in
       record {
         edge = getD es i (0, 0);
         ends = all-ends h es (member-at (edgesOf kept) k [] (omega (arith, many-lists))) (getD es i (0, 0)) (member-at es i (0, 0) inside);
-        is = ap (λ (l : List ℕ). getD l i 0) e ∙ map-at codeOf es i 0 (0, 0) inside;
+        is = ap (λ (l : List ℕ). getD l i 0) e ∙ map-at pairCode es i 0 (0, 0) inside;
       }
 
   below-20 : (v : ℕ) → v < n → ImagesBelow 20 v m bytes

@@ -11,14 +11,14 @@ ghost use lib.ListN.{length, getD, drop, replicate};
 ghost use Rattle.laws.specs.Sets.{verticesOf};
 ghost use Rattle.laws.specs.Segments.{part};
 ghost use Rattle.words.specs.Words.{words};
-ghost use Rattle.pool.specs.Pool.{count, closed, Sound};
+ghost use Rattle.pool.specs.Pool.{count, closedLists, Sound};
 ghost use Rattle.definitions.specs.Job.{counted, figureWords, compoundWords, answerWords};
 ghost use Rattle.definitions.specs.Figures.{dyad};
 ghost use Rattle.definitions.specs.Recursion.{vertexRidge, swappedEnds, separateEnds};
 ghost use Rattle.orbits.specs.Workspace.{orbitsIn};
 ghost use Rattle.compounds.specs.Areas.{listAt, listOf, Holding};
 ghost use Rattle.compounds.specs.Labels.{labelOf, labelsIn};
-ghost use Rattle.compounds.specs.Numbers.{Below, compoundAt, compoundsFrom};
+ghost use Rattle.compounds.specs.Numbers.{ItemsBelow, compoundAt, compoundsFrom};
 ghost use Rattle.openers.specs.Meaning.{pairOf};
 ghost use Rattle.openers.specs.Marks.{marked};
 ghost use Rattle.openers.specs.Rows.{rowsIn};
@@ -32,7 +32,7 @@ ghost use Rattle.shelf.specs.Leaves.{listsLeft};
 ghost use Rattle.writing.specs.Images.{NumbersOf, NumbersBelow, imageMarks, numberWords, facetWords, idWords, IdsBelow, nextChoice, chosenFrom};
 ghost use Rattle.writing.specs.Solids.{polyhedronFrom, ImagesStand, solidFrom, solidEntryFrom, solidSummaryFrom};
 ghost use Rattle.writing.specs.SolidWritten.{WroteSolidAnswer};
-ghost use Rattle.writing.specs.Standing.{Listed, Standing, ownersIn, edgesIn, entryFrom, summaryFrom};
+ghost use Rattle.writing.specs.Standing.{ListsStanding, Standing, ownersIn, edgesIn, entryFrom, summaryFrom};
 ghost use Rattle.writing.specs.Written.{WroteAnswer};
 ghost use Rattle.writing.specs.Answers.{countWords, edgeFigureWords, polygonWords, sizeIn, possibleFrom};
 
@@ -208,7 +208,7 @@ fn write_list(
     area: Area,
     k: usize,
 ) -> usize
-    requires { ⌜ (2 * facets ≤ length (now owners)) × (facets < 4294967296) × OwnersBelow 256 (words 2 (now owners) facets) × Firsts (words 2 (now owners) facets) (now firsts) × Holding area (now lists) × (k < area .count) × Below facets (listOf area (now lists) k) ⌝ }
+    requires { ⌜ (2 * facets ≤ length (now owners)) × (facets < 4294967296) × OwnersBelow 256 (words 2 (now owners) facets) × Firsts (words 2 (now owners) facets) (now firsts) × Holding area (now lists) × (k < area .count) × ItemsBelow facets (listOf area (now lists) k) ⌝ }
     ensures { λ r. ⌜ Wrote (now (answer .entry)) at (now (answer .exit)) r (listWords (words 2 (now (owners .entry)) facets) (listOf area (now (lists .entry)) k)) ⌝ }
 {
     let n = compounds::length_at(lists, area, k);
@@ -240,8 +240,8 @@ fn mark_facet(edges: &[u8], x: usize, rows: &[u8], m: usize, marks: &mut [bool; 
 
 // All row images of the edges of the facets of the list at place k of an area.
 fn mark_list(lists: &[u8], area: Area, k: usize, edges: &[u8], rows: &[u8], m: usize) -> [bool; 400]
-    requires { ⌜ (32 * m ≤ length (now rows)) × EdgesFit m (now rows) (now edges) × Holding area (now lists) × (k < area .count) × Below (count (now edges)) (listOf area (now lists) k) ⌝ }
-    ensures { λ r. ⌜ r ≡ marksOf (rowsIn 32 m (now (rows .entry))) (closed 2 1024 (now (edges .entry))) (listOf area (now (lists .entry)) k) ⌝ }
+    requires { ⌜ (32 * m ≤ length (now rows)) × EdgesFit m (now rows) (now edges) × Holding area (now lists) × (k < area .count) × ItemsBelow (count (now edges)) (listOf area (now lists) k) ⌝ }
+    ensures { λ r. ⌜ r ≡ marksOf (rowsIn 32 m (now (rows .entry))) (closedLists 2 1024 (now (edges .entry))) (listOf area (now (lists .entry)) k) ⌝ }
 {
     let mut marks = [false; 400];
     let n = compounds::length_at(lists, area, k);
@@ -388,7 +388,7 @@ fn first_code(edges: &[u8], x: usize) -> usize
 // The figures of the facets from one number to another, each an edge.
 fn write_edge_facets(answer: &mut [u8], at: usize, edges: &[u8], from: usize, to: usize) -> usize
     requires { ⌜ Sound 2 1024 (now edges) × (from ≤ to) × (to ≤ count (now edges)) ⌝ }
-    ensures { λ r. ⌜ Wrote (now (answer .entry)) at (now (answer .exit)) r (flatMap edgeFigureWords (part from (to - from) (closed 2 1024 (now (edges .entry))))) ⌝ }
+    ensures { λ r. ⌜ Wrote (now (answer .entry)) at (now (answer .exit)) r (flatMap edgeFigureWords (part from (to - from) (closedLists 2 1024 (now (edges .entry))))) ⌝ }
 {
     let mut cursor = at;
     let mut x = from;
@@ -409,7 +409,7 @@ fn write_possible(
     edges: &[u8],
 ) -> usize
     requires { ⌜ (2 * facets ≤ length (now owners)) × (facets < 4294967296) × Sound 2 1024 (now edges) × (facets ≤ count (now edges)) ⌝ }
-    ensures { λ r. ⌜ Wrote (now (answer .entry)) at (now (answer .exit)) r (possibleFrom (λ (orbit : ℕ). edgeFigureWords) orbits 0 (words 2 (now (owners .entry)) facets) (closed 2 1024 (now (edges .entry)))) ⌝ }
+    ensures { λ r. ⌜ Wrote (now (answer .entry)) at (now (answer .exit)) r (possibleFrom (λ (orbit : ℕ). edgeFigureWords) orbits 0 (words 2 (now (owners .entry)) facets) (closedLists 2 1024 (now (edges .entry)))) ⌝ }
 {
     let mut cursor = at;
     let mut x = 0;
@@ -457,7 +457,7 @@ fn write_entry_list(
     firsts: &[usize; 256],
     k: usize,
 ) -> usize
-    requires { ⌜ Listed level (now ws) × Firsts (ownersIn level (now ws)) (now firsts) × (k < level .count) ⌝ }
+    requires { ⌜ ListsStanding level (now ws) × Firsts (ownersIn level (now ws)) (now firsts) × (k < level .count) ⌝ }
     ensures { λ r. ⌜ Wrote (now (answer .entry)) at (now (answer .exit)) r (listWords (ownersIn level (now (ws .entry))) (getD (listsLeft level (now (ws .entry))) k [])) ⌝ }
 {
     let lists = level.lists;
@@ -550,7 +550,7 @@ fn write_front(
 
 // The compounds among the entries.
 fn write_labels(answer: &mut [u8], at: usize, ws: &[u8], level: Level) -> usize
-    requires { ⌜ Listed level (now ws) ⌝ }
+    requires { ⌜ ListsStanding level (now ws) ⌝ }
     ensures { λ r. ⌜ Wrote (now (answer .entry)) at (now (answer .exit)) r (counted compoundWords (compoundsFrom 0 (labelsIn (level .bytes + 2048) (level .count) (drop (level .lists) (now (ws .entry)))))) ⌝ }
 {
     let lists = level.lists;
@@ -667,7 +667,7 @@ fn write_polygon_facets(
     n: usize,
 ) -> usize
     requires { ⌜ Sound 2 1024 (now edges) × (from ≤ to) × (to ≤ count (now edges)) × (n < 4294967296) ⌝ }
-    ensures { λ r. ⌜ Wrote (now (answer .entry)) at (now (answer .exit)) r (flatMap (polygonWords n) (part from (to - from) (closed 2 1024 (now (edges .entry))))) ⌝ }
+    ensures { λ r. ⌜ Wrote (now (answer .entry)) at (now (answer .exit)) r (flatMap (polygonWords n) (part from (to - from) (closedLists 2 1024 (now (edges .entry))))) ⌝ }
 {
     let mut cursor = at;
     let mut x = from;
@@ -690,7 +690,7 @@ fn write_possible_polygons(
     edges: &[u8],
 ) -> usize
     requires { ⌜ (8 * orbits ≤ length (now ws)) × (n < 4294967296) × (2 * facets ≤ length (now owners)) × (facets < 4294967296) × Sound 2 1024 (now edges) × (facets ≤ count (now edges)) ⌝ }
-    ensures { λ r. ⌜ Wrote (now (answer .entry)) at (now (answer .exit)) r (possibleFrom (λ (orbit : ℕ). polygonWords (sizeIn n (now (ws .entry)) orbit)) orbits 0 (words 2 (now (owners .entry)) facets) (closed 2 1024 (now (edges .entry)))) ⌝ }
+    ensures { λ r. ⌜ Wrote (now (answer .entry)) at (now (answer .exit)) r (possibleFrom (λ (orbit : ℕ). polygonWords (sizeIn n (now (ws .entry)) orbit)) orbits 0 (words 2 (now (owners .entry)) facets) (closedLists 2 1024 (now (edges .entry)))) ⌝ }
 {
     let mut cursor = at;
     let mut x = 0;
@@ -725,7 +725,7 @@ fn edge_numbers(marks: &[bool; 400]) -> [usize; 400]
 
 // The facets of the list at place k of an area.
 fn list_marks(lists: &[u8], area: Area, k: usize) -> [bool; 1024]
-    requires { ⌜ Holding area (now lists) × (k < area .count) × Below 1024 (listOf area (now lists) k) ⌝ }
+    requires { ⌜ Holding area (now lists) × (k < area .count) × ItemsBelow 1024 (listOf area (now lists) k) ⌝ }
     ensures { λ r. ⌜ r ≡ marked (replicate 1024 false) (listOf area (now (lists .entry)) k) ⌝ }
 {
     let mut marks = [false; 1024];
@@ -906,7 +906,7 @@ fn write_polyhedron(
 
 // The facets of entry k.
 fn entry_facets(ws: &[u8], level: Level, k: usize) -> [bool; 1024]
-    requires { ⌜ Listed level (now ws) × (k < level .count) ⌝ }
+    requires { ⌜ ListsStanding level (now ws) × (k < level .count) ⌝ }
     ensures { λ r. ⌜ r ≡ marked (replicate 1024 false) (getD (listsLeft level (now (ws .entry))) k []) ⌝ }
 {
     let lists = level.lists;

@@ -2,7 +2,7 @@
 use mathlib.Core.Path.{_≡_, sym, subst}
 use borrow.Author.Needs.{needs}
 use lib.ListN.{length}
-use Rattle.shelf.specs.Keeps.{Fits}
+use Rattle.shelf.specs.Keeps.{ShelfFits}
 use Rattle.shelf.specs.declared.Shelf.{Shelf}
 use Rattle.calls.specs.Layouts.{shelfFor}
 use Rattle.faceting.specs.Starts.{start-kept}
@@ -31,8 +31,8 @@ clear-shelf-requires : tie.Need-clear-shelf-requires
 clear-shelf-requires c κs =
     let s = c .before .before .before .before .before .before .before .before in
     let same : length (c .before .before .before .before .find-orbits .last .1 .1 .1 .1 .1 .1 .1 .1 .1 .0) ≡ length (s .args .ws .now) = search needs in
-    let fits = subst (Fits (shelfFor (s .args .rank))) (sym same) (s .pre .3) in
-    subst (λ (x : Shelf). Fits x (length (c .before .before .before .before .find-orbits .last .1 .1 .1 .1 .1 .1 .1 .1 .1 .0))) (sym (c .before .shelf-for .ensures)) fits
+    let fits = subst (ShelfFits (shelfFor (s .args .rank))) (sym same) (s .pre .3) in
+    subst (λ (x : Shelf). ShelfFits x (length (c .before .before .before .before .find-orbits .last .1 .1 .1 .1 .1 .1 .1 .1 .1 .0))) (sym (c .before .shelf-for .ensures)) fits
 
 -- src/lib.rt:108:1
 same-length : tie.Need-same-length
@@ -46,7 +46,7 @@ returns c =
     let clear = c .before .before .clear-shelf in
     let same : length (found .last .1 .1 .1 .1 .1 .1 .1 .1 .1 .0) ≡ length (s .args .ws .now) = search needs in
     start-kept (s .args .rules .orbits) _ (s .args .flat .n) (found .result) (s .args .rank) (c .before .before .before .before .shelf-for .result) (found .last .1 .1 .1 .1 .1 .1 .1 .1 .1 .0) (clear .last .0) (c .before .before .before .before .shelf-for .ensures)
-    (subst (Fits (shelfFor (s .args .rank))) (sym same) (s .pre .3)) (s .pre .1) (clear .ensures .0) (clear .ensures .1) (found .ensures)
+    (subst (ShelfFits (shelfFor (s .args .rank))) (sym same) (s .pre .3)) (s .pre .1) (clear .ensures .0) (clear .ensures .1) (found .ensures)
 
 pub start-call-spec : {M : Type 1} → statement M
 start-call-spec = tie.close (tie.spec sub-find-orbits find-orbits-requires shelf-for-requires clear-shelf-requires same-length returns)

@@ -5,7 +5,7 @@ use native.Mathlib.Omega.{arith}
 use lib.ListN.{length, getD}
 use Rattle.laws.specs.Sets.{verticesOf}
 use Rattle.keep.specs.Storing.{beside-take}
-use Rattle.keep.specs.Stocked.{Within}
+use Rattle.keep.specs.Stocked.{ShelfWritten}
 use Rattle.keep.specs.Vertices.{vertex-at, vertex-below}
 use Rattle.keep.specs.Short.{oneOrTwo}
 use Rattle.keep.specs.Edges.{end-rooms, edge-room, edge-within, edge-more}
@@ -95,7 +95,7 @@ returns c = let s = c .before .before .before .before .before .before .before .b
     let one = c .before .before .before .before .before .before .before .before .before .before .before .keep-ends .ensures in
     let two = c .before .before .before .before .before .before .before .store-u16 .ensures in
     let last = c .before .before .before .store-facet .ensures in
-    let near : Within (s .args .shelf) (s .args .ws .now) (c .before .before .before .store-facet .last .0) = rw last (edge-within (s .args .shelf) (s .args .swapped) _ _ (s .args .ws .now) _ _ one two (s .pre .2 .1) (s .pre .2 .2) (s .pre .2 .3 .orbitRoom) (s .pre .2 .3 .facetRoom)) in (
+    let near : ShelfWritten (s .args .shelf) (s .args .ws .now) (c .before .before .before .store-facet .last .0) = rw last (edge-within (s .args .shelf) (s .args .swapped) _ _ (s .args .ws .now) _ _ one two (s .pre .2 .1) (s .pre .2 .2) (s .pre .2 .3 .orbitRoom) (s .pre .2 .3 .facetRoom)) in (
       c .one-more .ensures,
       (
         (beside-take near 2048 (s .pre .2 .1 .fits .orbitRoom), near),

@@ -3,7 +3,7 @@ use native.Mathlib.Omega.{arith}
 use lib.ListN.{length, length-map}
 use Rattle.shelf.specs.Keeps.{ridgeCodes}
 use Rattle.keep.specs.Storing.{beside-take}
-use Rattle.keep.specs.Stocked.{Within}
+use Rattle.keep.specs.Stocked.{ShelfWritten}
 use Rattle.keep.specs.Adding.{stocked-with}
 use Rattle.keep.specs.Rooms.{room-ridges}
 use Rattle.keep.specs.Whole.{nextVertices, vertex-small, source-then, facets-room, polygons-within, polygons-more}
@@ -44,7 +44,7 @@ same-length c = search needs
 
 returns : tie.Need-returns
 returns c = let s = c .before .before .before .before .before .before .before .before .before .before .before .before .before .before in let vs = c .before .before .before .before .before .before .before .before .before .vertices-of .result in let holds = rw (c .before .before .before .before .before .before .before .before .before .before .get-u32 .ensures) at (c .before .before .before .before .before .before .before .before .before .vertices-of .ensures) in let N = length (nextVertices (s .args .n) (s .args .shelf) (s .args .ws .now)) in
-    let near : Within (s .args .shelf) (s .args .ws .now) (c .before .before .before .keep-facets .last .0) = (
+    let near : ShelfWritten (s .args .shelf) (s .args .ws .now) (c .before .before .before .keep-facets .last .0) = (
     let inner = s .pre .3 .1 in let keeps = s .pre .3 .2 in let ridges = s .pre .3 .3 in let l = s .pre .3 .4 in let room = s .pre .3 .5 in
     let one = c .before .before .before .before .before .before .before .store-ridges .ensures N (s .args .m) (s .args .rows .now) inner l in
     polygons-within (s .args .n) (s .args .shelf) (s .args .m) inner (s .args .level) (s .args .rows .now) (s .args .at) (s .args .ws .now) vs holds (s .pre .0) l (s .pre .2) (s .pre .1) keeps ridges one (c .before .before .before .keep-facets .ensures N inner (source-then (s .args .n) (s .args .shelf) (s .args .m) inner (s .args .level) (s .args .rows .now) (s .args .at) (s .args .ws .now) vs holds (s .pre .0) l (s .pre .2) (s .pre .1) keeps ridges one))) in (

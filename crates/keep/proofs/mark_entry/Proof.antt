@@ -9,7 +9,7 @@ use lib.Seq.{take-all}
 use Rattle.definitions.specs.Orbits.{pairImage}
 use Rattle.openers.specs.Rows.{rowsIn}
 use Rattle.openers.specs.Marks.{marked}
-use Rattle.openers.specs.Meaning.{codeOf}
+use Rattle.openers.specs.Meaning.{pairCode}
 use Rattle.shapes.specs.Kept.{Kept}
 use Rattle.shelf.specs.Leaves.{listsLeft}
 use Rattle.keep.specs.Polygons.{edgeAt, imagesOf, EdgesLeft}
@@ -19,7 +19,7 @@ use Rattle.keep.proofs.mark_entry.Statement.{statement}
 use Rattle.keep.proofs.mark_entry.Tie as tie
 
 abbrev Inv-loop : tie.InvT-loop
-Inv-loop s level k rows m marks₀ items i₀ marks i = (i ≤ items) × ((n : ℕ) (inner : List Kept) → EdgesLeft n m inner level rows s → marks ≡ marked marks₀ (map codeOf (imagesOf (rowsIn n m rows) inner (take i (getD (listsLeft level s) k [])))))
+Inv-loop s level k rows m marks₀ items i₀ marks i = (i ≤ items) × ((n : ℕ) (inner : List Kept) → EdgesLeft n m inner level rows s → marks ≡ marked marks₀ (map pairCode (imagesOf (rowsIn n m rows) inner (take i (getD (listsLeft level s) k [])))))
 
 abbrev μ-loop : tie.MeasureT-loop
 μ-loop s level k rows m marks₀ items i₀ marks i = items - i
@@ -55,7 +55,7 @@ loop-again c =
       λ n inner l.
           let below : c .before .before .facet-at .result < length inner = rw x (facet-below l (s .args .k) (p .i) (s .pre .3) i-few) in
           c .mark-facet .ensures n inner l below
-          ∙ (ap (λ (q : List Bool). marked q (map codeOf (map (pairImage (edgeAt inner (c .before .before .facet-at .result))) (rowsIn n (s .args .m) (s .args .rows .now))))) (p .inv .1 n inner l)
+          ∙ (ap (λ (q : List Bool). marked q (map pairCode (map (pairImage (edgeAt inner (c .before .before .facet-at .result))) (rowsIn n (s .args .m) (s .args .rows .now))))) (p .inv .1 n inner l)
           ∙ sym (images-more (rowsIn n (s .args .m) (s .args .rows .now)) inner (s .args .marks .now) (getD (listsLeft (s .args .level) (s .args .s .now)) (s .args .k) []) (p .i) (c .before .before .facet-at .result) i-few x)),
     )
 
@@ -64,7 +64,7 @@ returns c = λ n inner l.
     let s = c .before .before .before .before .before in
     let p = c .before .loop in
     let list = getD (listsLeft (s .args .level) (s .args .s .now)) (s .args .k) [] in
-    p .inv .1 n inner l ∙ ap (λ (q : List ℕ). marked (s .args .marks .now) (map codeOf (imagesOf (rowsIn n (s .args .m) (s .args .rows .now)) inner q))) (take-all (p .i) list (omega (arith, c .before .before .facets-of .ensures)))
+    p .inv .1 n inner l ∙ ap (λ (q : List ℕ). marked (s .args .marks .now) (map pairCode (imagesOf (rowsIn n (s .args .m) (s .args .rows .now)) inner q))) (take-all (p .i) list (omega (arith, c .before .before .facets-of .ensures)))
 
 pub mark-entry-spec : {M : Type 1} → statement M
 mark-entry-spec =

@@ -2,7 +2,7 @@
 use mathlib.Core.Path.{ap, _∙_}
 use mathlib.Core.List.{map}
 use native.Mathlib.Omega.{arith}
-use Rattle.openers.specs.Meaning.{codeOf}
+use Rattle.openers.specs.Meaning.{pairCode}
 use Rattle.shelf.specs.Keeps.{edgesOf}
 use Rattle.openers.specs.Marks.{marked}
 use Rattle.keep.specs.Reading.{edge-known, edge-code, code-apart, code-images, images-under}
@@ -10,7 +10,7 @@ use Rattle.keep.proofs.mark_facet.Statement.{statement}
 use Rattle.keep.proofs.mark_facet.Tie as tie
 
 edge-at-requires : tie.Need-edge-at-requires
-edge-at-requires c κs = let s = c .before .before in let l = s .pre .2 in (l .leaves .keeps .fits, (map (map codeOf) (edgesOf (s .pre .1)), l .leaves .keeps .edges, edge-known l (s .args .x) (s .pre .3) .0, edge-known l (s .args .x) (s .pre .3) .1))
+edge-at-requires c κs = let s = c .before .before in let l = s .pre .2 in (l .leaves .keeps .fits, (map (map pairCode) (edgesOf (s .pre .1)), l .leaves .keeps .edges, edge-known l (s .args .x) (s .pre .3) .0, edge-known l (s .args .x) (s .pre .3) .1))
 
 mark-pair-images-requires : tie.Need-mark-pair-images-requires
 mark-pair-images-requires c κs =

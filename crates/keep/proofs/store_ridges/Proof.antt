@@ -4,7 +4,7 @@ use mathlib.Core.List.{List, map}
 use Prim.Native.Nat.{ℕ, _+_, _*_, _-_, _≤_, _<_}
 use native.Mathlib.Omega.{arith}
 use lib.ListN.{length, take, drop}
-use Rattle.openers.specs.Meaning.{codeOf}
+use Rattle.openers.specs.Meaning.{pairCode}
 use Rattle.shapes.specs.Kept.{Kept}
 use Rattle.shelf.specs.Keeps.{edgesOf}
 use Rattle.keep.specs.Polygons.{EdgesLeft}
@@ -37,12 +37,12 @@ part-edge-at-end c = search needs
 edge-at-requires : tie.Need-edge-at-requires Inv-loop μ-loop
 edge-at-requires c κs = let s = c .before .before .before .before .before in let p = c .before .before .before .loop in let n = s .pre .3 .0 in let inner = s .pre .3 .3 in let l = s .pre .3 .4 in let g = p .inv .1 n (s .pre .3 .1) (s .pre .3 .2) inner l in let tail = behind-lent g (s .args .at) (omega (arith, s .pre .0, s .pre .1)) in
     let a-few : p .a < length inner = omega (arith, orbits-many l) in let known = edge-known l (p .a) a-few in
-    rw tail (l .leaves .keeps .fits, (map (map codeOf) (edgesOf inner), l .leaves .keeps .edges, known .0, known .1))
+    rw tail (l .leaves .keeps .fits, (map (map pairCode) (edgesOf inner), l .leaves .keeps .edges, known .0, known .1))
 
 moved-requires : tie.Need-moved-requires Inv-loop μ-loop
 moved-requires c κs = let s = c .before .before .before .before .before .before in let p = c .before .before .before .before .loop in let n = s .pre .3 .0 in let inner = s .pre .3 .3 in let l = s .pre .3 .4 in let g = p .inv .1 n (s .pre .3 .1) (s .pre .3 .2) inner l in let tail = behind-lent g (s .args .at) (omega (arith, s .pre .0, s .pre .1)) in
     let a-few : p .a < length inner = omega (arith, orbits-many l) in let known = edge-known l (p .a) a-few in
-    let e = edge-code l (p .a) a-few (c .edge-at .result) ((rw tail at (c .edge-at .ensures)) (map (map codeOf) (edgesOf inner)) (l .leaves .keeps .edges) (known .0) (known .1)) in let apart = code-apart l (p .a) a-few (c .edge-at .result) e in
+    let e = edge-code l (p .a) a-few (c .edge-at .result) ((rw tail at (c .edge-at .ensures)) (map (map pairCode) (edgesOf inner)) (l .leaves .keeps .edges) (known .0) (known .1)) in let apart = code-apart l (p .a) a-few (c .edge-at .result) e in
     (apart .2, s .pre .3 .6 _ (apart .3), s .pre .3 .6 _ (apart .4))
 
 cast-code : tie.Need-cast-code Inv-loop μ-loop
@@ -108,7 +108,7 @@ loop-again c = let s = c .before .before .before .before .before .before .before
       let g = p .inv .1 n m rows inner l in
       let tail = behind-lent g (s .args .at) (omega (arith, s .pre .0, s .pre .1)) in
       let a-few : p .a < length inner = omega (arith, c .before .before .before .before .before .before .before .before .before .before .before .loop-test .taken, orbits-many l) in let known = edge-known l (p .a) a-few in
-      let e = edge-code l (p .a) a-few (c .before .before .before .before .before .before .before .before .edge-at .result) ((rw tail at (c .before .before .before .before .before .before .before .before .edge-at .ensures)) (map (map codeOf) (edgesOf inner)) (l .leaves .keeps .edges) (known .0) (known .1)) in let apart = code-apart l (p .a) a-few (c .before .before .before .before .before .before .before .before .edge-at .result) e in
+      let e = edge-code l (p .a) a-few (c .before .before .before .before .before .before .before .before .edge-at .result) ((rw tail at (c .before .before .before .before .before .before .before .before .edge-at .ensures)) (map (map pairCode) (edgesOf inner)) (l .leaves .keeps .edges) (known .0) (known .1)) in let apart = code-apart l (p .a) a-few (c .before .before .before .before .before .before .before .before .edge-at .result) e in
       let count = rw tail at (c .before .before .before .before .get-u32 .ensures) in
       let many = ridges-many (s .args .vertices .at) inner in
       taking-push (s .pre .3 .5) (ridgesMoved (s .args .vertices .at) inner) (p .a) g (omega (arith, many)) (omega (arith, many, orbits-many l, orbits-many (s .pre .3 .4))) _ (c .before .before .push-u32 .last .0)

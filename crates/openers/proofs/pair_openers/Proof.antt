@@ -12,7 +12,7 @@ use Rattle.definitions.specs.Orbits.{vertexOpeners, pairsFrom}
 use Rattle.space.specs.Meaning.{pointsOf, limitsOf}
 use Rattle.openers.specs.Rows.{rowsIn}
 use Rattle.openers.specs.Marks.{walked-fewer}
-use Rattle.openers.specs.Meaning.{codeOf, breaks, pairCodes, HoldsPairs, verticesIn}
+use Rattle.openers.specs.Meaning.{pairCode, breaks, pairCodes, HoldsPairs, verticesIn}
 use Rattle.openers.proofs.Laws.{opener-at}
 use Rattle.openers.proofs.PairWalk.{foundFrom, marksFrom, from-none, found-from, marks-from, Rising, openers-rise, room, from-vertices, agree-none, pairs-walked}
 use Rattle.openers.proofs.pair_openers.Statement.{statement}
@@ -50,7 +50,7 @@ pairs-above-requires c κs = let l = c .before .before .before .loop in let s = 
     let rise : Rising n (verticesIn (o .result)) = rw (o .ensures .means) (openers-rise (rowsIn n (s .args .m) (s .args .rows .now)) n) in
     let long : length (verticesIn (o .result)) ≡ o .result .count = ap length (o .ensures .means) ∙ sym (o .ensures .count-is) in
     let here : getD (verticesIn (o .result)) (l .k) 0 ≡ getD (o .result .at) (l .k) 0 = opener-at (o .result) (l .k) (omega arith) in
-    let few : l .pairs .count ≤ length (pairsFrom n (take (l .k) (verticesIn (o .result)))) = omega (arith, l .inv .1 .count-is, walked-fewer codeOf images skip (replicate 400 false) (pairsFrom n (take (l .k) (verticesIn (o .result))))) in
+    let few : l .pairs .count ≤ length (pairsFrom n (take (l .k) (verticesIn (o .result)))) = omega (arith, l .inv .1 .count-is, walked-fewer pairCode images skip (replicate 400 false) (pairsFrom n (take (l .k) (verticesIn (o .result))))) in
     (s .pre .0, omega (arith, rise .below (l .k) (omega arith)), s .pre .1, l .inv .1 .fits, omega (arith, room n (verticesIn (o .result)) rise (s .pre .0 .n-fits) (l .k) (l .pairs .count) (omega arith) few))
 
 add-k : tie.Need-add-k Inv-loop μ-loop

@@ -2,7 +2,7 @@
 use mathlib.Core.Path.{refl}
 use borrow.Author.Needs.{needs}
 use Rattle.definitions.specs.Job.{bounds1}
-use Rattle.faceting.specs.Stocks.{rulesOf}
+use Rattle.faceting.specs.Stocks.{callRules}
 use Rattle.register.specs.Loaded.{jobRules}
 use Rattle.register.proofs.rules_of.Statement.{statement}
 use Rattle.register.proofs.rules_of.Tie as tie
@@ -11,7 +11,7 @@ limit-of-requires : tie.Need-limit-of-requires
 limit-of-requires c κs = search needs
 
 returns : tie.Need-returns
-unfolding rulesOf jobRules bounds1
+unfolding callRules jobRules bounds1
 returns c = rw (c .limit-of .ensures) refl
 
 pub rules-of-spec : {M : Type 1} → statement M

@@ -6,14 +6,14 @@ use mathlib.Core.List.{[]}
 use mathlib.Core.Logic.{⊎-elim}
 use native.Mathlib.Omega.{arith}
 use lib.ListN.{length, getD}
-use Rattle.pool.specs.Pool.{closed}
+use Rattle.pool.specs.Pool.{closedLists}
 use Rattle.ridges.proofs.Numbers.{length-read, item-asks, item-read}
 use Rattle.ridges.proofs.Tables.{Adding, adding-start, adding-joins, adding-stays, total-small, adding-end}
 use Rattle.ridges.proofs.amount.Statement.{statement}
 use Rattle.ridges.proofs.amount.Tie as tie
 
 abbrev Inv-loop : tie.InvT-loop
-Inv-loop shares x ridge n places₀ last₀ i₀ places last i = (n ≡ length (getD (closed 4 1024 shares) x [])) × Adding (getD (closed 4 1024 shares) x []) ridge places last i
+Inv-loop shares x ridge n places₀ last₀ i₀ places last i = (n ≡ length (getD (closedLists 4 1024 shares) x [])) × Adding (getD (closedLists 4 1024 shares) x []) ridge places last i
 
 abbrev μ-loop : tie.MeasureT-loop
 μ-loop shares x ridge n places₀ last₀ i₀ places last i = n - i
@@ -44,7 +44,7 @@ loop-less c = search needs
 
 loop-again : tie.Need-loop-again Inv-loop μ-loop
 loop-again c = let s = c .before .before .before .before .before .before in let l = c .before .before .before .loop in
-    let h : l .i < length (getD (closed 4 1024 (s .args .shares .now)) (s .args .x) []) = omega (arith, l .inv .0, c .before .before .loop-test .taken) in
+    let h : l .i < length (getD (closedLists 4 1024 (s .args .shares .now)) (s .args .x) []) = omega (arith, l .inv .0, c .before .before .loop-test .taken) in
     let v = c .before .item-u32 .ensures ∙ item-read 4 1024 _ (s .pre .0) (s .args .x) (s .pre .1) (l .i) h in (
       l .inv .0,
       ⊎-elim

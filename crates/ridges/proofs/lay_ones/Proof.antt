@@ -1,6 +1,6 @@
 -- `lay_ones` meets its contract. The loop's invariant: the first ridge orbits have their lists. The measure is what is left of them.
 use mathlib.Core.List.{[]}
-use Rattle.pool.specs.Pool.{closed-length, closed}
+use Rattle.pool.specs.Pool.{closed-length, closedLists}
 use Rattle.ridges.specs.Codes.{ones-room, onesOf}
 use Rattle.ridges.proofs.Tables.{laid-start, laid-more, laid-ready, laid-end, laid-area, clear-area}
 use borrow.Author.Needs.{needs}
@@ -8,13 +8,13 @@ use mathlib.Core.Path.{_≡_, refl}
 use Prim.Native.Nat.{_-_, _≤_}
 use native.Mathlib.Omega.{arith}
 use lib.ListN.{length}
-use Rattle.ridges.specs.Areas.{area, Grown, listsTo, area-kept}
+use Rattle.ridges.specs.Areas.{area, AreaGrown, listsTo, area-kept}
 use Rattle.ridges.proofs.lay_ones.Statement.{statement}
 use Rattle.ridges.proofs.lay_ones.Tie as tie
 
 abbrev Inv-loop : tie.InvT-loop
 Inv-loop ws₀ desk facets ridges ones frames ridge₀ ws ridge =
-    (length ws ≡ length ws₀) × (ridge ≤ ridges) × Grown ones frames 2 ridges ws₀ ws (listsTo (onesOf (closed 4 1024 (area (desk .shares) (desk .touched) ws₀)) facets) ridge)
+    (length ws ≡ length ws₀) × (ridge ≤ ridges) × AreaGrown ones frames 2 ridges ws₀ ws (listsTo (onesOf (closedLists 4 1024 (area (desk .shares) (desk .touched) ws₀)) facets) ridge)
 
 abbrev μ-loop : tie.MeasureT-loop
 μ-loop ws₀ desk facets ridges ones frames ridge₀ ws ridge =
@@ -47,7 +47,7 @@ ones-of-ridge-requires c κs = let s = c .before .before .before .before .before
       rw e (s .pre .3),
       omega (arith, s .pre .4, c .before .loop-test .taken),
       omega (arith, s .pre .2 .few, s .pre .3),
-      rw e (laid-ready (s .args .ws .now) (s .pre .5) _ (c .before .before .before .before .before .clear .ensures) _ (l .ridge) g _ (ones-room (l .ridge) (closed 4 1024 a) (s .args .facets) (omega (arith, closed-length 4 1024 a, s .pre .3))) (c .before .loop-test .taken)),
+      rw e (laid-ready (s .args .ws .now) (s .pre .5) _ (c .before .before .before .before .before .clear .ensures) _ (l .ridge) g _ (ones-room (l .ridge) (closedLists 4 1024 a) (s .args .facets) (omega (arith, closed-length 4 1024 a, s .pre .3))) (c .before .loop-test .taken)),
     )
 
 add-ridge : tie.Need-add-ridge Inv-loop μ-loop

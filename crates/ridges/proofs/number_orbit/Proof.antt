@@ -8,13 +8,13 @@ use borrow.Author.Needs.{needs}
 use mathlib.Core.List.{[]}
 use native.Mathlib.Omega.{arith}
 use lib.ListN.{length, getD}
-use Rattle.pool.specs.Pool.{closed}
+use Rattle.pool.specs.Pool.{closedLists}
 use Rattle.ridges.proofs.number_orbit.Statement.{statement}
 use Rattle.ridges.proofs.number_orbit.Tie as tie
 
 abbrev Inv-loop : tie.InvT-loop
 Inv-loop rows m o marks₀ counts₀ known ws₀ ridges places numbers shares n reached₀ i₀ marks counts ws reached i =
-    (n ≡ length (getD (closed 4 256 (area ridges places ws₀)) o [])) × Numbers m rows numbers shares (getD (closed 4 256 (area ridges places ws₀)) o []) marks₀ counts₀ known ws₀ marks counts ws reached i
+    (n ≡ length (getD (closedLists 4 256 (area ridges places ws₀)) o [])) × Numbers m rows numbers shares (getD (closedLists 4 256 (area ridges places ws₀)) o []) marks₀ counts₀ known ws₀ marks counts ws reached i
 
 abbrev μ-loop : tie.MeasureT-loop
 μ-loop rows m o marks₀ counts₀ known ws₀ ridges places numbers shares n reached₀ i₀ marks counts ws reached i =
@@ -58,7 +58,7 @@ cast-number-ridge c = search needs
 number-ridge-requires : tie.Need-number-ridge-requires Inv-loop μ-loop
 number-ridge-requires c κs = let s = c .before .before .before .before .before .before .before .before .before .before .before .before in let l = c .before .before .before .before .before .before .loop in
     let e = area-kept (s .args .desk .numbers) (s .args .shelf .ridges) (s .args .shelf .places) (s .args .ws .now) (l .ws) (l .inv .1 .front) (s .pre .0 .order) (s .pre .0 .before) in
-    let h : l .i < length (getD (closed 4 256 (area (s .args .shelf .ridges) (s .args .shelf .places) (s .args .ws .now))) (s .args .o) []) = omega (arith, l .inv .0, c .before .before .before .before .before .loop-test .taken) in
+    let h : l .i < length (getD (closedLists 4 256 (area (s .args .shelf .ridges) (s .args .shelf .places) (s .args .ws .now))) (s .args .o) []) = omega (arith, l .inv .0, c .before .before .before .before .before .loop-test .taken) in
     let v = rw e at (c .before .before .item-u32 .ensures) ∙ item-read 4 256 _ (s .pre .0 .sound) (s .args .o) (s .pre .1) (l .i) h in
     let k = ap (λ (x : ℕ). x % 65536) v in
     let t = rw (← k) at (s .pre .0 .sent (s .args .o) (l .i) h) in
@@ -85,7 +85,7 @@ loop-less c = search needs
 loop-again : tie.Need-loop-again Inv-loop μ-loop
 loop-again c = let s = c .before .before .before .before .before .before .before .before .before .before .before .before .before .before .before .before .before in let l = c .before .before .before .before .before .before .before .before .before .before .before .loop in
     let e = area-kept (s .args .desk .numbers) (s .args .shelf .ridges) (s .args .shelf .places) (s .args .ws .now) (l .ws) (l .inv .1 .front) (s .pre .0 .order) (s .pre .0 .before) in
-    let h : l .i < length (getD (closed 4 256 (area (s .args .shelf .ridges) (s .args .shelf .places) (s .args .ws .now))) (s .args .o) []) = omega (arith, l .inv .0, c .before .before .before .before .before .before .before .before .before .before .loop-test .taken) in
+    let h : l .i < length (getD (closedLists 4 256 (area (s .args .shelf .ridges) (s .args .shelf .places) (s .args .ws .now))) (s .args .o) []) = omega (arith, l .inv .0, c .before .before .before .before .before .before .before .before .before .before .loop-test .taken) in
     let v = rw e at (c .before .before .before .before .before .before .before .item-u32 .ensures) ∙ item-read 4 256 _ (s .pre .0 .sound) (s .args .o) (s .pre .1) (l .i) h in
     let k = ap (λ (x : ℕ). x % 65536) v in
     (l .inv .0, turn-more (s .pre .2) (l .inv .1) h _ k _ (omega (arith, c .before .before .before .before .number-ridge .ok)) _ _ _ (c .before .before .before .before .number-ridge .ensures) _ (c .before .before .push-u16 .ensures) (s .pre .3 .0) (s .pre .3 .1))

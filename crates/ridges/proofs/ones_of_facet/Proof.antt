@@ -8,7 +8,7 @@ use mathlib.Core.Logic.{⊎-elim}
 use Prim.Native.Nat.{_-_, _≤_, _<_}
 use native.Mathlib.Omega.{arith}
 use lib.ListN.{length, getD, take}
-use Rattle.pool.specs.Pool.{closed}
+use Rattle.pool.specs.Pool.{closedLists}
 use Rattle.ridges.specs.Areas.{area, Joined, area-kept}
 use Rattle.ridges.specs.Codes.{onesIn}
 use Rattle.ridges.proofs.ones_of_facet.Statement.{statement}
@@ -16,7 +16,7 @@ use Rattle.ridges.proofs.ones_of_facet.Tie as tie
 
 abbrev Inv-loop : tie.InvT-loop
 Inv-loop ws₀ ridges ridge x shares touched ones frames n i₀ ws i =
-    (length ws ≡ length ws₀) × (n ≡ length (getD (closed 4 1024 (area shares touched ws₀)) x [])) × (i ≤ n) × Joined ones frames 2 ridges ws₀ ws (onesIn ridge x (take i (getD (closed 4 1024 (area shares touched ws₀)) x [])))
+    (length ws ≡ length ws₀) × (n ≡ length (getD (closedLists 4 1024 (area shares touched ws₀)) x [])) × (i ≤ n) × Joined ones frames 2 ridges ws₀ ws (onesIn ridge x (take i (getD (closedLists 4 1024 (area shares touched ws₀)) x [])))
 
 abbrev μ-loop : tie.MeasureT-loop
 μ-loop ws₀ ridges ridge x shares touched ones frames n i₀ ws i =
@@ -75,7 +75,7 @@ cast-push-u16 c = search needs
 push-u16-requires : tie.Need-push-u16-requires Inv-loop μ-loop
 push-u16-requires c κs = let s = c .before .before .before .before .before .before .before .before .before .before .before in let l = c .before .before .before .before .before .before .loop in
     let e = area-kept (s .args .desk .ones) (s .args .desk .shares) (s .args .desk .touched) (s .args .ws .now) (l .ws) (l .inv .3 .front) (s .pre .0) (s .pre .1) in
-    let h : l .i < length (getD (closed 4 1024 (area (s .args .desk .shares) (s .args .desk .touched) (s .args .ws .now))) (s .args .x) []) = omega (arith, l .inv .1, c .before .before .before .before .before .loop-test .taken) in
+    let h : l .i < length (getD (closedLists 4 1024 (area (s .args .desk .shares) (s .args .desk .touched) (s .args .ws .now))) (s .args .x) []) = omega (arith, l .inv .1, c .before .before .before .before .before .loop-test .taken) in
     let v = rw e at (c .before .before .item-u32 .ensures) ∙ item-read 4 1024 _ (s .pre .2) (s .args .x) (s .pre .3) (l .i) h in
     ones-asks (s .args .ridge) (s .args .x) _ (s .pre .6) (l .i) (l .inv .3) h _ v (c .before .if1 .taken)
 
@@ -88,7 +88,7 @@ loop-less c = search needs
 loop-again : tie.Need-loop-again Inv-loop μ-loop
 loop-again c = let s = c .before .before .before .before .before .before .before .before .before .before in let l = c .before .before .before .before .before .loop in
     let e = area-kept (s .args .desk .ones) (s .args .desk .shares) (s .args .desk .touched) (s .args .ws .now) (l .ws) (l .inv .3 .front) (s .pre .0) (s .pre .1) in
-    let h : l .i < length (getD (closed 4 1024 (area (s .args .desk .shares) (s .args .desk .touched) (s .args .ws .now))) (s .args .x) []) = omega (arith, l .inv .1, c .before .before .before .before .loop-test .taken) in
+    let h : l .i < length (getD (closedLists 4 1024 (area (s .args .desk .shares) (s .args .desk .touched) (s .args .ws .now))) (s .args .x) []) = omega (arith, l .inv .1, c .before .before .before .before .loop-test .taken) in
     let v = rw e at (c .before .item-u32 .ensures) ∙ item-read 4 1024 _ (s .pre .2) (s .args .x) (s .pre .3) (l .i) h in
     ⊎-elim
     (λ w. let j = ones-joins (s .args .ridge) (s .args .x) _ (s .pre .6) (l .i) (l .inv .3) h _ v (w .0 .taken) (s .pre .5) _ (w .2 .ensures) in rw (w .5) (j .long, l .inv .1, omega arith, j))

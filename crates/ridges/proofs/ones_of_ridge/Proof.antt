@@ -5,7 +5,7 @@ use mathlib.Core.Path.{_≡_, refl}
 use Prim.Native.Nat.{_-_, _≤_}
 use native.Mathlib.Omega.{arith}
 use lib.ListN.{length}
-use Rattle.pool.specs.Pool.{closed}
+use Rattle.pool.specs.Pool.{closedLists}
 use Rattle.ridges.specs.Areas.{area, Joined, area-kept, end-asks}
 use Rattle.ridges.specs.Codes.{onesTo}
 use Rattle.ridges.proofs.ones_of_ridge.Statement.{statement}
@@ -13,7 +13,7 @@ use Rattle.ridges.proofs.ones_of_ridge.Tie as tie
 
 abbrev Inv-loop : tie.InvT-loop
 Inv-loop ws₀ desk facets ridges ridge ones frames x₀ ws x =
-    (length ws ≡ length ws₀) × (x ≤ facets) × Joined ones frames 2 ridges ws₀ ws (onesTo ridge (closed 4 1024 (area (desk .shares) (desk .touched) ws₀)) x)
+    (length ws ≡ length ws₀) × (x ≤ facets) × Joined ones frames 2 ridges ws₀ ws (onesTo ridge (closedLists 4 1024 (area (desk .shares) (desk .touched) ws₀)) x)
 
 abbrev μ-loop : tie.MeasureT-loop
 μ-loop ws₀ desk facets ridges ridge ones frames x₀ ws x =

@@ -4,7 +4,7 @@ use mathlib.Core.Path.{_≡_, refl, sym, _∙_}
 use Prim.Native.Nat.{_-_, _≤_}
 use native.Mathlib.Omega.{arith}
 use lib.ListN.{length}
-use Rattle.ridges.specs.Areas.{Grown, listsTo, clear-kept}
+use Rattle.ridges.specs.Areas.{AreaGrown, listsTo, clear-kept}
 use Rattle.ridges.specs.Shares.{sourcesOf, facetCodes, sources-kept}
 use Rattle.ridges.proofs.Tables.{laid-start, laid-more, laid-ready, laid-end}
 use Rattle.ridges.proofs.Sharing.{facet-requires, facets-room}
@@ -13,7 +13,7 @@ use Rattle.ridges.proofs.share_facets.Tie as tie
 
 abbrev Inv-loop : tie.InvT-loop
 Inv-loop ws₀ shelf desk counts shares touched facets x₀ ws x =
-    (length ws ≡ length ws₀) × (x ≤ facets) × Grown shares touched 4 1024 ws₀ ws (listsTo (facetCodes (sourcesOf shelf desk ws₀) counts) x)
+    (length ws ≡ length ws₀) × (x ≤ facets) × AreaGrown shares touched 4 1024 ws₀ ws (listsTo (facetCodes (sourcesOf shelf desk ws₀) counts) x)
 
 abbrev μ-loop : tie.MeasureT-loop
 μ-loop ws₀ shelf desk counts shares touched facets x₀ ws x =

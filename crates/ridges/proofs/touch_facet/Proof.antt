@@ -7,7 +7,7 @@ use mathlib.Core.Logic.{⊎-elim}
 use Prim.Native.Nat.{_-_, _≤_}
 use native.Mathlib.Omega.{arith}
 use lib.ListN.{length, getD}
-use Rattle.pool.specs.Pool.{closed}
+use Rattle.pool.specs.Pool.{closedLists}
 use Rattle.ridges.specs.Areas.{area, Joined, area-kept, end-asks, joined-end}
 use Rattle.ridges.proofs.Tables.{touch-start, touch-asks, touch-joins, touch-stays}
 use Rattle.ridges.proofs.touch_facet.Statement.{statement}
@@ -15,7 +15,7 @@ use Rattle.ridges.proofs.touch_facet.Tie as tie
 
 abbrev Inv-loop : tie.InvT-loop
 Inv-loop ws₀ facets ridges x shares touched ones ridge₀ ws ridge =
-    (length ws ≡ length ws₀) × (ridge ≤ ridges) × Joined touched ones 2 facets ws₀ ws (touchedTo ridge (getD (closed 4 1024 (area shares touched ws₀)) x []))
+    (length ws ≡ length ws₀) × (ridge ≤ ridges) × Joined touched ones 2 facets ws₀ ws (touchedTo ridge (getD (closedLists 4 1024 (area shares touched ws₀)) x []))
 
 abbrev μ-loop : tie.MeasureT-loop
 μ-loop ws₀ facets ridges x shares touched ones ridge₀ ws ridge = ridges - ridge
@@ -50,13 +50,13 @@ mul-push-u16 : tie.Need-mul-push-u16 Inv-loop μ-loop
 mul-push-u16 c = search needs
 
 add-push-u16 : tie.Need-add-push-u16 Inv-loop μ-loop
-add-push-u16 c = let l = c .before .before .before .before .before .before .loop in omega (arith, c .before .before .amount .ensures, amount-small (l .ridge) (getD (closed 4 1024 (area (c .before .before .before .before .before .before .before .before .args .desk .shares) (c .before .before .before .before .before .before .before .before .args .desk .touched) (l .ws))) (c .before .before .before .before .before .before .before .before .args .x) []))
+add-push-u16 c = let l = c .before .before .before .before .before .before .loop in omega (arith, c .before .before .amount .ensures, amount-small (l .ridge) (getD (closedLists 4 1024 (area (c .before .before .before .before .before .before .before .before .args .desk .shares) (c .before .before .before .before .before .before .before .before .args .desk .touched) (l .ws))) (c .before .before .before .before .before .before .before .before .args .x) []))
 
 cast-push-u16 : tie.Need-cast-push-u16 Inv-loop μ-loop
-cast-push-u16 c = let l = c .before .before .before .before .before .before .loop in record { fits = omega (arith, c .before .before .amount .ensures, amount-small (l .ridge) (getD (closed 4 1024 (area (c .before .before .before .before .before .before .before .before .args .desk .shares) (c .before .before .before .before .before .before .before .before .args .desk .touched) (l .ws))) (c .before .before .before .before .before .before .before .before .args .x) [])) }
+cast-push-u16 c = let l = c .before .before .before .before .before .before .loop in record { fits = omega (arith, c .before .before .amount .ensures, amount-small (l .ridge) (getD (closedLists 4 1024 (area (c .before .before .before .before .before .before .before .before .args .desk .shares) (c .before .before .before .before .before .before .before .before .args .desk .touched) (l .ws))) (c .before .before .before .before .before .before .before .before .args .x) [])) }
 
 push-u16-requires : tie.Need-push-u16-requires Inv-loop μ-loop
-push-u16-requires c κs = let s = c .before .before .before .before .before .before .before .before in let l = c .before .before .before .before .before .before .loop in touch-asks (getD (closed 4 1024 (area (s .args .desk .shares) (s .args .desk .touched) (s .args .ws .now))) (s .args .x) []) (s .pre .4) (l .ridge) (l .inv .2) (c .before .before .before .before .before .loop-test .taken)
+push-u16-requires c κs = let s = c .before .before .before .before .before .before .before .before in let l = c .before .before .before .before .before .before .loop in touch-asks (getD (closedLists 4 1024 (area (s .args .desk .shares) (s .args .desk .touched) (s .args .ws .now))) (s .args .x) []) (s .pre .4) (l .ridge) (l .inv .2) (c .before .before .before .before .before .loop-test .taken)
 
 add-ridge : tie.Need-add-ridge Inv-loop μ-loop
 add-ridge c = search needs
@@ -67,7 +67,7 @@ loop-less c = search needs
 loop-again : tie.Need-loop-again Inv-loop μ-loop
 loop-again c = let s = c .before .before .before .before .before .before .before in let l = c .before .before .before .before .before .loop in
     let e = area-kept (s .args .desk .touched) (s .args .desk .shares) (s .args .desk .touched) (s .args .ws .now) (l .ws) (l .inv .2 .front) (s .pre .0) (omega arith) in
-    let codes = getD (closed 4 1024 (area (s .args .desk .shares) (s .args .desk .touched) (s .args .ws .now))) (s .args .x) [] in
+    let codes = getD (closedLists 4 1024 (area (s .args .desk .shares) (s .args .desk .touched) (s .args .ws .now))) (s .args .x) [] in
     let v = rw e at (c .before .amount .ensures) in
     ⊎-elim
     (λ w. let j = touch-joins codes (s .pre .4) (l .ridge) (l .inv .2) (c .before .before .before .before .loop-test .taken) _ v (w .0 .taken) (s .pre .3) _ (w .2 .ensures) in rw (w .5) (j .long, omega arith, j))

@@ -6,15 +6,15 @@ use mathlib.Core.Path.{_≡_, refl}
 use Prim.Native.Nat.{_-_, _≤_}
 use native.Mathlib.Omega.{arith}
 use lib.ListN.{length}
-use Rattle.pool.specs.Pool.{closed}
-use Rattle.ridges.specs.Areas.{area, Grown, listsTo, area-kept}
+use Rattle.pool.specs.Pool.{closedLists}
+use Rattle.ridges.specs.Areas.{area, AreaGrown, listsTo, area-kept}
 use Rattle.ridges.specs.Codes.{touchedOf}
 use Rattle.ridges.proofs.touch_facets.Statement.{statement}
 use Rattle.ridges.proofs.touch_facets.Tie as tie
 
 abbrev Inv-loop : tie.InvT-loop
 Inv-loop ws₀ desk facets ridges touched ones x₀ ws x =
-    (length ws ≡ length ws₀) × (x ≤ facets) × Grown touched ones 2 facets ws₀ ws (listsTo (touchedOf ridges (closed 4 1024 (area (desk .shares) touched ws₀))) x)
+    (length ws ≡ length ws₀) × (x ≤ facets) × AreaGrown touched ones 2 facets ws₀ ws (listsTo (touchedOf ridges (closedLists 4 1024 (area (desk .shares) touched ws₀))) x)
 
 abbrev μ-loop : tie.MeasureT-loop
 μ-loop ws₀ desk facets ridges touched ones x₀ ws x =
@@ -41,7 +41,7 @@ touch-facet-requires c κs = let s = c .before .before .before .before .before .
     let z = clear-area (s .args .ws .now) (s .pre .4) _ (c .before .before .before .before .before .clear .ensures) (touchedOf (s .args .ridges) []) (s .args .desk .shares) (s .args .desk .touched) (s .pre .0) (omega arith) in
     let g = rw z at (l .inv .2) in
     let e = laid-area (s .args .ws .now) (s .pre .4) _ (c .before .before .before .before .before .clear .ensures) _ (l .x) g (s .args .desk .shares) (s .args .desk .touched) (s .pre .0) (omega arith) in
-    (s .pre .0, rw e (s .pre .1), rw e (omega (arith, s .pre .2, c .before .loop-test .taken)), s .pre .3, laid-ready (s .args .ws .now) (s .pre .4) _ (c .before .before .before .before .before .clear .ensures) _ (l .x) g (s .args .ridges) (touched-room (s .args .ridges) (closed 4 1024 a) (l .x) (s .args .facets) (c .before .loop-test .taken)) (c .before .loop-test .taken))
+    (s .pre .0, rw e (s .pre .1), rw e (omega (arith, s .pre .2, c .before .loop-test .taken)), s .pre .3, laid-ready (s .args .ws .now) (s .pre .4) _ (c .before .before .before .before .before .clear .ensures) _ (l .x) g (s .args .ridges) (touched-room (s .args .ridges) (closedLists 4 1024 a) (l .x) (s .args .facets) (c .before .loop-test .taken)) (c .before .loop-test .taken))
 
 add-x : tie.Need-add-x Inv-loop μ-loop
 add-x c = search needs

@@ -8,9 +8,9 @@ use mathlib.Core.Bool.{true, false}
 use Rattle.definitions.specs.Search.{closed, limitReached}
 use Rattle.pool.specs.Pool.{count}
 use Rattle.facets.specs.Layout.{listsPart, framesPart}
-use Rattle.frames.specs.Paths.{Stands, Emitted, listTo, emittedIn}
-use Rattle.search.specs.Outcomes.{limitOf}
-use Rattle.facets.specs.Judged.{Within}
+use Rattle.frames.specs.Paths.{PathStands, Emitted, listTo, emittedIn}
+use Rattle.search.specs.Outcomes.{entryLimitOf}
+use Rattle.facets.specs.Judged.{NotOver}
 use Rattle.frames.specs.Steps.{path-short}
 use Rattle.frames.specs.Emission.{emit-stands, emit-frames, emit-emitted, emit-lists, emit-tables}
 use Rattle.search.specs.Turns.{Followed, judged-light, follow-full, follow-stop, follow-closed}
@@ -56,13 +56,13 @@ returns-2 : tie.Need-returns-2
 unfolding Followed
 returns-2 c = λ t j. let s = c .before .before .before .before .before .before .before .before .before .before .before in let e = c .before .before .before .before .before .before .before .lists .ensures in
     let h : count (listsPart (s .args .a) (s .args .ws .now)) < s .args .a .bound = rw e at (c .before .before .before .before .before .before .if1 .left) in
-    let r : limitReached (limitOf (s .args .limit)) (count (listsPart (s .args .a) (s .args .ws .now)) + 1) ≡ true = rw e at (sym (c .before .reached .ensures) ∙ c .if2 .taken) in
+    let r : limitReached (entryLimitOf (s .args .limit)) (count (listsPart (s .args .a) (s .args .ws .now)) + 1) ≡ true = rw e at (sym (c .before .reached .ensures) ∙ c .if2 .taken) in
     rw (c .before .before .before .before .emit .ensures)
     (follow-stop t (s .args .a) (s .args .limit) (s .args .ws .now) (s .args .depth) j h _ (emit-stands t (s .args .a) (s .args .ws .now) (s .args .depth) (j .stands) (j .emitted) h) (emit-frames t (s .args .a) (s .args .ws .now) (s .args .depth) (j .stands) (j .emitted) h) (emit-lists t (s .args .a) (s .args .ws .now) (s .args .depth) (j .stands) (j .emitted) h) (emit-tables t (s .args .a) (s .args .ws .now) (s .args .depth) (j .stands) (j .emitted) h) (emit-emitted t (s .args .a) (s .args .ws .now) (s .args .depth) (j .stands) (j .emitted) h) r)
 
 -- a closed list is not over
-within : Within closed
-unfolding Within
+within : NotOver closed
+unfolding NotOver
 within = tt
 
 enter-requires : tie.Need-enter-requires
@@ -87,8 +87,8 @@ returns-3 : tie.Need-returns-3
 unfolding Followed
 returns-3 c = λ t j. let s = c .before .before .before .before .before .before .before .before .before .before .before .before .before .before .before in let e = c .before .before .before .before .before .before .before .before .before .before .before .lists .ensures in
     let h : count (listsPart (s .args .a) (s .args .ws .now)) < s .args .a .bound = rw e at (c .before .before .before .before .before .before .before .before .before .before .if1 .left) in
-    let r : limitReached (limitOf (s .args .limit)) (count (listsPart (s .args .a) (s .args .ws .now)) + 1) ≡ false = rw e at (sym (c .before .before .before .before .before .reached .ensures) ∙ c .before .before .before .before .if2 .left) in
-    let st : Stands t (s .args .a) (c .before .before .before .before .before .before .before .before .emit .last .0) (s .args .depth) (s .args .depth) = rw (c .before .before .before .before .before .before .before .before .emit .ensures) (emit-stands t (s .args .a) (s .args .ws .now) (s .args .depth) (j .stands) (j .emitted) h) in
+    let r : limitReached (entryLimitOf (s .args .limit)) (count (listsPart (s .args .a) (s .args .ws .now)) + 1) ≡ false = rw e at (sym (c .before .before .before .before .before .reached .ensures) ∙ c .before .before .before .before .if2 .left) in
+    let st : PathStands t (s .args .a) (c .before .before .before .before .before .before .before .before .emit .last .0) (s .args .depth) (s .args .depth) = rw (c .before .before .before .before .before .before .before .before .emit .ensures) (emit-stands t (s .args .a) (s .args .ws .now) (s .args .depth) (j .stands) (j .emitted) h) in
     let fr : framesPart (s .args .a) (c .before .before .before .before .before .before .before .before .emit .last .0) ≡ framesPart (s .args .a) (s .args .ws .now) = rw (c .before .before .before .before .before .before .before .before .emit .ensures) (emit-frames t (s .args .a) (s .args .ws .now) (s .args .depth) (j .stands) (j .emitted) h) in
     let ls : emittedIn t (s .args .a) (listsPart (s .args .a) (c .before .before .before .before .before .before .before .before .emit .last .0)) ≡ emittedIn t (s .args .a) (listsPart (s .args .a) (s .args .ws .now)) ++ (listTo t (framesPart (s .args .a) (s .args .ws .now)) (s .args .depth) ∷ []) = rw (c .before .before .before .before .before .before .before .before .emit .ensures) (emit-lists t (s .args .a) (s .args .ws .now) (s .args .depth) (j .stands) (j .emitted) h) in
     let tb : take (s .args .a .frames) (c .before .before .before .before .before .before .before .before .emit .last .0) ≡ take (s .args .a .frames) (s .args .ws .now) = rw (c .before .before .before .before .before .before .before .before .emit .ensures) (emit-tables t (s .args .a) (s .args .ws .now) (s .args .depth) (j .stands) (j .emitted) h) in

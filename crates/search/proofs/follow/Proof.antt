@@ -4,7 +4,7 @@ use mathlib.Core.Path.{refl}
 use Prim.Native.Nat.{_-_}
 use Rattle.definitions.specs.Search.{openAt}
 use Rattle.facets.specs.Layout.{verdict, framesPart}
-use Rattle.facets.specs.Judged.{Within}
+use Rattle.facets.specs.Judged.{NotOver}
 use Rattle.frames.specs.Steps.{path-short}
 use Rattle.search.specs.Turns.{Judged, Followed, judged-light, judged-inside, follow-over, follow-open}
 use borrow.Author.Needs.{needs}
@@ -27,7 +27,7 @@ add-enter : tie.Need-add-enter
 add-enter c = search needs
 
 enter-requires : tie.Need-enter-requires
-unfolding verdict Within
+unfolding verdict NotOver
 enter-requires c κs = let s = c .before .before .before .before .before in let j : Judged (s .pre .0) (s .args .a) (s .args .ws .now) (s .args .s .depth) (openAt (c .before .before .v .given .0 .0)) = rw (c .before .before .v .given .1) at (s .pre .1) in
     let r = judged-inside (s .pre .0) (s .args .a) (s .args .ws .now) (s .args .s .depth) (openAt (c .before .before .v .given .0 .0)) j (c .before .before .v .given .0 .0) refl in
     (s .pre .0, j .stands, j .deep, omega arith, judged-light (s .pre .0) (s .args .a) (s .args .ws .now) (s .args .s .depth) (openAt (c .before .before .v .given .0 .0)) j tt)

@@ -6,7 +6,7 @@ use Prim.Native.Nat.{ℕ, _+_, _-_, _*_, _<_}
 use lib.ListN.{length, take}
 use Rattle.definitions.specs.Search.{Table}
 use Rattle.facets.specs.Layout.{Inputs, listsPart, verdict}
-use Rattle.search.specs.Outcomes.{outcome, counted}
+use Rattle.search.specs.Outcomes.{searchOutcome, countedLists}
 use Rattle.frames.specs.Emission.{emitted-count}
 use Rattle.frames.specs.Steps.{next-holds}
 use Rattle.search.specs.Turns.{Turn, Followed, Goes, Stops, Fills, turn-start, turn-depth, turn-back, turn-ready, turn-spent, turn-judged, turn-on, turn-stopped, turn-full, turn-end, budget-falls, inputs-before}
@@ -51,7 +51,7 @@ same-length : tie.Need-same-length Inv-loop μ-loop
 same-length c = let l = c .before .before .before .before .before .before .before .loop in l .inv .0 ∙ c .before .before .before .before .before .before .before .before .before .before .start .kept .0
 
 returns : tie.Need-returns Inv-loop μ-loop
-unfolding outcome counted
+unfolding searchOutcome countedLists
 returns c = let s = c .before .before .before .before .before .before .before .before .before .before .before .before .before in let l = c .before .before .before .before .before .before .before .loop in let go = c .before .before .before .before .before .before .before .before .before .before .start .ensures (s .pre .0) (s .pre .1) in let turn = l .inv .2 (s .pre .0) (go .stands .inputs) in (
   (λ t h. let back = c .before .before .before .before .before .before .before .before .before .before .start .ensures t h in let u = l .inv .2 t (back .stands .inputs) in let n = next-holds t (s .args .a) (l .ws) (l .s .depth) (c .before .before .before .next .result) (u .stands) (c .before .before .before .before .before .if1 .taken) (c .before .before .before .next .ensures t (u .stands)) in
       turn-spent t (s .args .a) (s .args .limit) (s .args .budget) (l .ws) (l .s .depth) (l .s .left) u (c .before .before .before .before .before .if1 .taken) (c .before .before .before .next .result) n (omega (arith, c .before .before .if2 .left)) (c .if3 .taken)),
@@ -126,7 +126,7 @@ same-length-2 : tie.Need-same-length-2 Inv-loop μ-loop
 same-length-2 c = let l = c .before .before .before .before .before .before .before .before .before .before .before .before .before .before .before .before .before .before .before .loop in c .before .before .before .before .before .before .follow .kept .0 ∙ (c .before .before .before .before .before .before .before .before .before .before .visit .kept .0 ∙ (l .inv .0 ∙ c .before .before .before .before .before .before .before .before .before .before .before .before .before .before .before .before .before .before .before .before .before .before .start .kept .0))
 
 returns-2 : tie.Need-returns-2 Inv-loop μ-loop
-unfolding Followed outcome counted
+unfolding Followed searchOutcome countedLists
 returns-2 c = let s = c .before .before .before .before .before .before .before .before .before .before .before .before .before .before .before .before .before .before .before .before .before .before .before .before .before in let l = c .before .before .before .before .before .before .before .before .before .before .before .before .before .before .before .before .before .before .before .loop in let go = c .before .before .before .before .before .before .before .before .before .before .before .before .before .before .before .before .before .before .before .before .before .before .start .ensures (s .pre .0) (s .pre .1) in let turn = l .inv .2 (s .pre .0) (go .stands .inputs) in let n = next-holds (s .pre .0) (s .args .a) (l .ws) (l .s .depth) (c .before .before .before .before .before .before .before .before .before .before .before .before .before .before .before .next .result) (turn .stands) (c .before .before .before .before .before .before .before .before .before .before .before .before .before .before .before .before .before .if1 .taken) (c .before .before .before .before .before .before .before .before .before .before .before .before .before .before .before .next .ensures (s .pre .0) (turn .stands)) in
     let z : 0 < c .before .before .before .before .before .before .before .before .before .before .before .before .before .before .before .next .result = omega (arith, c .before .before .before .before .before .before .before .before .before .before .before .before .before .before .if2 .left) in
     let d : 0 < l .s .depth = c .before .before .before .before .before .before .before .before .before .before .before .before .before .before .before .before .before .if1 .taken in
@@ -152,7 +152,7 @@ same-length-3 : tie.Need-same-length-3 Inv-loop μ-loop
 same-length-3 c = let l = c .before .before .before .before .before .before .before .before .before .before .before .before .before .before .before .before .before .loop in c .before .before .before .before .follow .kept .0 ∙ (c .before .before .before .before .before .before .before .before .visit .kept .0 ∙ (l .inv .0 ∙ c .before .before .before .before .before .before .before .before .before .before .before .before .before .before .before .before .before .before .before .before .start .kept .0))
 
 returns-3 : tie.Need-returns-3 Inv-loop μ-loop
-unfolding Followed outcome counted
+unfolding Followed searchOutcome countedLists
 returns-3 c = let s = c .before .before .before .before .before .before .before .before .before .before .before .before .before .before .before .before .before .before .before .before .before .before .before in let l = c .before .before .before .before .before .before .before .before .before .before .before .before .before .before .before .before .before .loop in let go = c .before .before .before .before .before .before .before .before .before .before .before .before .before .before .before .before .before .before .before .before .start .ensures (s .pre .0) (s .pre .1) in let turn = l .inv .2 (s .pre .0) (go .stands .inputs) in let n = next-holds (s .pre .0) (s .args .a) (l .ws) (l .s .depth) (c .before .before .before .before .before .before .before .before .before .before .before .before .before .next .result) (turn .stands) (c .before .before .before .before .before .before .before .before .before .before .before .before .before .before .before .if1 .taken) (c .before .before .before .before .before .before .before .before .before .before .before .before .before .next .ensures (s .pre .0) (turn .stands)) in
     let z : 0 < c .before .before .before .before .before .before .before .before .before .before .before .before .before .next .result = omega (arith, c .before .before .before .before .before .before .before .before .before .before .before .before .if2 .left) in
     let d : 0 < l .s .depth = c .before .before .before .before .before .before .before .before .before .before .before .before .before .before .before .if1 .taken in
@@ -178,7 +178,7 @@ same-length-4 : tie.Need-same-length-4 Inv-loop μ-loop
 same-length-4 c = let l = c .before .before .before .before .loop in l .inv .0 ∙ c .before .before .before .before .before .before .before .start .kept .0
 
 returns-4 : tie.Need-returns-4 Inv-loop μ-loop
-unfolding outcome counted
+unfolding searchOutcome countedLists
 returns-4 c = let s = c .before .before .before .before .before .before .before .before .before .before in let l = c .before .before .before .before .loop in let go = c .before .before .before .before .before .before .before .start .ensures (s .pre .0) (s .pre .1) in let turn = l .inv .2 (s .pre .0) (go .stands .inputs) in (
   (λ t h. let back = c .before .before .before .before .before .before .before .start .ensures t h in let u = l .inv .2 t (back .stands .inputs) in
       rw (c .found2 .ensures) (turn-end t (s .args .a) (s .args .limit) (s .args .budget) (l .ws) (l .s .depth) (l .s .left) u (omega (arith, c .before .before .if1 .left)))),

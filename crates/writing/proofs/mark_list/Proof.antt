@@ -8,7 +8,7 @@ use borrow.Author.Needs.{needs}
 use lib.ListN.{getD, take, replicate}
 use lib.Seq.{take-all}
 use Rattle.laws.specs.Lists.{member-at}
-use Rattle.pool.specs.Pool.{count, closed}
+use Rattle.pool.specs.Pool.{count, closedLists}
 use Rattle.openers.specs.Marks.{marked}
 use Rattle.openers.specs.Rows.{rowsIn}
 use Rattle.compounds.specs.Areas.{listAt, listOf}
@@ -18,7 +18,7 @@ use Rattle.writing.proofs.mark_list.Statement.{statement}
 use Rattle.writing.proofs.mark_list.Tie as tie
 
 abbrev Inv-loop : tie.InvT-loop
-Inv-loop lists area k edges rows m marks₀ n i₀ marks i = (i ≤ n) × (marks ≡ marked (replicate 400 false) (facetCodes (rowsIn 32 m rows) (closed 2 1024 edges) (take i (listOf area lists k))))
+Inv-loop lists area k edges rows m marks₀ n i₀ marks i = (i ≤ n) × (marks ≡ marked (replicate 400 false) (facetCodes (rowsIn 32 m rows) (closedLists 2 1024 edges) (take i (listOf area lists k))))
 
 abbrev μ-loop : tie.MeasureT-loop
 μ-loop lists area k edges rows m marks₀ n i₀ marks i = n - i
@@ -51,7 +51,7 @@ loop-again : tie.Need-loop-again Inv-loop μ-loop
 unfolding facetCodes listAt
 loop-again c = let l = c .before .before .before .before .loop in let s = c .before .before .before .before .before .before .before .before .before in
     let rows = rowsIn 32 (s .args .m) (s .args .rows .now) in
-    let edges = closed 2 1024 (s .args .edges .now) in
+    let edges = closedLists 2 1024 (s .args .edges .now) in
     let list = listOf (s .args .area) (s .args .lists .now) (s .args .k) in
     (omega arith, c .mark-facet .ensures ∙ ((λ t. marked (l .inv .1 t) (imageCodes rows (getD edges (c .before .before .item-at .ensures t) []))) ∙ marked-flat (λ (x : ℕ). imageCodes rows (getD edges x [])) (replicate 400 false) list (l .i) 0 (omega (arith, c .before .before .before .before .before .length-at .ensures))))
 
@@ -59,7 +59,7 @@ returns : tie.Need-returns Inv-loop μ-loop
 unfolding marksOf
 returns c = let l = c .before .loop in let s = c .before .before .before .before .before .before in
     let list = listOf (s .args .area) (s .args .lists .now) (s .args .k) in
-    l .inv .1 ∙ ap (λ (r : List ℕ). marked (replicate 400 false) (facetCodes (rowsIn 32 (s .args .m) (s .args .rows .now)) (closed 2 1024 (s .args .edges .now)) r)) (take-all (l .i) list (omega (arith, c .before .before .length-at .ensures)))
+    l .inv .1 ∙ ap (λ (r : List ℕ). marked (replicate 400 false) (facetCodes (rowsIn 32 (s .args .m) (s .args .rows .now)) (closedLists 2 1024 (s .args .edges .now)) r)) (take-all (l .i) list (omega (arith, c .before .before .length-at .ensures)))
 
 pub mark-list-spec : {M : Type 1} → statement M
 mark-list-spec =

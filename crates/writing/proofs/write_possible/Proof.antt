@@ -3,14 +3,14 @@ use Prim.Native.Nat.{ℕ, _-_, _≤_}
 use native.Mathlib.Omega.{arith}
 use borrow.Author.Needs.{needs}
 use Rattle.words.specs.Words.{words}
-use Rattle.pool.specs.Pool.{closed}
+use Rattle.pool.specs.Pool.{closedLists}
 use Rattle.writing.specs.Answers.{edgeFigureWords}
 use Rattle.writing.proofs.Possible.{SoFar, possible-none, possible-more, possible-all}
 use Rattle.writing.proofs.write_possible.Statement.{statement}
 use Rattle.writing.proofs.write_possible.Tie as tie
 
 abbrev Inv-loop : tie.InvT-loop
-Inv-loop answer₀ at owners facets orbits edges cursor₀ x₀ orbit₀ answer cursor x orbit = (orbit ≤ orbits) × (x ≤ facets) × SoFar (λ (orbit : ℕ). edgeFigureWords) orbits (words 2 owners facets) (closed 2 1024 edges) orbit x answer₀ cursor₀ answer cursor
+Inv-loop answer₀ at owners facets orbits edges cursor₀ x₀ orbit₀ answer cursor x orbit = (orbit ≤ orbits) × (x ≤ facets) × SoFar (λ (orbit : ℕ). edgeFigureWords) orbits (words 2 owners facets) (closedLists 2 1024 edges) orbit x answer₀ cursor₀ answer cursor
 
 abbrev μ-loop : tie.MeasureT-loop
 μ-loop answer₀ at owners facets orbits edges cursor₀ x₀ orbit₀ answer cursor x orbit = orbits - orbit

@@ -7,7 +7,7 @@ use borrow.Author.Needs.{needs}
 use lib.ListN.{length, take, drop}
 use Rattle.laws.specs.Sets.{verticesOf}
 use Rattle.words.specs.Words.{words}
-use Rattle.pool.specs.Pool.{closed}
+use Rattle.pool.specs.Pool.{closedLists}
 use Rattle.writing.specs.Wrote.{wrote-as}
 use Rattle.writing.specs.Answers.{polygonWords, sizeIn}
 use Rattle.writing.proofs.Possible.{SoFar, possible-none, possible-more, possible-all}
@@ -15,7 +15,7 @@ use Rattle.writing.proofs.write_possible_polygons.Statement.{statement}
 use Rattle.writing.proofs.write_possible_polygons.Tie as tie
 
 abbrev Inv-loop : tie.InvT-loop
-Inv-loop answer₀ at ws n owners facets orbits edges cursor₀ x₀ orbit₀ answer cursor x orbit = (orbit ≤ orbits) × (x ≤ facets) × SoFar (λ (o : ℕ). polygonWords (sizeIn n ws o)) orbits (words 2 owners facets) (closed 2 1024 edges) orbit x answer₀ cursor₀ answer cursor
+Inv-loop answer₀ at ws n owners facets orbits edges cursor₀ x₀ orbit₀ answer cursor x orbit = (orbit ≤ orbits) × (x ≤ facets) × SoFar (λ (o : ℕ). polygonWords (sizeIn n ws o)) orbits (words 2 owners facets) (closedLists 2 1024 edges) orbit x answer₀ cursor₀ answer cursor
 
 abbrev μ-loop : tie.MeasureT-loop
 μ-loop answer₀ at ws n owners facets orbits edges cursor₀ x₀ orbit₀ answer cursor x orbit = orbits - orbit
@@ -57,7 +57,7 @@ loop-again : tie.Need-loop-again Inv-loop μ-loop
 unfolding sizeIn
 loop-again c = let l = c .before .before .before .before .before .before .before .before .before .before .before .before .loop in let s = c .before .before .before .before .before .before .before .before .before .before .before .before .before .before .before .before .before in
     let size = c .before .before .before .before .before .before .before .before .before .set-size .ensures .0 ∙ ap (λ (x : ℕ). length (verticesOf (s .args .n) x)) (c .before .before .before .before .before .before .before .before .before .before .get-u32 .ensures) in
-    (omega arith, omega (arith, c .before .before .before .before .before .before .before .before .end-of-orbit .ensures .1), possible-more _ _ _ _ (l .inv .2) _ (omega arith) (c .before .before .before .before .before .before .before .before .end-of-orbit .ensures .0) (c .before .before .before .before .before .before .push .ensures) (wrote-as (c .before .before .write-polygon-facets .ensures) (ap (λ (k : ℕ). flatMap (polygonWords k) (take (c .before .before .before .before .before .before .before .before .end-of-orbit .result - l .x) (drop (l .x) (closed 2 1024 (s .args .edges .now))))) size)))
+    (omega arith, omega (arith, c .before .before .before .before .before .before .before .before .end-of-orbit .ensures .1), possible-more _ _ _ _ (l .inv .2) _ (omega arith) (c .before .before .before .before .before .before .before .before .end-of-orbit .ensures .0) (c .before .before .before .before .before .before .push .ensures) (wrote-as (c .before .before .write-polygon-facets .ensures) (ap (λ (k : ℕ). flatMap (polygonWords k) (take (c .before .before .before .before .before .before .before .before .end-of-orbit .result - l .x) (drop (l .x) (closedLists 2 1024 (s .args .edges .now))))) size)))
 
 same-length : tie.Need-same-length Inv-loop μ-loop
 same-length c = c .before .loop .inv .2 .wrote .long
