@@ -80,7 +80,7 @@ pub fn candidate(ws: &[u8], a: Areas, kind: usize, i: usize) -> usize
 }
 
 // The orbit of the facet at a place.
-pub fn orbit_at(ws: &[u8], a: Areas, kind: usize, i: usize) -> usize
+fn orbit_at(ws: &[u8], a: Areas, kind: usize, i: usize) -> usize
     requires { ⌜ ((t : Table) × Inputs t a (now ws) × (kind ≤ a .ridges) × (i < length (numbers t kind))) ⌝ }
     ensures { λ r. ⌜ ((t : Table) → Inputs t a (now (ws .entry)) → r ≡ getD (candidatesOf t (ridgeOf kind)) i (0, 0) .0) ⌝ }
 {

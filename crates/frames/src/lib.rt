@@ -21,7 +21,7 @@ pub struct State {
 }
 
 // The place and the facet taken, in the frame of a depth.
-pub fn take_place(frames: &mut [u8], k: usize, place: u32, x: u16)
+fn take_place(frames: &mut [u8], k: usize, place: u32, x: u16)
     requires { ⌜ 16 * k + 16 ≤ length (now frames) ⌝ }
     ensures { λ _. ⌜ now (frames .exit) ≡ withPlace (now (frames .entry)) k place x ⌝ }
 {
@@ -30,7 +30,7 @@ pub fn take_place(frames: &mut [u8], k: usize, place: u32, x: u16)
 }
 
 // A frame that has taken no facet yet.
-pub fn put_frame(frames: &mut [u8], k: usize, place: u32, low: u32, mark: u16, kind: u16)
+fn put_frame(frames: &mut [u8], k: usize, place: u32, low: u32, mark: u16, kind: u16)
     requires { ⌜ 16 * k + 16 ≤ length (now frames) ⌝ }
     ensures { λ _. ⌜ now (frames .exit) ≡ withFrame (now (frames .entry)) k place low mark kind ⌝ }
 {
@@ -97,7 +97,7 @@ pub fn withdraw(ws: &mut [u8], a: Areas, depth: usize)
 }
 
 // The mark of the list: at an open list the mark stays, at a closed one it moves to the orbit of the facet that joins.
-pub fn mark_after(ws: &[u8], a: Areas, depth: usize) -> usize
+fn mark_after(ws: &[u8], a: Areas, depth: usize) -> usize
     requires { ⌜ ((t : Table) × PathStands t a (now ws) depth depth × (0 < depth)) ⌝ }
     ensures { λ r. ⌜ (r < 65536) × ((t : Table) → PathStands t a (now (ws .entry)) depth depth → r ≡ markAfter t (framesPart a (now (ws .entry))) (depth - 1)) ⌝ }
 {

@@ -81,7 +81,7 @@ fn try_vertex(rows: &[u8], m: usize, v: usize, marks: &mut [bool; 20], found: Ve
 }
 
 // [5.2] the vertices that open an orbit, upward; what the rows carry one to is marked
-pub fn vertex_openers(rows: &[u8], m: usize, n: usize) -> Vertices
+fn vertex_openers(rows: &[u8], m: usize, n: usize) -> Vertices
     requires { ⌜ RowsFit n m (now rows) ⌝ }
     ensures { λ r. ⌜ HoldsVertices r (vertexOpeners (rowsIn n m (now (rows .entry))) [] (countFrom 0 n)) ⌝ }
 {
@@ -105,7 +105,7 @@ pub struct Pairs {
 }
 
 impl Pairs {
-    pub fn new() -> Pairs
+    fn new() -> Pairs
         ensures { λ r. ⌜ HoldsPairs r [] ⌝ }
     {
         Pairs {
@@ -115,7 +115,7 @@ impl Pairs {
     }
 
     // One pair more, at the end.
-    pub fn with_pair(self, v: usize, w: usize) -> Pairs
+    fn with_pair(self, v: usize, w: usize) -> Pairs
         requires { ⌜ (self .count < 190) × (v < 20) × (w < 20) ⌝ }
         ensures { λ r. ⌜ HoldsPairs r (pairsIn self ++ ((v, w) ∷ [])) ⌝ }
     {

@@ -19,7 +19,7 @@ ghost use Rattle.openers.specs.Rows.{rowAt};
 ghost use Rattle.sets.specs.Refitting.{Refitted};
 
 // 2 ^ v
-pub fn power(v: usize) -> u32
+fn power(v: usize) -> u32
     requires { ⌜ v < 20 ⌝ }
     ensures { λ r. ⌜ r ≡ 2 ^ v ⌝ }
 {

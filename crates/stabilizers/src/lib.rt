@@ -15,7 +15,7 @@ ghost use Rattle.stabilizers.specs.Permutations.{Permutation, Permutatio
 ghost use Rattle.stabilizers.specs.Places.{places};
 
 // Whether row i keeps a set.
-pub fn keeps_set(rows: &[u8], i: usize, n: usize, set: u32) -> bool
+fn keeps_set(rows: &[u8], i: usize, n: usize, set: u32) -> bool
     requires { ⌜ Permutation n i (now rows) × (set < 2 ^ n) ⌝ }
     ensures { λ r. ⌜ r ≡ keepsSet (verticesOf n set) (rowAt n i (now (rows .entry))) ⌝ }
 {
