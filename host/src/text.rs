@@ -9,33 +9,7 @@ use crate::quote::quoted;
 use crate::rows;
 
 /// The text form's rules, as `encode --help` prints them.
-pub const RULES: &str = "\
-A line holds a keyword with its values; '#' begins a comment. The lines below a
-keyword that takes several vectors or rows hold one each.
-
-  points          one point to a line; its coordinates apart by blanks or commas
-  rows            one row to a line: the images of vertex 0, 1, ... (default: the
-                  identity alone); taken as they stand, so the identity first
-  generators      as rows, but closed under composition, the identity first
-  min L           least length of an edge            (default: absent)
-  max L           greatest length of an edge         (default: absent)
-  limit M         entry limit                        (default: absent)
-  budget B        lists that may be examined         (default: 1000000)
-  rank R          (default: number of coordinates + 1, at most 4)
-  offset X ..     offset of the plane                (default: zero)
-  basis           one vector to a line, rank - 1 of them
-                  (default: the first unit vectors)
-  dimension D     needed only where there is no point
-  version V       (default: 1)
-  bytes HEX ..    the job's bytes themselves; with this keyword none of the others
-  job NAME        begins a job; a text that begins with it holds several and gives a
-                  file of jobs, each behind its length, a u16
-
-A length or coordinate is a decimal or an expression of + - * / ( ) and sqrt(..),
-such as (1+sqrt(5))/2, or 0x and the 16 hex digits of a float's bits. A job may
-break the register's rules, which is then the register's to refuse; text that
-cannot be written as job bytes is an error.
-";
+pub const RULES: &str = include_str!(concat!(env!("CARGO_MANIFEST_DIR"), "/help/text.txt"));
 
 /// The largest number of rows that job bytes can say.
 const MOST_ROWS: usize = u16::MAX as usize;

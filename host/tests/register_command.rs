@@ -69,7 +69,7 @@ fn bad_usage_is_told_in_one_line_with_status_2() {
         ),
         (
             &["--room", "x", "a"],
-            "'--room' takes a number of bytes, not 'x'",
+            "'--room' takes a whole number, not 'x'",
         ),
         (&["--room"], "'--room' needs a value"),
     ];

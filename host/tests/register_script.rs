@@ -1,40 +1,49 @@
 //! The script ./register with stand-ins for rt and cargo: what it builds and when,
-//! what it says, and that it passes words and status on.
+//! what it says, what it does by itself, and that it passes words and status on.
 
 mod common;
 
 use std::fs::{self, File};
 use std::os::unix::fs::{symlink, PermissionsExt};
 use std::path::PathBuf;
-use std::process::Command;
+use std::process::{Command, Stdio};
 use std::time::{Duration, SystemTime};
 
 use common::place::{names, Done, Place};
 
 const SCRIPT: &str = include_str!("../../register");
+const HELP: &str = include_str!("../help/register.txt");
+const TEXT_FORM: &str = include_str!("../help/text.txt");
+const COMMAND: &str = env!("CARGO_BIN_EXE_register");
 
-/// Tools of the system that the script uses.
-const TOOLS: [&str; 12] = [
-    "sh", "cat", "date", "dirname", "find", "head", "mkdir", "mv", "rm", "tail", "chmod", "env",
+/// Tools of the system that the script and the stand-ins use.
+const TOOLS: [&str; 17] = [
+    "sh", "awk", "cat", "chmod", "date", "dirname", "env", "find", "flock", "head", "mkdir", "mv",
+    "readlink", "rm", "sed", "sleep", "tail",
 ];
+
+/// The library's crate leans on one other; a third has nothing to do with it.
+const CRATES: &str = "# Crates.\na:\nregister: a # leans on it\nother: a register\n";
 
 /// Each stand-in notes that it was called. The command prints where it was started
 /// and its words, and ends with a status of its own.
-const RT: &str = "#!/bin/sh\necho rt $* >>../called\n[ ! -f ../broken ] || { echo wrong; exit 1; }\nmkdir -p target/staticlib\necho made >target/staticlib/libregister.a\n";
+const RT: &str = "#!/bin/sh\necho rt $* >>../called\n[ ! -f ../slow ] || sleep 0.5\n[ ! -f ../broken ] || { echo wrong; exit 1; }\necho 'rt: a proved (3 s)' >&2\nmkdir -p target/staticlib\necho made >target/staticlib/libregister.a\n";
 const CARGO: &str = "#!/bin/sh\necho cargo $1 >>../../called\nmkdir -p target/release\ncat >target/release/register <<'END'\n#!/bin/sh\npwd\nprintf '[%s]\\n' \"$@\"\nexit 7\nEND\nchmod +x target/release/register\n";
 
 /// A repository with the script and nothing built, and a folder of tools.
 fn repository(name: &str, tools: &[(&str, &str)]) -> Place {
     let place = Place::new(&format!("script-{name}"));
-    for file in [
-        "crates.txt",
-        "crates/a/src/lib.rt",
-        "crates/a/must-fail/x.edit",
-        "host/src/lib.rs",
-        "host/build.rs",
-        "host/Cargo.toml",
+    for (file, text) in [
+        ("crates.txt", CRATES),
+        ("crates/a/src/lib.rt", ""),
+        ("crates/a/must-fail/x.edit", ""),
+        ("host/src/lib.rs", ""),
+        ("host/build.rs", ""),
+        ("host/Cargo.toml", include_str!("../Cargo.toml")),
+        ("host/help/register.txt", HELP),
+        ("host/help/text.txt", TEXT_FORM),
     ] {
-        place.write(&format!("my repository/{file}"), "");
+        place.write(&format!("my repository/{file}"), text);
     }
     executable(&place, "my repository/register", SCRIPT);
     place.write("tools/a b.txt", "");
@@ -62,14 +71,25 @@ fn found(tool: &str) -> PathBuf {
         .unwrap_or_else(|| panic!("{tool} is not on the path"))
 }
 
-fn run(place: &Place, words: &[&str]) -> Done {
-    let output = Command::new(place.path("my repository/register"))
+fn script(place: &Place, name: &str, words: &[&str]) -> Command {
+    let mut script = Command::new(place.path(name));
+    script
         .args(words)
         .current_dir(place.path("tools"))
         .env("PATH", place.path("tools"))
         .env_remove("MIRATOPE_SRC")
-        .output();
+        .stdout(Stdio::piped())
+        .stderr(Stdio::piped());
+    script
+}
+
+fn run_by(place: &Place, name: &str, words: &[&str]) -> Done {
+    let output = script(place, name, words).output();
     Done::from(output.expect("the script can be started"))
+}
+
+fn run(place: &Place, words: &[&str]) -> Done {
+    run_by(place, "my repository/register", words)
 }
 
 /// What was built since this was asked last.
@@ -97,10 +117,11 @@ fn builds_what_is_missing_and_passes_words_and_status_on() {
     let first = run(&place, &words);
     assert_eq!(built(&place), BOTH);
     let lines: Vec<&str> = first.error.lines().collect();
-    assert_eq!(lines.len(), 5, "{}", first.error);
+    assert_eq!(lines.len(), 6, "{}", first.error);
     assert!(lines.iter().all(|line| line.starts_with("register: ")));
     assert!(lines[1].contains("building the proved library (rt staticlib register)"));
-    assert!(lines[2].starts_with("register: built in ") && lines[2].ends_with(" s"));
+    assert_eq!(lines[2], "register: 1 of 2 crates proved: a proved (3 s)");
+    assert!(lines[3].starts_with("register: built in ") && lines[3].ends_with(" s"));
     let here = place.path("tools");
     let here = fs::canonicalize(here).expect("the folder is there");
     let expected = format!("{}\n[a b.txt]\n[--json]\n", here.display());
@@ -130,25 +151,112 @@ fn builds_again_what_is_older_than_its_sources() {
 }
 
 #[test]
-fn help_and_the_original_do_without_the_library() {
-    for word in ["--help", "-h", "--original"] {
-        let place = repository("without", &[("cargo", CARGO)]);
-        assert_eq!(run(&place, &[word, "a b.txt"]).status, 7);
-        assert_eq!(built(&place), "cargo build\n");
+fn the_original_does_without_the_library() {
+    let place = repository("without", &[("cargo", CARGO)]);
+    assert_eq!(run(&place, &["--original", "a b.txt"]).status, 7);
+    assert_eq!(built(&place), "cargo build\n");
+}
+
+#[test]
+fn help_and_version_need_no_tool_and_are_the_commands_own() {
+    let place = repository("help", &[]);
+    for words in [&["--help"][..], &["-h"], &["--json", "a b.txt", "--help"]] {
+        assert_eq!(run(&place, words).fine(), format!("{HELP}{TEXT_FORM}"));
     }
+    for word in ["--help", "--version"] {
+        let own = place.run(COMMAND, &[word]).fine();
+        assert_eq!(run(&place, &[word]).fine(), own);
+    }
+    assert!(run(&place, &["--version"]).text().starts_with("register "));
+}
+
+#[test]
+fn every_option_of_the_help_is_one_of_the_command() {
+    let place = Place::new("script-options");
+    let lines = HELP.lines().filter_map(|line| line.strip_prefix("  -"));
+    let options: Vec<String> = lines
+        .map(|line| format!("-{}", line.split(' ').next().unwrap_or("")))
+        .collect();
+    assert!(options.len() >= 8, "{options:?}");
+    for option in options {
+        let error = place.run(COMMAND, &[&option]).error;
+        assert!(!error.contains("is no option"), "{option}: {error}");
+    }
+}
+
+#[test]
+fn words_are_checked_before_anything_is_built_as_the_command_checks_them() {
+    let place = repository("words", &[("rt", RT), ("cargo", CARGO)]);
+    let wrong: [&[&str]; 9] = [
+        &[],
+        &["--json"],
+        &["--jsn", "a b.txt"],
+        &["--", "--jsn"],
+        &["a b.txt", "-o"],
+        &["-o", "x", "-o", "y", "a b.txt"],
+        &["--json", "--raw", "a b.txt"],
+        &["--room", "x", "a b.txt"],
+        &["a b.txt", "--room"],
+    ];
+    for words in wrong {
+        let done = run(&place, words);
+        let own = place.run(COMMAND, words);
+        match words {
+            ["--", _] => assert!(done.complaint(2).contains("--jsn: cannot be read: ")),
+            _ => assert_eq!(done.complaint(2), own.complaint(2), "{words:?}"),
+        }
+    }
+    assert_eq!(built(&place), "");
 }
 
 #[test]
 fn nothing_is_built_where_no_word_names_a_file() {
     let place = repository("unnamed", &[("rt", RT), ("cargo", CARGO)]);
-    for words in [&[][..], &["--json"], &["c.txt", "--raw"], &["--original"]] {
+    for words in [&["c.txt", "--raw"][..], &["-o", "a b.txt", "c.txt"]] {
         let done = run(&place, words);
-        assert!(done.complaint(2).contains("no file or folder is named"));
+        assert!(done.complaint(2).contains("c.txt: cannot be read: "));
     }
     assert_eq!(built(&place), "");
-    for word in ["-", ".", "--help"] {
-        assert_eq!(run(&place, &[word]).status, 7);
+    for words in [&["-"][..], &["."], &["c.txt", "a b.txt"]] {
+        assert_eq!(run(&place, words).status, 7);
     }
+}
+
+#[test]
+fn quiet_says_nothing_of_a_build_that_succeeds() {
+    let place = repository("quiet", &[("rt", RT), ("cargo", CARGO)]);
+    let done = run(&place, &["a b.txt", "--quiet"]);
+    assert_eq!((done.status, done.error.as_str()), (7, ""));
+    assert_eq!(built(&place), BOTH);
+}
+
+#[test]
+fn a_link_stands_for_the_script() {
+    let place = repository("link", &[("rt", RT), ("cargo", CARGO)]);
+    let link = |to: &str, name: &str| symlink(to, place.path(name)).expect("links can be made");
+    fs::create_dir(place.path("bin")).expect("folders can be made");
+    link("../my repository/register", "bin/near");
+    link("near", "bin/far");
+    assert_eq!(run_by(&place, "bin/far", &["a b.txt"]).status, 7);
+    assert_eq!(built(&place), BOTH);
+    assert_eq!(names(&place.path("bin")), ["far", "near"]);
+    assert_eq!(run(&place, &["a b.txt"]).error, "");
+}
+
+#[test]
+fn of_two_runs_at_once_one_waits_for_the_other() {
+    let place = repository("twice", &[("rt", RT), ("cargo", CARGO)]);
+    place.write("slow", "");
+    let start = || script(&place, "my repository/register", &["a b.txt"]).spawn();
+    let both = [start(), start()].map(|child| child.expect("the script can be started"));
+    let ended = both.map(|child| Done::from(child.wait_with_output().expect("it ends")));
+    for done in &ended {
+        assert_eq!(done.status, 7, "{}", done.error);
+    }
+    assert_eq!(built(&place), BOTH);
+    let waits = "register: another run is building; this one waits for it\n";
+    let waiting = ended.iter().filter(|done| done.error == waits).count();
+    assert_eq!(waiting, 1, "{ended:?}");
 }
 
 #[test]
@@ -159,7 +267,7 @@ fn a_missing_tool_is_one_line_with_status_3() {
         .complaint(3)
         .starts_with("register: 'rt' is not on the path; "));
     let place = repository("no-cargo", &[("rt", RT)]);
-    let done = run(&place, &["--help"]);
+    let done = run(&place, &["--original", "a b.txt"]);
     assert!(done
         .complaint(3)
         .starts_with("register: 'cargo' is not on the path; "));

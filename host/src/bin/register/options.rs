@@ -13,12 +13,21 @@ pub enum Form {
     Raw,
 }
 
+/// What is told of the command itself, in place of an answer.
+#[derive(Clone, Copy)]
+pub enum Told {
+    Help,
+    Version,
+}
+
+/// What the words of the command line ask for.
 pub struct Options {
     pub form: Form,
     pub place: Option<PathBuf>,
     pub room: usize,
     pub original: bool,
-    pub help: bool,
+    pub quiet: bool,
+    pub told: Option<Told>,
     pub inputs: Vec<PathBuf>,
 }
 
@@ -30,7 +39,8 @@ impl Options {
             place: None,
             room: LONGEST,
             original: false,
-            help: false,
+            quiet: false,
+            told: None,
             inputs: Vec::new(),
         };
         let mut words = words.into_iter();
@@ -56,7 +66,9 @@ impl Options {
             "--json" => self.set_form(Form::Json)?,
             "--raw" => self.set_form(Form::Raw)?,
             "--original" => self.original = true,
-            "--help" | "-h" => self.help = true,
+            "--quiet" => self.quiet = true,
+            "--help" | "-h" => self.told = self.told.or(Some(Told::Help)),
+            "--version" => self.told = self.told.or(Some(Told::Version)),
             "-o" if self.place.is_some() => return Err("'-o' was given before".into()),
             "-o" => self.place = Some(value()?.into()),
             "--room" => self.room = bytes(&value()?)?,
@@ -74,7 +86,7 @@ impl Options {
     }
 
     fn checked(self) -> Result<Options, String> {
-        if self.inputs.is_empty() && !self.help {
+        if self.inputs.is_empty() && self.told.is_none() {
             return Err("no vertex set is named; see --help".into());
         }
         Ok(self)
@@ -90,6 +102,6 @@ fn bytes(value: &OsString) -> Result<usize, String> {
     let read = value.to_str().and_then(|text| text.parse().ok());
     read.ok_or_else(|| {
         let value = value.to_string_lossy();
-        format!("'--room' takes a number of bytes, not '{value}'")
+        format!("'--room' takes a whole number, not '{value}'")
     })
 }
