@@ -42,7 +42,8 @@ pub fn tally(figures: usize, compounds: usize) -> String {
     }
 }
 
-fn counted(count: usize, one: &str, many: &str) -> String {
+/// So many of a thing, in words.
+pub fn counted(count: usize, one: &str, many: &str) -> String {
     match count {
         0 => format!("no {many}"),
         1 => format!("1 {one}"),

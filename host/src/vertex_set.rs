@@ -8,23 +8,28 @@ use crate::text::{self, Encoded};
 /// Some editors begin a text with this, though nothing in it needs it.
 const ORDER_MARK: &[u8] = "\u{feff}".as_bytes();
 
+/// How the names of files end that are taken for vertex sets.
+pub const ENDINGS: [&str; 2] = ["txt", "job"];
+
 /// What the answer will be about, and the job; or why there is none.
 pub struct VertexSet {
     pub subject: Subject,
+    /// Its own name in a text of several sets.
+    pub part: Option<String>,
     pub job: Encoded,
 }
 
 impl VertexSet {
     /// A file that gives no job, and why.
     pub fn bad(name: &str, error: String) -> VertexSet {
-        vertex_set(name.into(), None, Err(error))
+        vertex_set(name, None, None, Err(error))
     }
 }
 
 /// The sets of a file, at least one.
 pub fn read(name: &str, bytes: &[u8]) -> Vec<VertexSet> {
     if bytes.starts_with(job::MARK) {
-        return vec![vertex_set(name.into(), None, Ok(bytes.to_vec()))];
+        return vec![vertex_set(name, None, None, Ok(bytes.to_vec()))];
     }
     let text = bytes.strip_prefix(ORDER_MARK).unwrap_or(bytes);
     let Ok(words) = std::str::from_utf8(text) else {
@@ -34,20 +39,40 @@ pub fn read(name: &str, bytes: &[u8]) -> Vec<VertexSet> {
     text::encode_each(words)
         .into_iter()
         .map(|(part, job)| match part {
-            None => vertex_set(name.into(), about(words), job),
-            Some(part) => vertex_set(format!("{name}, {part}"), None, job),
+            None => vertex_set(name, None, about(words), job),
+            Some(part) => vertex_set(name, Some(part), None, job),
         })
         .collect()
 }
 
-fn vertex_set(name: String, about: Option<String>, job: Encoded) -> VertexSet {
+/// Whether a file is somebody's vertex set, be it in order or not: what is never to
+/// be written over. Text of two bytes to a letter counts too.
+pub fn is_one(bytes: &[u8]) -> bool {
+    let letters: Vec<u8> = bytes.iter().copied().filter(|&byte| byte != 0).collect();
+    let text = String::from_utf8_lossy(&letters);
+    bytes.starts_with(job::MARK) || text.lines().any(opens_section)
+}
+
+/// Lines that a vertex set has, and no page, answer or JSON.
+fn opens_section(line: &str) -> bool {
+    let line = line.split('#').next().unwrap_or("").trim();
+    let hex = |rest: &str| rest.chars().all(|c| c == ' ' || c.is_ascii_hexdigit());
+    ["points", "rows", "generators"].contains(&line) || line.strip_prefix("bytes").is_some_and(hex)
+}
+
+fn vertex_set(file: &str, part: Option<&str>, about: Option<String>, job: Encoded) -> VertexSet {
     let rank = job.as_ref().ok().and_then(|job| job.get(5).copied());
+    let name = match part {
+        None => file.into(),
+        Some(part) => format!("{file}, {part}"),
+    };
     let subject = Subject {
         name: printable(&name),
         about: about.as_deref().map(printable),
         rank: rank.unwrap_or(0),
     };
-    VertexSet { subject, job }
+    let part = part.map(printable);
+    VertexSet { subject, part, job }
 }
 
 /// What a writer says of a set: the comment that begins its text.

@@ -21,10 +21,14 @@ fn folder() -> PathBuf {
     Path::new(env!("CARGO_MANIFEST_DIR")).join("../examples")
 }
 
-/// The names, without the ending, of the texts in a folder.
-fn texts(folder: &Path) -> BTreeSet<String> {
-    let stem = |name: String| name.strip_suffix(".txt").map(str::to_string);
+/// The names, without this ending, of the files in a folder that have it.
+fn ending(ending: &str, folder: &Path) -> BTreeSet<String> {
+    let stem = |name: String| name.strip_suffix(ending).map(str::to_string);
     names(folder).into_iter().filter_map(stem).collect()
+}
+
+fn examples() -> BTreeSet<String> {
+    ending(".txt", &folder())
 }
 
 fn read(place: &Path) -> String {
@@ -59,9 +63,9 @@ fn every_example_has_its_recorded_page() {
     let pages = folder().join("pages");
     let record = std::env::var_os("RECORD_PAGES").is_some();
     for mut way in ways() {
-        for name in texts(&folder()) {
+        for name in examples() {
             let found = result(way.engine.as_mut(), &example(&name));
-            let place = pages.join(format!("{name}.txt"));
+            let place = pages.join(format!("{name}.page"));
             if record && way.option == ["--original"] {
                 std::fs::write(&place, &found).expect("pages can be written");
             }
@@ -72,21 +76,21 @@ fn every_example_has_its_recorded_page() {
 
 #[test]
 fn examples_and_pages_belong_together() {
-    let examples = texts(&folder());
-    assert_eq!(examples, texts(&folder().join("pages")));
+    let examples = examples();
+    assert_eq!(examples, ending(".page", &folder().join("pages")));
     assert!(examples.len() >= 20);
 }
 
 #[test]
 fn an_example_says_what_it_shows_and_a_refused_one_says_so() {
-    for name in texts(&folder()) {
+    for name in examples() {
         let about = example(&name).subject.about;
         let about = about.unwrap_or_else(|| panic!("{name} begins with no comment"));
         assert!(
             about.ends_with('.') && !about.contains(". "),
             "{name}: {about}"
         );
-        let recorded = read(&folder().join(format!("pages/{name}.txt")));
+        let recorded = read(&folder().join(format!("pages/{name}.page")));
         let refused = recorded.starts_with(&format!("{name}.txt: refused "));
         assert_eq!(refused, about.contains("refused"), "{name}: {about}");
     }

@@ -197,7 +197,7 @@ fn bad_files_are_told_in_one_line_with_status_2() {
             (&["empty.txt"], "empty.txt: "),
             (
                 &["folder"],
-                "folder: cannot be read: no file in it ends in .txt or .job",
+                "folder: cannot be read: no file in it or below it ends in .txt or .job",
             ),
             (
                 &["square.txt", "-o", "absent/page"],
@@ -350,7 +350,7 @@ fn mixed(place: &Place) {
     place.write("sets/c.txt", "points\n0 0\n1");
     place.write("sets/d.txt", "points\n0 0\n1 1\n2 4\n3 9\n4 16\n5 25\n");
     place.write("sets/notes.md", "passed over");
-    place.write("sets/more.txt/e.txt", SQUARE);
+    place.write("sets/.hidden/e.txt", SQUARE);
 }
 
 #[test]
@@ -380,7 +380,7 @@ fn results_of_several_sets_go_to_a_folder() {
     on_each("several", |place, run| {
         mixed(place);
         let forms: [(&[&str], &[&str]); 3] = [
-            (&[], &["a square.txt", "d.txt"]),
+            (&[], &["a square.page", "d.page"]),
             (&["--raw"], &["a square.answer", "d.answer"]),
             (
                 &["--json"],
@@ -397,30 +397,9 @@ fn results_of_several_sets_go_to_a_folder() {
             assert_eq!(out.read(names[0]), alone.bytes);
         }
         run(&["sets", "-o", "made/here"]);
-        assert!(place.path("made/here/d.txt").is_file());
+        assert!(place.path("made/here/d.page").is_file());
         let raw = run(&["--raw", "sets"]);
         assert!(raw.complaint(2).contains("-o PLACE"));
-    });
-}
-
-#[test]
-fn no_result_is_written_over_a_vertex_set() {
-    on_each("spared", |place, run| {
-        mixed(place);
-        let set = place.read("sets/d.txt");
-        let same = ["sets/d.txt", "sets/../sets/d.txt"];
-        for words in [
-            &["sets/d.txt", "-o", same[0]],
-            &["sets/d.txt", "-o", same[1]],
-        ] {
-            let done = run(words);
-            assert!(done.complaint(2).ends_with("d.txt is a vertex set itself"));
-        }
-        let done = run(&["sets", "-o", "sets"]);
-        assert!(done.complaint(2).ends_with(".txt is a vertex set itself"));
-        assert_eq!(place.read("sets/d.txt"), set);
-        assert_eq!(run(&["sets", "--raw", "-o", "sets"]).status, 2);
-        assert!(place.path("sets/d.answer").is_file());
     });
 }
 

@@ -1,39 +1,98 @@
-//! From the names on the command line to vertex sets: files, folders, standard
-//! input.
+//! From the names on the command line to vertex sets: files, folders with all that
+//! is below them, standard input.
 
+use std::collections::HashMap;
 use std::fs;
 use std::io::{self, Read};
-use std::path::{Path, PathBuf};
+use std::path::{Component, Path, PathBuf};
 
-use facetings_host::vertex_set::{self, VertexSet};
+use facetings_host::vertex_set::{self, VertexSet, ENDINGS};
 
-/// Files of a folder that are taken for vertex sets.
-const ENDINGS: [&str; 2] = ["txt", "job"];
+use crate::order::natural;
 
 /// More bytes than any catalogue has: an endless file is not read to its end.
 const MOST: u64 = 1 << 26;
 
-/// The files behind the names; a folder stands for its vertex sets, in the order of
-/// their names, or for itself where it has none.
-pub fn files(names: &[PathBuf]) -> Vec<PathBuf> {
-    names.iter().flat_map(|name| behind(name)).collect()
+/// A file to read, or a folder that gives none.
+pub struct Input {
+    /// The way to it, as the command line says it.
+    pub file: PathBuf,
+    /// What pages call it: its name, with the folders between it and the named one.
+    pub name: String,
+    /// Why there is nothing to read.
+    fault: Option<String>,
 }
 
-fn behind(name: &Path) -> Vec<PathBuf> {
-    let mut files = listed(name).unwrap_or_default();
-    files.retain(|file| is_vertex_set(file));
-    files.sort();
-    match files.is_empty() {
-        true => vec![name.into()],
-        false => files,
+/// A vertex set, and what its file is called.
+pub struct Named {
+    pub set: VertexSet,
+    pub file: String,
+}
+
+/// What the names stand for; a folder for its vertex sets and those of the folders
+/// below it. Two that would be called the same are told apart by the way to them.
+pub fn inputs(names: &[PathBuf]) -> Vec<Input> {
+    let mut inputs = Vec::new();
+    for name in names {
+        match name.is_dir() {
+            true => folder(name, &mut inputs),
+            false => inputs.push(Input::new(name, called(name), None)),
+        }
+    }
+    tell_apart(&mut inputs);
+    inputs
+}
+
+impl Input {
+    fn new(file: &Path, name: String, fault: Option<String>) -> Input {
+        let file = file.into();
+        Input { file, name, fault }
     }
 }
 
-fn listed(folder: &Path) -> io::Result<Vec<PathBuf>> {
-    let entries = fs::read_dir(folder)?;
-    entries
-        .map(|entry| entry.map(|entry| entry.path()))
-        .collect()
+fn folder(name: &Path, inputs: &mut Vec<Input>) {
+    let before = inputs.len();
+    search(name, "", inputs);
+    if inputs.len() == before {
+        let endings = ENDINGS.map(|ending| format!(".{ending}")).join(" or ");
+        let fault = format!("no file in it or below it ends in {endings}");
+        inputs.push(Input::new(name, called(name), Some(fault)));
+    }
+}
+
+/// All vertex sets from here down, in the order of their names. A link to a folder
+/// is not followed, since it may lead back up; what begins with a dot is passed over.
+fn search(folder: &Path, below: &str, inputs: &mut Vec<Input>) {
+    let mut names = match listed(folder) {
+        Ok(names) => names,
+        Err(error) => {
+            let name = match below.strip_suffix('/') {
+                Some(name) => name.into(),
+                None => called(folder),
+            };
+            return inputs.push(Input::new(folder, name, Some(error.to_string())));
+        }
+    };
+    names.sort_by(|(one, _), (other, _)| natural(one, other));
+    for (name, path) in names {
+        let called = format!("{below}{name}");
+        if name.starts_with('.') {
+            continue;
+        } else if path.is_dir() && !path.is_symlink() {
+            search(&path, &format!("{called}/"), inputs);
+        } else if is_vertex_set(&path) {
+            inputs.push(Input::new(&path, called, None));
+        }
+    }
+}
+
+fn listed(folder: &Path) -> io::Result<Vec<(String, PathBuf)>> {
+    let entry = |entry: io::Result<fs::DirEntry>| {
+        let entry = entry?;
+        let name = entry.file_name().to_string_lossy().into_owned();
+        Ok((name, entry.path()))
+    };
+    fs::read_dir(folder)?.map(entry).collect()
 }
 
 fn is_vertex_set(file: &Path) -> bool {
@@ -41,19 +100,44 @@ fn is_vertex_set(file: &Path) -> bool {
     file.is_file() && ending.is_some_and(|ending| ENDINGS.contains(&ending))
 }
 
-/// The sets of a file; one that cannot be read gives a set without a job.
-pub fn read(file: &Path) -> Vec<VertexSet> {
-    let name = name(file);
-    match contents(file) {
-        Ok(bytes) => vertex_set::read(&name, &bytes),
-        Err(error) => vec![VertexSet::bad(&name, format!("cannot be read: {error}"))],
+/// Those that share a name are called by the whole way that was given.
+fn tell_apart(inputs: &mut [Input]) {
+    let mut count: HashMap<String, usize> = HashMap::new();
+    for input in inputs.iter() {
+        *count.entry(input.name.clone()).or_default() += 1;
+    }
+    for input in inputs.iter_mut().filter(|input| count[&input.name] > 1) {
+        let steps = input.file.components().filter_map(|step| match step {
+            Component::Normal(step) => Some(step.to_string_lossy()),
+            _ => None,
+        });
+        input.name = steps.collect::<Vec<_>>().join("/");
     }
 }
 
+/// The sets of a file; one that cannot be read gives a set without a job.
+pub fn read(input: &Input) -> Vec<Named> {
+    let bytes = match &input.fault {
+        Some(fault) => Err(fault.clone()),
+        None => contents(&input.file).map_err(|error| error.to_string()),
+    };
+    let sets = match bytes {
+        Ok(bytes) => vertex_set::read(&input.name, &bytes),
+        Err(error) => vec![VertexSet::bad(
+            &input.name,
+            format!("cannot be read: {error}"),
+        )],
+    };
+    let file = &input.name;
+    sets.into_iter()
+        .map(|set| Named {
+            set,
+            file: file.clone(),
+        })
+        .collect()
+}
+
 fn contents(file: &Path) -> io::Result<Vec<u8>> {
-    if file.is_dir() {
-        return Err(io::Error::other("no file in it ends in .txt or .job"));
-    }
     let source: Box<dyn Read> = match is_standard_input(file) {
         true => Box::new(io::stdin()),
         false => Box::new(fs::File::open(file)?),
@@ -70,8 +154,8 @@ fn is_standard_input(file: &Path) -> bool {
     file.as_os_str() == "-"
 }
 
-/// A page names the file and not the way to it.
-fn name(file: &Path) -> String {
+/// The last step of the way to a file or folder.
+fn called(file: &Path) -> String {
     if is_standard_input(file) {
         return "standard input".into();
     }

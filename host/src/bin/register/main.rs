@@ -2,6 +2,7 @@
 
 mod inputs;
 mod options;
+mod order;
 mod outcome;
 mod output;
 mod places;

@@ -4,10 +4,11 @@ use std::path::{Path, PathBuf};
 
 use facetings_host::engine::Engine;
 use facetings_host::oracle::Oracle;
-use facetings_host::page::tally;
+use facetings_host::page::{counted, tally};
 use facetings_host::register::Register;
 use facetings_host::vertex_set::VertexSet;
 
+use crate::inputs::Named;
 use crate::options::{Form, Options};
 use crate::outcome::{outcome, Outcome, Status};
 use crate::places::{make_folder, places, spared};
@@ -24,15 +25,15 @@ pub fn run(options: &Options) -> Status {
 
 /// A single file with a single set by itself, anything else as several sets.
 fn answer(options: &Options, engine: &mut dyn Engine) -> Result<Status, String> {
-    let files = inputs::files(&options.inputs);
-    let single = files.len() == 1 && files == options.inputs;
-    let sets: Vec<VertexSet> = files.iter().flat_map(|file| inputs::read(file)).collect();
-    if let ([set], true) = (&sets[..], single) {
-        spared(&files, options.place.as_slice())?;
-        return alone(options, engine, set);
+    let inputs = inputs::inputs(&options.inputs);
+    let sets: Vec<Named> = inputs.iter().flat_map(inputs::read).collect();
+    let single = inputs.len() == 1 && inputs[0].file == options.inputs[0];
+    if let ([named], true) = (&sets[..], single) {
+        spared(&inputs, options.place.as_slice())?;
+        return alone(options, engine, &named.set);
     }
     let places = places(options, &sets)?;
-    spared(&files, places.as_deref().unwrap_or_default())?;
+    spared(&inputs, places.as_deref().unwrap_or_default())?;
     many(options, engine, &sets, places)
 }
 
@@ -64,7 +65,7 @@ fn alone(options: &Options, engine: &mut dyn Engine, set: &VertexSet) -> Result<
 fn many(
     options: &Options,
     engine: &mut dyn Engine,
-    sets: &[VertexSet],
+    sets: &[Named],
     places: Option<Vec<PathBuf>>,
 ) -> Result<Status, String> {
     if let Some(folder) = &options.place {
@@ -73,17 +74,23 @@ fn many(
     let mut sums = Sums::default();
     let all = sets.len();
     let width = all.to_string().len();
-    for (i, set) in sets.iter().enumerate() {
+    for (i, Named { set, .. }) in sets.iter().enumerate() {
         let place = places.as_ref().map(|places| places[i].as_path());
         let found = stored(options.form, place, set, outcome(engine, set, options.room));
         sums.add(&found);
         let (number, name, line) = (i + 1, &set.subject.name, found.line());
-        tell(
-            options,
-            &format!("[{number:>width$}/{all}] {name}: {line}\n"),
-        )?;
+        match (options.quiet, found.status()) {
+            (true, Status::Answered) => {}
+            (true, _) => output::tell(&format!("register: {name}: {line}\n")),
+            (false, _) => tell(
+                options,
+                &format!("[{number:>width$}/{all}] {name}: {line}\n"),
+            )?,
+        }
     }
-    tell(options, &sums.line())?;
+    if !options.quiet {
+        tell(options, &sums.line())?;
+    }
     Ok(sums.worst())
 }
 
@@ -91,7 +98,8 @@ fn many(
 /// only JSON is written, and only the labels are told otherwise.
 fn stored(form: Form, place: Option<&Path>, set: &VertexSet, found: Outcome) -> Outcome {
     let written = match (found.result(form, set), place) {
-        (Some(bytes), Some(place)) => output::save(place, &bytes),
+        (Some(bytes), Some(place)) => put(place, &bytes),
+        (None, Some(place)) => output::remove(place),
         (Some(bytes), None) if form == Form::Json => output::print(&bytes),
         _ => Ok(()),
     };
@@ -99,6 +107,12 @@ fn stored(form: Form, place: Option<&Path>, set: &VertexSet, found: Outcome) -> 
         Ok(()) => found,
         Err(words) => Outcome::Bad(words),
     }
+}
+
+/// Sets of a folder below lie in one as well.
+fn put(place: &Path, bytes: &[u8]) -> Result<(), String> {
+    place.parent().map_or(Ok(()), make_folder)?;
+    output::save(place, bytes)
 }
 
 /// Progress goes to standard output, unless the results themselves do.
@@ -142,10 +156,8 @@ impl Sums {
 
     fn line(&self) -> String {
         let (answered, refused, bad) = (self.answered, self.refused, self.bad);
-        format!(
-            "{} sets: {answered} answered, {refused} refused, {bad} bad; {}\n",
-            answered + refused + bad,
-            tally(self.figures, self.compounds)
-        )
+        let sets = counted(answered + refused + bad, "set", "sets");
+        let figures = tally(self.figures, self.compounds);
+        format!("{sets}: {answered} answered, {refused} refused, {bad} bad; {figures}\n")
     }
 }
