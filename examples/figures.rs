@@ -1,22 +1,19 @@
-//! The facetings of a square, from Rust, by the safe wrapper in host/.
+//! The facetings of a square, from Rust, by the safe wrapper in host/wrapper.
 //!
 //!     rt staticlib register
 //!     cd host && cargo run --release --example figures
 
+use std::error::Error;
 use std::process::ExitCode;
 
-use facetings_host::answer::{Answer, Entry};
-use facetings_host::ask::{ask, LONGEST};
-use facetings_host::job::Job;
-use facetings_host::judged::Stop;
-use facetings_host::register::Register;
-use facetings_host::rows;
+use faceting_register::bounds::MOST_ROWS;
+use faceting_register::{answer, rows, Answer, Entry, Job, Register};
 
 /// A square with its eight symmetries, from two mirrors; docs/FORMAT.md has its bytes.
 fn square() -> Job {
     let points = [[0.0, 0.0], [1.0, 0.0], [1.0, 1.0], [0.0, 1.0]];
     let mut job = Job::usual(3, points.map(Vec::from).to_vec());
-    job.rows = rows::closure(4, &[vec![0, 3, 2, 1], vec![1, 0, 3, 2]], 120);
+    job.rows = rows::closure(4, &[vec![0, 3, 2, 1], vec![1, 0, 3, 2]], MOST_ROWS);
     job
 }
 
@@ -26,17 +23,13 @@ fn parts(entry: &Entry) -> String {
 }
 
 /// Asks with a longer buffer as often as it takes, and reads the answer.
-fn answer(job: &Job) -> Result<Answer, String> {
+fn figures(job: &Job) -> Result<Answer, Box<dyn Error>> {
     let mut register = Register::open()?;
-    let bytes = ask(&mut register, &job.write(), LONGEST).map_err(|stop| match stop {
-        Stop::Refused(refusal) => refusal.to_string(),
-        Stop::Broken(words) => words,
-    })?;
-    Answer::read(&bytes).map(|(answer, _)| answer)
+    Ok(answer(&mut register, job)?)
 }
 
 fn main() -> ExitCode {
-    match answer(&square()) {
+    match figures(&square()) {
         Ok(answer) => {
             println!("figures: {}", answer.entries.len());
             for (e, entry) in answer.entries.iter().enumerate() {
@@ -44,8 +37,8 @@ fn main() -> ExitCode {
             }
             ExitCode::SUCCESS
         }
-        Err(words) => {
-            eprintln!("figures: {words}");
+        Err(why) => {
+            eprintln!("figures: {why}");
             ExitCode::FAILURE
         }
     }

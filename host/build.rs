@@ -1,7 +1,8 @@
 //! Cuts the original functions out of the published Rust source, patches them
-//! and writes them to OUT_DIR, where `src/original` includes them.
+//! and writes them to OUT_DIR, where `src/engines/original` includes them.
 //!
-//! Proved libraries that `rt staticlib` has written are linked, if they are there.
+//! The proved square root is linked where `rt staticlib root` has written it; the
+//! register itself is linked by the crate in `wrapper`.
 //!
 //! The source is looked for where the variable MIRATOPE_SRC points, else in
 //! `../shared/docs/src` beside the repository. Without it the crate builds with
@@ -150,7 +151,7 @@ const FACETING_PATCHES: &[Patch] = &[
 ];
 
 /// Proved libraries by name, and what is set where they are linked.
-const PROVED: &[(&str, &str)] = &[("root", "has_root"), ("register", "has_register")];
+const PROVED: &[(&str, &str)] = &[("root", "has_root")];
 
 fn main() {
     link_proved();

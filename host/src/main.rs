@@ -35,7 +35,7 @@ pub struct Failure {
 
 pub const DIFFERENT: u8 = 1;
 pub const BAD_INPUT: u8 = 2;
-pub const NO_SOURCE: u8 = 3;
+pub const ABSENT: u8 = 3;
 
 impl From<String> for Failure {
     fn from(words: String) -> Self {

@@ -6,8 +6,8 @@ mod common;
 use std::collections::BTreeMap;
 
 use common::{answer, job, oracle};
-use facetings_host::answer::{Answer, Figure};
-use facetings_host::job::accept;
+use faceting_register::answer::{Answer, Figure};
+use faceting_register::job::accept;
 
 const PAGE: &str = include_str!("../../docs/SPECIFICATION.md");
 const SECTION: &str = "### 1.6 ";

@@ -5,8 +5,9 @@ mod common;
 use std::path::{Path, PathBuf};
 use std::process::{Command, Output};
 
+use faceting_register::register::{NotLinked, LINKED};
+
 use common::{oracle, CORNER, SQUARE};
-use facetings_host::register::{LINKED, NOT_LINKED};
 
 /// A folder of its own for each test, removed at the end.
 struct Folder(PathBuf);
@@ -320,7 +321,7 @@ fn commands_on_the_register_run_or_say_that_it_is_not_linked() {
             let text = String::from_utf8_lossy(&output);
             assert!(text.contains(printed), "{words}: {text}");
         } else {
-            let expected = (3, format!("facetings-host: {NOT_LINKED}"));
+            let expected = (3, format!("facetings-host: {NotLinked}"));
             assert_eq!(folder.fails(words), expected, "{words}");
         }
     }

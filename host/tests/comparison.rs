@@ -1,9 +1,9 @@
 //! The comparison names the first difference in words.
 
-use facetings_host::answer::{Answer, Entry, Figure};
+use faceting_register::{Answer, Entry, Figure};
 use facetings_host::cases::Outcome;
-use facetings_host::compare::compare;
-use facetings_host::show::show;
+use facetings_host::compare::difference::compare;
+use facetings_host::report::listing::show;
 
 fn triangle() -> Figure {
     Figure {
@@ -196,7 +196,8 @@ fn an_answer_comes_back_from_its_bytes() {
     }
     let damaged = [&bytes[..4], &[255; 8]].concat();
     let error = "word 1, the number of orbits, is 4294967295, but only 1 words follow";
-    assert_eq!(Answer::read(&damaged), Err(error.into()));
+    let damage = Answer::read(&damaged).map_err(|damage| damage.to_string());
+    assert_eq!(damage, Err(error.into()));
 }
 
 #[test]

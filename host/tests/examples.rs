@@ -4,10 +4,10 @@ mod common;
 
 use std::collections::BTreeSet;
 
+use faceting_register::{Answer, Engine};
+use facetings_host::engines::judgement::Bounds;
+
 use common::{answer, job, judge, oracle, orbit_lists, refusal, CORNER, SQUARE, SQUARE_GROUP};
-use facetings_host::answer::Answer;
-use facetings_host::engine::Engine;
-use facetings_host::judged::Bounds;
 
 const TWO_ORDERS: &str =
     "points\n0 1 0\n1 2 0\n1 0 1\n0 0 0\n2 1 1\nrows\n0 1 2 3 4\n0 1 4 3 2\n0 1 3 4 2\n";
@@ -214,6 +214,6 @@ fn plain_lists_hold_no_other_list() {
         vec![(0, 0), (1, 0), (2, 0)],
         vec![(1, 0)],
     ];
-    let plain = facetings_host::original::plain_lists(&lists.to_vec());
+    let plain = facetings_host::engines::original::plain_lists(&lists.to_vec());
     assert_eq!(plain, [0, 2]);
 }

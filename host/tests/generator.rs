@@ -5,12 +5,13 @@ mod common;
 
 use std::collections::BTreeSet;
 
-use common::oracle;
+use facetings_host::cases::generator::{case, kind_named, KINDS};
+use facetings_host::cases::run::run;
+use facetings_host::cases::sample::pick;
+use facetings_host::cases::tally::Tally;
 use facetings_host::cases::{Case, Outcome, Stream, CASES_HEAD};
-use facetings_host::generate::{case, kind_named, KINDS};
-use facetings_host::pick::pick;
-use facetings_host::run::run;
-use facetings_host::tally::Tally;
+
+use common::oracle;
 
 #[test]
 fn a_case_depends_on_its_own_seed_alone() {

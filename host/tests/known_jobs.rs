@@ -2,12 +2,12 @@
 
 mod common;
 
+use faceting_register::job::accept;
+use faceting_register::{Refusal, Stop};
+
 use common::{
     answer, judge, oracle, orbit_lists, refusal, CORNER, SQUARE, SQUARE_GROUP, WORKSPACE,
 };
-use facetings_host::job::accept;
-use facetings_host::judged::Stop;
-use facetings_host::refusal::Refusal;
 
 #[test]
 fn rank_2_two_points() {

@@ -3,7 +3,7 @@
 use std::collections::BTreeSet;
 use std::path::Path;
 
-use facetings_host::mutants::read;
+use facetings_host::compare::mutants::read;
 
 #[test]
 fn each_mistake_can_be_put_in() {

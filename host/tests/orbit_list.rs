@@ -3,9 +3,11 @@
 
 mod common;
 
+use facetings_host::format::frames::{frame, jobs};
+use facetings_host::format::text;
+use facetings_host::report::orbits::lines;
+
 use common::{oracle, WORKSPACE};
-use facetings_host::listing::{framed, jobs, lines};
-use facetings_host::text;
 
 const FOLDER: &str = concat!(env!("CARGO_MANIFEST_DIR"), "/../crates/orbit_list");
 
@@ -36,12 +38,12 @@ fn recorded_output_is_the_originals() {
 
 #[test]
 fn files_of_jobs_are_taken_apart() {
-    let file = [framed(&[7, 8]), framed(&[]), framed(&[9])].map(Result::unwrap);
+    let file = [frame(&[7, 8]), frame(&[]), frame(&[9])].map(Result::unwrap);
     assert_eq!(file.concat(), [2, 0, 7, 8, 0, 0, 1, 0, 9]);
     assert_eq!(jobs(&file.concat()), Ok(vec![&[7, 8][..], &[], &[9]]));
     assert_eq!(jobs(&[]), Ok(vec![]));
     let cut = Err("job 1 is not there whole".to_string());
     assert_eq!(jobs(&[1, 0, 9, 2]), cut);
     assert_eq!(jobs(&[1, 0, 9, 2, 0, 7]), cut);
-    assert!(framed(&[0; 65_536]).is_err());
+    assert!(frame(&[0; 65_536]).is_err());
 }

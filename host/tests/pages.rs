@@ -7,15 +7,14 @@ mod common;
 use std::collections::BTreeSet;
 use std::path::{Path, PathBuf};
 
+use faceting_register::request::{ask, LONGEST};
+use faceting_register::{Answer, Engine, Stop};
+use facetings_host::format::vertex_set::{self, VertexSet};
+use facetings_host::report::advice;
+use facetings_host::report::page::page;
+
 use common::place::names;
 use common::ways::ways;
-use facetings_host::advice;
-use facetings_host::answer::Answer;
-use facetings_host::ask::{ask, LONGEST};
-use facetings_host::engine::Engine;
-use facetings_host::judged::Stop;
-use facetings_host::page::page;
-use facetings_host::vertex_set::{self, VertexSet};
 
 fn folder() -> PathBuf {
     Path::new(env!("CARGO_MANIFEST_DIR")).join("../examples")

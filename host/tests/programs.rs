@@ -7,13 +7,14 @@ use std::io::Write;
 use std::path::{Path, PathBuf};
 use std::process::Command;
 
+use faceting_register::register::{NotLinked, LINKED};
+use faceting_register::request::{ask, LONGEST};
+use faceting_register::Refusal;
+use facetings_host::format::text;
+
 use common::format::{refusal_numbers, worked_example};
 use common::place::{Done, Place};
 use common::ways::ways;
-use facetings_host::ask::{ask, LONGEST};
-use facetings_host::refusal::Refusal;
-use facetings_host::register::{LINKED, NOT_LINKED};
-use facetings_host::text;
 
 const HEADER: &str = include_str!("../../include/register.h");
 const SQUARE: &str = include_str!("../../examples/square.txt");
@@ -154,7 +155,7 @@ fn the_program_in_c_tells_a_refusal() {
 fn the_program_in_c_runs_with_the_library() {
     if !LINKED {
         tell(&format!(
-            "skipped, the program in C with the library: {NOT_LINKED}"
+            "skipped, the program in C with the library: {NotLinked}"
         ));
         return;
     }
@@ -181,6 +182,6 @@ fn the_program_in_rust_runs() {
     let done = Place::new("rust-program").run(program, &[]);
     match LINKED {
         true => assert_eq!(done.fine(), PRINTED),
-        false => assert_eq!(done.complaint(1), format!("figures: {NOT_LINKED}")),
+        false => assert_eq!(done.complaint(1), format!("figures: {NotLinked}")),
     }
 }

@@ -2,10 +2,10 @@
 
 mod common;
 
+use faceting_register::{Engine, Register};
+use facetings_host::cases::record::{hash, record, LARGEST_ROOM, LARGEST_WORKSPACE, LONGEST_JOB};
+
 use common::oracle;
-use facetings_host::engine::Engine;
-use facetings_host::record::{hash, record, LARGEST_ROOM, LARGEST_WORKSPACE, LONGEST_JOB};
-use facetings_host::register::Register;
 
 struct Record {
     job: Vec<u8>,

@@ -3,9 +3,10 @@
 
 mod common;
 
+use faceting_register::job::accept;
+use faceting_register::{Job, Stop};
+
 use common::{job, oracle, CORNER, SQUARE, WORKSPACE};
-use facetings_host::job::{accept, Job};
-use facetings_host::judged::Stop;
 
 fn refusal(bytes: &[u8], workspace: usize) -> u8 {
     accept(bytes, workspace)

@@ -5,41 +5,42 @@ mod common;
 
 use std::slice::{from_raw_parts, from_raw_parts_mut};
 
-use common::{oracle, WORKSPACE};
+use faceting_register::job::accept;
+use faceting_register::register::Exported;
+use faceting_register::{Engine, Refusal};
+use facetings_host::cases::generator::{case, kind_named, KINDS};
+use facetings_host::cases::known_jobs::KNOWN_JOBS;
 use facetings_host::cases::{Case, Room};
-use facetings_host::engine::Engine;
-use facetings_host::generate::{case, kind_named, KINDS};
-use facetings_host::job::accept;
-use facetings_host::known::KNOWN;
-use facetings_host::oracle::Oracle;
-use facetings_host::refusal::Refusal;
-use facetings_host::register::{Exported, Register};
-use facetings_host::trials::Trials;
+use facetings_host::compare::trials::Trials;
+use facetings_host::engines::guard::Guard;
+use facetings_host::engines::oracle::Oracle;
+
+use common::{oracle, WORKSPACE};
 
 /// Generated cases that every run of the tests compares.
 const COUNT: usize = 3_000;
 
 /// The linked register; where there is none, the test says that it was skipped.
-fn register() -> Option<Register> {
+fn register() -> Option<Guard> {
     let absent = |words| println!("skipped: {words}");
-    Register::open().map_err(absent).ok()
+    Guard::open().map_err(absent).ok()
 }
 
 fn known_case(number: usize) -> Case {
     Case {
         number,
         seed: number as u64,
-        kind: KNOWN[number].name.into(),
+        kind: KNOWN_JOBS[number].name.into(),
         workspace: WORKSPACE,
         room: Room::Bytes(1 << 20),
-        job: KNOWN[number].job().expect("the text of a known job"),
+        job: KNOWN_JOBS[number].job().expect("the text of a known job"),
     }
 }
 
 #[test]
 fn known_jobs_have_the_results_of_document_01() {
     let Some(mut oracle) = oracle() else { return };
-    for (number, known) in KNOWN.iter().enumerate() {
+    for (number, known) in KNOWN_JOBS.iter().enumerate() {
         let case = known_case(number);
         let code = oracle.answer(&case.job, WORKSPACE, &mut vec![0; 1 << 20]);
         let refusal = Refusal::from_code(code).map_or(0, Refusal::number);
@@ -53,11 +54,11 @@ fn the_register_answers_each_known_job_as_the_original() {
         return;
     };
     let mut trials = Trials::new(&oracle, &mut register);
-    for (number, known) in KNOWN.iter().enumerate() {
+    for (number, known) in KNOWN_JOBS.iter().enumerate() {
         let lines = trials.case(&known_case(number));
         assert!(lines.is_empty(), "{}: {lines:?}", known.name);
     }
-    assert!(trials.call_count() > 5 * KNOWN.len());
+    assert!(trials.call_count() > 5 * KNOWN_JOBS.len());
 }
 
 #[test]
@@ -197,7 +198,7 @@ stand_in!(writes_to_its_job, call, {
 
 /// The differences that the trials tell of a stand-in.
 fn differences(oracle: &Oracle, function: Exported) -> usize {
-    let mut register = Register::over(function);
+    let mut register = Guard::over(function);
     let mut trials = Trials::new(oracle, &mut register);
     let kinds = ["room", "rows", "pair", "limits", "workspace"];
     let quick = (0..60).map(|number| case(4, number, kind_named(kinds[number % kinds.len()])));
@@ -213,7 +214,7 @@ fn a_right_stand_in_has_no_difference() {
 #[test]
 fn new_memory_for_each_call_changes_nothing() {
     let Some(oracle) = oracle() else { return };
-    let mut register = Register::over(right).with_fresh_memory();
+    let mut register = Guard::over(right).with_fresh_memory();
     let mut trials = Trials::new(&oracle, &mut register).with_fresh_memory();
     for number in 0..20 {
         let lines = trials.case(&case(4, number, kind_named("limits")));
@@ -246,7 +247,7 @@ fn wrong_stand_ins_are_noticed() {
 #[test]
 fn trials_reach_both_sides_of_every_length() {
     let Some(oracle) = oracle() else { return };
-    let mut register = Register::over(right);
+    let mut register = Guard::over(right);
     let mut trials = Trials::new(&oracle, &mut register);
     (0..40).for_each(|number| {
         assert!(trials

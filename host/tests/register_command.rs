@@ -3,12 +3,13 @@
 
 mod common;
 
+use faceting_register::request::{ask, LONGEST};
+use faceting_register::{Answer, Entry, Figure};
+
 use common::json::Value;
 use common::place::{Done, Place};
 use common::ways::ways;
 use common::{job, CORNER, SQUARE, SQUARE_GROUP};
-use facetings_host::answer::{Answer, Entry, Figure};
-use facetings_host::ask::{ask, LONGEST};
 
 const COMMAND: &str = env!("CARGO_BIN_EXE_register");
 
@@ -87,7 +88,7 @@ fn without_what_answers_the_status_is_3() {
         let done = place.run(COMMAND, &["--original", "square.txt"]);
         assert!(done.complaint(3).contains("the Rust source is not there"));
     }
-    if !facetings_host::register::LINKED {
+    if !faceting_register::register::LINKED {
         let done = place.run(COMMAND, &["square.txt"]);
         assert!(done.complaint(3).contains("the register is not linked"));
     }

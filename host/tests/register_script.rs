@@ -38,6 +38,7 @@ fn repository(name: &str, tools: &[(&str, &str)]) -> Place {
         ("crates/a/src/lib.rt", ""),
         ("crates/a/must-fail/x.edit", ""),
         ("host/src/lib.rs", ""),
+        ("host/wrapper/src/lib.rs", ""),
         ("host/build.rs", ""),
         ("host/Cargo.toml", include_str!("../Cargo.toml")),
         ("host/help/register.txt", HELP),
@@ -144,6 +145,7 @@ fn builds_again_what_is_older_than_its_sources() {
     assert_eq!(after("crates/a/src/lib.rt"), BOTH);
     assert_eq!(after("crates.txt"), BOTH);
     assert_eq!(after("host/src/lib.rs"), "cargo build\n");
+    assert_eq!(after("host/wrapper/src/lib.rs"), "cargo build\n");
     assert_eq!(after("crates/a/must-fail/x.edit"), "");
     fs::remove_file(place.path("my repository/target/staticlib/libregister.a")).expect("built");
     run(&place, &["a b.txt"]);

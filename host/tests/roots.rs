@@ -1,7 +1,7 @@
 //! The proved square root against the processor's, where it is linked; and that
 //! the values notice wrong roots.
 
-use facetings_host::roots::{compare, expected, proved, LINKED};
+use facetings_host::measure::roots::{compare, expected, proved, LINKED};
 
 const COUNT: u64 = 2_000_000;
 

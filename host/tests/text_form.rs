@@ -2,10 +2,11 @@
 
 mod common;
 
+use faceting_register::Job;
+use facetings_host::cases::generator::case;
+use facetings_host::format::text::{decode, encode};
+
 use common::{job, SQUARE, SQUARE_GROUP};
-use facetings_host::generate::case;
-use facetings_host::job::Job;
-use facetings_host::text::{decode, encode};
 
 fn read(text: &str) -> Job {
     Job::read(&job(text)).expect("the text form writes the layout")

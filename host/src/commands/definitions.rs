@@ -3,8 +3,8 @@
 use std::path::{Path, PathBuf};
 use std::process::Command as Process;
 
-use facetings_host::held;
-use facetings_host::pick::{self, Picked};
+use facetings_host::cases::sample::{self, Sample};
+use facetings_host::compare::definitions as tests;
 
 use super::{open_original, print, Command};
 use crate::arguments::Arguments;
@@ -38,8 +38,8 @@ fn run(arguments: Arguments) -> Result<(), Failure> {
         return Err(words.into());
     }
     let scratch = new_folder(arguments.needed("--scratch")?)?;
-    let cases = pick::pick(&mut open_original()?, seed, count, tries);
-    held::write(&scratch, definitions, &cases)
+    let cases = sample::pick(&mut open_original()?, seed, count, tries);
+    tests::write(&scratch, definitions, &cases)
         .map_err(|error| format!("cannot write {}: {error}", scratch.display()))?;
     report(&cases, &check(&scratch)?)
 }
@@ -74,13 +74,13 @@ fn check(scratch: &Path) -> Result<Checked, Failure> {
     })
 }
 
-fn report(cases: &[Picked], checked: &Checked) -> Result<(), Failure> {
-    let differing = held::differing(&checked.output);
+fn report(cases: &[Sample], checked: &Checked) -> Result<(), Failure> {
+    let differing = tests::differing(&checked.output);
     for &number in &differing {
-        let tags = cases.get(number).map_or(String::new(), Picked::tag_line);
+        let tags = cases.get(number).map_or(String::new(), Sample::tag_line);
         print(&format!("case {number} differs: {tags}\n"))?;
     }
-    for (tag, times) in pick::tag_counts(cases) {
+    for (tag, times) in sample::tag_counts(cases) {
         print(&format!("{times:>8}  {tag}\n"))?;
     }
     if checked.proved {

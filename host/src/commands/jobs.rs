@@ -1,11 +1,11 @@
 //! Commands on one job or one answer: answer, orbits, show, encode, decode.
 
-use facetings_host::answer::Answer;
-use facetings_host::listing;
-use facetings_host::oracle::fill;
-use facetings_host::refusal::Refusal;
-use facetings_host::show::show;
-use facetings_host::text;
+use faceting_register::bounds::WORKSPACE;
+use faceting_register::{Answer, Refusal};
+use facetings_host::engines::oracle::fill;
+use facetings_host::format::{frames, text};
+use facetings_host::report::listing::show;
+use facetings_host::report::orbits::lines;
 
 use super::{open_original, print, read_file, read_text, write_to, Command};
 use crate::arguments::Arguments;
@@ -91,7 +91,7 @@ fields say are written with the keyword 'bytes'. For the form see encode --help.
 
 fn answer(arguments: Arguments) -> Result<(), Failure> {
     let [file] = arguments.plain(["JOB"])?;
-    let workspace = arguments.number("--workspace")?.unwrap_or(4_194_304);
+    let workspace = arguments.number("--workspace")?.unwrap_or(WORKSPACE);
     let room: Option<usize> = arguments.number("--room")?;
     let judged = open_original()?.judge(&read_file(file)?, workspace);
     let length = judged
@@ -113,10 +113,10 @@ fn orbits(arguments: Arguments) -> Result<(), Failure> {
     let oracle = open_original()?;
     let files: Vec<Vec<u8>> = arguments.all().map(read_file).collect::<Result<_, _>>()?;
     let stream = arguments.text("--jobs").map(read_file).transpose()?;
-    let framed = listing::jobs(stream.as_deref().unwrap_or_default())?;
+    let framed = frames::jobs(stream.as_deref().unwrap_or_default())?;
     let jobs = files.iter().map(Vec::as_slice).chain(framed);
     for (number, job) in jobs.enumerate() {
-        print(&listing::lines(number, &oracle.judge(job, 4_194_304))?)?;
+        print(&lines(number, &oracle.judge(job, WORKSPACE))?)?;
     }
     Ok(())
 }

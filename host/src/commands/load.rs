@@ -1,10 +1,10 @@
 //! Many calls of the register, and the stack of one.
 
-use facetings_host::job::workspace_length;
-use facetings_host::load::{measured_jobs, run as run_calls, small_jobs, Run};
-use facetings_host::measured::Measured;
-use facetings_host::register::Exported;
-use facetings_host::stack;
+use faceting_register::bounds::workspace_length;
+use faceting_register::register::Exported;
+use facetings_host::measure::load::{run as run_calls, small_jobs, workloads, Run};
+use facetings_host::measure::stack;
+use facetings_host::measure::workload::Workload;
 
 use super::register::open_register;
 use super::{print, Command};
@@ -46,8 +46,8 @@ fn run(arguments: Arguments) -> Result<(), Failure> {
     let small = run_calls(&mut register, &small_jobs()?, count, 4_096)?;
     print(&told("small", &small))?;
     let (chosen, deep) = match arguments.text("--only") {
-        Some(word) => (measured_jobs(&[word]), measured_jobs(&[word])),
-        None => (measured_jobs(LARGEST), measured_jobs(&[""])),
+        Some(word) => (workloads(&[word]), workloads(&[word])),
+        None => (workloads(LARGEST), workloads(&[""])),
     };
     let jobs: Vec<Vec<u8>> = chosen.iter().map(|one| one.job.write()).collect();
     let large = run_calls(&mut register, &jobs, large, 1 << 20)?;
@@ -83,7 +83,7 @@ fn told(name: &str, run: &Run) -> String {
 }
 
 /// Prints the stack of each measured job, and gives the largest.
-fn deepest(function: Exported, jobs: &[Measured]) -> Result<usize, Failure> {
+fn deepest(function: Exported, jobs: &[Workload]) -> Result<usize, Failure> {
     let mut deepest = 0;
     let mut workspace = vec![0; workspace_length(4)];
     let mut answer = vec![0; 1 << 20];

@@ -9,12 +9,13 @@ mod roots;
 mod speed;
 mod streams;
 
+use std::error::Error;
 use std::io::Write;
 
-use facetings_host::oracle::Oracle;
+use facetings_host::engines::oracle::Oracle;
 
 use crate::arguments::Arguments;
-use crate::{Failure, NO_SOURCE};
+use crate::{Failure, ABSENT};
 
 pub struct Command {
     pub name: &'static str,
@@ -46,11 +47,15 @@ pub const COMMANDS: &[Command] = &[
 
 /// The original, or the failure of a command that needs it.
 fn open_original() -> Result<Oracle, Failure> {
-    let absent = |words: &str| Failure {
-        status: NO_SOURCE,
-        words: words.into(),
-    };
     Oracle::open().map_err(absent)
+}
+
+/// The failure of a command that lacks what it needs.
+fn absent(what: impl Error) -> Failure {
+    Failure {
+        status: ABSENT,
+        words: what.to_string(),
+    }
 }
 
 fn read_file(name: &str) -> Result<Vec<u8>, Failure> {

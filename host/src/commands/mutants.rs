@@ -5,7 +5,7 @@ use std::path::{Path, PathBuf};
 use std::process::{Command as Process, Output, Stdio};
 use std::time::{Duration, Instant};
 
-use facetings_host::mutants::{read, Mistake};
+use facetings_host::compare::mutants::{read, Mistake};
 
 use super::{print, read_text, Command};
 use crate::arguments::Arguments;

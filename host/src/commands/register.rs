@@ -2,18 +2,18 @@
 
 use std::time::Instant;
 
+use faceting_register::bounds::workspace_length;
+use facetings_host::cases::generator::{case, kind_named, Kind};
+use facetings_host::cases::known_jobs::KNOWN_JOBS;
+use facetings_host::cases::record::record;
 use facetings_host::cases::{Case, Room};
-use facetings_host::generate::{case, kind_named, Kind};
-use facetings_host::job::workspace_length;
-use facetings_host::known::KNOWN;
-use facetings_host::record::record;
-use facetings_host::register::Register;
-use facetings_host::trials::Trials;
+use facetings_host::compare::trials::Trials;
+use facetings_host::engines::guard::Guard;
 
 use super::streams::chosen_kind;
-use super::{open_original, print, write_to, Command};
+use super::{absent, open_original, print, write_to, Command};
 use crate::arguments::Arguments;
-use crate::{Failure, DIFFERENT, NO_SOURCE};
+use crate::{Failure, DIFFERENT};
 
 pub const COMPARE_REGISTER: Command = Command {
     name: "compare-register",
@@ -50,13 +50,10 @@ them, and every choice that hangs on what the workspace held.
 };
 
 /// The register, linked or loaded, or the failure of a command that needs it.
-pub fn open_register(arguments: &Arguments) -> Result<Register, Failure> {
+pub fn open_register(arguments: &Arguments) -> Result<Guard, Failure> {
     match arguments.text("--library") {
-        Some(library) => Ok(Register::load(library)?),
-        None => Register::open().map_err(|words| Failure {
-            status: NO_SOURCE,
-            words: words.into(),
-        }),
+        Some(library) => Ok(Guard::load(library)?),
+        None => Guard::open().map_err(absent),
     }
 }
 
@@ -79,7 +76,7 @@ fn fresh_memory(arguments: &Arguments) -> Result<bool, Failure> {
 
 /// The known jobs as cases, with room for every answer.
 fn known_cases() -> Result<Vec<Case>, Failure> {
-    let case = |(number, known): (usize, &facetings_host::known::Known)| {
+    let case = |(number, known): (usize, &facetings_host::cases::known_jobs::KnownJob)| {
         Ok(Case {
             number,
             seed: number as u64,
@@ -89,7 +86,7 @@ fn known_cases() -> Result<Vec<Case>, Failure> {
             job: known.job()?,
         })
     };
-    KNOWN.iter().enumerate().map(case).collect()
+    KNOWN_JOBS.iter().enumerate().map(case).collect()
 }
 
 fn compare_register(arguments: Arguments) -> Result<(), Failure> {

@@ -1,10 +1,10 @@
 //! The proved square root beside the processor's.
 
-use facetings_host::roots;
+use facetings_host::measure::roots;
 
-use super::{print, Command};
+use super::{absent, print, Command};
 use crate::arguments::Arguments;
-use crate::{Failure, DIFFERENT, NO_SOURCE};
+use crate::{Failure, DIFFERENT};
 
 pub const ROOTS: Command = Command {
     name: "roots",
@@ -27,11 +27,7 @@ fn run(arguments: Arguments) -> Result<(), Failure> {
     let seed = arguments.number("--seed")?.unwrap_or(1);
     let count = arguments.number("--count")?.unwrap_or(10_000_000);
     if !roots::LINKED {
-        return Err(Failure {
-            status: NO_SOURCE,
-            words: "the proved root is not linked: run 'rt staticlib root', then build again"
-                .into(),
-        });
+        return Err(absent(roots::NotLinked));
     }
     let (compared, wrong) = roots::compare(roots::proved, seed, count);
     for x in wrong.iter().take(10) {

@@ -2,9 +2,9 @@
 
 use std::time::Duration;
 
-use facetings_host::job::Job;
-use facetings_host::measured::{self, Measured};
-use facetings_host::speed::{generated, Effort, Stopwatch, Timed};
+use faceting_register::Job;
+use facetings_host::measure::speed::{cases, Effort, Stopwatch, Timing};
+use facetings_host::measure::workload::{self, Workload};
 
 use super::register::open_register;
 use super::{open_original, print, Command};
@@ -61,30 +61,30 @@ fn run(arguments: Arguments) -> Result<(), Failure> {
         time: Duration::from_secs(seconds),
     };
     let word = arguments.text("--only").unwrap_or("");
-    let only = |jobs: Vec<Measured>| {
+    let only = |jobs: Vec<Workload>| {
         let chosen = jobs.into_iter().filter(|one| one.name.contains(word));
         chosen.collect::<Vec<_>>()
     };
-    let slower = table(&mut watch, "jobs", &only(measured::table()), effort)?;
+    let slower = table(&mut watch, "jobs", &only(workload::table()), effort)?;
     let growing = [
-        ("points: parabolas", measured::parabolas(lists)),
+        ("points: parabolas", workload::parabolas(lists)),
         (
             "lists examined: a parabola of 14 points",
-            measured::budgets(),
+            workload::budgets(),
         ),
         (
             "rows: a cube, limit 1, its row again and again",
-            measured::rows(),
+            workload::rows(),
         ),
         (
             "orbits: moment curves of rank 4, limit 1",
-            measured::planes(),
+            workload::planes(),
         ),
     ];
     for (title, jobs) in growing {
         table(&mut watch, title, &only(jobs), effort)?;
     }
-    let searched = [measured::parabolas(lists), measured::planes()];
+    let searched = [workload::parabolas(lists), workload::planes()];
     let searched = only(searched.into_iter().flatten().collect());
     searches(&mut watch, &searched, lists, effort)?;
     let slower = slower + slow_cases(&mut watch, seed, cases)?;
@@ -108,12 +108,12 @@ fn different(name: &str, words: &str) -> Failure {
 fn table(
     watch: &mut Stopwatch,
     title: &str,
-    jobs: &[Measured],
+    jobs: &[Workload],
     effort: Effort,
 ) -> Result<usize, Failure> {
     print(&format!("\n{title}\n{HEAD}"))?;
     let mut slower = 0;
-    for Measured { name, job } in jobs {
+    for Workload { name, job } in jobs {
         let timed = watch.time(&job.write(), effort);
         let timed = timed.map_err(|words| different(name, &words))?;
         slower += usize::from(timed.ratio() < 1.0);
@@ -139,12 +139,12 @@ fn before_and_after(job: &Job, lists: u32) -> (Job, Job) {
 /// What a list costs in the search alone.
 fn searches(
     watch: &mut Stopwatch,
-    jobs: &[Measured],
+    jobs: &[Workload],
     lists: u32,
     effort: Effort,
 ) -> Result<(), Failure> {
     print("\nthe search alone\n    register        Rust  a list of the job\n")?;
-    for Measured { name, job } in jobs {
+    for Workload { name, job } in jobs {
         let (begun, all) = before_and_after(job, lists);
         let mut timed = |job: &Job| {
             let timed = watch.time(&job.write(), effort);
@@ -163,7 +163,7 @@ fn searches(
     Ok(())
 }
 
-fn line(name: &str, timed: &Timed) -> String {
+fn line(name: &str, timed: &Timing) -> String {
     let told = match timed.code {
         0.. => String::new(),
         code => format!(", refused {}", -code),
@@ -193,8 +193,8 @@ fn slow_cases(watch: &mut Stopwatch, seed: u64, count: usize) -> Result<usize, F
         most: 5,
         time: Duration::from_millis(50),
     };
-    let mut found: Vec<(String, Timed)> = Vec::new();
-    for case in generated(seed, count) {
+    let mut found: Vec<(String, Timing)> = Vec::new();
+    for case in cases(seed, count) {
         let name = format!("case {} ({})", case.number, case.kind);
         let timed = watch.slow(&case, effort);
         let timed = timed.map_err(|words| different(&name, &words))?;

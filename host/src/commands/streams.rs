@@ -6,12 +6,11 @@ use std::fs::File;
 use std::io::{BufReader, BufWriter, Write};
 use std::str::FromStr;
 
-use facetings_host::cases::{Case, Numbered, Outcome, Stream, CASES_HEAD, RESULTS_HEAD};
-use facetings_host::compare::compare;
-use facetings_host::generate::{case, kind_named, Kind, KINDS};
-use facetings_host::pick;
-use facetings_host::run::run;
-use facetings_host::tally::Tally;
+use facetings_host::cases::generator::{case, kind_named, Kind, KINDS};
+use facetings_host::cases::run::run;
+use facetings_host::cases::tally::Tally;
+use facetings_host::cases::{sample, Case, Numbered, Outcome, Stream, CASES_HEAD, RESULTS_HEAD};
+use facetings_host::compare::difference::compare;
 
 use super::{open_original, print, unwritten, write_to, Command};
 use crate::arguments::Arguments;
@@ -139,7 +138,7 @@ fn pick_cases(arguments: Arguments) -> Result<(), Failure> {
     let seed = arguments.needed_number("--seed")?;
     let count = arguments.needed_number("--count")?;
     let tries = arguments.number("--tries")?.unwrap_or(100_000);
-    let picked = pick::pick(&mut open_original()?, seed, count, tries);
+    let picked = sample::pick(&mut open_original()?, seed, count, tries);
     let text: String = picked.iter().map(|one| format!("{one}\n")).collect();
     write_to(arguments.text("-o"), text.as_bytes())?;
     if picked.len() < count {

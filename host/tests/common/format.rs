@@ -1,6 +1,6 @@
 //! The worked example of docs/FORMAT.md: the bytes in its tables.
 
-use facetings_host::hex;
+use facetings_host::format::hex;
 
 const PAGE: &str = include_str!("../../../docs/FORMAT.md");
 

@@ -10,23 +10,23 @@ pub mod ways;
 use std::io::Write;
 use std::sync::Once;
 
-use facetings_host::answer::{Answer, Entry};
-use facetings_host::judged::{Judged, Stop};
-use facetings_host::oracle::Oracle;
-use facetings_host::text;
+use faceting_register::{Answer, Entry, Stop};
+use facetings_host::engines::judgement::Judgement;
+use facetings_host::engines::oracle::{NoSource, Oracle};
+use facetings_host::format::text;
 
 pub const SQUARE: &str = "points\n0 0\n1 0\n1 1\n0 1\n";
 pub const SQUARE_GROUP: &str = "generators\n1 2 3 0\n0 3 2 1\n";
 pub const CORNER: &str = "points\n0 0 0\n1 0 0\n0 1 0\n0 0 1\n";
 
 /// Enough workspace for every rank.
-pub const WORKSPACE: usize = 4_194_304;
+pub const WORKSPACE: usize = faceting_register::bounds::WORKSPACE;
 
 /// The original; where it is not there, one line for all tests of a file says
 /// that they were skipped. It goes past the capture of what tests print.
 pub fn oracle() -> Option<Oracle> {
     static SAID: Once = Once::new();
-    let absent = |words| {
+    let absent = |words: NoSource| {
         let line = format!("skipped, all tests here that need the original: {words}\n");
         SAID.call_once(|| {
             let _ = std::io::stderr().write_all(line.as_bytes());
@@ -39,7 +39,7 @@ pub fn job(text: &str) -> Vec<u8> {
     text::encode(text).unwrap_or_else(|reason| panic!("{reason} in:\n{text}"))
 }
 
-pub fn judge(oracle: &Oracle, text: &str) -> Judged {
+pub fn judge(oracle: &Oracle, text: &str) -> Judgement {
     oracle.judge(&job(text), WORKSPACE)
 }
 

@@ -3,9 +3,8 @@
 use std::io::Write;
 use std::sync::Once;
 
-use facetings_host::engine::Engine;
-use facetings_host::oracle::Oracle;
-use facetings_host::register::Register;
+use faceting_register::{Engine, Register};
+use facetings_host::engines::oracle::Oracle;
 
 /// An engine, its name, and the option that makes the command use it.
 pub struct Way {
@@ -26,7 +25,7 @@ pub fn ways() -> Vec<Way> {
             option: &["--original"],
             engine: Box::new(engine),
         }),
-        Err(words) => absent.push(words),
+        Err(why) => absent.push(why.to_string()),
     }
     match Register::open() {
         Ok(engine) => ways.push(Way {
@@ -34,7 +33,7 @@ pub fn ways() -> Vec<Way> {
             option: &[],
             engine: Box::new(engine),
         }),
-        Err(words) => absent.push(words),
+        Err(why) => absent.push(why.to_string()),
     }
     SAID.call_once(|| {
         for words in absent {

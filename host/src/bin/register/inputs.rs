@@ -6,7 +6,7 @@ use std::fs;
 use std::io::{self, Read};
 use std::path::{Component, Path, PathBuf};
 
-use facetings_host::vertex_set::{self, VertexSet, ENDINGS};
+use facetings_host::format::vertex_set::{self, VertexSet, ENDINGS};
 
 use crate::order::natural;
 

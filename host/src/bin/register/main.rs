@@ -10,7 +10,8 @@ mod work;
 
 use std::process::ExitCode;
 
-use facetings_host::text::RULES;
+use facetings_host::format::text::RULES;
+
 use options::{Options, Told};
 use outcome::Status;
 

@@ -3,7 +3,7 @@
 use std::ffi::OsString;
 use std::path::PathBuf;
 
-use facetings_host::ask::LONGEST;
+use faceting_register::request::LONGEST;
 
 /// What is written of an answer.
 #[derive(Clone, Copy, PartialEq, Eq)]

@@ -1,13 +1,10 @@
 //! What comes of a vertex set, and how it is told.
 
-use facetings_host::answer::Answer;
-use facetings_host::ask::ask;
-use facetings_host::engine::Engine;
-use facetings_host::judged::Stop;
-use facetings_host::page::{label, page};
-use facetings_host::refusal::Refusal;
-use facetings_host::vertex_set::VertexSet;
-use facetings_host::{advice, json};
+use faceting_register::request::ask;
+use faceting_register::{Answer, Engine, Refusal, Stop};
+use facetings_host::format::vertex_set::VertexSet;
+use facetings_host::report::page::{label, page};
+use facetings_host::report::{advice, json};
 
 use crate::options::Form;
 

@@ -4,7 +4,7 @@ use std::collections::{HashMap, HashSet};
 use std::fs;
 use std::path::{Path, PathBuf};
 
-use facetings_host::vertex_set::{self, ENDINGS};
+use facetings_host::format::vertex_set::{self, ENDINGS};
 
 use crate::inputs::{Input, Named};
 use crate::options::{Form, Options};

@@ -1,23 +1,23 @@
 //! From files to results: one set by itself, or many with a line for each.
 
+use std::error::Error;
 use std::path::{Path, PathBuf};
 
-use facetings_host::engine::Engine;
-use facetings_host::oracle::Oracle;
-use facetings_host::page::{counted, tally};
-use facetings_host::register::Register;
-use facetings_host::vertex_set::VertexSet;
+use faceting_register::{Engine, Register};
+use facetings_host::engines::oracle::Oracle;
+use facetings_host::format::vertex_set::VertexSet;
+use facetings_host::report::page::{counted, tally};
 
-use crate::inputs::Named;
+use crate::inputs::{self, Named};
 use crate::options::{Form, Options};
 use crate::outcome::{outcome, Outcome, Status};
 use crate::places::{make_folder, places, spared};
-use crate::{complain, inputs, output};
+use crate::{complain, output};
 
 pub fn run(options: &Options) -> Status {
     let mut engine = match open(options.original) {
         Ok(engine) => engine,
-        Err(words) => return complain(words, Status::Absent),
+        Err(why) => return complain(&why.to_string(), Status::Absent),
     };
     let done = answer(options, engine.as_mut());
     done.unwrap_or_else(|words| complain(&words, Status::Bad))
@@ -38,7 +38,7 @@ fn answer(options: &Options, engine: &mut dyn Engine) -> Result<Status, String> 
 }
 
 /// What answers: the proved library, or the original in its place.
-fn open(original: bool) -> Result<Box<dyn Engine>, &'static str> {
+fn open(original: bool) -> Result<Box<dyn Engine>, Box<dyn Error>> {
     if original {
         return Ok(Box::new(Oracle::open()?));
     }

@@ -1,0 +1,106 @@
+//! The original as an engine: the whole way from job bytes to answer bytes [1.1],
+//! with the original function in the middle.
+
+use std::fmt;
+
+use faceting_register::{job, Answer, Engine, Refusal, Stop};
+
+use super::Probe;
+use crate::engines::judgement::{Bounds, Events, Judgement};
+#[cfg(has_miratope)]
+use crate::engines::original::faceting;
+
+/// The original's source was not there when this crate was built.
+#[derive(Clone, Copy, Debug, PartialEq, Eq)]
+pub struct NoSource;
+
+impl fmt::Display for NoSource {
+    fn fmt(&self, f: &mut fmt::Formatter<'_>) -> fmt::Result {
+        f.write_str(
+            "the Rust source is not there: \
+             set MIRATOPE_SRC to the folder that holds miratope-core/src, then build again",
+        )
+    }
+}
+
+impl std::error::Error for NoSource {}
+
+/// What a call returns if the original panics, which is no result of a job.
+pub const BROKEN: i64 = i64::MIN;
+
+/// Made by `open` alone, so that there is one only where the original is.
+pub struct Oracle {
+    /// The bounds it runs under.
+    pub bounds: Bounds,
+    /// What the latest call found.
+    pub last: Option<Judgement>,
+}
+
+impl Oracle {
+    /// The original, where its source is there.
+    pub fn open() -> Result<Oracle, NoSource> {
+        if !cfg!(has_miratope) {
+            return Err(NoSource);
+        }
+        Ok(Oracle {
+            bounds: Bounds::default(),
+            last: None,
+        })
+    }
+
+    /// All refusals but the last, which is the buffer's.
+    pub fn judge(&self, bytes: &[u8], workspace: usize) -> Judgement {
+        match job::accept(bytes, workspace) {
+            Err(refusal) => Judgement {
+                result: Err(Stop::Refused(refusal)),
+                events: Events::default(),
+                job: None,
+            },
+            Ok(job) => {
+                let (result, events) = faceting(&job, &self.bounds);
+                Judgement {
+                    result,
+                    events,
+                    job: Some(job),
+                }
+            }
+        }
+    }
+}
+
+#[cfg(not(has_miratope))]
+fn faceting(_job: &job::Job, _bounds: &Bounds) -> (Result<Answer, Stop>, Events) {
+    (Err(Stop::Broken(NoSource.to_string())), Events::default())
+}
+
+/// Fills the buffer as the exported call does and returns its value.
+pub fn fill(result: &Result<Answer, Stop>, answer: &mut [u8]) -> Result<i64, String> {
+    answer.fill(0);
+    match result {
+        Err(Stop::Broken(words)) => Err(format!("the original panicked: {words}")),
+        Err(Stop::Refused(refusal)) => Ok(refusal.code()),
+        Ok(found) => {
+            let bytes = found.bytes();
+            let Some(front) = answer.get_mut(..bytes.len()) else {
+                return Ok(Refusal::Room.code());
+            };
+            front.copy_from_slice(&bytes);
+            Ok(bytes.len() as i64)
+        }
+    }
+}
+
+impl Probe for Oracle {}
+
+impl Engine for Oracle {
+    fn name(&self) -> &'static str {
+        "original"
+    }
+
+    fn answer(&mut self, job: &[u8], workspace: usize, answer: &mut [u8]) -> i64 {
+        let judged = self.judge(job, workspace);
+        let code = fill(&judged.result, answer).unwrap_or(BROKEN);
+        self.last = Some(judged);
+        code
+    }
+}

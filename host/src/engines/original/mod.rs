@@ -1,0 +1,118 @@
+//! The original functions, as the build script cut and patched them, with
+//! stand-ins for what they lean on: vectors (as [3.4] to [3.6] have them), ranks of
+//! elements, hashed collections with a fixed hash, and the watch over a run.
+
+mod hashes;
+mod ranks;
+mod vectors;
+mod watch;
+
+use std::collections::{BTreeMap, VecDeque};
+use std::io::Write;
+
+use faceting_register::{Answer, Entry, Figure, Job, Stop};
+
+use crate::engines::judgement::{Bounds, Events};
+use hashes::{HashMap, HashSet};
+use ranks::{Abstract, Element, ElementList, Ranks, Subelements, Superelements};
+use vectors::{Float, Instant, Point, PointOrd, Vector};
+use watch::watched;
+
+/// Nothing is ever printed, so the line that is cleared and the delay between
+/// two prints have no meaning here.
+const CL: &str = "";
+const DELAY: u128 = u128::MAX;
+
+/// Swallows the block that it stands in front of.
+macro_rules! never_run {
+    ($($inside:tt)*) => {
+        unreachable!("the uniform filter is never asked for")
+    };
+}
+
+/// Warnings about the original are no concern of this crate.
+#[allow(warnings, clippy::all)]
+#[rustfmt::skip]
+mod cut {
+    use super::*;
+    include!(concat!(env!("OUT_DIR"), "/original.rs"));
+
+    /// What is private in the original, for the module above.
+    pub(super) fn run(plane: Subspace<f64>, job: &faceting_register::job::Job) -> Found {
+        let points = job.points.iter().map(|p| PointOrd::new(Point::from(p)));
+        let rows = job.rows.iter().map(|row| row.iter().map(|&v| v.into()).collect());
+        faceting_subdim(
+            job.rank.into(),
+            plane,
+            points.collect(),
+            rows.collect(),
+            job.min,
+            job.max,
+            job.limit.map(|m| m as usize),
+            false,
+            None,
+            false,
+        )
+    }
+
+    pub(super) fn plain(lists: &Vec<Vec<(usize, usize)>>) -> Vec<usize> {
+        filter_irc(lists)
+    }
+}
+
+/// What the original returns: entries, orbit counts, possible facets, compounds.
+type Found = (
+    Vec<(Ranks, Vec<(usize, usize)>)>,
+    Vec<usize>,
+    Vec<Vec<Ranks>>,
+    HashMap<usize, (usize, usize)>,
+);
+
+/// The original's answer to an accepted job, each figure renumbered.
+pub fn faceting(job: &Job, bounds: &Bounds) -> (Result<Answer, Stop>, Events) {
+    let plane = cut::Subspace {
+        basis: job.basis.iter().map(Point::from).collect(),
+        offset: Point::from(&job.offset),
+    };
+    let (found, events) = watched(bounds, job.budget, || cut::run(plane, job));
+    (found.map(|found| answer(events.examined, found)), events)
+}
+
+fn answer(examined: u32, (entries, counts, facets, compounds): Found) -> Answer {
+    let entry = |(ranks, list): (Ranks, Vec<(usize, usize)>)| Entry {
+        list: list
+            .into_iter()
+            .map(|(a, b)| (a as u32, b as u32))
+            .collect(),
+        figure: renumbered(ranks),
+    };
+    let orbit = |figures: Vec<Ranks>| figures.into_iter().map(renumbered).collect();
+    let mut compounds: Vec<[u32; 3]> = compounds
+        .iter()
+        .map(|(&a, &(b, c))| [a, b, c].map(|entry| entry as u32))
+        .collect();
+    compounds.sort_unstable();
+    let entries: Vec<Entry> = entries.into_iter().map(entry).collect();
+    Answer {
+        examined,
+        counts: counts.into_iter().map(|count| count as u32).collect(),
+        summaries: entries.iter().map(|e| e.figure.summary()).collect(),
+        entries,
+        facets: facets.into_iter().map(orbit).collect(),
+        compounds,
+    }
+}
+
+fn renumbered(mut ranks: Ranks) -> Figure {
+    ranks.element_sort_strong();
+    let subs = |element: &Element| element.subs.iter().map(|&sub| sub as u32).collect();
+    let elements = |rank: &ElementList| rank.iter().map(subs).collect();
+    Figure {
+        ranks: ranks.iter().map(elements).collect(),
+    }
+}
+
+/// The numbers of the lists in which the original's walk finds no other list.
+pub fn plain_lists(lists: &Vec<Vec<(usize, usize)>>) -> Vec<usize> {
+    cut::plain(lists)
+}

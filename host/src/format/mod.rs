@@ -1,0 +1,9 @@
+//! Forms that jobs come in: the text form with its numbers, files of jobs, and the
+//! files that people hand to the register.
+
+pub mod expression;
+pub mod frames;
+pub mod hex;
+pub mod quote;
+pub mod text;
+pub mod vertex_set;

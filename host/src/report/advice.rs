@@ -1,0 +1,96 @@
+//! What a refusal says to the person who wrote the job: the rule that holds, and
+//! what to change so that the job keeps it.
+
+use faceting_register::Refusal;
+
+/// The rule and the change, for refusals 1 to 17.
+const ALL: [(&str, &str); 17] = [
+    (
+        "a job has at least 11 bytes and begins with the letters FCT",
+        "give the set in the text form, or make the bytes with 'facetings-host encode'",
+    ),
+    ("the version is 1", "leave the keyword 'version' out"),
+    (
+        "the rank is 2, 3 or 4",
+        "write 'rank 3' for figures in a plane, 'rank 4' for solids",
+    ),
+    (
+        "points have at least rank - 1 and at most 4 coordinates",
+        "give the points another number of coordinates, or change the rank",
+    ),
+    (
+        "a set has 2 to 20 points",
+        "leave points out, or take the set apart",
+    ),
+    (
+        "there are 1 to 120 rows",
+        "give generators of a smaller part of the symmetry, or fewer rows",
+    ),
+    (
+        "only the flag bits 0, 1 and 2 are in use",
+        "set a bit for each of min, max and limit that is there, and no other",
+    ),
+    (
+        "the job is just as long as its fields say",
+        "compare the counts in front with what follows them (docs/FORMAT.md)",
+    ),
+    (
+        "numbers are finite: points and offset within 65,536 of zero, basis numbers within 1, min and max from 0 to 131,072",
+        "move the set to the origin, or scale it down",
+    ),
+    (
+        "the first row leaves every point in its place",
+        "begin the rows with 0 1 2 .., or write 'generators' in place of 'rows'",
+    ),
+    (
+        "every row names each point once",
+        "correct the row that names a point twice, or a point that is not there",
+    ),
+    (
+        "the workspace has at least 524,288 bytes at rank 3 and 4,194,304 at rank 4",
+        "lend a longer workspace",
+    ),
+    (
+        "no call finds more than 256 orbits of hyperplanes",
+        "give generators of more of the symmetry, fewer points, or closer limits 'min' and 'max'",
+    ),
+    (
+        "the points of a plane or line, fitted one by one, give just that plane or line",
+        "move points that lie almost on it, or almost together, clearly on or clearly off (0.0000001 tells them apart)",
+    ),
+    (
+        "no call has more than 1,024 possible facets or entries",
+        "give generators of more of the symmetry, fewer points, closer limits 'min' and 'max', or an entry limit: 'limit 1000'",
+    ),
+    (
+        "no more lists are examined than the budget allows",
+        "raise the budget ('budget 100000000'), give generators of more of the symmetry, or an entry limit: 'limit 100'",
+    ),
+    (
+        "the answer buffer holds the whole answer",
+        "allow a longer answer (--room), or ask for less by an entry limit: 'limit 100'",
+    ),
+];
+
+fn row(refusal: Refusal) -> (&'static str, &'static str) {
+    ALL[usize::from(refusal.number()) - 1]
+}
+
+/// The rule that the job breaks, as it should be.
+pub fn rule(refusal: Refusal) -> &'static str {
+    row(refusal).0
+}
+
+/// What its writer can do about it.
+pub fn change(refusal: Refusal) -> &'static str {
+    row(refusal).1
+}
+
+/// Number, what was met, rule and change in one line.
+pub fn line(refusal: Refusal) -> String {
+    format!(
+        "{refusal}; the rule: {}; what to change: {}",
+        rule(refusal),
+        change(refusal)
+    )
+}

@@ -1,0 +1,36 @@
+//! What answers a job: the exported call's form, so that several engines can be
+//! run on the same jobs.
+
+use std::fmt;
+
+use crate::refusal::Refusal;
+
+/// Something that answers jobs as the exported function does.
+pub trait Engine {
+    /// What pages and results call it.
+    fn name(&self) -> &'static str;
+
+    /// Job, workspace and answer buffer in; the answer's length or minus the refusal
+    /// number out, with the answer at the front of the buffer and zeros behind it.
+    fn answer(&mut self, job: &[u8], workspace: usize, answer: &mut [u8]) -> i64;
+}
+
+/// Why a job has no answer.
+#[derive(Clone, Debug, PartialEq, Eq)]
+pub enum Stop {
+    /// The job was refused.
+    Refused(Refusal),
+    /// The engine did what no engine should; in words.
+    Broken(String),
+}
+
+impl fmt::Display for Stop {
+    fn fmt(&self, f: &mut fmt::Formatter<'_>) -> fmt::Result {
+        match self {
+            Stop::Refused(refusal) => write!(f, "{refusal}"),
+            Stop::Broken(words) => f.write_str(words),
+        }
+    }
+}
+
+impl std::error::Error for Stop {}
