@@ -11,3 +11,4 @@ pub mod engines;
 pub mod format;
 pub mod measure;
 pub mod report;
+pub mod symmetry;

@@ -1,0 +1,72 @@
+//! A job's rows beside the symmetries that its points have.
+
+use std::collections::BTreeSet;
+
+use super::distances::Distances;
+use super::{Kind, Symmetry};
+use faceting_register::job::{is_permutation, Job};
+
+/// How many of which there are.
+#[derive(Clone, Copy, Debug, PartialEq, Eq)]
+pub struct Compared {
+    /// Different rows of the job.
+    pub rows: usize,
+    /// Those of them that are symmetries of the points.
+    pub kept: usize,
+    /// Those of them that are turns.
+    pub turned: usize,
+    /// Symmetries that the points have.
+    pub full: u64,
+    /// Turns among these.
+    pub turns: u64,
+}
+
+/// The rows of a job beside what was found; nothing where the job is refused for
+/// its points or rows.
+pub fn compared(job: &Job) -> Option<Compared> {
+    let symmetry = Symmetry::of(job)?;
+    let points = job.points.len();
+    let sound = |row: &Vec<u8>| row.len() == points && is_permutation(row);
+    if !job.rows.iter().all(sound) {
+        return None;
+    }
+    let distances = Distances::of(job);
+    let rows: BTreeSet<&Vec<u8>> = job.rows.iter().collect();
+    let kept = rows.iter().filter(|row| distances.are_kept(row));
+    let turned = kept.clone().filter(|row| symmetry.is_turn(row));
+    Some(Compared {
+        rows: rows.len(),
+        kept: kept.clone().count(),
+        turned: turned.count(),
+        full: symmetry.group(Kind::Full).order,
+        turns: symmetry.group(Kind::Turns).order,
+    })
+}
+
+impl Compared {
+    /// What is to be said of it, with what to do: nothing where the rows are all the
+    /// symmetries, all the turns, or the identity alone, which asks for every figure.
+    pub fn note(&self) -> Option<String> {
+        let Compared {
+            rows, full, turns, ..
+        } = self;
+        let known = match self.full == self.turns {
+            true => format!("{full} symmetries, all of them turns"),
+            false => format!("{full} symmetries, {turns} of them turns"),
+        };
+        if self.kept < *rows {
+            let wrong = rows - self.kept;
+            return Some(format!(
+                "{wrong} of the {rows} rows are no symmetries of the points, which have {known}: correct them, or write 'symmetry full' or 'symmetry turns' in their place"
+            ));
+        }
+        let all =
+            self.kept as u64 == *full || (self.kept == self.turned && self.kept as u64 == *turns);
+        if all || *rows == 1 {
+            return None;
+        }
+        Some(format!(
+            "the points have {known}, and the rows are {rows} of them: 'symmetry full' or 'symmetry turns' takes them all, for fewer figures"
+        ))
+    }
+}

@@ -1,0 +1,99 @@
+//! The distances between points, as far as they are told apart.
+
+use faceting_register::job::Job;
+
+/// Distances count as the same if they lie nearer together than this part of the
+/// greatest: sets are written in decimals, seven or more of them.
+pub const SAME: f64 = 1e-6;
+
+/// A number for each pair of points: equal ones for equal distances. So being equal
+/// carries over from one pair to the next, and what keeps these numbers is a group.
+pub struct Distances {
+    points: usize,
+    classes: Vec<usize>,
+}
+
+impl Distances {
+    /// Those between these points.
+    pub fn between(points: &[Vec<f64>]) -> Distances {
+        let lengths: Vec<f64> = points
+            .iter()
+            .flat_map(|p| points.iter().map(move |q| length(p, q)))
+            .collect();
+        Distances {
+            points: points.len(),
+            classes: classes(&lengths),
+        }
+    }
+
+    /// Those that matter to a job: between its flattened points and, where it has a
+    /// least or greatest length, between the points as given.
+    pub fn of(job: &Job) -> Distances {
+        let flat = Distances::between(&flattened(job));
+        match (job.min, job.max) {
+            (None, None) => flat,
+            _ => flat.and(&Distances::between(&job.points)),
+        }
+    }
+
+    /// Equal only where both are.
+    pub fn and(&self, other: &Distances) -> Distances {
+        let pairs: Vec<(usize, usize)> = (self.classes.iter().copied())
+            .zip(other.classes.iter().copied())
+            .collect();
+        let mut kinds = pairs.clone();
+        kinds.sort_unstable();
+        kinds.dedup();
+        let class = |pair: &(usize, usize)| kinds.partition_point(|kind| kind < pair);
+        Distances {
+            points: self.points,
+            classes: pairs.iter().map(class).collect(),
+        }
+    }
+
+    /// How many points there are.
+    pub fn points(&self) -> usize {
+        self.points
+    }
+
+    /// Whether a permutation keeps them all.
+    pub fn are_kept(&self, row: &[u8]) -> bool {
+        let image = |v: usize| usize::from(row[v]);
+        let kept = |v, w| self.class(v, w) == self.class(image(v), image(w));
+        (0..self.points).all(|v| (0..v).all(|w| kept(v, w)))
+    }
+
+    /// The number of a pair.
+    pub fn class(&self, v: usize, w: usize) -> usize {
+        self.classes[v * self.points + w]
+    }
+}
+
+/// The points as the register sees them, by the job's offset and basis.
+pub fn flattened(job: &Job) -> Vec<Vec<f64>> {
+    let flat = |point: &Vec<f64>| {
+        let from = point.iter().zip(&job.offset).map(|(x, o)| x - o);
+        let from: Vec<f64> = from.collect();
+        let along = |axis: &Vec<f64>| from.iter().zip(axis).map(|(x, a)| x * a).sum();
+        job.basis.iter().map(along).collect()
+    };
+    job.points.iter().map(flat).collect()
+}
+
+fn length(p: &[f64], q: &[f64]) -> f64 {
+    let squares = p.iter().zip(q).map(|(x, y)| (x - y) * (x - y));
+    squares.sum::<f64>().sqrt()
+}
+
+/// In ascending order a new number begins behind each gap that is wide enough.
+fn classes(lengths: &[f64]) -> Vec<usize> {
+    let mut order: Vec<usize> = (0..lengths.len()).collect();
+    order.sort_by(|&i, &j| lengths[i].total_cmp(&lengths[j]));
+    let gap = SAME * lengths.iter().copied().fold(0.0, f64::max);
+    let mut classes = vec![0; lengths.len()];
+    for pair in order.windows(2) {
+        let apart = lengths[pair[1]] - lengths[pair[0]] > gap;
+        classes[pair[1]] = classes[pair[0]] + usize::from(apart);
+    }
+    classes
+}

@@ -1,0 +1,95 @@
+//! Whether a symmetry is a turn: whether the motion that carries the points has the
+//! determinant 1. A set that lies flat is looked at within its own span, where its
+//! mirror images differ from it, so that a polygon has the same turns however many
+//! coordinates its points are written with.
+
+use super::distances::SAME;
+
+/// Points that span the set, and every point's place within the span.
+pub struct Orientation {
+    frame: Vec<usize>,
+    places: Vec<Vec<f64>>,
+}
+
+impl Orientation {
+    /// That of these points, of which there is one at least.
+    pub fn of(points: &[Vec<f64>]) -> Orientation {
+        let from_first = |point: &Vec<f64>| difference(point, &points[0]);
+        let mut rests: Vec<Vec<f64>> = points.iter().map(from_first).collect();
+        let mut orientation = Orientation {
+            frame: vec![0],
+            places: vec![Vec::new(); points.len()],
+        };
+        let least = SAME * farthest(&rests).1;
+        while orientation.frame.len() <= points[0].len() {
+            let (next, length) = farthest(&rests);
+            if length <= least {
+                break;
+            }
+            let axis: Vec<f64> = rests[next].iter().map(|x| x / length).collect();
+            orientation.frame.push(next);
+            for (rest, place) in rests.iter_mut().zip(&mut orientation.places) {
+                let along = dot(rest, &axis);
+                rest.iter_mut()
+                    .zip(&axis)
+                    .for_each(|(x, a)| *x -= along * a);
+                place.push(along);
+            }
+        }
+        orientation
+    }
+
+    /// Whether a symmetry keeps it, being a turn.
+    pub fn is_kept(&self, row: &[u8]) -> bool {
+        let same = self.volume(|v| v);
+        let moved = self.volume(|v| usize::from(row[v]));
+        same.is_sign_positive() == moved.is_sign_positive()
+    }
+
+    /// The signed volume that the frame spans when its points are carried.
+    fn volume(&self, carried: impl Fn(usize) -> usize) -> f64 {
+        let place = |v: usize| &self.places[carried(v)];
+        let first = place(self.frame[0]);
+        let edges = self.frame[1..].iter().map(|&v| difference(place(v), first));
+        determinant(edges.collect())
+    }
+}
+
+fn difference(p: &[f64], q: &[f64]) -> Vec<f64> {
+    p.iter().zip(q).map(|(x, y)| x - y).collect()
+}
+
+fn dot(p: &[f64], q: &[f64]) -> f64 {
+    p.iter().zip(q).map(|(x, y)| x * y).sum()
+}
+
+/// The longest vector, as its place and its length.
+fn farthest(vectors: &[Vec<f64>]) -> (usize, f64) {
+    let lengths = vectors.iter().map(|vector| dot(vector, vector).sqrt());
+    lengths
+        .enumerate()
+        .max_by(|(_, a), (_, b)| a.total_cmp(b))
+        .unwrap_or((0, 0.0))
+}
+
+/// By elimination, the greatest number of a column first.
+fn determinant(mut rows: Vec<Vec<f64>>) -> f64 {
+    let size = rows.len();
+    let mut product = 1.0;
+    for k in 0..size {
+        let below = (k..size).max_by(|&i, &j| rows[i][k].abs().total_cmp(&rows[j][k].abs()));
+        let pivot = below.unwrap_or(k);
+        if pivot != k {
+            rows.swap(pivot, k);
+            product = -product;
+        }
+        product *= rows[k][k];
+        for i in k + 1..size {
+            let part = rows[i][k] / rows[k][k];
+            for j in k..size {
+                rows[i][j] -= part * rows[k][j];
+            }
+        }
+    }
+    product
+}
