@@ -2,9 +2,11 @@
 
 mod common;
 
+use std::collections::BTreeSet;
+
 use faceting_register::Job;
 use facetings_host::cases::generator::case;
-use facetings_host::format::text::{decode, encode};
+use facetings_host::format::text::{decode, encode, keywords, RULES};
 
 use common::{job, SQUARE, SQUARE_GROUP};
 
@@ -82,6 +84,59 @@ fn generators_are_closed_with_the_identity_first() {
 }
 
 #[test]
+fn commas_may_stand_between_numbers() {
+    let expected = [[0.5, 1.0, 2.0]];
+    for line in [
+        "0.5 1 2",
+        "0.5,1,2",
+        "0.5, 1, 2",
+        "0.5 , 1,2",
+        "0.5,\t1, 2,",
+    ] {
+        assert_eq!(read(&format!("points\n{line}")).points, expected, "{line}");
+    }
+}
+
+#[test]
+fn symmetry_stands_for_the_rows_that_the_points_give() {
+    let rows = |word: &str| read(&format!("{SQUARE}symmetry {word}\n")).rows;
+    let sorted = |mut rows: Vec<Vec<u8>>| {
+        rows.sort();
+        rows
+    };
+    let full = read(&format!("{SQUARE}{SQUARE_GROUP}")).rows;
+    let turns = read(&format!("{SQUARE}generators\n1 2 3 0\n")).rows;
+    assert_eq!(sorted(rows("full")), sorted(full));
+    assert_eq!(sorted(rows("turns")), sorted(turns));
+    assert_eq!(rows("none"), [[0, 1, 2, 3]]);
+    for word in ["full", "turns"] {
+        assert_eq!(rows(word)[0], [0, 1, 2, 3]);
+    }
+    // The points may stand behind it, and a set that is refused anyway is not looked at.
+    assert_eq!(read(&format!("symmetry full\n{SQUARE}")).rows.len(), 8);
+    assert_eq!(read("symmetry full\npoints\n1 1\n").rows, [[0]]);
+}
+
+#[test]
+fn more_symmetries_than_a_job_can_have_are_told_with_a_part_of_them() {
+    let same = "0 0\n".repeat(6);
+    let text = format!("points\n{same}symmetry full\n");
+    let expected = "line 8: the points have 720 symmetries, all of them turns, and a job has at most 120 rows: './register --symmetry' prints generators of the 120 turns that keep point 0 in its place";
+    assert_eq!(encode(&text), Err(expected.into()));
+}
+
+#[test]
+fn the_help_tells_every_keyword_and_no_other() {
+    let lines = RULES.lines().filter_map(|line| line.strip_prefix("  "));
+    let told: BTreeSet<&str> = lines
+        .filter(|line| line.starts_with(char::is_alphabetic))
+        .filter_map(|line| line.split(' ').next())
+        .collect();
+    let known: BTreeSet<&str> = keywords().chain(["job"]).collect();
+    assert_eq!(told, known);
+}
+
+#[test]
 fn every_generated_job_comes_back_byte_for_byte() {
     for number in 0..3_000 {
         let bytes = case(11, number, None).job;
@@ -100,14 +155,19 @@ const ERRORS: &[(&str, &str)] = &[
         "points\n0 0\n1 2 3",
         "line 3: the point has 3 coordinates instead of 2",
     ),
-    ("points\n0 0\n\npints", "line 4: 'pints' is not a keyword"),
+    (
+        "points\n0 0\n\npints",
+        "line 4: 'pints' is not a keyword; is 'points' meant?",
+    ),
+    ("mix 3", "line 1: 'mix' is not a keyword"),
+    ("points\nx 1", "line 2: 'x' is not a keyword"),
     (
         "points\n0 0\njob b",
         "line 3: a text of several jobs begins with 'job'",
     ),
     (
         "job a\npoints\n0 0\njob b\npints",
-        "line 4, job b: line 5: 'pints' is not a keyword",
+        "line 4, job b: line 5: 'pints' is not a keyword; is 'points' meant?",
     ),
     ("# nothing\n1 2", "line 2: '1 2' belongs to no keyword"),
     ("rank 3\nrank 3", "line 2: 'rank' was given before"),
@@ -139,7 +199,68 @@ const ERRORS: &[(&str, &str)] = &[
     ),
     (
         "points\n0\n1\ngenerators\n0 0",
-        "line 5: the generator is not a permutation",
+        "line 5: the generator names point 0 twice",
+    ),
+    (
+        "points\n0\n1\n3\ngenerators\n1 3 2",
+        "line 6: the generator counts the points from 1; they count from 0, so take 1 from every number",
+    ),
+    (
+        "points\n0\n1\n3\ngenerators\n0 1 3",
+        "line 6: the generator names point 3, and the points are 0 to 2",
+    ),
+    (
+        "points\n0\n1\n3\ngenerators\n(0 1)",
+        "line 6: '(0 1)' is no row: a row has the image of each point and no cycles in brackets",
+    ),
+    (
+        "points\n0 1.0.0",
+        "line 2: '1.0.0' is not a number: it has more than one decimal point",
+    ),
+    (
+        "points\n0 1e",
+        "line 2: '1e' is not a number: its exponent is no whole number",
+    ),
+    ("points\n0 .", "line 2: '.' is not a number: it has no digit"),
+    (
+        "points\n0,5 1,5",
+        "line 2: '0,5 1,5' has both commas and blanks between numbers; a decimal has a point, 0.5 and not 0,5",
+    ),
+    (
+        "max 1,5",
+        "line 1: '1,5' should be one number; a decimal has a point, 0.5 and not 0,5",
+    ),
+    (
+        "points\nnan 0",
+        "line 2: 'nan' is not a number: a number is finite",
+    ),
+    (
+        "points\n0 -Infinity",
+        "line 2: '-Infinity' is not a number: a number is finite",
+    ),
+    (
+        "points\nphi 0",
+        "line 2: 'phi' is not a number: the golden ratio is (1+sqrt(5))/2",
+    ),
+    (
+        "points\n0 2*phi",
+        "line 2: '2*phi' is not a number: the golden ratio is (1+sqrt(5))/2",
+    ),
+    (
+        "points\n0 sqrt5",
+        "line 2: 'sqrt5' is not a number: a root has brackets, sqrt(..)",
+    ),
+    (
+        "points\n0 −1",
+        "line 2: '−1' is not a number: this dash is no minus sign, '-'",
+    ),
+    (
+        "points\n0 2^3",
+        "line 2: '2^3' is not a number: a square is x*x",
+    ),
+    (
+        "symmetry half",
+        "line 1: 'half' should be one of: full, turns, none",
     ),
     (
         "points\n0 0\nbasis\n1",
@@ -172,6 +293,10 @@ fn what_no_single_line_has_wrong_is_told_without_one() {
         (
             "points\n0\nrows\n0\ngenerators\n0",
             "'rows' and 'generators' exclude each other",
+        ),
+        (
+            "points\n0\nsymmetry none\ngenerators\n0",
+            "'generators' and 'symmetry' exclude each other",
         ),
         ("rank 3\nbytes 00", "'bytes' goes with no other keyword"),
         (

@@ -2,6 +2,7 @@
 //! sqrt(..), each operation rounded once; 0x and 16 hex digits give a float's
 //! bits, for values that have no decimal form.
 
+use crate::format::hints;
 use crate::format::quote::quoted;
 
 /// The value of an expression that fills the whole text.
@@ -54,9 +55,12 @@ impl Parser<'_> {
 
     fn unexpected(&mut self) -> String {
         let text = quoted(self.text);
-        match self.peek() {
-            Some(letter) => format!("{text} is not a number: '{letter}' does not belong there"),
-            None => format!("{text} is not a number: it ends too early"),
+        match (self.peek(), hints::of_number(self.rest)) {
+            (_, Some(hint)) => format!("{text} is not a number: {hint}"),
+            (Some(letter), _) => {
+                format!("{text} is not a number: '{letter}' does not belong there")
+            }
+            (None, _) => format!("{text} is not a number: it ends too early"),
         }
     }
 
@@ -127,8 +131,19 @@ impl Parser<'_> {
         };
         let digits = self.rest.trim_start_matches(belongs);
         let (number, behind) = self.rest.split_at(self.rest.len() - digits.len());
-        let value = number.parse().map_err(|_| self.unexpected())?;
+        let value = number.parse().map_err(|_| self.no_decimal(number))?;
         self.rest = behind;
         Ok(value)
+    }
+
+    fn no_decimal(&self, number: &str) -> String {
+        let why = if number.matches('.').count() > 1 {
+            "it has more than one decimal point"
+        } else if number.contains(['e', 'E']) {
+            "its exponent is no whole number"
+        } else {
+            "it has no digit"
+        };
+        format!("{} is not a number: {why}", quoted(self.text))
     }
 }

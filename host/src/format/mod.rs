@@ -4,6 +4,7 @@
 pub mod expression;
 pub mod frames;
 pub mod hex;
+pub mod hints;
 pub mod quote;
 pub mod text;
 pub mod vertex_set;

@@ -41,9 +41,9 @@ pub fn read(name: &str, bytes: &[u8]) -> Vec<VertexSet> {
     };
     text::encode_each(words)
         .into_iter()
-        .map(|(part, job)| match part {
-            None => vertex_set(name, None, about(words), job),
-            Some(part) => vertex_set(name, Some(part), None, job),
+        .map(|part| match part.name {
+            None => vertex_set(name, None, about(words), part.job),
+            own => vertex_set(name, own, None, part.job),
         })
         .collect()
 }
