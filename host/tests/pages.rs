@@ -52,7 +52,10 @@ fn result(engine: &mut dyn Engine, set: &VertexSet) -> String {
             assert_eq!(length, bytes.len());
             page(&set.subject, &answer)
         }
-        Err(Stop::Refused(refusal)) => format!("{name}: {}\n", advice::line(refusal)),
+        Err(Stop::Refused(refusal)) => {
+            let culprit = set.culprit(refusal);
+            format!("{name}: {}\n", advice::line(refusal, culprit.as_ref()))
+        }
         Err(Stop::Broken(words)) => panic!("{name}: {words}"),
     }
 }

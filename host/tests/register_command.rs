@@ -180,7 +180,7 @@ fn refusals_have_number_rule_and_change_in_one_line() {
 #[test]
 fn bad_files_are_told_in_one_line_with_status_2() {
     on_each("bad", |place, run| {
-        place.write("binary.txt", [255, 254]);
+        place.write("binary.txt", [255, 0, 1]);
         place.write("wrong.txt", "points\n0 0\n1");
         place.write("empty.txt", "");
         place.write("folder/other", "");
@@ -198,7 +198,7 @@ fn bad_files_are_told_in_one_line_with_status_2() {
             (&["empty.txt"], "empty.txt: "),
             (
                 &["folder"],
-                "folder: cannot be read: no file in it or below it ends in .txt or .job",
+                "folder: cannot be read: no file in it or below it ends in .txt, .job or .off",
             ),
             (
                 &["square.txt", "-o", "absent/page"],
@@ -330,7 +330,9 @@ fn json_tells_refusals_and_bad_files() {
         let done = run(&["--json", "corner.txt"]);
         assert_eq!(done.status, 1);
         let value = Value::read(&done.text());
-        let names = ["change", "code", "file", "met", "refusal", "result", "rule"];
+        let names = [
+            "change", "code", "file", "met", "place", "refusal", "result", "rule",
+        ];
         assert_eq!(value.names(), names);
         assert_eq!(value.field("code").number(), -16);
         assert_eq!(value.field("refusal").number(), 16);

@@ -153,10 +153,12 @@ fn builds_again_what_is_older_than_its_sources() {
 }
 
 #[test]
-fn the_original_does_without_the_library() {
-    let place = repository("without", &[("cargo", CARGO)]);
-    assert_eq!(run(&place, &["--original", "a b.txt"]).status, 7);
-    assert_eq!(built(&place), "cargo build\n");
+fn the_original_and_symmetries_do_without_the_library() {
+    for word in ["--original", "--symmetry"] {
+        let place = repository("without", &[("cargo", CARGO)]);
+        assert_eq!(run(&place, &[word, "a b.txt"]).status, 7);
+        assert_eq!(built(&place), "cargo build\n");
+    }
 }
 
 #[test]
@@ -189,7 +191,7 @@ fn every_option_of_the_help_is_one_of_the_command() {
 #[test]
 fn words_are_checked_before_anything_is_built_as_the_command_checks_them() {
     let place = repository("words", &[("rt", RT), ("cargo", CARGO)]);
-    let wrong: [&[&str]; 9] = [
+    let wrong: [&[&str]; 12] = [
         &[],
         &["--json"],
         &["--jsn", "a b.txt"],
@@ -199,6 +201,9 @@ fn words_are_checked_before_anything_is_built_as_the_command_checks_them() {
         &["--json", "--raw", "a b.txt"],
         &["--room", "x", "a b.txt"],
         &["a b.txt", "--room"],
+        &["--symmetry", "--json", "a b.txt"],
+        &["--raw", "--symmetry", "a b.txt"],
+        &["a b.txt", "-o", "x", "--symmetry"],
     ];
     for words in wrong {
         let done = run(&place, words);

@@ -1,16 +1,16 @@
 //! Files that people hand to the register: a vertex set in the text form, several
-//! of them in one text, or a job's bytes.
+//! of them in one text, an OFF file, or a job's bytes.
 
-use faceting_register::job;
+use faceting_register::{job, Job, Refusal};
 
-use crate::format::text::{self, Encoded};
+use crate::format::culprit::{culprit, Culprit};
+use crate::format::text::{self, content, with_symmetry, Encoded, Lines, Read};
+use crate::format::{letters, off};
 use crate::report::page::Subject;
-
-/// Some editors begin a text with this, though nothing in it needs it.
-const ORDER_MARK: &[u8] = "\u{feff}".as_bytes();
+use crate::symmetry::{Kind, Symmetry};
 
 /// How the names of files end that are taken for vertex sets.
-pub const ENDINGS: [&str; 2] = ["txt", "job"];
+pub const ENDINGS: [&str; 3] = ["txt", "job", "off"];
 
 /// What the answer will be about, and the job; or why there is none.
 pub struct VertexSet {
@@ -20,32 +20,85 @@ pub struct VertexSet {
     pub part: Option<String>,
     /// The job's bytes, or why there are none.
     pub job: Encoded,
+    lines: Lines,
+    bare: Option<Job>,
 }
 
 impl VertexSet {
     /// A file that gives no job, and why.
     pub fn bad(name: &str, error: String) -> VertexSet {
-        vertex_set(name, None, None, Err(error))
+        vertex_set(name, None, None, Read::failed(error))
+    }
+
+    /// The job as a value, if its bytes are laid out as one.
+    pub fn read_job(&self) -> Option<Job> {
+        self.job.as_ref().ok().and_then(|job| Job::read(job))
+    }
+
+    /// The symmetries that the points have, whatever rows the set asks for.
+    pub fn symmetry(&self) -> Option<Symmetry> {
+        let job = self.bare.clone().or_else(|| self.read_job());
+        Symmetry::of(&job?)
+    }
+
+    /// The part of the set that it is refused for, where that is one.
+    pub fn culprit(&self, refusal: Refusal) -> Option<Culprit> {
+        culprit(refusal, &self.read_job()?, &self.lines)
     }
 }
 
 /// The sets of a file, at least one.
 pub fn read(name: &str, bytes: &[u8]) -> Vec<VertexSet> {
     if bytes.starts_with(job::MARK) {
-        return vec![vertex_set(name, None, None, Ok(bytes.to_vec()))];
+        let read = Read {
+            job: Ok(bytes.to_vec()),
+            lines: Lines::default(),
+            bare: None,
+        };
+        return vec![vertex_set(name, None, None, read)];
     }
-    let text = bytes.strip_prefix(ORDER_MARK).unwrap_or(bytes);
-    let Ok(words) = std::str::from_utf8(text) else {
-        let error = "neither text nor the bytes of a job";
-        return vec![VertexSet::bad(name, error.into())];
+    let words = match letters::text(bytes) {
+        Ok(words) => words,
+        Err(error) => return vec![VertexSet::bad(name, error)],
     };
+    if off::is_off(words) || name.to_lowercase().ends_with(".off") {
+        return vec![read_off(name, words)];
+    }
     text::encode_each(words)
         .into_iter()
         .map(|part| match part.name {
-            None => vertex_set(name, None, about(words), part.job),
-            own => vertex_set(name, own, None, part.job),
+            None => vertex_set(name, None, about(words), part.read),
+            own => vertex_set(name, own, None, part.read),
         })
         .collect()
+}
+
+/// An OFF file cannot name a symmetry, so its points have the one that is found in
+/// them: all of it, or the turns where all of it is too much. The page says so.
+fn read_off(name: &str, words: &str) -> VertexSet {
+    let off = match off::read(words) {
+        Ok(off) if off.points.len() <= u8::MAX.into() => off,
+        Ok(_) => return VertexSet::bad(name, "there are more than 255 points".into()),
+        Err(error) => return VertexSet::bad(name, error),
+    };
+    let dimension = off.points.first().map_or(0, Vec::len);
+    let bare = Job::usual((dimension as u8).saturating_add(1).min(4), off.points);
+    let full = with_symmetry(&bare, Kind::Full).map(|job| (job, "symmetries"));
+    let found = full.or_else(|_| with_symmetry(&bare, Kind::Turns).map(|job| (job, "turns")));
+    let comment = words.lines().find_map(comment).unwrap_or("Points");
+    let about = found.as_ref().ok().map(|(job, kind)| {
+        let (said, rows) = (comment.trim_end_matches('.'), job.rows.len());
+        format!("{said} (from an OFF file, with the {rows} {kind} that its points have).")
+    });
+    let read = Read {
+        job: found.map(|(job, _)| job.write()),
+        lines: Lines {
+            points: off.lines,
+            ..Lines::default()
+        },
+        bare: Some(bare),
+    };
+    vertex_set(name, None, about, read)
 }
 
 /// Whether a file is somebody's vertex set, be it in order or not: what is never to
@@ -53,17 +106,18 @@ pub fn read(name: &str, bytes: &[u8]) -> Vec<VertexSet> {
 pub fn is_one(bytes: &[u8]) -> bool {
     let letters: Vec<u8> = bytes.iter().copied().filter(|&byte| byte != 0).collect();
     let text = String::from_utf8_lossy(&letters);
-    bytes.starts_with(job::MARK) || text.lines().any(opens_section)
+    bytes.starts_with(job::MARK) || off::is_off(&text) || text.lines().any(opens_section)
 }
 
 /// Lines that a vertex set has, and no page, answer or JSON.
 fn opens_section(line: &str) -> bool {
-    let line = line.split('#').next().unwrap_or("").trim();
+    let line = content(line);
     let hex = |rest: &str| rest.chars().all(|c| c == ' ' || c.is_ascii_hexdigit());
     ["points", "rows", "generators"].contains(&line) || line.strip_prefix("bytes").is_some_and(hex)
 }
 
-fn vertex_set(file: &str, part: Option<&str>, about: Option<String>, job: Encoded) -> VertexSet {
+fn vertex_set(file: &str, part: Option<&str>, about: Option<String>, read: Read) -> VertexSet {
+    let Read { job, lines, bare } = read;
     let rank = job.as_ref().ok().and_then(|job| job.get(5).copied());
     let name = match part {
         None => file.into(),
@@ -74,15 +128,24 @@ fn vertex_set(file: &str, part: Option<&str>, about: Option<String>, job: Encode
         about: about.as_deref().map(printable),
         rank: rank.unwrap_or(0),
     };
-    let part = part.map(printable);
-    VertexSet { subject, part, job }
+    VertexSet {
+        subject,
+        part: part.map(printable),
+        job,
+        lines,
+        bare,
+    }
 }
 
 /// What a writer says of a set: the comment that begins its text.
 fn about(text: &str) -> Option<String> {
-    let first = text.lines().next()?.trim();
-    let words = first.strip_prefix('#')?.trim();
-    (!words.is_empty()).then(|| words.into())
+    text.lines().next().and_then(comment).map(str::to_string)
+}
+
+/// What a line says that is a comment.
+fn comment(line: &str) -> Option<&str> {
+    let words = line.trim().strip_prefix('#')?.trim();
+    (!words.is_empty()).then_some(words)
 }
 
 /// No letter of a name or a comment moves a terminal's cursor.

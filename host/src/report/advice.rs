@@ -3,6 +3,8 @@
 
 use faceting_register::Refusal;
 
+use crate::format::culprit::Culprit;
+
 /// The rule and the change, for refusals 1 to 17.
 const ALL: [(&str, &str); 17] = [
     (
@@ -82,15 +84,17 @@ pub fn rule(refusal: Refusal) -> &'static str {
 }
 
 /// What its writer can do about it.
-pub fn change(refusal: Refusal) -> &'static str {
-    row(refusal).1
+pub fn change(refusal: Refusal, culprit: Option<&Culprit>) -> &str {
+    let own = culprit.and_then(|culprit| culprit.change.as_deref());
+    own.unwrap_or(row(refusal).1)
 }
 
-/// Number, what was met, rule and change in one line.
-pub fn line(refusal: Refusal) -> String {
+/// Number, what was met and where, rule and change in one line.
+pub fn line(refusal: Refusal, culprit: Option<&Culprit>) -> String {
+    let place = culprit.map_or(String::new(), |culprit| format!("; {}", culprit.place));
     format!(
-        "{refusal}; the rule: {}; what to change: {}",
+        "{refusal}{place}; the rule: {}; what to change: {}",
         rule(refusal),
-        change(refusal)
+        change(refusal, culprit)
     )
 }

@@ -5,6 +5,7 @@ use std::fmt::{self, Display, Formatter, Write};
 
 use faceting_register::{Answer, Entry, Figure, Refusal};
 
+use crate::format::culprit::Culprit;
 use crate::report::advice;
 use crate::report::page::{label, Subject};
 
@@ -82,13 +83,17 @@ pub fn answered(subject: &Subject, answer: &Answer, length: usize) -> Json {
 }
 
 /// A job that the register refuses.
-pub fn refused(name: &str, refusal: Refusal) -> Json {
+pub fn refused(name: &str, refusal: Refusal, culprit: Option<&Culprit>) -> Json {
     let mut fields = head(name, "refused", refusal.code());
     fields.extend([
         ("refusal", Json::Number(refusal.number().into())),
         ("met", Json::Text(refusal.words().into())),
+        ("place", text_or_null(&culprit.map(|c| c.place.clone()))),
         ("rule", Json::Text(advice::rule(refusal).into())),
-        ("change", Json::Text(advice::change(refusal).into())),
+        (
+            "change",
+            Json::Text(advice::change(refusal, culprit).into()),
+        ),
     ]);
     Json::Object(fields)
 }

@@ -54,8 +54,8 @@ fn folder(name: &Path, inputs: &mut Vec<Input>) {
     let before = inputs.len();
     search(name, "", inputs);
     if inputs.len() == before {
-        let endings = ENDINGS.map(|ending| format!(".{ending}")).join(" or ");
-        let fault = format!("no file in it or below it ends in {endings}");
+        let [first, second, third] = ENDINGS;
+        let fault = format!("no file in it or below it ends in .{first}, .{second} or .{third}");
         inputs.push(Input::new(name, called(name), Some(fault)));
     }
 }

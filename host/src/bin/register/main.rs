@@ -6,6 +6,7 @@ mod order;
 mod outcome;
 mod output;
 mod places;
+mod symmetry;
 mod work;
 
 use std::process::ExitCode;
@@ -26,6 +27,7 @@ fn main() -> ExitCode {
         Ok(options) => match options.told {
             Some(Told::Help) => print(&format!("{ABOUT}{RULES}")),
             Some(Told::Version) => print(VERSION),
+            None if options.symmetry => symmetry::run(&options),
             None => work::run(&options),
         },
         Err(words) => complain(&words, Status::Bad),

@@ -27,6 +27,7 @@ pub struct Options {
     pub room: usize,
     pub original: bool,
     pub quiet: bool,
+    pub symmetry: bool,
     pub told: Option<Told>,
     pub inputs: Vec<PathBuf>,
 }
@@ -40,6 +41,7 @@ impl Options {
             room: LONGEST,
             original: false,
             quiet: false,
+            symmetry: false,
             told: None,
             inputs: Vec::new(),
         };
@@ -67,6 +69,7 @@ impl Options {
             "--raw" => self.set_form(Form::Raw)?,
             "--original" => self.original = true,
             "--quiet" => self.quiet = true,
+            "--symmetry" => self.symmetry = true,
             "--help" | "-h" => self.told = self.told.or(Some(Told::Help)),
             "--version" => self.told = self.told.or(Some(Told::Version)),
             "-o" if self.place.is_some() => return Err("'-o' was given before".into()),
@@ -86,6 +89,9 @@ impl Options {
     }
 
     fn checked(self) -> Result<Options, String> {
+        if self.symmetry && (self.form != Form::Page || self.place.is_some()) {
+            return Err("'--symmetry' goes with none of '--json', '--raw' and '-o'".into());
+        }
         if self.inputs.is_empty() && self.told.is_none() {
             return Err("no vertex set is named; see --help".into());
         }

@@ -2,6 +2,7 @@
 
 use faceting_register::request::ask;
 use faceting_register::{Answer, Engine, Refusal, Stop};
+use facetings_host::format::culprit::Culprit;
 use facetings_host::format::vertex_set::VertexSet;
 use facetings_host::report::page::{label, page};
 use facetings_host::report::{advice, json};
@@ -20,7 +21,7 @@ pub enum Status {
 /// What came of a set.
 pub enum Outcome {
     Answered(Answer, Vec<u8>),
-    Refused(Refusal),
+    Refused(Refusal, Option<Culprit>),
     Bad(String),
 }
 
@@ -35,7 +36,7 @@ pub fn outcome(engine: &mut dyn Engine, set: &VertexSet, room: usize) -> Outcome
             Ok((answer, length)) if length == bytes.len() => Outcome::Answered(answer, bytes),
             _ => Outcome::Bad("the answer is not laid out as one".into()),
         },
-        Err(Stop::Refused(refusal)) => Outcome::Refused(refusal),
+        Err(Stop::Refused(refusal)) => Outcome::Refused(refusal, set.culprit(refusal)),
         Err(Stop::Broken(words)) => Outcome::Bad(words),
     }
 }
@@ -44,7 +45,7 @@ impl Outcome {
     pub fn status(&self) -> Status {
         match self {
             Outcome::Answered(..) => Status::Answered,
-            Outcome::Refused(_) => Status::Refused,
+            Outcome::Refused(..) => Status::Refused,
             Outcome::Bad(_) => Status::Bad,
         }
     }
@@ -53,7 +54,7 @@ impl Outcome {
     pub fn line(&self) -> String {
         match self {
             Outcome::Answered(answer, _) => label(answer),
-            Outcome::Refused(refusal) => advice::line(*refusal),
+            Outcome::Refused(refusal, culprit) => advice::line(*refusal, culprit.as_ref()),
             Outcome::Bad(words) => words.clone(),
         }
     }
@@ -62,7 +63,7 @@ impl Outcome {
         let name = &set.subject.name;
         let value = match self {
             Outcome::Answered(answer, bytes) => json::answered(&set.subject, answer, bytes.len()),
-            Outcome::Refused(refusal) => json::refused(name, *refusal),
+            Outcome::Refused(refusal, culprit) => json::refused(name, *refusal, culprit.as_ref()),
             Outcome::Bad(words) => json::bad(name, words),
         };
         format!("{value}\n")

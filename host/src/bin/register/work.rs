@@ -141,7 +141,7 @@ impl Sums {
                 self.figures += answer.entries.len();
                 self.compounds += answer.compounds.len();
             }
-            Outcome::Refused(_) => self.refused += 1,
+            Outcome::Refused(..) => self.refused += 1,
             Outcome::Bad(_) => self.bad += 1,
         }
     }

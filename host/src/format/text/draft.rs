@@ -35,6 +35,27 @@ pub struct Lines {
     pub rows: Vec<usize>,
 }
 
+/// What a text gives.
+pub struct Read {
+    /// The job's bytes, or why there are none.
+    pub job: Result<Vec<u8>, String>,
+    /// The lines that its parts stand on.
+    pub lines: Lines,
+    /// The job before its symmetry was looked for, if it came so far.
+    pub bare: Option<Job>,
+}
+
+impl Read {
+    /// Nothing, and why.
+    pub fn failed(reason: String) -> Read {
+        Read {
+            job: Err(reason),
+            lines: Lines::default(),
+            bare: None,
+        }
+    }
+}
+
 /// What was read so far; a line's number beside what is checked at the end.
 pub struct Draft {
     /// What single values say; the other fields below go into it at the end.
@@ -108,21 +129,45 @@ impl Draft {
         self.keywords.contains_key(word)
     }
 
-    /// The bytes of the job, and where its parts stand.
-    pub fn finish(self) -> Result<(Vec<u8>, Lines), String> {
+    /// The job, and where its parts stand.
+    pub fn finish(self) -> Read {
+        let lines = self.lines();
+        let symmetry_line = lines.keywords.get("symmetry").copied().unwrap_or(0);
+        if self.has("bytes") {
+            return match self.keywords.len() {
+                1 => Read {
+                    job: Ok(self.raw),
+                    lines,
+                    bare: None,
+                },
+                _ => Read::failed("'bytes' goes with no other keyword".into()),
+            };
+        }
+        let wanted = self.symmetry;
+        let bare = match self.whole_job() {
+            Ok(bare) => bare,
+            Err(reason) => return Read::failed(reason),
+        };
+        let job = match wanted {
+            Some(Wanted::Found(kind)) => with_symmetry(&bare, kind)
+                .map_err(|reason| format!("line {symmetry_line}: {reason}")),
+            _ => Ok(bare.clone()),
+        };
+        Read {
+            job: job.map(|job| job.write()),
+            lines,
+            bare: Some(bare),
+        }
+    }
+
+    fn lines(&self) -> Lines {
         let numbers = |list: &[(usize, Vec<f64>)]| list.iter().map(|(line, _)| *line).collect();
-        let lines = Lines {
+        Lines {
             keywords: self.keywords.clone(),
             points: numbers(&self.points),
             basis: numbers(&self.basis),
             rows: self.rows.iter().map(|(line, _)| *line).collect(),
-        };
-        let bytes = match self.has("bytes") {
-            true if self.keywords.len() == 1 => self.raw,
-            true => return Err("'bytes' goes with no other keyword".into()),
-            false => self.whole_job()?.write(),
-        };
-        Ok((bytes, lines))
+        }
     }
 
     fn whole_job(mut self) -> Result<Job, String> {
@@ -137,7 +182,7 @@ impl Draft {
         let offset = vectors_of(offset.into_iter().collect(), d, "the offset")?.pop();
         let basis = self.full_basis(rank, d)?;
         let rows = self.written_rows()?;
-        let job = Job {
+        Ok(Job {
             rank,
             dimension,
             offset: offset.unwrap_or_else(|| vec![0.0; d]),
@@ -145,14 +190,7 @@ impl Draft {
             rows,
             points: vectors_of(self.points, d, "the point")?,
             ..self.job
-        };
-        match self.symmetry {
-            Some(Wanted::Found(kind)) => with_symmetry(job, kind).map_err(|reason| {
-                let line = self.keywords.get("symmetry").copied().unwrap_or(0);
-                format!("line {line}: {reason}")
-            }),
-            _ => Ok(job),
-        }
+        })
     }
 
     fn full_basis(&mut self, rank: u8, dimension: usize) -> Result<Vec<Vec<f64>>, String> {
@@ -228,13 +266,16 @@ fn few(rows: Vec<Vec<u8>>) -> Result<Vec<Vec<u8>>, String> {
 
 /// The job with the rows that its points give. One that is refused for its points
 /// keeps the identity alone.
-fn with_symmetry(job: Job, kind: Kind) -> Result<Job, String> {
-    let Some(symmetry) = Symmetry::of(&job) else {
-        return Ok(job);
+pub fn with_symmetry(job: &Job, kind: Kind) -> Result<Job, String> {
+    let Some(symmetry) = Symmetry::of(job) else {
+        return Ok(job.clone());
     };
     let rows = symmetry.group(kind).rows();
     let rows = rows.ok_or_else(|| symmetry.too_many())?;
-    Ok(Job { rows, ..job })
+    Ok(Job {
+        rows,
+        ..job.clone()
+    })
 }
 
 fn is_word(word: &str) -> bool {

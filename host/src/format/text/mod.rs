@@ -12,7 +12,7 @@ use super::hex;
 use draft::Draft;
 use keywords::{Said, KEYWORDS};
 
-pub use draft::Lines;
+pub use draft::{with_symmetry, Lines, Read};
 pub use values::row_fault;
 
 /// The text form's rules, as `encode --help` prints them.
@@ -28,10 +28,8 @@ pub type Encoded = Result<Vec<u8>, String>;
 pub struct Part<'a> {
     /// The name behind its keyword `job`; none where the text is a single job.
     pub name: Option<&'a str>,
-    /// Its bytes.
-    pub job: Encoded,
-    /// The lines that its parts stand on.
-    pub lines: Lines,
+    /// What was read of it.
+    pub read: Read,
 }
 
 /// The keywords, in the order in which a job is written.
@@ -44,8 +42,8 @@ pub fn encode(text: &str) -> Encoded {
     let mut bytes = Vec::new();
     for part in encode_each(text) {
         match part.name {
-            None => return part.job,
-            Some(_) => bytes.extend(frame(&part.job?)?),
+            None => return part.read.job,
+            Some(_) => bytes.extend(frame(&part.read.job?)?),
         }
     }
     Ok(bytes)
@@ -58,30 +56,25 @@ pub fn encode_each(text: &str) -> Vec<Part<'_>> {
         .filter(|(_, line)| !line.is_empty())
         .collect();
     if !lines.first().is_some_and(begins_job) {
-        return vec![part(None, encode_job(&lines))];
+        let (name, read) = (None, encode_job(&lines));
+        return vec![Part { name, read }];
     }
     lines
         .chunk_by(|_, next| !begins_job(next))
         .map(|lines| {
             let (number, line) = lines[0];
-            let job = encode_job(&lines[1..]).and_then(fitting_frame);
-            let job = job.map_err(|reason| format!("line {number}, {line}: {reason}"));
-            part(line.strip_prefix("job").map(str::trim), job)
+            let mut read = encode_job(&lines[1..]);
+            let job = read.job.and_then(fitting_frame);
+            read.job = job.map_err(|reason| format!("line {number}, {line}: {reason}"));
+            let name = line.strip_prefix("job").map(str::trim);
+            Part { name, read }
         })
         .collect()
 }
 
-fn part(name: Option<&str>, read: Result<(Vec<u8>, Lines), String>) -> Part<'_> {
-    let (job, lines) = match read {
-        Ok((bytes, lines)) => (Ok(bytes), lines),
-        Err(reason) => (Err(reason), Lines::default()),
-    };
-    Part { name, job, lines }
-}
-
 /// A job in a file of jobs stands behind its length, which has 16 bits.
-fn fitting_frame(read: (Vec<u8>, Lines)) -> Result<(Vec<u8>, Lines), String> {
-    frame(&read.0).map(|_| read)
+fn fitting_frame(job: Vec<u8>) -> Encoded {
+    frame(&job).map(|_| job)
 }
 
 /// A line without its comment and the blanks around it.
@@ -93,11 +86,12 @@ fn begins_job((_, line): &Line) -> bool {
     line.split_whitespace().next() == Some("job")
 }
 
-fn encode_job(lines: &[Line]) -> Result<(Vec<u8>, Lines), String> {
+fn encode_job(lines: &[Line]) -> Read {
     let mut draft = Draft::new();
     for &(number, line) in lines {
-        let read = draft.line(number, line);
-        read.map_err(|reason| format!("line {number}: {reason}"))?;
+        if let Err(reason) = draft.line(number, line) {
+            return Read::failed(format!("line {number}: {reason}"));
+        }
     }
     draft.finish()
 }
