@@ -26,8 +26,12 @@ fn ending(ending: &str, folder: &Path) -> BTreeSet<String> {
     names(folder).into_iter().filter_map(stem).collect()
 }
 
+/// How the files of vertex sets end.
+const ENDINGS: [&str; 2] = [".txt", ".off"];
+
 fn examples() -> BTreeSet<String> {
-    ending(".txt", &folder())
+    let with = |end: &&str| ending(end, &folder());
+    ENDINGS.iter().flat_map(with).collect()
 }
 
 fn read(place: &Path) -> String {
@@ -35,7 +39,12 @@ fn read(place: &Path) -> String {
 }
 
 fn example(name: &str) -> VertexSet {
-    let file = format!("{name}.txt");
+    let files = ENDINGS.map(|end| format!("{name}{end}"));
+    let mut there = files
+        .into_iter()
+        .filter(|file| folder().join(file).is_file());
+    let file = there.next().expect("the example is there");
+    assert_eq!(there.next(), None, "two examples would have one page");
     let text = read(&folder().join(&file));
     let mut sets = vertex_set::read(&file, text.as_bytes());
     assert_eq!(sets.len(), 1, "{file} holds one set");
