@@ -8,10 +8,10 @@ use std::collections::BTreeSet;
 use std::path::{Path, PathBuf};
 
 use faceting_register::request::{ask, LONGEST};
-use faceting_register::{Answer, Engine, Stop};
+use faceting_register::{Engine, Job, Stop};
 use facetings_host::format::vertex_set::{self, VertexSet};
-use facetings_host::report::advice;
 use facetings_host::report::page::page;
+use facetings_host::report::{advice, Report, Source};
 
 use common::place::names;
 use common::ways::ways;
@@ -57,9 +57,13 @@ fn result(engine: &mut dyn Engine, set: &VertexSet) -> String {
     let job = set.job.as_ref().unwrap_or_else(|e| panic!("{name}: {e}"));
     match ask(engine, job, LONGEST) {
         Ok(bytes) => {
-            let (answer, length) = Answer::read(&bytes).expect("the answer is laid out as one");
-            assert_eq!(length, bytes.len());
-            page(&set.subject, &answer)
+            // The recorded pages are the register's; both engines must come to them.
+            let source = Source::of("register", job);
+            let asked = Job::read(job).expect("an answered job can be read");
+            let report = Report::of(&set.subject, source, asked, &bytes);
+            let report = report.expect("the answer is laid out as one");
+            assert_eq!(report.length, bytes.len());
+            page(&report)
         }
         Err(Stop::Refused(refusal)) => {
             let culprit = set.culprit(refusal);

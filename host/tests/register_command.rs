@@ -105,7 +105,10 @@ fn a_page_has_the_numbers_of_the_answer() {
 my square.txt
 Four corners.
 
-Label: 1 figure, no compounds
+Label: 1 figure
+
+Notes: none
+  margin: points counted off a line are 0.707 or more away; the border is 1e-7
 
 Possible facets: 2 orbits of lines
   orbit 0: 4 lines, 1 possible facet
@@ -113,16 +116,18 @@ Possible facets: 2 orbits of lines
   orbit 1: 2 lines, 1 possible facet
     1.0  edge 0-2
 
-Figures: 1 entry
+Figures: 1 entry, closes in itself
   entry  points  edges  facets  parts (orbit.facet)
       0       4      4       4  0.0
 
 Compounds: no entries
 
 3 lists were examined.
-";
-        assert_eq!(run(&["my square.txt"]).fine(), expected);
-        assert_eq!(run(&["--", "my square.txt"]).fine(), expected);
+
+Answered by: ";
+        let page = run(&["my square.txt"]).fine();
+        assert!(page.starts_with(expected), "{page}");
+        assert_eq!(run(&["--", "my square.txt"]).fine(), page);
     });
 }
 
@@ -246,7 +251,7 @@ fn entry(value: &Value) -> Entry {
         [orbit, facet] => (orbit, facet),
         _ => panic!("{pair:?} is no pair"),
     };
-    let names = ["edges", "facets", "figure", "parts", "points"];
+    let names = ["edges", "facets", "figure", "look", "parts", "points"];
     assert_eq!(value.names(), names);
     Entry {
         list: value.field("parts").list().iter().map(pair).collect(),
@@ -258,15 +263,25 @@ fn entry(value: &Value) -> Entry {
 fn answer(value: &Value) -> Answer {
     let names = [
         "about",
+        "closing",
         "code",
         "compounds",
+        "cut",
+        "engine",
         "entries",
         "examined",
         "file",
+        "job",
         "label",
+        "limits",
+        "margin",
+        "notes",
         "orbits",
+        "points",
         "rank",
         "result",
+        "rows",
+        "version",
     ];
     assert_eq!(value.names(), names);
     let each = |name| value.field(name).list().iter();
@@ -331,7 +346,8 @@ fn json_tells_refusals_and_bad_files() {
         assert_eq!(done.status, 1);
         let value = Value::read(&done.text());
         let names = [
-            "change", "code", "file", "met", "place", "refusal", "result", "rule",
+            "change", "code", "engine", "file", "job", "met", "notes", "place", "refusal",
+            "result", "rule", "version",
         ];
         assert_eq!(value.names(), names);
         assert_eq!(value.field("code").number(), -16);
@@ -365,7 +381,7 @@ fn a_folder_gives_a_line_each_and_a_bad_file_holds_up_none() {
         let text = done.text();
         let lines: Vec<&str> = text.lines().collect();
         assert_eq!(lines.len(), 5, "{text}");
-        assert_eq!(lines[0], "[1/4] a square.txt: 7 figures, no compounds");
+        assert_eq!(lines[0], "[1/4] a square.txt: 7 figures");
         assert!(lines[1].starts_with("[2/4] b.job: refused 16: "));
         assert!(lines[2].starts_with("[3/4] c.txt: line 3: "));
         assert_eq!(lines[3], "[4/4] d.txt: 207 figures, 10 of them compounds");
@@ -430,12 +446,12 @@ fn a_text_may_hold_several_sets() {
         assert_eq!(done.status, 2);
         let text = done.text();
         let lines: Vec<&str> = text.lines().collect();
-        assert_eq!(lines[0], "[1/3] sets.txt, square: 7 figures, no compounds");
+        assert_eq!(lines[0], "[1/3] sets.txt, square: 7 figures");
         assert!(
             lines[1].starts_with("[2/3] sets.txt, wrong: line 8, job wrong: line 10: "),
             "{text}"
         );
-        assert_eq!(lines[2], "[3/3] sets.txt, corner: 1 figure, no compounds");
+        assert_eq!(lines[2], "[3/3] sets.txt, corner: 1 figure");
         place.write("twice.txt", format!("job a\n{SQUARE}\njob a\n{SQUARE}"));
         let done = run(&["twice.txt", "-o", "out"]);
         assert!(done.complaint(2).contains("two sets would both be written"));

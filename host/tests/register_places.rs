@@ -198,7 +198,7 @@ fn one_set_is_one_set() {
         place.write("sets/a.txt", SQUARE);
         let text = run(&["sets"]).fine();
         let last = text.lines().last();
-        let words = "1 set: 1 answered, 0 refused, 0 bad; 7 figures, no compounds";
+        let words = "1 set: 1 answered, 0 refused, 0 bad; 7 figures";
         assert_eq!(last, Some(words));
     });
 }

@@ -3,16 +3,21 @@
 
 use std::fmt::{self, Display, Formatter, Write};
 
-use faceting_register::{Answer, Entry, Figure, Refusal};
+use faceting_register::{Answer, Entry, Figure, Job};
 
-use crate::format::culprit::Culprit;
-use crate::report::advice;
-use crate::report::page::{label, Subject};
+use super::look::Look;
+use super::margin::{Distance, Margin};
+use super::notes::Note;
+use super::{advice, Rejection, Report, Source, VERSION};
 
-/// Just what is written; numbers are whole.
+/// Just what is written.
 pub enum Json {
     /// Nothing.
     Null,
+    /// Yes or no.
+    Truth(bool),
+    /// A coordinate or a length, with as many digits as tell it from every other.
+    Float(f64),
     /// A whole number.
     Number(i64),
     /// A string.
@@ -27,6 +32,8 @@ impl Display for Json {
     fn fmt(&self, f: &mut Formatter<'_>) -> fmt::Result {
         match self {
             Json::Null => f.write_str("null"),
+            Json::Truth(truth) => write!(f, "{truth}"),
+            Json::Float(number) => write!(f, "{number:?}"),
             Json::Number(number) => write!(f, "{number}"),
             Json::Text(text) => quote(f, text),
             Json::List(items) => enclosed(f, '[', items, ']', |f, item| write!(f, "{item}")),
@@ -67,24 +74,49 @@ fn quote(f: &mut Formatter<'_>, text: &str) -> fmt::Result {
     f.write_char('"')
 }
 
-/// An answered job; `length` is that of the answer's bytes.
-pub fn answered(subject: &Subject, answer: &Answer, length: usize) -> Json {
-    let mut fields = head(&subject.name, "answer", length as i64);
+/// An answered job.
+pub fn answered(report: &Report) -> Json {
+    let Report {
+        subject,
+        job,
+        answer,
+        ..
+    } = report;
+    let mut fields = head(&subject.name, "answer", report.length as i64);
+    fields.extend(source(&report.source));
     fields.extend([
         ("about", text_or_null(&subject.about)),
         ("rank", Json::Number(subject.rank.into())),
-        ("label", Json::Text(label(answer))),
+        ("label", Json::Text(report.label())),
+        ("cut", Json::Truth(report.count.cut)),
+        ("closing", Json::Number(report.count.closing as i64)),
+        ("points", list(&job.points, |point| floats(point))),
+        (
+            "rows",
+            list(&job.rows, |row| list(row, |&v| Json::Number(v.into()))),
+        ),
+        ("limits", limits(job)),
+        ("notes", list(&report.notes.list, note)),
+        ("margin", or_null(&report.notes.margin, margin)),
         ("examined", number(answer.examined)),
         ("orbits", orbits(answer)),
-        ("entries", entries(answer)),
+        ("entries", entries(report)),
         ("compounds", list(&answer.compounds, compound)),
     ]);
     Json::Object(fields)
 }
 
-/// A job that the register refuses.
-pub fn refused(name: &str, refusal: Refusal, culprit: Option<&Culprit>) -> Json {
+/// A job that the register refuses, with the notes on it where it can be read.
+pub fn refused(name: &str, rejection: &Rejection) -> Json {
+    let Rejection {
+        refusal,
+        culprit,
+        notes,
+        ..
+    } = rejection;
+    let (refusal, culprit) = (*refusal, culprit.as_ref());
     let mut fields = head(name, "refused", refusal.code());
+    fields.extend(source(&rejection.source));
     fields.extend([
         ("refusal", Json::Number(refusal.number().into())),
         ("met", Json::Text(refusal.words().into())),
@@ -94,8 +126,50 @@ pub fn refused(name: &str, refusal: Refusal, culprit: Option<&Culprit>) -> Json 
             "change",
             Json::Text(advice::change(refusal, culprit).into()),
         ),
+        (
+            "notes",
+            notes
+                .as_ref()
+                .map_or(Json::List(vec![]), |notes| list(&notes.list, note)),
+        ),
     ]);
     Json::Object(fields)
+}
+
+fn source(source: &Source) -> [(&'static str, Json); 3] {
+    [
+        ("engine", Json::Text(source.engine.into())),
+        ("version", Json::Text(VERSION.into())),
+        ("job", Json::Text(source.hash.clone())),
+    ]
+}
+
+/// Null where the job has no such limit.
+fn limits(job: &Job) -> Json {
+    Json::Object(vec![
+        ("min", or_null(&job.min, |&length| Json::Float(length))),
+        ("max", or_null(&job.max, |&length| Json::Float(length))),
+        ("entries", or_null(&job.limit, |&limit| number(limit))),
+        ("budget", number(job.budget)),
+    ])
+}
+
+fn note(note: &Note) -> Json {
+    Json::Object(vec![
+        ("kind", Json::Text(note.kind.into())),
+        ("weighs", Json::Truth(note.weighs)),
+        ("words", Json::Text(note.words.clone())),
+        ("change", Json::Text(note.change.clone())),
+    ])
+}
+
+fn margin(margin: &Margin) -> Json {
+    let side = |side: &Option<Distance>| or_null(side, |side| Json::Float(side.length));
+    Json::Object(vec![
+        ("on", side(&margin.on)),
+        ("off", side(&margin.off)),
+        ("border", Json::Float(margin.border)),
+    ])
 }
 
 /// A file that is no job.
@@ -130,12 +204,14 @@ fn orbits(answer: &Answer) -> Json {
     )
 }
 
-fn entries(answer: &Answer) -> Json {
+fn entries(report: &Report) -> Json {
+    let answer = &report.answer;
     let rows = answer.entries.iter().zip(&answer.summaries);
-    Json::List(rows.map(|(entry, summary)| one(entry, summary)).collect())
+    let entry = |((entry, summary), look)| one(entry, summary, look);
+    Json::List(rows.zip(&report.looks).map(entry).collect())
 }
 
-fn one(entry: &Entry, [points, edges, facets]: &[u32; 3]) -> Json {
+fn one(entry: &Entry, [points, edges, facets]: &[u32; 3], look: &Look) -> Json {
     let pair = |&(orbit, facet): &(u32, u32)| numbers(&[orbit, facet]);
     Json::Object(vec![
         ("parts", list(&entry.list, pair)),
@@ -143,6 +219,17 @@ fn one(entry: &Entry, [points, edges, facets]: &[u32; 3]) -> Json {
         ("edges", number(*edges)),
         ("facets", number(*facets)),
         ("figure", figure(&entry.figure)),
+        ("look", seen(look)),
+    ])
+}
+
+/// The host's own look at an entry.
+fn seen(look: &Look) -> Json {
+    Json::Object(vec![
+        ("closes", Json::Truth(look.closes())),
+        ("open", text_or_null(&look.open)),
+        ("pieces", Json::Number(look.pieces as i64)),
+        ("equals", or_null(&look.equals, |&e| Json::Number(e as i64))),
     ])
 }
 
@@ -168,6 +255,14 @@ fn number(number: u32) -> Json {
     Json::Number(number.into())
 }
 
+fn floats(items: &[f64]) -> Json {
+    list(items, |&item| Json::Float(item))
+}
+
+fn or_null<T>(item: &Option<T>, one: impl Fn(&T) -> Json) -> Json {
+    item.as_ref().map_or(Json::Null, one)
+}
+
 fn text_or_null(text: &Option<String>) -> Json {
-    text.clone().map_or(Json::Null, Json::Text)
+    or_null(text, |text| Json::Text(text.clone()))
 }

@@ -1,8 +1,106 @@
 //! What people and programs read: pages, JSON, advice on refusals, and lists of
-//! what an answer or a run holds.
+//! what an answer or a run holds. What is told of an answered set is put together
+//! once, as a `Report`, and written in each form from there.
 
 pub mod advice;
+pub mod flat;
+pub mod hash;
 pub mod json;
+pub mod label;
 pub mod listing;
+pub mod look;
+pub mod margin;
+pub mod notes;
 pub mod orbits;
 pub mod page;
+
+use faceting_register::answer::Damage;
+use faceting_register::{Answer, Job, Refusal};
+
+use crate::format::culprit::Culprit;
+use label::{left_out, Count};
+use look::{looks, Look};
+use notes::Notes;
+use page::Subject;
+
+/// The version of the command, which pages and JSON name.
+pub const VERSION: &str = env!("CARGO_PKG_VERSION");
+
+/// Where a result comes from.
+#[derive(Clone, Debug, PartialEq, Eq)]
+pub struct Source {
+    /// The engine that answered.
+    pub engine: &'static str,
+    /// The hash of the job's bytes.
+    pub hash: String,
+}
+
+impl Source {
+    /// That engine, asked for the job of these bytes.
+    pub fn of(engine: &'static str, job: &[u8]) -> Source {
+        Source {
+            engine,
+            hash: hash::sha256(job),
+        }
+    }
+}
+
+/// Everything that is told of a refused set.
+pub struct Rejection {
+    /// Why it was refused.
+    pub refusal: Refusal,
+    /// The number or row that it was refused for.
+    pub culprit: Option<Culprit>,
+    /// Where it comes from.
+    pub source: Source,
+    /// The host's own look at the job, where it can be read.
+    pub notes: Option<Notes>,
+}
+
+/// Everything that is told of an answered set.
+pub struct Report {
+    /// What it is about.
+    pub subject: Subject,
+    /// Where it comes from.
+    pub source: Source,
+    /// What was asked.
+    pub job: Job,
+    /// What was answered.
+    pub answer: Answer,
+    /// The length of the answer's bytes.
+    pub length: usize,
+    /// The host's own look at each entry.
+    pub looks: Vec<Look>,
+    /// The host's own look at the job.
+    pub notes: Notes,
+    /// What the label counts.
+    pub count: Count,
+}
+
+impl Report {
+    /// What there is to tell of an answer's bytes, if they are one.
+    pub fn of(
+        subject: &Subject,
+        source: Source,
+        job: Job,
+        answer: &[u8],
+    ) -> Result<Report, Damage> {
+        let (read, length) = Answer::read(answer)?;
+        let looks = looks(&read);
+        Ok(Report {
+            subject: subject.clone(),
+            source,
+            notes: Notes::of(&job),
+            count: Count::of(&job, &read, &looks),
+            job,
+            answer: read,
+            length,
+            looks,
+        })
+    }
+
+    /// The line that goes on the box.
+    pub fn label(&self) -> String {
+        self.count.words(left_out(&self.job, self.count.cut))
+    }
+}

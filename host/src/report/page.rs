@@ -1,11 +1,19 @@
-//! The register's page for a vertex set. Every number on it is read from the
-//! answer's bytes; the job only lends its name and the words for its rank.
+//! The register's page for a vertex set. Every number of figures, orbits and facets
+//! is read from the answer's bytes; the host's own look at them and at the job is told
+//! as such.
 
 use std::fmt::{Display, Write};
 
 use faceting_register::{Answer, Figure};
 
+use super::label::{counted, Count};
+use super::look::Look;
+use super::margin::Margin;
+use super::notes::{short, Note};
+use super::{Report, Source, VERSION};
+
 /// What a page is about: a name, what its writer says of it, and the job's rank.
+#[derive(Clone, Debug)]
 pub struct Subject {
     /// Its name, as the page has it.
     pub name: String,
@@ -15,43 +23,79 @@ pub struct Subject {
     pub rank: u8,
 }
 
+/// What the words on a page mean, and which of them the host is responsible for.
+const WORDS: &str = "\
+The host's own look, which is not proved: the notes, the margin, what closes in itself,
+pieces and equal figures. All else stands in the answer. A figure closes in itself where
+each of its ridges (at rank 3 a point, at rank 4 an edge) lies in exactly two of its
+facets. It is in pieces where its facets fall apart into groups without a common ridge.
+It is a compound where its parts are those of two other entries together.
+";
+
 /// The whole page, each line ended.
-pub fn page(subject: &Subject, answer: &Answer) -> String {
+pub fn page(report: &Report) -> String {
+    let Report {
+        subject, answer, ..
+    } = report;
     let mut text = format!("{}\n", subject.name);
     if let Some(about) = &subject.about {
         let _ = writeln!(text, "{about}");
     }
-    let _ = writeln!(text, "\nLabel: {}", label(answer));
+    let _ = writeln!(text, "\nLabel: {}", report.label());
+    put_notes(&mut text, report);
     put_orbits(&mut text, subject.rank, answer);
-    put_entries(&mut text, answer);
+    put_entries(&mut text, report);
     put_compounds(&mut text, answer);
     let lists = counted(answer.examined as usize, "list was", "lists were");
+    let Source { engine, hash } = &report.source;
     let _ = writeln!(text, "\n{lists} examined.");
-    text
+    let _ = writeln!(
+        text,
+        "\nAnswered by: {engine} {VERSION}\nJob: sha256 {hash}\n"
+    );
+    text + WORDS
 }
 
-/// The line that goes on the box.
-pub fn label(answer: &Answer) -> String {
-    tally(answer.entries.len(), answer.compounds.len())
-}
-
-/// So many figures, and how many of them are compounds.
-pub fn tally(figures: usize, compounds: usize) -> String {
-    let figures = counted(figures, "figure", "figures");
-    match compounds {
-        0 => format!("{figures}, no compounds"),
-        1 => format!("{figures}, 1 of them a compound"),
-        more => format!("{figures}, {more} of them compounds"),
+/// The notes with what to do, and the margin.
+fn put_notes(text: &mut String, report: &Report) {
+    let notes = &report.notes.list;
+    let count = match notes.len() {
+        0 => "none".into(),
+        some => some.to_string(),
+    };
+    let _ = writeln!(text, "\nNotes: {count}");
+    for Note { words, change, .. } in notes {
+        let _ = writeln!(text, "  {words}; what to do: {change}");
+    }
+    let margin = report.notes.margin.as_ref();
+    if let Some(words) = margin.and_then(|margin| margin_words(margin, report.job.rank)) {
+        let _ = writeln!(text, "  margin: {words}");
     }
 }
 
-/// So many of a thing, in words.
-pub fn counted(count: usize, one: &str, many: &str) -> String {
-    match count {
-        0 => format!("no {many}"),
-        1 => format!("1 {one}"),
-        more => format!("{more} {many}"),
-    }
+/// Distances below this are roundings of the sums themselves.
+const ROUNDING: f64 = 1e-12;
+
+/// Both sides of the border, as far as there is a point on them.
+fn margin_words(margin: &Margin, rank: u8) -> Option<String> {
+    let flat = match rank {
+        3 => "line",
+        _ => "line or plane",
+    };
+    let on = margin.on.as_ref().map(|on| {
+        let within = on.length.max(ROUNDING);
+        format!(
+            "points counted on a {flat} lie within {} of it",
+            short(within)
+        )
+    });
+    let off = margin.off.as_ref().map(|off| {
+        let from = short(off.length);
+        format!("points counted off a {flat} are {from} or more away")
+    });
+    let parts: Vec<String> = on.into_iter().chain(off).collect();
+    let border = short(margin.border);
+    (!parts.is_empty()).then(|| format!("{}; the border is {border}", parts.join("; ")))
 }
 
 /// What the sets of an orbit are called: one of them, several of them.
@@ -94,10 +138,23 @@ fn facet(figure: &Figure) -> String {
     }
 }
 
-/// The entries as a table; the parts stand last, since their number differs.
-fn put_entries(text: &mut String, answer: &Answer) {
+/// The entries as a table; the parts stand last, since their number differs. Below
+/// it what the host saw in them, where there is something to tell.
+fn put_entries(text: &mut String, report: &Report) {
+    let answer = &report.answer;
     let entries = counted(answer.entries.len(), "entry", "entries");
-    let _ = writeln!(text, "\nFigures: {entries}");
+    let Count {
+        figures, closing, ..
+    } = report.count;
+    let closing = match (figures, closing) {
+        (0, _) => "".into(),
+        (1, 1) => ", closes in itself".into(),
+        (all, some) if all == some => ", all close in themselves".into(),
+        (_, 0) => ", none of them closes in itself".into(),
+        (_, 1) => ", 1 of them closes in itself".into(),
+        (_, some) => format!(", {some} of them close in themselves"),
+    };
+    let _ = writeln!(text, "\nFigures: {entries}{closing}");
     if answer.entries.is_empty() {
         return;
     }
@@ -111,6 +168,21 @@ fn put_entries(text: &mut String, answer: &Answer) {
             "  {e:>5}  {points:>6}  {edges:>5}  {facets:>6}  {parts}"
         );
     }
+    for (e, look) in report.looks.iter().enumerate() {
+        let seen = seen(look);
+        if !seen.is_empty() {
+            let _ = writeln!(text, "  entry {e}: {}", seen.join("; "));
+        }
+    }
+}
+
+/// What there is to tell of an entry.
+fn seen(look: &Look) -> Vec<String> {
+    let open = look.open.as_ref();
+    let open = open.map(|ridge| format!("does not close in itself, {ridge}"));
+    let pieces = (look.pieces > 1).then(|| format!("in {} pieces", look.pieces));
+    let equals = look.equals.map(|other| format!("entry {other} again"));
+    [open, pieces, equals].into_iter().flatten().collect()
 }
 
 fn part((orbit, facet): &(u32, u32)) -> String {

@@ -6,7 +6,10 @@ use std::collections::BTreeMap;
 #[derive(Clone, Debug, PartialEq)]
 pub enum Value {
     Null,
+    Truth(bool),
     Number(i64),
+    /// A number with a point or an exponent.
+    Float(f64),
     Text(String),
     List(Vec<Value>),
     Object(BTreeMap<String, Value>),
@@ -57,6 +60,24 @@ impl Value {
         }
     }
 
+    pub fn truth(&self) -> bool {
+        match self {
+            Value::Truth(truth) => *truth,
+            other => panic!("{other:?} is neither true nor false"),
+        }
+    }
+
+    pub fn float(&self) -> f64 {
+        match self {
+            Value::Float(float) => *float,
+            other => panic!("{other:?} is no float"),
+        }
+    }
+
+    pub fn floats(&self) -> Vec<f64> {
+        self.list().iter().map(Value::float).collect()
+    }
+
     pub fn word(&self) -> u32 {
         u32::try_from(self.number()).expect("the number is a u32")
     }
@@ -89,6 +110,10 @@ impl Reader<'_> {
     fn value(&mut self) -> Value {
         if self.takes("null") {
             Value::Null
+        } else if self.takes("true") {
+            Value::Truth(true)
+        } else if self.takes("false") {
+            Value::Truth(false)
         } else if self.takes("[") {
             Value::List(self.items("]", Reader::value))
         } else if self.takes("{") {
@@ -104,7 +129,7 @@ impl Reader<'_> {
         } else if self.rest.starts_with('"') {
             Value::Text(self.string())
         } else {
-            Value::Number(self.whole())
+            self.numeral()
         }
     }
 
@@ -122,15 +147,22 @@ impl Reader<'_> {
         }
     }
 
-    fn whole(&mut self) -> i64 {
-        let behind = self
-            .rest
-            .trim_start_matches(|c: char| c == '-' || c.is_ascii_digit());
+    /// As the language has it: no '+', no point at either end, no 'inf'.
+    fn numeral(&mut self) -> Value {
+        let belongs = |c: char| c.is_ascii_digit() || "+-.eE".contains(c);
+        let behind = self.rest.trim_start_matches(belongs);
         let digits = &self.rest[..self.rest.len() - behind.len()];
         self.rest = behind;
-        digits
-            .parse()
-            .unwrap_or_else(|_| panic!("'{digits}' is no number"))
+        let bad = || -> ! { panic!("'{digits}' is no number") };
+        let point = |at: usize| !digits[at..].starts_with(|c: char| c.is_ascii_digit());
+        if digits.starts_with('+') || digits.match_indices('.').any(|(at, _)| point(at + 1)) {
+            bad();
+        }
+        match (digits.parse(), digits.parse()) {
+            (Ok(whole), _) => Value::Number(whole),
+            (_, Ok(float)) => Value::Float(float),
+            _ => bad(),
+        }
     }
 
     fn string(&mut self) -> String {

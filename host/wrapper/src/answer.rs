@@ -5,7 +5,7 @@ use std::collections::HashSet;
 use std::fmt;
 
 /// A figure: per rank its elements, per element the numbers it holds.
-#[derive(Clone, Debug, Default, PartialEq, Eq)]
+#[derive(Clone, Debug, Default, PartialEq, Eq, Hash)]
 pub struct Figure {
     /// Rank 0 first; the last has one element that names all facets.
     pub ranks: Vec<Vec<Vec<u32>>>,

@@ -28,6 +28,7 @@ pub struct Options {
     pub original: bool,
     pub quiet: bool,
     pub symmetry: bool,
+    pub strict: bool,
     pub told: Option<Told>,
     pub inputs: Vec<PathBuf>,
 }
@@ -42,6 +43,7 @@ impl Options {
             original: false,
             quiet: false,
             symmetry: false,
+            strict: false,
             told: None,
             inputs: Vec::new(),
         };
@@ -70,6 +72,7 @@ impl Options {
             "--original" => self.original = true,
             "--quiet" => self.quiet = true,
             "--symmetry" => self.symmetry = true,
+            "--strict" => self.strict = true,
             "--help" | "-h" => self.told = self.told.or(Some(Told::Help)),
             "--version" => self.told = self.told.or(Some(Told::Version)),
             "-o" if self.place.is_some() => return Err("'-o' was given before".into()),

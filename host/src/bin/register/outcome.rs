@@ -1,27 +1,32 @@
 //! What comes of a vertex set, and how it is told.
 
+use faceting_register::bounds::WORKSPACE;
+use faceting_register::job::accept;
 use faceting_register::request::ask;
-use faceting_register::{Answer, Engine, Refusal, Stop};
-use facetings_host::format::culprit::Culprit;
+use faceting_register::{Engine, Job, Stop};
 use facetings_host::format::vertex_set::VertexSet;
-use facetings_host::report::page::{label, page};
-use facetings_host::report::{advice, json};
+use facetings_host::report::label::counted;
+use facetings_host::report::notes::Notes;
+use facetings_host::report::page::page;
+use facetings_host::report::{advice, json, Rejection, Report, Source};
 
 use crate::options::Form;
 
 /// How it ended: the exit status.
-#[derive(Clone, Copy)]
+#[derive(Clone, Copy, Default, PartialEq, Eq, PartialOrd, Ord)]
 pub enum Status {
+    #[default]
     Answered = 0,
     Refused = 1,
     Bad = 2,
     Absent = 3,
+    Noted = 4,
 }
 
 /// What came of a set.
 pub enum Outcome {
-    Answered(Answer, Vec<u8>),
-    Refused(Refusal, Option<Culprit>),
+    Answered(Box<Report>, Vec<u8>),
+    Refused(Box<Rejection>),
     Bad(String),
 }
 
@@ -31,30 +36,51 @@ pub fn outcome(engine: &mut dyn Engine, set: &VertexSet, room: usize) -> Outcome
         Ok(job) => job,
         Err(words) => return Outcome::Bad(words.clone()),
     };
+    let source = Source::of(engine.name(), job);
     match ask(engine, job, room) {
-        Ok(bytes) => match Answer::read(&bytes) {
-            Ok((answer, length)) if length == bytes.len() => Outcome::Answered(answer, bytes),
-            _ => Outcome::Bad("the answer is not laid out as one".into()),
-        },
-        Err(Stop::Refused(refusal)) => Outcome::Refused(refusal, set.culprit(refusal)),
+        Ok(bytes) => answered(set, source, job, bytes),
+        Err(Stop::Refused(refusal)) => Outcome::Refused(Box::new(Rejection {
+            refusal,
+            culprit: set.culprit(refusal),
+            source,
+            notes: notes(job),
+        })),
         Err(Stop::Broken(words)) => Outcome::Bad(words),
     }
 }
 
+fn answered(set: &VertexSet, source: Source, job: &[u8], bytes: Vec<u8>) -> Outcome {
+    let read = Job::read(job).map(|job| Report::of(&set.subject, source, job, &bytes));
+    match read {
+        Some(Ok(report)) if report.length == bytes.len() => {
+            Outcome::Answered(Box::new(report), bytes)
+        }
+        _ => Outcome::Bad("the answer is not laid out as one".into()),
+    }
+}
+
 impl Outcome {
-    pub fn status(&self) -> Status {
+    /// The exit status that it calls for; a note of weight counts where that is asked
+    /// for.
+    pub fn status(&self, strict: bool) -> Status {
         match self {
+            Outcome::Answered(report, _) if strict && report.notes.weight() > 0 => Status::Noted,
             Outcome::Answered(..) => Status::Answered,
             Outcome::Refused(..) => Status::Refused,
             Outcome::Bad(_) => Status::Bad,
         }
     }
 
-    /// The label, or why there is none.
+    /// The label with the number of notes that weigh, or why there is none.
     pub fn line(&self) -> String {
         match self {
-            Outcome::Answered(answer, _) => label(answer),
-            Outcome::Refused(refusal, culprit) => advice::line(*refusal, culprit.as_ref()),
+            Outcome::Answered(report, _) => match report.notes.weight() {
+                0 => report.label(),
+                some => format!("{}; {}", report.label(), counted(some, "note", "notes")),
+            },
+            Outcome::Refused(rejection) => {
+                advice::line(rejection.refusal, rejection.culprit.as_ref())
+            }
             Outcome::Bad(words) => words.clone(),
         }
     }
@@ -62,8 +88,8 @@ impl Outcome {
     fn json(&self, set: &VertexSet) -> String {
         let name = &set.subject.name;
         let value = match self {
-            Outcome::Answered(answer, bytes) => json::answered(&set.subject, answer, bytes.len()),
-            Outcome::Refused(refusal, culprit) => json::refused(name, *refusal, culprit.as_ref()),
+            Outcome::Answered(report, _) => json::answered(report),
+            Outcome::Refused(rejection) => json::refused(name, rejection),
             Outcome::Bad(words) => json::bad(name, words),
         };
         format!("{value}\n")
@@ -74,11 +100,15 @@ impl Outcome {
     pub fn result(&self, form: Form, set: &VertexSet) -> Option<Vec<u8>> {
         match (form, self) {
             (Form::Json, _) => Some(self.json(set).into_bytes()),
-            (Form::Page, Outcome::Answered(answer, _)) => {
-                Some(page(&set.subject, answer).into_bytes())
-            }
+            (Form::Page, Outcome::Answered(report, _)) => Some(page(report).into_bytes()),
             (Form::Raw, Outcome::Answered(_, bytes)) => Some(bytes.clone()),
             _ => None,
         }
     }
+}
+
+/// The notes on a job that passes refusals 1 to 12; others cannot be read at all.
+fn notes(job: &[u8]) -> Option<Notes> {
+    let job = accept(job, WORKSPACE).ok()?;
+    Some(Notes::of(&job))
 }

@@ -6,7 +6,7 @@ use std::path::{Path, PathBuf};
 use faceting_register::{Engine, Register};
 use facetings_host::engines::oracle::Oracle;
 use facetings_host::format::vertex_set::VertexSet;
-use facetings_host::report::page::{counted, tally};
+use facetings_host::report::label::{counted, Count};
 
 use crate::inputs::{self, Named};
 use crate::options::{Form, Options};
@@ -54,7 +54,7 @@ fn alone(options: &Options, engine: &mut dyn Engine, set: &VertexSet) -> Result<
             None => output::print(&bytes)?,
         }
     }
-    let status = found.status();
+    let status = found.status(options.strict);
     Ok(match status {
         Status::Answered => status,
         _ => complain(&format!("{}: {}", set.subject.name, found.line()), status),
@@ -77,9 +77,9 @@ fn many(
     for (i, Named { set, .. }) in sets.iter().enumerate() {
         let place = places.as_ref().map(|places| places[i].as_path());
         let found = stored(options.form, place, set, outcome(engine, set, options.room));
-        sums.add(&found);
+        sums.add(&found, options.strict);
         let (number, name, line) = (i + 1, &set.subject.name, found.line());
-        match (options.quiet, found.status()) {
+        match (options.quiet, found.status(options.strict)) {
             (true, Status::Answered) => {}
             (true, _) => output::tell(&format!("register: {name}: {line}\n")),
             (false, _) => tell(
@@ -91,7 +91,7 @@ fn many(
     if !options.quiet {
         tell(options, &sums.line())?;
     }
-    Ok(sums.worst())
+    Ok(sums.worst)
 }
 
 /// What came of a set after its result was put where it belongs: without a folder
@@ -129,35 +129,27 @@ struct Sums {
     answered: usize,
     refused: usize,
     bad: usize,
-    figures: usize,
-    compounds: usize,
+    count: Count,
+    worst: Status,
 }
 
 impl Sums {
-    fn add(&mut self, found: &Outcome) {
+    fn add(&mut self, found: &Outcome, strict: bool) {
+        self.worst = self.worst.max(found.status(strict));
         match found {
-            Outcome::Answered(answer, _) => {
+            Outcome::Answered(report, _) => {
                 self.answered += 1;
-                self.figures += answer.entries.len();
-                self.compounds += answer.compounds.len();
+                self.count = self.count.plus(report.count);
             }
             Outcome::Refused(..) => self.refused += 1,
             Outcome::Bad(_) => self.bad += 1,
         }
     }
 
-    fn worst(&self) -> Status {
-        match (self.bad, self.refused) {
-            (0, 0) => Status::Answered,
-            (0, _) => Status::Refused,
-            _ => Status::Bad,
-        }
-    }
-
     fn line(&self) -> String {
         let (answered, refused, bad) = (self.answered, self.refused, self.bad);
         let sets = counted(answered + refused + bad, "set", "sets");
-        let figures = tally(self.figures, self.compounds);
+        let figures = self.count.words(None);
         format!("{sets}: {answered} answered, {refused} refused, {bad} bad; {figures}\n")
     }
 }
