@@ -180,6 +180,8 @@ fn rounded_coordinates_keep_their_symmetry_and_moved_points_do_not() {
     let text = example("icosahedron").replace("(1+sqrt(5))/2", golden);
     assert_eq!(orders(&text), (120, 60));
     assert_eq!(orders("points\n0 0\n1 0\n1 1\n0 1.0001\n"), (1, 1));
+    assert_eq!(orders("points\n0 0\n1000 0\n0 1\n0 -1.00001\n"), (1, 1));
+    assert_eq!(orders("points\n0 0\n0.000001 0\n0 0.000002\n"), (1, 1));
 }
 
 /// Points that all coincide, and clusters of them that look alike up to the last

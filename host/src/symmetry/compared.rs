@@ -3,6 +3,7 @@
 use std::collections::BTreeSet;
 
 use super::distances::Distances;
+use super::report::counted;
 use super::{Kind, Symmetry};
 use faceting_register::job::{is_permutation, Job};
 
@@ -50,10 +51,7 @@ impl Compared {
         let Compared {
             rows, full, turns, ..
         } = self;
-        let known = match self.full == self.turns {
-            true => format!("{full} symmetries, all of them turns"),
-            false => format!("{full} symmetries, {turns} of them turns"),
-        };
+        let known = counted(*full, *turns);
         if self.kept < *rows {
             let wrong = rows - self.kept;
             return Some(format!(

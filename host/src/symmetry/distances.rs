@@ -1,10 +1,16 @@
 //! The distances between points, as far as they are told apart.
 
+use faceting_register::bounds::TOLERANCE;
 use faceting_register::job::Job;
 
-/// Distances count as the same if they lie nearer together than this part of the
-/// greatest: sets are written in decimals, seven or more of them.
-pub const SAME: f64 = 1e-6;
+/// The part of a set's size that is told apart in a set of any size.
+const FINENESS: f64 = 1e-6;
+
+/// Lengths that differ by no more count as the same, in a set whose greatest length
+/// is given: the register's own tolerance, and less in a small set.
+pub fn gap(greatest: f64) -> f64 {
+    TOLERANCE.min(FINENESS * greatest)
+}
 
 /// A number for each pair of points: equal ones for equal distances. So being equal
 /// carries over from one pair to the next, and what keeps these numbers is a group.
@@ -89,7 +95,7 @@ fn length(p: &[f64], q: &[f64]) -> f64 {
 fn classes(lengths: &[f64]) -> Vec<usize> {
     let mut order: Vec<usize> = (0..lengths.len()).collect();
     order.sort_by(|&i, &j| lengths[i].total_cmp(&lengths[j]));
-    let gap = SAME * lengths.iter().copied().fold(0.0, f64::max);
+    let gap = gap(lengths.iter().copied().fold(0.0, f64::max));
     let mut classes = vec![0; lengths.len()];
     for pair in order.windows(2) {
         let apart = lengths[pair[1]] - lengths[pair[0]] > gap;

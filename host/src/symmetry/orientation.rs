@@ -3,7 +3,7 @@
 //! mirror images differ from it, so that a polygon has the same turns however many
 //! coordinates its points are written with.
 
-use super::distances::SAME;
+use super::distances::gap;
 
 /// Points that span the set, and every point's place within the span.
 pub struct Orientation {
@@ -20,7 +20,7 @@ impl Orientation {
             frame: vec![0],
             places: vec![Vec::new(); points.len()],
         };
-        let least = SAME * farthest(&rests).1;
+        let least = gap(farthest(&rests).1);
         while orientation.frame.len() <= points[0].len() {
             let (next, length) = farthest(&rests);
             if length <= least {

@@ -11,10 +11,11 @@ use super::{Group, Kind, Symmetry};
 pub fn report(name: &str, symmetry: &Symmetry) -> String {
     let (full, turns) = (symmetry.group(Kind::Full), symmetry.group(Kind::Turns));
     let mut text = format!("# {name}: {}.\n", symmetry.words());
-    if full.order <= MOST_ROWS as u64 {
+    let fits = |order: u64| (2..=MOST_ROWS as u64).contains(&order);
+    if fits(full.order) {
         put(&mut text, "All of them ('symmetry full')", &full);
     }
-    if turns.order < full.order && turns.order <= MOST_ROWS as u64 {
+    if turns.order < full.order && fits(turns.order) {
         put(&mut text, "The turns alone ('symmetry turns')", &turns);
     }
     if turns.order > MOST_ROWS as u64 {
@@ -45,17 +46,22 @@ fn kept(fixed: usize, group: &Group) -> String {
     }
 }
 
+/// So many symmetries, more than one, and so many turns among them.
+pub fn counted(full: u64, turns: u64) -> String {
+    match turns {
+        1 => format!("{full} symmetries, 1 of them a turn"),
+        _ if turns == full => format!("{full} symmetries, all of them turns"),
+        _ => format!("{full} symmetries, {turns} of them turns"),
+    }
+}
+
 impl Symmetry {
     /// How many there are, and how many of them are turns.
     pub fn words(&self) -> String {
         let (full, turns) = (self.group(Kind::Full).order, self.group(Kind::Turns).order);
-        let symmetries = match full {
-            1 => return "the points have no symmetry but staying where they are".into(),
-            _ => format!("the points have {full} symmetries"),
-        };
-        match full == turns {
-            true => format!("{symmetries}, all of them turns"),
-            false => format!("{symmetries}, {turns} of them turns"),
+        match full {
+            1 => "the points have no symmetry but staying where they are".into(),
+            _ => format!("the points have {}", counted(full, turns)),
         }
     }
 
