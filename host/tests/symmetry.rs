@@ -224,13 +224,20 @@ fn no_points_that_are_refused_are_looked_at() {
 #[test]
 fn rows_are_compared_with_what_is_found() {
     let note = |text: &str| compared(&read(text)).and_then(|found| found.note());
+    let words = |text: &str| note(text).expect("a note").0;
     assert_eq!(note(SQUARE), None);
     assert_eq!(note(&format!("{SQUARE}{SQUARE_GROUP}")), None);
     assert_eq!(note(&format!("{SQUARE}generators\n1 2 3 0\n")), None);
-    let half = note(&format!("{SQUARE}generators\n2 3 0 1\n")).expect("a note");
-    assert!(half.starts_with(
-        "the points have 8 symmetries, 4 of them turns, and the rows are 2 of them: "
-    ));
-    let slipped = note(&format!("{SQUARE}generators\n1 3 2 0\n")).expect("a note");
-    assert!(slipped.starts_with("2 of the 3 rows are no symmetries of the points, which have 8 "));
+    assert_eq!(
+        words(&format!("{SQUARE}generators\n2 3 0 1\n")),
+        "the rows are 2 of the symmetries of the points, which have 8 symmetries, 4 of them turns"
+    );
+    assert_eq!(
+        words(&format!("{SQUARE}generators\n1 3 2 0\n")),
+        "2 of the 3 rows are no symmetries of the points, which have 8 symmetries, 4 of them turns"
+    );
+    assert_eq!(
+        words("points\n0 0\n1 0\n0 3\nrows\n0 1 2\n1 0 2\n"),
+        "1 of the 2 rows is no symmetry of the points, which have none but the identity"
+    );
 }

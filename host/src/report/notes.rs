@@ -10,6 +10,7 @@ use faceting_register::Job;
 
 use super::flat::{dot, minus, norm, Flat};
 use super::margin::{Distance, Margin};
+use crate::symmetry::compared;
 
 /// One thing to know, and what to do about it.
 #[derive(Clone, Debug, PartialEq, Eq)]
@@ -87,7 +88,7 @@ impl Set<'_> {
 }
 
 /// The notes, in the order of their weight.
-const CHECKS: [fn(&Set) -> Option<Note>; 9] = [
+const CHECKS: [fn(&Set) -> Option<Note>; 10] = [
     unkept_distances,
     no_group,
     equal_points,
@@ -97,6 +98,7 @@ const CHECKS: [fn(&Set) -> Option<Note>; 9] = [
     crossed_limits,
     small_set,
     thin_margin,
+    other_symmetry,
 ];
 
 fn note(kind: &'static str, words: String, change: impl Into<String>) -> Option<Note> {
@@ -283,6 +285,18 @@ fn thin_margin(set: &Set) -> Option<Note> {
     }
     let words = format!("the margin is thin: {}", sides.join("; "));
     note("margin", words, MORE_DIGITS)
+}
+
+/// Rows beside the symmetries that are found in the points. Fewer of them are a
+/// choice, and those that are none have a note of their own, so that it is light.
+fn other_symmetry(set: &Set) -> Option<Note> {
+    let (words, change) = compared(set.job)?.note()?;
+    Some(Note {
+        kind: "symmetry",
+        words,
+        change: change.into(),
+        weighs: false,
+    })
 }
 
 /// Where a point lies, and what it counts as.

@@ -45,26 +45,30 @@ pub fn compared(job: &Job) -> Option<Compared> {
 }
 
 impl Compared {
-    /// What is to be said of it, with what to do: nothing where the rows are all the
+    /// What is to be said of it, and what to do: nothing where the rows are all the
     /// symmetries, all the turns, or the identity alone, which asks for every figure.
-    pub fn note(&self) -> Option<String> {
-        let Compared {
-            rows, full, turns, ..
-        } = self;
-        let known = counted(*full, *turns);
-        if self.kept < *rows {
-            let wrong = rows - self.kept;
-            return Some(format!(
-                "{wrong} of the {rows} rows are no symmetries of the points, which have {known}: correct them, or write 'symmetry full' or 'symmetry turns' in their place"
-            ));
+    pub fn note(&self) -> Option<(String, &'static str)> {
+        let rows = self.rows;
+        let known = match self.full {
+            1 => "which have none but the identity".into(),
+            _ => format!("which have {}", counted(self.full, self.turns)),
+        };
+        if self.kept < rows {
+            let wrong = match rows - self.kept {
+                1 => format!("1 of the {rows} rows is no symmetry"),
+                more => format!("{more} of the {rows} rows are no symmetries"),
+            };
+            let words = format!("{wrong} of the points, {known}");
+            return Some((words, INSTEAD));
         }
-        let all =
-            self.kept as u64 == *full || (self.kept == self.turned && self.kept as u64 == *turns);
-        if all || *rows == 1 {
+        let all_turns = self.kept == self.turned && self.kept as u64 == self.turns;
+        if rows == 1 || all_turns || self.kept as u64 == self.full {
             return None;
         }
-        Some(format!(
-            "the points have {known}, and the rows are {rows} of them: 'symmetry full' or 'symmetry turns' takes them all, for fewer figures"
-        ))
+        let words = format!("the rows are {rows} of the symmetries of the points, {known}");
+        Some((words, MORE))
     }
 }
+
+const INSTEAD: &str = "correct the rows, or the points that they do not fit; './register --symmetry' prints the symmetries that the points have";
+const MORE: &str = "nothing, if figures of less symmetry are wanted; else write 'symmetry full' or 'symmetry turns' in place of the rows";
