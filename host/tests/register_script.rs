@@ -273,6 +273,12 @@ fn a_missing_tool_is_one_line_with_status_3() {
     assert!(done
         .complaint(3)
         .starts_with("register: 'rt' is not on the path; "));
+    let place = repository("no-flock", &[("rt", RT), ("cargo", CARGO)]);
+    fs::remove_file(place.path("tools/flock")).expect("it was linked");
+    let done = run(&place, &["a b.txt"]);
+    assert!(done
+        .complaint(3)
+        .starts_with("register: 'flock' is not on the path; "));
     let place = repository("no-cargo", &[("rt", RT)]);
     let done = run(&place, &["--original", "a b.txt"]);
     assert!(done

@@ -212,6 +212,42 @@ fn very_many_symmetries_are_counted_at_once() {
     assert!(begun.elapsed() < Duration::from_secs(2));
 }
 
+/// Sets of four dimensions have more turns than a job has rows; the rank that would
+/// take them is the register's to refuse.
+#[test]
+fn a_part_of_too_many_turns_is_offered() {
+    let cell = |vertices: &[[i32; 4]]| {
+        let words = |point: &[i32; 4]| point.map(|x| x.to_string()).join(" ");
+        format!("rank 5\n{}", lines(vertices.iter().map(words)))
+    };
+    let axes: Vec<[i32; 4]> = (0..8)
+        .map(|v| {
+            std::array::from_fn(|i| {
+                if i == v / 2 {
+                    1 - 2 * (v as i32 % 2)
+                } else {
+                    0
+                }
+            })
+        })
+        .collect();
+    let corners: Vec<[i32; 4]> = (0..16)
+        .map(|v| std::array::from_fn(|i| 1 - 2 * (v >> i & 1)))
+        .collect();
+    for (text, kept) in [(cell(&axes), 24), (cell(&corners), 12)] {
+        assert_eq!(orders(&text), (384, 192));
+        let (fixed, group) = symmetry(&text).fitting_turns();
+        assert_eq!((fixed, group.order), (1, kept));
+        let rows = group.rows().expect("a job can have so many");
+        assert_eq!(rows.len() as u64, kept);
+        assert!(rows.iter().all(|row| row[0] == 0));
+        let words = format!("the {kept} turns that keep point 0 in its place");
+        assert!(symmetry(&text).too_many().ends_with(&words));
+    }
+    let simplex = "rank 5\npoints\n1 0 0 0\n0 1 0 0\n0 0 1 0\n0 0 0 1\n(1+sqrt(5))/4 (1+sqrt(5))/4 (1+sqrt(5))/4 (1+sqrt(5))/4\n";
+    assert_eq!(orders(simplex), (120, 60));
+}
+
 #[test]
 fn no_points_that_are_refused_are_looked_at() {
     for points in ["1 1", "1 1\n2 0x7ff0000000000000"] {

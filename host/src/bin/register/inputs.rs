@@ -25,7 +25,9 @@ pub struct Input {
 
 /// A vertex set, and what its file is called.
 pub struct Named {
+    /// The set.
     pub set: VertexSet,
+    /// The name of its file.
     pub file: String,
 }
 

@@ -22,14 +22,23 @@ pub enum Told {
 
 /// What the words of the command line ask for.
 pub struct Options {
+    /// What is written of an answer.
     pub form: Form,
+    /// Where it goes; standard output else.
     pub place: Option<PathBuf>,
+    /// The longest answer that is asked for, in bytes.
     pub room: usize,
+    /// Whether the original answers.
     pub original: bool,
+    /// Whether lines about progress are left out.
     pub quiet: bool,
+    /// Whether symmetries are printed in place of answers.
     pub symmetry: bool,
+    /// Whether a note of weight counts in the exit status.
     pub strict: bool,
+    /// What is told of the command itself.
     pub told: Option<Told>,
+    /// The files and folders that are named.
     pub inputs: Vec<PathBuf>,
 }
 

@@ -14,6 +14,7 @@ use crate::outcome::{outcome, Outcome, Status};
 use crate::places::{make_folder, places, spared};
 use crate::{complain, output};
 
+/// Answers what the options name, and says how that ended.
 pub fn run(options: &Options) -> Status {
     let mut engine = match open(options.original) {
         Ok(engine) => engine,

@@ -60,14 +60,23 @@ impl Read {
 pub struct Draft {
     /// What single values say; the other fields below go into it at the end.
     pub job: Job,
+    /// Where it is not what the coordinates suggest.
     pub rank: Option<u8>,
+    /// Where it was said.
     pub dimension: Option<u8>,
+    /// Where it is not zero.
     pub offset: Option<Vec<f64>>,
+    /// The vectors that were written out.
     pub basis: Vec<(usize, Vec<f64>)>,
+    /// The points.
     pub points: Vec<(usize, Vec<f64>)>,
+    /// Rows that are taken as they stand.
     pub rows: Vec<(usize, Vec<u8>)>,
+    /// Rows that are to be closed under composition.
     pub generators: Vec<(usize, Vec<u8>)>,
+    /// Rows that are to be found.
     pub symmetry: Option<Wanted>,
+    /// Bytes that stand for the whole job.
     pub raw: Vec<u8>,
     keywords: BTreeMap<&'static str, usize>,
     section: Option<&'static Keyword>,
