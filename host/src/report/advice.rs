@@ -26,7 +26,7 @@ const ALL: [(&str, &str); 17] = [
     ),
     (
         "there are 1 to 120 rows",
-        "give generators of a smaller part of the symmetry, or fewer rows",
+        "take a smaller part of the symmetry ('symmetry turns'), or fewer rows",
     ),
     (
         "only the flag bits 0, 1 and 2 are in use",
@@ -54,7 +54,7 @@ const ALL: [(&str, &str); 17] = [
     ),
     (
         "no call finds more than 256 orbits of hyperplanes",
-        "give generators of more of the symmetry, fewer points, or closer limits 'min' and 'max'",
+        "take more of the symmetry ('symmetry full'), fewer points, or closer limits 'min' and 'max'",
     ),
     (
         "the points of a plane or line, fitted one by one, give just that plane or line",
@@ -62,11 +62,11 @@ const ALL: [(&str, &str); 17] = [
     ),
     (
         "no call has more than 1,024 possible facets or entries",
-        "give generators of more of the symmetry, fewer points, closer limits 'min' and 'max', or an entry limit: 'limit 1000'",
+        "take more of the symmetry ('symmetry full'), fewer points, closer limits 'min' and 'max', or an entry limit: 'limit 1000'",
     ),
     (
         "no more lists are examined than the budget allows",
-        "raise the budget ('budget 100000000'), give generators of more of the symmetry, or an entry limit: 'limit 100'",
+        "raise the budget ('budget 100000000'), take more of the symmetry ('symmetry full'), or an entry limit: 'limit 100'",
     ),
     (
         "the answer buffer holds the whole answer",
