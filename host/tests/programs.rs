@@ -185,3 +185,29 @@ fn the_program_in_rust_runs() {
         false => assert_eq!(done.complaint(1), format!("figures: {NotLinked}")),
     }
 }
+
+/// A crate of somebody else's that leans on the wrapper and on nothing else of host/.
+#[test]
+fn another_crate_can_lean_on_the_wrapper_alone() {
+    let place = Place::new("stranger");
+    let wrapper = Path::new(env!("CARGO_MANIFEST_DIR")).join("wrapper");
+    let manifest = format!(
+        "[package]\nname = \"stranger\"\nversion = \"0.1.0\"\nedition = \"2021\"\n\n[dependencies]\nfaceting-register = {{ path = {wrapper:?} }}\n\n[workspace]\n"
+    );
+    place.write("Cargo.toml", manifest);
+    place.write("src/main.rs", include_str!("../../examples/figures.rs"));
+    let built = Command::new(env!("CARGO"))
+        .args(["build", "--offline", "--quiet"])
+        .arg("--target-dir")
+        .arg(place.path("target"))
+        .current_dir(&place.0)
+        .output()
+        .expect("cargo can be started");
+    let error = String::from_utf8_lossy(&built.stderr);
+    assert!(built.status.success(), "{error}");
+    let done = place.run(place.path("target/debug/stranger"), &[]);
+    match LINKED {
+        true => assert_eq!(done.fine(), PRINTED),
+        false => assert_eq!(done.complaint(1), format!("figures: {NotLinked}")),
+    }
+}

@@ -5,6 +5,7 @@ mod common;
 
 use faceting_register::request::{ask, LONGEST};
 use faceting_register::{Answer, Entry, Figure};
+use facetings_host::report::hash::sha256;
 
 use common::json::Value;
 use common::place::{Done, Place};
@@ -456,5 +457,141 @@ fn a_text_may_hold_several_sets() {
         let done = run(&["twice.txt", "-o", "out"]);
         assert!(done.complaint(2).contains("two sets would both be written"));
         assert!(!place.names().contains(&"out".into()));
+    });
+}
+
+/// Both name the engine, the version and the job; JSON has what was asked too.
+#[test]
+fn page_and_json_name_engine_version_and_job() {
+    let text = format!("{SQUARE}{SQUARE_GROUP}max 1.5\nlimit 9\nbudget 77\n");
+    let hash = sha256(&job(&text));
+    for way in ways() {
+        let place = Place::new("register-named");
+        place.write("square.txt", &text);
+        let run = |words: &[&str]| place.run(COMMAND, &[way.option, words].concat()).fine();
+        let engine = match way.option {
+            [] => "register",
+            _ => "original",
+        };
+        let version = env!("CARGO_PKG_VERSION");
+        let lines = format!("\nAnswered by: {engine} {version}\nJob: sha256 {hash}\n");
+        let page = run(&["square.txt"]);
+        assert!(page.contains(&lines), "{page}");
+        assert_eq!(page.matches("the host's own look").count(), 0);
+        assert_eq!(page.matches("The host's own look").count(), 1);
+        let value = Value::read(&run(&["--json", "square.txt"]));
+        let text_of = |name| value.field(name).text();
+        let named = ["engine", "version", "job"].map(text_of);
+        assert_eq!(named, [engine, version, &hash]);
+        let points = value.field("points").list().iter().map(Value::floats);
+        let corners = [[0.0, 0.0], [1.0, 0.0], [1.0, 1.0], [0.0, 1.0]];
+        assert_eq!(points.collect::<Vec<_>>(), corners);
+        let rows: Vec<Vec<u32>> = value
+            .field("rows")
+            .list()
+            .iter()
+            .map(Value::words)
+            .collect();
+        assert_eq!((rows.len(), &rows[1][..]), (8, &[1, 2, 3, 0][..]));
+        let limits = value.field("limits");
+        assert_eq!(limits.field("min"), &Value::Null);
+        assert_eq!(limits.field("max").float(), 1.5);
+        assert_eq!(limits.field("entries").word(), 9);
+        assert_eq!(limits.field("budget").word(), 77);
+    }
+}
+
+/// The grid: eight figures, of which two close, and lines with three points.
+const GRID: &str = "points\n0 0\n1 0\n2 0\n0 1\n1 1\n2 1\n0 2\n1 2\n2 2\ngenerators\n0 3 6 1 4 7 2 5 8\n2 5 8 1 4 7 0 3 6\n";
+
+#[test]
+fn page_json_and_label_tell_what_the_host_saw() {
+    on_each("seen", |place, run| {
+        place.write("grid.txt", GRID);
+        let page = run(&["grid.txt"]).fine();
+        for line in [
+            "\nLabel: 8 figures, 2 of them close in themselves\n",
+            "\nNotes: 1\n  points 0, 1, 2 lie on a line, ",
+            "\nFigures: 8 entries, 2 of them close in themselves\n",
+            "\n  entry 0: does not close in itself, point 0 lies in 1 edge\n",
+            "point 0 lies in 1 edge; in 2 pieces\n",
+        ] {
+            assert!(page.contains(line), "{line} is not in:\n{page}");
+        }
+        let value = Value::read(&run(&["--json", "grid.txt"]).fine());
+        let looks: Vec<&Value> = value
+            .field("entries")
+            .list()
+            .iter()
+            .map(|entry| entry.field("look"))
+            .collect();
+        assert_eq!(looks[0].names(), ["closes", "equals", "open", "pieces"]);
+        assert_eq!(looks[0].field("open").text(), "point 0 lies in 1 edge");
+        assert_eq!(looks[2].field("pieces").word(), 2);
+        let closing = looks.iter().filter(|look| look.field("closes").truth());
+        assert_eq!(closing.count(), 2);
+        assert_eq!(value.field("closing").word(), 2);
+        assert!(!value.field("cut").truth());
+        let notes = value.field("notes").list();
+        assert_eq!(notes.len(), 1);
+        assert_eq!(notes[0].names(), ["change", "kind", "weighs", "words"]);
+        assert_eq!(notes[0].field("kind").text(), "crowded");
+        assert!(notes[0].field("weighs").truth());
+        let margin = value.field("margin");
+        assert_eq!(margin.names(), ["border", "off", "on"]);
+        assert!(margin.field("off").float() > 0.4);
+    });
+}
+
+#[test]
+fn strict_ends_with_4_where_a_note_weighs() {
+    on_each("strict", |place, run| {
+        place.write("sets/grid.txt", GRID);
+        place.write("sets/square.txt", SQUARE);
+        let noted = "8 figures, 2 of them close in themselves; 1 note";
+        run(&["sets/grid.txt"]).fine();
+        let done = run(&["--strict", "sets/grid.txt"]);
+        assert_eq!(done.status, 4);
+        assert_eq!(done.error, format!("register: grid.txt: {noted}\n"));
+        assert_eq!(done.text(), run(&["sets/grid.txt"]).fine());
+        run(&["--strict", "sets/square.txt"]).fine();
+        let several = run(&["sets"]).fine();
+        assert!(
+            several.contains(&format!("] grid.txt: {noted}\n")),
+            "{several}"
+        );
+        let sum =
+            "2 sets: 2 answered, 0 refused, 0 bad; 15 figures, 9 of them close in themselves\n";
+        assert!(several.ends_with(sum), "{several}");
+        assert_eq!(run(&["--strict", "sets"]).status, 4);
+        place.write("sets/z.txt", format!("{SQUARE}limit 2\n"));
+        let cut = run(&["sets"]).fine();
+        assert!(
+            cut.contains("] z.txt: at least 2 figures (entry limit 2)\n"),
+            "{cut}"
+        );
+        assert!(cut.contains("; at least 17 figures, "), "{cut}");
+    });
+}
+
+/// Following the advice does not turn a cut list into a count.
+#[test]
+fn advice_to_set_a_limit_says_what_the_label_becomes() {
+    on_each("advised", |place, run| {
+        let points: String = (0..20).map(|v| format!("{} {}\n", v % 5, v / 5)).collect();
+        place.write("grid.txt", format!("points\n{points}"));
+        place.write("corner.txt", format!("{CORNER}budget 26\n"));
+        place.write("square.txt", SQUARE);
+        for words in [
+            &["grid.txt"][..],
+            &["corner.txt"],
+            &["square.txt", "--room", "9"],
+        ] {
+            let done = run(words);
+            let said = done.complaint(1);
+            assert!(said.contains("'limit 1"), "{said}");
+            let honest = "lists only some of the figures, and the label then says 'at least'";
+            assert!(said.ends_with(honest), "{said}");
+        }
     });
 }

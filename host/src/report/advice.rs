@@ -62,15 +62,15 @@ const ALL: [(&str, &str); 17] = [
     ),
     (
         "no call has more than 1,024 possible facets or entries",
-        "take more of the symmetry ('symmetry full'), fewer points, closer limits 'min' and 'max', or an entry limit: 'limit 1000'",
+        "take more of the symmetry ('symmetry full'), fewer points, or closer limits 'min' and 'max'; 'limit 1000' lists only some of the figures, and the label then says 'at least'",
     ),
     (
         "no more lists are examined than the budget allows",
-        "raise the budget ('budget 100000000'), take more of the symmetry ('symmetry full'), or an entry limit: 'limit 100'",
+        "raise the budget ('budget 100000000'), or take more of the symmetry ('symmetry full'); 'limit 100' lists only some of the figures, and the label then says 'at least'",
     ),
     (
         "the answer buffer holds the whole answer",
-        "allow a longer answer (--room), or ask for less by an entry limit: 'limit 100'",
+        "allow a longer answer (--room); 'limit 100' lists only some of the figures, and the label then says 'at least'",
     ),
 ];
 
