@@ -7,8 +7,9 @@ use common::json::Value;
 use common::place::{Done, Place};
 use common::ways::ways;
 use common::{job, SQUARE};
-use faceting_register::Job;
+use faceting_register::{Job, Refusal};
 use facetings_host::format::vertex_set;
+use facetings_host::symmetry::Kind;
 
 const COMMAND: &str = env!("CARGO_BIN_EXE_register");
 
@@ -240,4 +241,50 @@ fn refusals_name_the_line_and_what_to_do_there() {
         let json = Value::read(&run(&["--json", "set.txt"]).text());
         assert_eq!(json.field("place"), &Value::Null);
     });
+}
+
+/// Files with some bytes altered, put in or taken out: each is read or told of, and
+/// what is read keeps its own symmetries.
+#[test]
+fn damaged_files_are_read_or_told_of() {
+    let mut seed = 5_u64;
+    let mut next = |most: usize| {
+        seed = seed.wrapping_mul(6_364_136_223_846_793_005).wrapping_add(1);
+        (seed >> 33) as usize % most
+    };
+    let letters = b"0123456789.,-+*/()e# \n\r\tOFFnpointsrowsymtlu\xff\x00";
+    let whole = format!("# A square.\n{SQUARE}min 0\nmax 1,\nsymmetry full\nlimit 3\nbudget 5\n");
+    let (mut read, mut told) = (0, 0);
+    for round in 0..20_000 {
+        let mut bytes = match round % 3 {
+            0 => CUBE.as_bytes().to_vec(),
+            1 => whole.clone().into_bytes(),
+            _ => job(SQUARE),
+        };
+        for _ in 0..1 + next(4) {
+            let (place, letter) = (next(bytes.len()), letters[next(letters.len())]);
+            match next(3) {
+                0 => bytes[place] = letter,
+                1 => bytes.insert(place, letter),
+                _ => drop(bytes.remove(place)),
+            }
+        }
+        vertex_set::is_one(&bytes);
+        for set in vertex_set::read("set.txt", &bytes) {
+            let symmetry = set.symmetry();
+            match (&set.job, symmetry) {
+                (Err(_), _) => told += 1,
+                (Ok(_), None) => read += 1,
+                (Ok(_), Some(symmetry)) => {
+                    read += 1;
+                    let [full, turns] = [Kind::Full, Kind::Turns].map(|k| symmetry.group(k).order);
+                    assert!(full == turns || full == 2 * turns);
+                }
+            }
+            for refusal in (1..=17).filter_map(|number| Refusal::from_code(-number)) {
+                set.culprit(refusal);
+            }
+        }
+    }
+    assert!(read > 2_000 && told > 2_000, "{read} read, {told} told of");
 }
