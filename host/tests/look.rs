@@ -6,7 +6,9 @@ use faceting_register::{Answer, Entry, Figure, Job};
 use facetings_host::cases::generator::{case, kind_named};
 use facetings_host::engines::judgement::Judgement;
 use facetings_host::engines::oracle::Oracle;
+use facetings_host::report::flat::{dot, minus, Flat};
 use facetings_host::report::look::{looks, Look};
+use facetings_host::report::notes::{Note, Notes};
 use facetings_host::report::page::Subject;
 use facetings_host::report::{Report, Source};
 
@@ -260,10 +262,39 @@ fn as_argued(judged: &Judgement, answer: &Answer, seen: &[Look]) -> bool {
     judged.rank() > 2
 }
 
+/// Whether the rows are a group of symmetries, with room to spare on either side of
+/// every plane, and no line of an edge goes through the points' middle: then every
+/// entry closes in itself.
+fn exactly_as_argued(job: &Job) -> bool {
+    let light = |note: &Note| !note.weighs || ["flat", "limits"].contains(&note.kind);
+    if job.rank < 3 || job.limit.is_some() || !Notes::of(job).list.iter().all(light) {
+        return false;
+    }
+    let points: Vec<Vec<f64>> = job
+        .points
+        .iter()
+        .map(|point| flattened(job, point))
+        .collect();
+    let count = points.len() as f64;
+    let middle: Vec<f64> = (0..points[0].len())
+        .map(|axis| points.iter().map(|point| point[axis]).sum::<f64>() / count)
+        .collect();
+    let misses = |a: usize, b: usize| {
+        let line = Flat::through([&points[a], &points[b]], 1e-7);
+        line.distance(&middle) > 1e-6
+    };
+    (0..points.len()).all(|b| (0..b).all(|a| misses(a, b)))
+}
+
+fn flattened(job: &Job, point: &[f64]) -> Vec<f64> {
+    let away = minus(point, &job.offset);
+    job.basis.iter().map(|vector| dot(&away, vector)).collect()
+}
+
 #[test]
 fn figures_close_where_it_is_argued_that_they_do() {
     let Some(oracle) = oracle() else { return };
-    let (mut argued, mut entries, mut open) = (0, 0, 0);
+    let (mut argued, mut exactly, mut entries, mut open) = (0, 0, 0, 0);
     let kinds = [None, kind_named("polyhedron"), kind_named("lattice")];
     for number in 0..900 {
         let case = case(14, number, kinds[number % kinds.len()]);
@@ -276,11 +307,16 @@ fn figures_close_where_it_is_argued_that_they_do() {
             assert_eq!(look.closes(), closes_by_hand(&entry.figure));
             open += usize::from(!look.closes());
         }
+        if judged.job.as_ref().is_some_and(exactly_as_argued) {
+            assert!(seen.iter().all(Look::closes), "case {number}");
+            exactly += 1;
+        }
         if as_argued(&judged, answer, &seen) {
             argued += 1;
             entries += seen.len();
         }
     }
+    assert!(exactly > 50, "{exactly} jobs");
     assert!(
         argued > 200 && entries > 2_000,
         "{argued} jobs, {entries} entries"

@@ -97,6 +97,13 @@ fn examples_and_pages_belong_together() {
 }
 
 #[test]
+fn readme_has_the_number_of_examples() {
+    let readme = read(&folder().join("../README.md"));
+    let words = format!("`examples/` has {} vertex sets", examples().len());
+    assert!(readme.contains(&words), "{words}");
+}
+
+#[test]
 fn an_example_says_what_it_shows_and_a_refused_one_says_so() {
     for name in examples() {
         let about = example(&name).subject.about;
