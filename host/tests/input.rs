@@ -102,8 +102,11 @@ fn a_page_says_what_an_off_file_gave() {
     on_each("off", |place, run| {
         place.write("cube.off", CUBE.replace("OFF\n", "OFF\n# A cube.\n"));
         let page = run(&["cube.off"]).fine();
-        let head = "cube.off\nA cube (from an OFF file, with the 48 symmetries that its points have).\n\nLabel: 3 figures, 1 of them a compound";
+        let head = "cube.off\nA cube (from an OFF file).\n\nLabel: 3 figures, 1 of them a compound";
         assert!(page.starts_with(head), "{page}");
+        assert!(page.contains("\nRows: the 48 symmetries that the host found in the points\n"));
+        let json = Value::read(&run(&["--json", "cube.off"]).fine());
+        assert_eq!(json.field("symmetry").text(), "full");
         let folder = run(&["."]);
         assert!(folder.text().starts_with("[1/1] cube.off: 3 figures"));
         let spared = run(&["cube.off", "-o", "cube.off"]);

@@ -132,6 +132,7 @@ fn report(oracle: &Oracle, text: &str) -> Report {
         name: "set".into(),
         about: None,
         rank: asked.rank,
+        found: None,
     };
     let source = Source::of("original", &bytes);
     Report::of(&subject, source, asked, &found.bytes()).expect("an answer")

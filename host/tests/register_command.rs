@@ -282,6 +282,7 @@ fn answer(value: &Value) -> Answer {
         "rank",
         "result",
         "rows",
+        "symmetry",
         "version",
     ];
     assert_eq!(value.names(), names);

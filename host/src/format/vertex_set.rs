@@ -54,6 +54,7 @@ pub fn read(name: &str, bytes: &[u8]) -> Vec<VertexSet> {
             job: Ok(bytes.to_vec()),
             lines: Lines::default(),
             bare: None,
+            found: None,
         };
         return vec![vertex_set(name, None, None, read)];
     }
@@ -83,22 +84,21 @@ fn read_off(name: &str, words: &str) -> VertexSet {
     };
     let dimension = off.points.first().map_or(0, Vec::len);
     let bare = Job::usual((dimension as u8).saturating_add(1).min(4), off.points);
-    let full = with_symmetry(&bare, Kind::Full).map(|job| (job, "symmetries"));
-    let found = full.or_else(|_| with_symmetry(&bare, Kind::Turns).map(|job| (job, "turns")));
+    let found = [Kind::Full, Kind::Turns].map(|kind| (with_symmetry(&bare, kind), kind));
+    let [full, turns] = found;
+    let (job, kind) = if full.0.is_ok() { full } else { turns };
     let comment = words.lines().find_map(comment).unwrap_or("Points");
-    let about = found.as_ref().ok().map(|(job, kind)| {
-        let (said, rows) = (comment.trim_end_matches('.'), job.rows.len());
-        format!("{said} (from an OFF file, with the {rows} {kind} that its points have).")
-    });
+    let about = format!("{} (from an OFF file).", comment.trim_end_matches('.'));
     let read = Read {
-        job: found.map(|(job, _)| job.write()),
+        job: job.map(|job| job.write()),
         lines: Lines {
             points: off.lines,
             ..Lines::default()
         },
         bare: Some(bare),
+        found: Some(kind),
     };
-    vertex_set(name, None, about, read)
+    vertex_set(name, None, Some(about), read)
 }
 
 /// Whether a file is somebody's vertex set, be it in order or not: what is never to
@@ -117,7 +117,12 @@ fn opens_section(line: &str) -> bool {
 }
 
 fn vertex_set(file: &str, part: Option<&str>, about: Option<String>, read: Read) -> VertexSet {
-    let Read { job, lines, bare } = read;
+    let Read {
+        job,
+        lines,
+        bare,
+        found,
+    } = read;
     let rank = job.as_ref().ok().and_then(|job| job.get(5).copied());
     let name = match part {
         None => file.into(),
@@ -127,6 +132,7 @@ fn vertex_set(file: &str, part: Option<&str>, about: Option<String>, read: Read)
         name: printable(&name),
         about: about.as_deref().map(printable),
         rank: rank.unwrap_or(0),
+        found,
     };
     VertexSet {
         subject,

@@ -9,6 +9,7 @@ use super::look::Look;
 use super::margin::{Distance, Margin};
 use super::notes::Note;
 use super::{advice, Rejection, Report, Source, VERSION};
+use crate::symmetry::Kind;
 
 /// Just what is written.
 pub enum Json {
@@ -95,6 +96,7 @@ pub fn answered(report: &Report) -> Json {
             "rows",
             list(&job.rows, |row| list(row, |&v| Json::Number(v.into()))),
         ),
+        ("symmetry", or_null(&subject.found, symmetry)),
         ("limits", limits(job)),
         ("notes", list(&report.notes.list, note)),
         ("margin", or_null(&report.notes.margin, margin)),
@@ -142,6 +144,11 @@ fn source(source: &Source) -> [(&'static str, Json); 3] {
         ("version", Json::Text(VERSION.into())),
         ("job", Json::Text(source.hash.clone())),
     ]
+}
+
+/// Which symmetries the host took for the rows.
+fn symmetry(kind: &Kind) -> Json {
+    Json::Text(kind.word().into())
 }
 
 /// Null where the job has no such limit.

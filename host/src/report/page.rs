@@ -11,6 +11,7 @@ use super::look::Look;
 use super::margin::Margin;
 use super::notes::{short, Note};
 use super::{Report, Source, VERSION};
+use crate::symmetry::Kind;
 
 /// What a page is about: a name, what its writer says of it, and the job's rank.
 #[derive(Clone, Debug)]
@@ -21,6 +22,8 @@ pub struct Subject {
     pub about: Option<String>,
     /// The job's rank.
     pub rank: u8,
+    /// Which symmetries its rows are, where the host found them.
+    pub found: Option<Kind>,
 }
 
 /// What the words on a page mean, and which of them the host is responsible for.
@@ -48,12 +51,24 @@ pub fn page(report: &Report) -> String {
     put_compounds(&mut text, answer);
     let lists = counted(answer.examined as usize, "list was", "lists were");
     let Source { engine, hash } = &report.source;
-    let _ = writeln!(text, "\n{lists} examined.");
+    let _ = writeln!(text, "\n{lists} examined.\n");
+    if let Some(kind) = subject.found {
+        let rows = found_rows(report.job.rows.len(), kind);
+        let _ = writeln!(text, "Rows: {rows} that the host found in the points");
+    }
     let _ = writeln!(
         text,
-        "\nAnswered by: {engine} {VERSION}\nJob: sha256 {hash}\n"
+        "Answered by: {engine} {VERSION}\nJob: sha256 {hash}\n"
     );
     text + WORDS
+}
+
+fn found_rows(rows: usize, kind: Kind) -> String {
+    match (rows, kind) {
+        (1, _) => "the one symmetry".into(),
+        (_, Kind::Full) => format!("the {rows} symmetries"),
+        (_, Kind::Turns) => format!("the {rows} turns"),
+    }
 }
 
 /// The notes with what to do, and the margin.

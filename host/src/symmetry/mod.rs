@@ -32,6 +32,16 @@ pub enum Kind {
     Turns,
 }
 
+impl Kind {
+    /// The word for it behind the keyword `symmetry`.
+    pub fn word(self) -> &'static str {
+        match self {
+            Kind::Full => "full",
+            Kind::Turns => "turns",
+        }
+    }
+}
+
 /// All symmetries of a set, as a chain of the groups that keep more and more points.
 pub struct Symmetry {
     chain: Chain,

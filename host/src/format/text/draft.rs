@@ -43,6 +43,8 @@ pub struct Read {
     pub lines: Lines,
     /// The job before its symmetry was looked for, if it came so far.
     pub bare: Option<Job>,
+    /// Which symmetries its rows are, where they were found.
+    pub found: Option<Kind>,
 }
 
 impl Read {
@@ -52,6 +54,7 @@ impl Read {
             job: Err(reason),
             lines: Lines::default(),
             bare: None,
+            found: None,
         }
     }
 }
@@ -148,6 +151,7 @@ impl Draft {
                     job: Ok(self.raw),
                     lines,
                     bare: None,
+                    found: None,
                 },
                 _ => Read::failed("'bytes' goes with no other keyword".into()),
             };
@@ -157,15 +161,20 @@ impl Draft {
             Ok(bare) => bare,
             Err(reason) => return Read::failed(reason),
         };
-        let job = match wanted {
-            Some(Wanted::Found(kind)) => with_symmetry(&bare, kind)
+        let found = match wanted {
+            Some(Wanted::Found(kind)) => Some(kind),
+            _ => None,
+        };
+        let job = match found {
+            Some(kind) => with_symmetry(&bare, kind)
                 .map_err(|reason| format!("line {symmetry_line}: {reason}")),
-            _ => Ok(bare.clone()),
+            None => Ok(bare.clone()),
         };
         Read {
             job: job.map(|job| job.write()),
             lines,
             bare: Some(bare),
+            found,
         }
     }
 
