@@ -9,6 +9,7 @@ pub mod cases;
 pub mod compare;
 pub mod engines;
 pub mod format;
+pub mod geometry;
 pub mod measure;
 pub mod report;
 pub mod symmetry;

@@ -2,6 +2,8 @@
 //! point is the offset, and what a further point adds joins the basis where it is
 //! longer than the tolerance.
 
+use crate::geometry::{dot, minus, norm};
+
 /// A line, plane or space through points.
 #[derive(Clone, Debug)]
 pub struct Flat {
@@ -66,19 +68,4 @@ impl Flat {
     pub fn distance(&self, point: &[f64]) -> f64 {
         norm(&self.residual(point))
     }
-}
-
-/// The product of two vectors.
-pub fn dot(a: &[f64], b: &[f64]) -> f64 {
-    a.iter().zip(b).map(|(x, y)| x * y).sum()
-}
-
-/// From b to a.
-pub fn minus(a: &[f64], b: &[f64]) -> Vec<f64> {
-    a.iter().zip(b).map(|(x, y)| x - y).collect()
-}
-
-/// The length of a vector.
-pub fn norm(a: &[f64]) -> f64 {
-    dot(a, a).sqrt()
 }

@@ -8,8 +8,9 @@ use faceting_register::bounds::TOLERANCE;
 use faceting_register::job::compose;
 use faceting_register::Job;
 
-use super::flat::{dot, minus, norm, Flat};
+use super::flat::Flat;
 use super::margin::{Distance, Margin};
+use crate::geometry::{flattened, minus, norm};
 use crate::symmetry::compared;
 
 /// One thing to know, and what to do about it.
@@ -63,12 +64,8 @@ struct Set<'a> {
 
 impl Set<'_> {
     fn of(job: &Job) -> Set<'_> {
-        let flatten = |point: &Vec<f64>| -> Vec<f64> {
-            let away = minus(point, &job.offset);
-            job.basis.iter().map(|vector| dot(&away, vector)).collect()
-        };
         let tolerance = TOLERANCE;
-        let flat: Vec<Vec<f64>> = job.points.iter().map(flatten).collect();
+        let flat = flattened(job);
         let from = |a: &Vec<f64>| flat.iter().map(|b| norm(&minus(a, b))).collect();
         let dimensions = usize::from(job.rank).saturating_sub(1);
         Set {

@@ -3,6 +3,8 @@
 use faceting_register::bounds::TOLERANCE;
 use faceting_register::job::Job;
 
+use crate::geometry::{flattened, minus, norm};
+
 /// The part of a set's size that is told apart in a set of any size.
 const FINENESS: f64 = 1e-6;
 
@@ -24,7 +26,7 @@ impl Distances {
     pub fn between(points: &[Vec<f64>]) -> Distances {
         let lengths: Vec<f64> = points
             .iter()
-            .flat_map(|p| points.iter().map(move |q| length(p, q)))
+            .flat_map(|p| points.iter().map(move |q| norm(&minus(p, q))))
             .collect();
         Distances {
             points: points.len(),
@@ -73,22 +75,6 @@ impl Distances {
     pub fn class(&self, v: usize, w: usize) -> usize {
         self.classes[v * self.points + w]
     }
-}
-
-/// The points as the register sees them, by the job's offset and basis.
-pub fn flattened(job: &Job) -> Vec<Vec<f64>> {
-    let flat = |point: &Vec<f64>| {
-        let from = point.iter().zip(&job.offset).map(|(x, o)| x - o);
-        let from: Vec<f64> = from.collect();
-        let along = |axis: &Vec<f64>| from.iter().zip(axis).map(|(x, a)| x * a).sum();
-        job.basis.iter().map(along).collect()
-    };
-    job.points.iter().map(flat).collect()
-}
-
-fn length(p: &[f64], q: &[f64]) -> f64 {
-    let squares = p.iter().zip(q).map(|(x, y)| (x - y) * (x - y));
-    squares.sum::<f64>().sqrt()
 }
 
 /// In ascending order a new number begins behind each gap that is wide enough.

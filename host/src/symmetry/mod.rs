@@ -16,8 +16,9 @@ use faceting_register::bounds::{MOST_ROWS, POINTS};
 use faceting_register::job::Job;
 use faceting_register::rows::closure;
 
+use crate::geometry::flattened;
 use chain::Chain;
-use distances::{flattened, Distances};
+use distances::Distances;
 use orientation::Orientation;
 
 pub use compared::{compared, Compared};

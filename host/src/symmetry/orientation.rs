@@ -4,6 +4,7 @@
 //! coordinates its points are written with.
 
 use super::distances::gap;
+use crate::geometry::{dot, minus, norm};
 
 /// Points that span the set, and every point's place within the span.
 pub struct Orientation {
@@ -14,7 +15,7 @@ pub struct Orientation {
 impl Orientation {
     /// That of these points, of which there is one at least.
     pub fn of(points: &[Vec<f64>]) -> Orientation {
-        let from_first = |point: &Vec<f64>| difference(point, &points[0]);
+        let from_first = |point: &Vec<f64>| minus(point, &points[0]);
         let mut rests: Vec<Vec<f64>> = points.iter().map(from_first).collect();
         let mut orientation = Orientation {
             frame: vec![0],
@@ -50,22 +51,14 @@ impl Orientation {
     fn volume(&self, carried: impl Fn(usize) -> usize) -> f64 {
         let place = |v: usize| &self.places[carried(v)];
         let first = place(self.frame[0]);
-        let edges = self.frame[1..].iter().map(|&v| difference(place(v), first));
+        let edges = self.frame[1..].iter().map(|&v| minus(place(v), first));
         determinant(edges.collect())
     }
 }
 
-fn difference(p: &[f64], q: &[f64]) -> Vec<f64> {
-    p.iter().zip(q).map(|(x, y)| x - y).collect()
-}
-
-fn dot(p: &[f64], q: &[f64]) -> f64 {
-    p.iter().zip(q).map(|(x, y)| x * y).sum()
-}
-
 /// The longest vector, as its place and its length.
 fn farthest(vectors: &[Vec<f64>]) -> (usize, f64) {
-    let lengths = vectors.iter().map(|vector| dot(vector, vector).sqrt());
+    let lengths = vectors.iter().map(|vector| norm(vector));
     lengths
         .enumerate()
         .max_by(|(_, a), (_, b)| a.total_cmp(b))
