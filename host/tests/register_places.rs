@@ -147,11 +147,19 @@ fn folders_are_searched_downwards_in_the_order_people_expect() {
         for name in ["set10.txt", "set2.txt", "b/set1.txt", "b/a/x.txt", "c.txt"] {
             place.write(&format!("sets/{name}"), SQUARE);
         }
+        place.write("sets/D.TXT", SQUARE);
         place.write("sets/b/notes.md", "passed over");
         place.write("sets/.git/x.txt", "passed over");
         symlink("..", place.path("sets/b/up")).expect("links can be made");
         let done = run(&["sets", "-o", "out"]);
-        let order = ["b/a/x.txt", "b/set1.txt", "c.txt", "set2.txt", "set10.txt"];
+        let order = [
+            "D.TXT",
+            "b/a/x.txt",
+            "b/set1.txt",
+            "c.txt",
+            "set2.txt",
+            "set10.txt",
+        ];
         assert_eq!(told(&done), order);
         for name in ["b/a/x.page", "b/set1.page", "set10.page"] {
             assert!(place.path("out").join(name).is_file(), "{name}");

@@ -303,3 +303,27 @@ fn a_build_that_fails_leaves_nothing_behind_and_is_begun_again() {
     let left = names(&place.path("my repository/target"));
     assert_eq!(left, ["register.built", "staticlib"]);
 }
+
+#[test]
+fn a_build_that_is_cut_short_is_begun_again() {
+    let place = repository("cut", &[("rt", RT), ("cargo", CARGO)]);
+    place.write("slow", "");
+    let child = script(&place, "my repository/register", &["a b.txt"]).spawn();
+    let child = child.expect("the script can be started");
+    while !place
+        .path("my repository/target/register.built.log")
+        .exists()
+    {
+        std::thread::sleep(Duration::from_millis(10));
+    }
+    let end = format!("kill -TERM {}", child.id());
+    let ended = Command::new("sh").args(["-c", &end]).status();
+    assert!(ended.expect("the shell is there").success());
+    let done = Done::from(child.wait_with_output().expect("it ends"));
+    assert_eq!((done.status, done.text().as_str()), (130, ""));
+    let left = names(&place.path("my repository/target"));
+    assert!(left.iter().all(|name| name == "staticlib"), "{left:?}");
+    built(&place);
+    assert_eq!(run(&place, &["a b.txt"]).status, 7);
+    assert_eq!(built(&place), BOTH);
+}

@@ -99,7 +99,8 @@ fn listed(folder: &Path) -> io::Result<Vec<(String, PathBuf)>> {
 
 fn is_vertex_set(file: &Path) -> bool {
     let ending = file.extension().and_then(|ending| ending.to_str());
-    file.is_file() && ending.is_some_and(|ending| ENDINGS.contains(&ending))
+    let ending = ending.map(str::to_lowercase);
+    file.is_file() && ending.is_some_and(|ending| ENDINGS.contains(&ending.as_str()))
 }
 
 /// Those that share a name are called by the whole way that was given.
