@@ -209,6 +209,11 @@ const REFUSED: &[(&str, &str, &str)] = &[
         "begin the rows with 0 1 2 .., or write 'generators' in place of 'rows'",
     ),
     (
+        "points\n0 0\n1 0\n0 1\nrows\n1 2 3\n",
+        "refused 10: row 0 is not the identity; line 6: the first row counts the points from 1; they count from 0, so take 1 from every number; ",
+        "begin the rows with 0 1 2 .., or write 'generators' in place of 'rows'",
+    ),
+    (
         "points\n0 0\n1 0\n0 1\nrows\n0 1 2\n1 1 2\n",
         "refused 11: a row is not a permutation; line 7: row 1 names point 1 twice; ",
         "correct the row that names a point twice, or a point that is not there",

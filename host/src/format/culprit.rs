@@ -23,7 +23,8 @@ pub fn culprit(refusal: Refusal, job: &Job, lines: &Lines) -> Option<Culprit> {
         Refusal::Identity => {
             let first = job.rows.first().filter(|row| !is_identity(row))?;
             let images: Vec<String> = first.iter().map(u8::to_string).collect();
-            let words = format!("the first row is {}", images.join(" "));
+            let is = || format!("is {}", images.join(" "));
+            let words = format!("the first row {}", row_fault(first).unwrap_or_else(is));
             Some(at(lines.rows.first(), &words, None))
         }
         Refusal::Permutation => {
