@@ -4,6 +4,7 @@ use std::str::FromStr;
 
 use crate::Failure;
 
+/// The words behind a command.
 pub struct Arguments {
     plain: Vec<String>,
     options: Vec<(String, String)>,
@@ -55,16 +56,19 @@ impl Arguments {
         self.plain.iter().map(String::as_str)
     }
 
+    /// The value of an option that was given.
     pub fn text(&self, option: &str) -> Option<&str> {
         let found = self.options.iter().find(|(name, _)| name == option);
         found.map(|(_, value)| value.as_str())
     }
 
+    /// The value of an option that must be given.
     pub fn needed(&self, option: &str) -> Result<&str, Failure> {
         let missing = || format!("'{option}' is missing; see --help").into();
         self.text(option).ok_or_else(missing)
     }
 
+    /// The value of an option that takes a number.
     pub fn number<T: FromStr>(&self, option: &str) -> Result<Option<T>, Failure> {
         let parse = |text: &str| {
             let bad = |_| format!("'{option}' takes a whole number, not '{text}'").into();
@@ -73,6 +77,7 @@ impl Arguments {
         self.text(option).map(parse).transpose()
     }
 
+    /// The number of an option that must be given.
     pub fn needed_number<T: FromStr>(&self, option: &str) -> Result<T, Failure> {
         self.needed(option)?;
         let missing = || format!("'{option}' is missing").into();

@@ -3,7 +3,7 @@
 //! and the pages that people read. Jobs, answers and the call itself stand in the
 //! crate `faceting_register`.
 
-#![warn(missing_docs)]
+#![deny(missing_docs)]
 
 pub mod cases;
 pub mod compare;

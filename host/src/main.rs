@@ -29,12 +29,17 @@ exit status:
 
 /// Why a command did not end well: its exit status and one line.
 pub struct Failure {
+    /// The exit status.
     pub status: u8,
+    /// The line on standard error.
     pub words: String,
 }
 
+/// A difference, or a refused job.
 pub const DIFFERENT: u8 = 1;
+/// Bad usage or bad input.
 pub const BAD_INPUT: u8 = 2;
+/// The Rust source, or a proved library, is not there.
 pub const ABSENT: u8 = 3;
 
 impl From<String> for Failure {

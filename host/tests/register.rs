@@ -7,6 +7,7 @@ use std::slice::{from_raw_parts, from_raw_parts_mut};
 
 use faceting_register::job::accept;
 use faceting_register::register::Exported;
+use faceting_register::request::USUAL_ROOM;
 use faceting_register::{Engine, Refusal};
 use facetings_host::cases::generator::{case, kind_named, KINDS};
 use facetings_host::cases::known_jobs::KNOWN_JOBS;
@@ -32,7 +33,7 @@ fn known_case(number: usize) -> Case {
         seed: number as u64,
         kind: KNOWN_JOBS[number].name.into(),
         workspace: WORKSPACE,
-        room: Room::Bytes(1 << 20),
+        room: Room::Bytes(USUAL_ROOM),
         job: KNOWN_JOBS[number].job().expect("the text of a known job"),
     }
 }
@@ -42,7 +43,7 @@ fn known_jobs_have_the_results_of_document_01() {
     let Some(mut oracle) = oracle() else { return };
     for (number, known) in KNOWN_JOBS.iter().enumerate() {
         let case = known_case(number);
-        let code = oracle.answer(&case.job, WORKSPACE, &mut vec![0; 1 << 20]);
+        let code = oracle.answer(&case.job, WORKSPACE, &mut vec![0; USUAL_ROOM]);
         let refusal = Refusal::from_code(code).map_or(0, Refusal::number);
         assert_eq!(refusal, known.refusal, "{}", known.name);
     }

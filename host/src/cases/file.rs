@@ -7,6 +7,8 @@ use std::io::{BufRead, Lines};
 use std::marker::PhantomData;
 use std::str::FromStr;
 
+use faceting_register::request::LONGEST;
+
 use crate::format::hex;
 use crate::format::quote::quoted;
 
@@ -16,7 +18,10 @@ pub const CASES_HEAD: &str = "facetings cases 1";
 pub const RESULTS_HEAD: &str = "facetings results 1";
 
 /// No buffer is longer, so that no line of a file can ask for all memory.
-const MOST_ROOM: usize = 1 << 30;
+const MOST_ROOM: usize = LONGEST;
+
+/// Nor is it so much longer or shorter than the answer.
+const MOST_MORE: isize = 1 << 20;
 
 /// The length of the answer buffer.
 #[derive(Clone, Copy, Debug, PartialEq, Eq)]
@@ -71,7 +76,7 @@ impl FromStr for Room {
 
     fn from_str(text: &str) -> Result<Self, String> {
         match text.strip_prefix("fit").map(str::parse) {
-            Some(Ok(more)) if (-(1 << 20)..1 << 20).contains(&more) => Ok(Room::Fit(more)),
+            Some(Ok(more)) if (-MOST_MORE..MOST_MORE).contains(&more) => Ok(Room::Fit(more)),
             Some(_) => Err(format!("{} is no length of a buffer", quoted(text))),
             None => parse_room(text).map(Room::Bytes),
         }

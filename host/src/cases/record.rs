@@ -16,6 +16,7 @@
 use std::collections::BTreeMap;
 
 use faceting_register::bounds::WORKSPACE;
+use faceting_register::request::USUAL_ROOM;
 use faceting_register::Refusal;
 
 use crate::cases::generator::{self, KINDS};
@@ -36,7 +37,7 @@ pub const LONGEST_JOB: usize = 4_096;
 /// The longest workspace of a record: one byte more than is ever asked for.
 pub const LARGEST_WORKSPACE: usize = WORKSPACE + 1;
 /// The longest answer buffer of a record.
-pub const LARGEST_ROOM: usize = 1 << 20;
+pub const LARGEST_ROOM: usize = USUAL_ROOM;
 
 /// The hash that the records have of a buffer.
 pub fn hash(bytes: &[u8]) -> u32 {
@@ -122,7 +123,7 @@ pub fn record(oracle: &mut Oracle, seed: u64, tries: usize) -> Result<List, Stri
 
 /// Most answers in a buffer that is hardly longer, so that little is hashed.
 fn narrowed(mut case: Case) -> Case {
-    if case.room == Room::Bytes(1 << 20) {
+    if case.room == Room::Bytes(USUAL_ROOM) {
         case.room = Room::Fit((case.number % 9) as isize);
     }
     case

@@ -1,5 +1,6 @@
 //! Cases through an engine, one by one.
 
+use faceting_register::request::USUAL_ROOM;
 use faceting_register::{Engine, Refusal};
 
 use crate::cases::{Case, Outcome, Room};
@@ -28,7 +29,7 @@ pub fn run(engine: &mut dyn Engine, case: &Case) -> Outcome {
 
 /// The length of the answer; 0 for a job that is refused.
 fn fitting(engine: &mut dyn Engine, case: &Case) -> usize {
-    let mut room = 1 << 20;
+    let mut room = USUAL_ROOM;
     loop {
         let code = engine.answer(&case.job, case.workspace, &mut vec![POISON; room]);
         if code != Refusal::Room.code() || room >= LARGEST {

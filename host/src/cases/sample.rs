@@ -4,6 +4,7 @@
 use std::collections::BTreeMap;
 use std::fmt;
 
+use faceting_register::job::point_count_of;
 use faceting_register::{Answer, Refusal};
 
 use crate::cases::run::run;
@@ -113,7 +114,7 @@ fn shares(count: usize) -> BTreeMap<Class, usize> {
 
 /// The case with a narrow buffer, its result and its class, if it is small.
 fn small(oracle: &mut Oracle, mut case: Case) -> Option<(Sample, Class)> {
-    let points = case.job.get(7).copied().unwrap_or(0);
+    let points = point_count_of(&case.job);
     if points > MOST_POINTS || case.job.len() > MOST_JOB_BYTES {
         return None;
     }

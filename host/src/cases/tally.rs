@@ -3,6 +3,7 @@
 use std::collections::BTreeMap;
 use std::fmt;
 
+use faceting_register::bounds::{MOST_ENTRIES, MOST_FACETS, MOST_ORBITS, MOST_ROWS, POINTS};
 use faceting_register::{Job, Refusal};
 
 use crate::engines::judgement::Judgement;
@@ -45,37 +46,37 @@ const EVENTS: &[Event] = &[
     ("14 with too few vectors", |j, _| j.events.short_refit),
     ("14 with too many vectors", |j, _| j.events.long_refit),
     ("255 orbits in a call", |j, code| {
-        code != -13 && j.events.most_orbits == 255
+        code != -13 && j.events.most_orbits == MOST_ORBITS - 1
     }),
     ("256 orbits in a call", |j, code| {
-        code != -13 && j.events.most_orbits == 256
+        code != -13 && j.events.most_orbits == MOST_ORBITS
     }),
     ("256 orbits, accepted", |j, code| {
-        code >= 0 && j.events.most_orbits == 256
+        code >= 0 && j.events.most_orbits == MOST_ORBITS
     }),
     ("1,023 facets in a call", |j, code| {
-        code != -15 && j.events.most_facets == 1_023
+        code != -15 && j.events.most_facets == MOST_FACETS - 1
     }),
     ("1,024 facets in a call", |j, code| {
-        code != -15 && j.events.most_facets == 1_024
+        code != -15 && j.events.most_facets == MOST_FACETS
     }),
     ("1,024 facets, accepted", |j, code| {
-        code >= 0 && j.events.most_facets == 1_024
+        code >= 0 && j.events.most_facets == MOST_FACETS
     }),
     ("15 for facets", |j, code| {
         code == -15 && !j.events.too_many_entries
     }),
     ("1,023 entries in a call", |j, code| {
-        code != -15 && j.events.most_entries == 1_023
+        code != -15 && j.events.most_entries == MOST_ENTRIES - 1
     }),
     ("1,024 entries in a call", |j, code| {
-        code != -15 && j.events.most_entries == 1_024
+        code != -15 && j.events.most_entries == MOST_ENTRIES
     }),
     ("1,024 entries, accepted", |j, _| {
-        j.answered(|a| a.entries.len() == 1_024)
+        j.answered(|a| a.entries.len() == MOST_ENTRIES)
     }),
     ("1,024 entries without limit", |j, _| {
-        limit(j).is_none() && j.answered(|a| a.entries.len() == 1_024)
+        limit(j).is_none() && j.answered(|a| a.entries.len() == MOST_ENTRIES)
     }),
     ("15 for entries", |j, code| {
         code == -15 && j.events.too_many_entries
@@ -90,10 +91,10 @@ const EVENTS: &[Event] = &[
         j.answered(|a| limit(j).is_some_and(|m| a.entries.len() == (m as usize).max(1)))
     }),
     ("120 rows, accepted", |j, code| {
-        code >= 0 && count(j, |job| job.rows.len()) == 120
+        code >= 0 && count(j, |job| job.rows.len()) == MOST_ROWS
     }),
     ("20 points, accepted", |j, code| {
-        code >= 0 && count(j, |job| job.points.len()) == 20
+        code >= 0 && count(j, |job| job.points.len()) == (*POINTS.end()).into()
     }),
 ];
 

@@ -10,6 +10,7 @@ use super::{open_original, print, Command};
 use crate::arguments::Arguments;
 use crate::{Failure, DIFFERENT};
 
+/// `definitions`.
 pub const DEFINITIONS: Command = Command {
     name: "definitions",
     about: "Evaluates the definitions on picked cases.",

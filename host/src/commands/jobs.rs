@@ -11,6 +11,7 @@ use super::{open_original, print, read_file, read_text, write_to, Command};
 use crate::arguments::Arguments;
 use crate::{Failure, DIFFERENT};
 
+/// `answer`.
 pub const ANSWER: Command = Command {
     name: "answer",
     about: "Answers one job file with the Rust.",
@@ -30,6 +31,7 @@ with its number on standard error, and the exit status is 1.
     run: answer,
 };
 
+/// `orbits`.
 pub const ORBITS: Command = Command {
     name: "orbits",
     about: "Prints the orbits that the Rust finds for jobs.",
@@ -50,6 +52,7 @@ The program orbit_list prints the same of a file of jobs.
     run: orbits,
 };
 
+/// `show`.
 pub const SHOW: Command = Command {
     name: "show",
     about: "Shows an answer readably.",
@@ -65,6 +68,7 @@ compounds. Zeros behind the answer are passed over; anything else is an error.
     run: show_answer,
 };
 
+/// `encode`.
 pub const ENCODE: Command = Command {
     name: "encode",
     about: "Makes job bytes from the text form.",
@@ -74,6 +78,7 @@ pub const ENCODE: Command = Command {
     run: encode,
 };
 
+/// `decode`.
 pub const DECODE: Command = Command {
     name: "decode",
     about: "Makes the text form from job bytes.",

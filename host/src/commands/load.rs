@@ -2,6 +2,7 @@
 
 use faceting_register::bounds::workspace_length;
 use faceting_register::register::Exported;
+use faceting_register::request::USUAL_ROOM;
 use facetings_host::measure::load::{run as run_calls, small_jobs, workloads, Run};
 use facetings_host::measure::stack;
 use facetings_host::measure::workload::Workload;
@@ -11,6 +12,7 @@ use super::{print, Command};
 use crate::arguments::Arguments;
 use crate::{Failure, DIFFERENT};
 
+/// `load`.
 pub const LOAD: Command = Command {
     name: "load",
     about: "Calls the register many times; measures memory and stack.",
@@ -50,7 +52,7 @@ fn run(arguments: Arguments) -> Result<(), Failure> {
         None => (workloads(LARGEST), workloads(&[""])),
     };
     let jobs: Vec<Vec<u8>> = chosen.iter().map(|one| one.job.write()).collect();
-    let large = run_calls(&mut register, &jobs, large, 1 << 20)?;
+    let large = run_calls(&mut register, &jobs, large, USUAL_ROOM)?;
     print(&told("large", &large))?;
     let deepest = deepest(register.function(), &deep)?;
     let grown = [&small, &large].map(|run| run.after.saturating_sub(run.before));
@@ -86,7 +88,7 @@ fn told(name: &str, run: &Run) -> String {
 fn deepest(function: Exported, jobs: &[Workload]) -> Result<usize, Failure> {
     let mut deepest = 0;
     let mut workspace = vec![0; workspace_length(4)];
-    let mut answer = vec![0; 1 << 20];
+    let mut answer = vec![0; USUAL_ROOM];
     for one in jobs {
         let job = one.job.write();
         let (bytes, code) = stack::used(function, &job, &mut workspace, &mut answer)?;

@@ -17,15 +17,23 @@ use facetings_host::engines::oracle::Oracle;
 use crate::arguments::Arguments;
 use crate::{Failure, ABSENT};
 
+/// A command with its help.
 pub struct Command {
+    /// The word that it is called by.
     pub name: &'static str,
+    /// What it does, in a line.
     pub about: &'static str,
+    /// The words that it takes.
     pub usage: &'static str,
+    /// The rest of its help.
     pub details: fn() -> String,
+    /// The options that it knows; each takes a value.
     pub options: &'static [&'static str],
+    /// The command itself.
     pub run: fn(Arguments) -> Result<(), Failure>,
 }
 
+/// Every command, in the order of the overview.
 pub const COMMANDS: &[Command] = &[
     jobs::ANSWER,
     jobs::ORBITS,
@@ -89,6 +97,7 @@ fn put_out(bytes: &[u8]) -> std::io::Result<()> {
     }
 }
 
+/// To standard output.
 pub fn print(text: &str) -> Result<(), Failure> {
     write_to(None, text.as_bytes())
 }

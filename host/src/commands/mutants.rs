@@ -11,6 +11,7 @@ use super::{print, read_text, Command};
 use crate::arguments::Arguments;
 use crate::{Failure, DIFFERENT};
 
+/// `mutants`.
 pub const MUTANTS: Command = Command {
     name: "mutants",
     about: "Tells which porter's mistakes the comparison notices.",

@@ -3,6 +3,7 @@
 use std::time::Instant;
 
 use faceting_register::bounds::workspace_length;
+use faceting_register::request::USUAL_ROOM;
 use facetings_host::cases::generator::{case, kind_named, Kind};
 use facetings_host::cases::known_jobs::KNOWN_JOBS;
 use facetings_host::cases::record::record;
@@ -15,6 +16,7 @@ use super::{absent, open_original, print, write_to, Command};
 use crate::arguments::Arguments;
 use crate::{Failure, DIFFERENT};
 
+/// `compare-register`.
 pub const COMPARE_REGISTER: Command = Command {
     name: "compare-register",
     about: "Compares the register with the Rust on generated cases.",
@@ -82,7 +84,7 @@ fn known_cases() -> Result<Vec<Case>, Failure> {
             seed: number as u64,
             kind: known.name.into(),
             workspace: workspace_length(4),
-            room: Room::Bytes(1 << 20),
+            room: Room::Bytes(USUAL_ROOM),
             job: known.job()?,
         })
     };
@@ -150,6 +152,7 @@ fn told(trials: &Trials, cases: usize, seconds: f64) -> String {
     )
 }
 
+/// `record`.
 pub const RECORD: Command = Command {
     name: "record",
     about: "Records results of the Rust for a program that replays them.",

@@ -6,6 +6,7 @@ use super::{absent, print, Command};
 use crate::arguments::Arguments;
 use crate::{Failure, DIFFERENT};
 
+/// `roots`.
 pub const ROOTS: Command = Command {
     name: "roots",
     about: "Compares the proved square root with the processor's.",

@@ -11,6 +11,7 @@ use super::{open_original, print, Command};
 use crate::arguments::Arguments;
 use crate::{Failure, DIFFERENT};
 
+/// `speed`.
 pub const SPEED: Command = Command {
     name: "speed",
     about: "Measures the register beside the Rust.",

@@ -16,6 +16,7 @@ use super::{open_original, print, unwritten, write_to, Command};
 use crate::arguments::Arguments;
 use crate::{Failure, DIFFERENT};
 
+/// `generate`.
 pub const GENERATE: Command = Command {
     name: "generate",
     about: "Generates cases from a seed.",
@@ -34,6 +35,7 @@ each kind was made. Kinds:
     run: generate,
 };
 
+/// `run`.
 pub const RUN: Command = Command {
     name: "run",
     about: "Runs a stream of cases through the Rust.",
@@ -50,6 +52,7 @@ often each result and each rare event was reached.
     run: run_cases,
 };
 
+/// `compare`.
 pub const COMPARE: Command = Command {
     name: "compare",
     about: "Compares two files of results.",
@@ -65,6 +68,7 @@ which word of which part of the answer, with both values. Exit status 1 if any.
     run: compare_results,
 };
 
+/// `pick`.
 pub const PICK: Command = Command {
     name: "pick",
     about: "Picks small cases with the Rust's results.",

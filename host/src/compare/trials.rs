@@ -96,7 +96,7 @@ fn trials(case: &Case, verdict: &Verdict) -> Vec<Trial> {
         Room::Fit(more) => length.saturating_add_signed(more),
     };
     let mut list = vec![trial("as generated", case.workspace, room)];
-    let rank = case.job.get(5).copied().unwrap_or(0);
+    let rank = job::rank_of(&case.job);
     let asked = workspace_length(rank);
     match length {
         0 => list.push(trial("refused, exact workspace", asked, case.number % 9)),

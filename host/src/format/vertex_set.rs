@@ -123,7 +123,7 @@ fn vertex_set(file: &str, part: Option<&str>, about: Option<String>, read: Read)
         bare,
         found,
     } = read;
-    let rank = job.as_ref().ok().and_then(|job| job.get(5).copied());
+    let rank = job.as_ref().ok().map(|job| job::rank_of(job));
     let name = match part {
         None => file.into(),
         Some(part) => format!("{file}, {part}"),

@@ -4,6 +4,7 @@
 use std::time::Instant;
 
 use faceting_register::bounds::workspace_length;
+use faceting_register::job::rank_of;
 use faceting_register::Engine;
 
 use crate::cases::known_jobs::KNOWN_JOBS;
@@ -60,7 +61,7 @@ pub fn run(
 ) -> Result<Run, String> {
     let mut answer = vec![0xa5; room];
     let mut call = |job: &Vec<u8>| {
-        let rank = job.get(5).copied().unwrap_or(0);
+        let rank = rank_of(job);
         engine.answer(job, workspace_length(rank), &mut answer)
     };
     for job in jobs {

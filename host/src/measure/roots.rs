@@ -36,6 +36,7 @@ pub fn proved(x: f64) -> f64 {
     unsafe { linked::root_or_nan(x) }
 }
 
+/// No root without the library.
 #[cfg(not(has_root))]
 pub fn proved(_x: f64) -> f64 {
     f64::NAN

@@ -4,6 +4,7 @@
 use std::time::{Duration, Instant};
 
 use faceting_register::bounds::workspace_length;
+use faceting_register::job::rank_of;
 
 use crate::cases::{generator, Case};
 use crate::engines::oracle::Oracle;
@@ -55,7 +56,7 @@ pub struct Stopwatch<'a> {
 impl Stopwatch<'_> {
     /// Both sides on one job, or the words that say where they differ.
     pub fn time(&mut self, job: &[u8], effort: Effort) -> Result<Timing, String> {
-        let rank = job.get(5).copied().unwrap_or(0);
+        let rank = rank_of(job);
         let workspace = workspace_length(rank);
         let room = self.length(job, workspace);
         let mut best = [Duration::MAX; 2];

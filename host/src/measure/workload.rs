@@ -6,7 +6,8 @@ use faceting_register::Job;
 
 use crate::cases::generator::findings::{digits, ENTRIES, PLANES};
 use crate::cases::generator::shapes::{self, Points};
-use crate::cases::generator::symmetry::{isometries, MOST_ROWS};
+use crate::cases::generator::symmetry::isometries;
+use faceting_register::bounds::MOST_ROWS;
 
 /// A job with the name that its line has.
 pub struct Workload {

@@ -17,10 +17,24 @@ pub const HEADER_LENGTH: usize = 11;
 /// The budget of a job that names none.
 pub const DEFAULT_BUDGET: u32 = 1_000_000;
 
+/// Where rank and number of points stand.
+const RANK_AT: usize = 5;
+const POINT_COUNT_AT: usize = 7;
+
 const MIN_FLAG: u8 = 1;
 const MAX_FLAG: u8 = 2;
 const LIMIT_FLAG: u8 = 4;
 const ALL_FLAGS: u8 = MIN_FLAG | MAX_FLAG | LIMIT_FLAG;
+
+/// The rank that the bytes of a job name; 0 where they are too short to.
+pub fn rank_of(bytes: &[u8]) -> u8 {
+    bytes.get(RANK_AT).copied().unwrap_or(0)
+}
+
+/// The number of points that the bytes of a job name; 0 where they are too short to.
+pub fn point_count_of(bytes: &[u8]) -> u8 {
+    bytes.get(POINT_COUNT_AT).copied().unwrap_or(0)
+}
 
 /// A job whose bytes are laid out as its own fields say. It may still break the
 /// register's rules. Number of points, number of rows and flags are implied.

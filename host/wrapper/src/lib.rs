@@ -11,7 +11,7 @@
 //! println!("{} figures", found.entries.len());
 //! ```
 
-#![warn(missing_docs)]
+#![deny(missing_docs)]
 
 pub mod answer;
 pub mod bounds;

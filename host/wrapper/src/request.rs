@@ -9,9 +9,11 @@ use crate::refusal::Refusal;
 /// The longest answer buffer that is lent unless the caller says otherwise.
 pub const LONGEST: usize = 1 << 30;
 
-/// The first buffer, and how many times as long each further one is: a refused
-/// attempt costs at most a small part of the one behind it.
-const FIRST: usize = 1 << 20;
+/// The answer buffer that is lent first, which is enough for most sets.
+pub const USUAL_ROOM: usize = 1 << 20;
+
+/// How many times as long each further one is: a refused attempt costs at most a
+/// small part of the one behind it.
 const FACTOR: usize = 8;
 
 /// The engine's answer to a job.
@@ -24,7 +26,7 @@ pub fn answer(engine: &mut dyn Engine, job: &Job) -> Result<Answer, Stop> {
 /// The answer's bytes and nothing behind them. A buffer that is too short is
 /// replaced by a longer one, up to `longest` bytes.
 pub fn ask(engine: &mut dyn Engine, job: &[u8], longest: usize) -> Result<Vec<u8>, Stop> {
-    let mut room = FIRST.min(longest);
+    let mut room = USUAL_ROOM.min(longest);
     loop {
         let mut buffer = lend(room)?;
         let code = engine.answer(job, WORKSPACE, &mut buffer);

@@ -3,6 +3,7 @@
 
 use faceting_register::bounds::{workspace_length, TOLERANCE, WORKSPACE};
 use faceting_register::job::{identity_row, unit_vectors};
+use faceting_register::request::USUAL_ROOM;
 use faceting_register::Job;
 
 use super::rng::Rng;
@@ -12,8 +13,11 @@ use crate::cases::Room;
 
 /// A case without its number, seed and kind.
 pub struct Draft {
+    /// The job's bytes.
     pub job: Vec<u8>,
+    /// The length of the workspace.
     pub workspace: usize,
+    /// The length of the answer buffer.
     pub room: Room,
 }
 
@@ -147,17 +151,18 @@ pub const KINDS: &[Kind] = &[
 ];
 
 /// What most cases get: more than their answer takes.
-const WIDE_ROOM: usize = 1 << 20;
 
+/// A job with workspace and buffer enough.
 pub fn wide(job: Job) -> Draft {
     wide_bytes(job.write())
 }
 
+/// The same of bytes that need be no job.
 pub fn wide_bytes(job: Vec<u8>) -> Draft {
     Draft {
         job,
         workspace: WORKSPACE,
-        room: Room::Bytes(WIDE_ROOM),
+        room: Room::Bytes(USUAL_ROOM),
     }
 }
 

@@ -3,8 +3,10 @@
 
 use super::rng::{turned, Rng};
 
+/// The points of a set.
 pub type Points = Vec<Vec<f64>>;
 
+/// A regular polygon with its first corner at (1, 0).
 pub fn polygon(corners: usize) -> Points {
     let corner = |k| {
         let (x, y) = turned(k as f64 / corners as f64);
@@ -35,6 +37,7 @@ pub fn prism(corners: usize, twist: f64) -> Points {
         .collect()
 }
 
+/// A pyramid over a regular polygon.
 pub fn pyramid(corners: usize) -> Points {
     let mut points: Points = polygon(corners);
     points.iter_mut().for_each(|point| point.push(0.0));
@@ -59,31 +62,38 @@ fn cyclic(from: [f64; 3]) -> Points {
     points
 }
 
+/// The corners of a regular tetrahedron.
 pub fn tetrahedron() -> Points {
     let even = |point: &Vec<f64>| point.iter().product::<f64>() > 0.0;
     cube().into_iter().filter(even).collect()
 }
 
+/// The corners of a cube.
 pub fn cube() -> Points {
     cyclic([1.0, 1.0, 1.0])
 }
 
+/// The corners of a regular octahedron.
 pub fn octahedron() -> Points {
     cyclic([0.0, 0.0, 1.0])
 }
 
+/// The corners of a cuboctahedron.
 pub fn cuboctahedron() -> Points {
     cyclic([0.0, 1.0, 1.0])
 }
 
+/// The golden ratio.
 pub fn golden() -> f64 {
     (1.0 + 5.0_f64.sqrt()) / 2.0
 }
 
+/// The corners of a regular icosahedron.
 pub fn icosahedron() -> Points {
     cyclic([0.0, 1.0, golden()])
 }
 
+/// The corners of a regular dodecahedron.
 pub fn dodecahedron() -> Points {
     let mut points = cube();
     points.extend(cyclic([0.0, golden(), 1.0 / golden()]));
@@ -238,6 +248,7 @@ pub fn nudged(rng: &mut Rng, mut points: Points, size: f64) -> Points {
     points
 }
 
+/// The points, so many times as large.
 pub fn scaled(mut points: Points, factor: f64) -> Points {
     points
         .iter_mut()

@@ -1,13 +1,12 @@
 //! Rows for point sets: their isometries, subgroups, and rows that are not
 //! closed under composition.
 
+use faceting_register::bounds::MOST_ROWS;
 use faceting_register::job::identity_row;
 use faceting_register::rows::closure;
 
 use super::rng::Rng;
 use super::shapes::Points;
-
-pub const MOST_ROWS: usize = 120;
 
 /// The permutations that keep all distances, the identity first; at most that many.
 pub fn isometries(points: &Points, most: usize) -> Vec<Vec<u8>> {
@@ -58,6 +57,7 @@ pub fn some_rows(rng: &mut Rng, points: &Points) -> Vec<Vec<u8>> {
     }
 }
 
+/// The rows that one or two of these generate.
 pub fn subgroup(rng: &mut Rng, points: usize, all: &[Vec<u8>]) -> Vec<Vec<u8>> {
     let generators: Vec<Vec<u8>> = (0..rng.within(1, 2))
         .map(|_| rng.pick(all).clone())
@@ -76,6 +76,7 @@ pub fn open_rows(
     rows
 }
 
+/// Any permutation of so many points.
 pub fn permutation(rng: &mut Rng, points: usize) -> Vec<u8> {
     let mut row = identity_row(points);
     rng.shuffle(&mut row);

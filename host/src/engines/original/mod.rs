@@ -55,6 +55,7 @@ mod cut {
         )
     }
 
+    /// What is private in the original, again.
     pub(super) fn plain(lists: &Vec<Vec<(usize, usize)>>) -> Vec<usize> {
         filter_irc(lists)
     }

@@ -67,15 +67,19 @@ vec_like!(Ranks, ElementList, []);
 /// An element of a figure: the numbers of what it holds and of what holds it.
 #[derive(Clone, Debug, Default, PartialEq, Eq, Hash)]
 pub struct Element {
+    /// The elements one rank below.
     pub subs: Subelements,
+    /// Those one rank above.
     pub sups: Superelements,
 }
 
 impl Element {
+    /// An element with these.
     pub fn new(subs: Subelements, sups: Superelements) -> Self {
         Self { subs, sups }
     }
 
+    /// Both in ascending order.
     pub fn sort(&mut self) {
         self.subs.sort_unstable();
         self.sups.sort_unstable();
@@ -86,6 +90,7 @@ impl Element {
 pub struct Abstract(Ranks);
 
 impl Abstract {
+    /// The edge between two points.
     pub fn dyad() -> Self {
         let element = |subs: &[usize], sups: &[usize]| {
             Element::new(subs.to_vec().into(), sups.to_vec().into())
@@ -97,6 +102,7 @@ impl Abstract {
         Self(ranks.into_iter().map(ElementList::from).collect())
     }
 
+    /// Its ranks.
     pub fn ranks(&self) -> &Ranks {
         &self.0
     }

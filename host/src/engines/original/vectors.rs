@@ -36,9 +36,11 @@ impl Float for f64 {
     }
 }
 
+/// A vector of any length.
 #[derive(Clone)]
 pub struct Point<T>(Vec<T>);
 
+/// The same, by its other name.
 pub type Vector<T> = Point<T>;
 
 impl<T: Copy> From<&Vec<T>> for Point<T> {
@@ -48,10 +50,12 @@ impl<T: Copy> From<&Vec<T>> for Point<T> {
 }
 
 impl<T: Float> Point<T> {
+    /// The vector of these numbers.
     pub fn from_iterator(_rows: usize, numbers: impl Iterator<Item = T>) -> Self {
         Self(numbers.collect())
     }
 
+    /// How many numbers it has.
     pub fn nrows(&self) -> usize {
         self.0.len()
     }
@@ -62,6 +66,7 @@ impl<T: Float> Point<T> {
         products.fold(T::ZERO, |sum, product| sum + product)
     }
 
+    /// Its length.
     pub fn norm(&self) -> T {
         self.dot(self).root()
     }
@@ -116,6 +121,7 @@ impl<T: Float> AddAssign<Point<T>> for Point<T> {
 pub struct PointOrd<T>(pub Point<T>);
 
 impl<T> PointOrd<T> {
+    /// The point.
     pub fn new(point: Point<T>) -> Self {
         Self(point)
     }
@@ -125,10 +131,12 @@ impl<T> PointOrd<T> {
 pub struct Instant;
 
 impl Instant {
+    /// The clock stands still.
     pub fn now() -> Self {
         Self
     }
 
+    /// No time passes.
     pub fn elapsed(&self) -> Duration {
         Duration::ZERO
     }

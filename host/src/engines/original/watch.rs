@@ -68,6 +68,7 @@ fn refuse_if(met: bool, refusal: Refusal) -> Result<(), Refusal> {
     }
 }
 
+/// The tolerance of the run.
 pub(super) fn tolerance() -> f64 {
     WATCH.with_borrow(|watch| watch.as_ref().map_or(0.0, |w| w.bounds.tolerance))
 }
