@@ -12,6 +12,8 @@ mod distances;
 mod orientation;
 mod report;
 
+use std::slice::from_ref;
+
 use faceting_register::bounds::{MOST_ROWS, POINTS};
 use faceting_register::job::Job;
 use faceting_register::rows::closure;
@@ -62,7 +64,7 @@ impl Symmetry {
     /// points anyway: too few, too many, or with a number that is none.
     pub fn of(job: &Job) -> Option<Symmetry> {
         let finite = |vectors: &[Vec<f64>]| vectors.iter().flatten().all(|x| x.is_finite());
-        let sound = finite(&job.points) && finite(&job.basis) && finite(&[job.offset.clone()]);
+        let sound = finite(&job.points) && finite(&job.basis) && finite(from_ref(&job.offset));
         let few = u8::try_from(job.points.len()).is_ok_and(|points| POINTS.contains(&points));
         if !sound || !few {
             return None;

@@ -67,21 +67,20 @@ fn farthest(vectors: &[Vec<f64>]) -> (usize, f64) {
 
 /// By elimination, the greatest number of a column first.
 fn determinant(mut rows: Vec<Vec<f64>>) -> f64 {
-    let size = rows.len();
     let mut product = 1.0;
-    for k in 0..size {
-        let below = (k..size).max_by(|&i, &j| rows[i][k].abs().total_cmp(&rows[j][k].abs()));
-        let pivot = below.unwrap_or(k);
+    for k in 0..rows.len() {
+        let greatest = |&i: &usize, &j: &usize| rows[i][k].abs().total_cmp(&rows[j][k].abs());
+        let pivot = (k..rows.len()).max_by(greatest).unwrap_or(k);
         if pivot != k {
             rows.swap(pivot, k);
             product = -product;
         }
-        product *= rows[k][k];
-        for i in k + 1..size {
-            let part = rows[i][k] / rows[k][k];
-            for j in k..size {
-                rows[i][j] -= part * rows[k][j];
-            }
+        let (above, below) = rows.split_at_mut(k + 1);
+        let first = &above[k];
+        product *= first[k];
+        for row in below {
+            let part = row[k] / first[k];
+            row.iter_mut().zip(first).for_each(|(x, y)| *x -= part * y);
         }
     }
     product

@@ -8,14 +8,20 @@ use super::values::{numbers, one_number, one_of, row, whole};
 use crate::format::hex;
 use crate::symmetry::Kind;
 
+/// Reads what stands behind a keyword.
+pub type Values = fn(&mut Draft, &str) -> Result<(), String>;
+
+/// Reads a line below a keyword, with its number.
+pub type Item = fn(&mut Draft, usize, &str) -> Result<(), String>;
+
 /// A keyword, how its values are read, and how a job is written by it.
 pub struct Keyword {
     /// The word itself.
     pub word: &'static str,
-    /// Reads what stands behind the word; without this, nothing stands there.
-    pub values: Option<fn(&mut Draft, &str) -> Result<(), String>>,
-    /// Reads a line below, with its number; without this, none belongs to it.
-    pub item: Option<fn(&mut Draft, usize, &str) -> Result<(), String>>,
+    /// For what stands behind the word; without this, nothing stands there.
+    pub values: Option<Values>,
+    /// For the lines below; without this, none belongs to it.
+    pub item: Option<Item>,
     /// What is written of a job; nothing where it need not be said.
     pub write: fn(&Job) -> Option<Said>,
 }
@@ -115,11 +121,7 @@ const SYMMETRIES: [(&str, Wanted); 3] = [
 ];
 
 /// A keyword with values behind it.
-const fn value(
-    word: &'static str,
-    values: fn(&mut Draft, &str) -> Result<(), String>,
-    write: fn(&Job) -> Option<Said>,
-) -> Keyword {
+const fn value(word: &'static str, values: Values, write: fn(&Job) -> Option<Said>) -> Keyword {
     Keyword {
         word,
         values: Some(values),
@@ -129,11 +131,7 @@ const fn value(
 }
 
 /// A keyword with a vector or row on each line below it.
-const fn lines(
-    word: &'static str,
-    item: fn(&mut Draft, usize, &str) -> Result<(), String>,
-    write: fn(&Job) -> Option<Said>,
-) -> Keyword {
+const fn lines(word: &'static str, item: Item, write: fn(&Job) -> Option<Said>) -> Keyword {
     Keyword {
         word,
         values: None,
