@@ -58,7 +58,7 @@ pub fn page(report: &Report) -> String {
     }
     let _ = writeln!(
         text,
-        "Answered by: {engine} {VERSION}\nJob: sha256 {hash}\n"
+        "Answered by: {engine}, command version {VERSION}\nJob: sha256 {hash}\n"
     );
     text + WORDS
 }

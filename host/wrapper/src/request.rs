@@ -19,8 +19,11 @@ const FACTOR: usize = 8;
 /// The engine's answer to a job.
 pub fn answer(engine: &mut dyn Engine, job: &Job) -> Result<Answer, Stop> {
     let bytes = ask(engine, &job.write(), LONGEST)?;
-    let (answer, _) = Answer::read(&bytes).map_err(|damage| Stop::Broken(damage.to_string()))?;
-    Ok(answer)
+    match Answer::read(&bytes) {
+        Ok((answer, length)) if length == bytes.len() => Ok(answer),
+        Ok(_) => Err(Stop::Broken("something follows the answer".into())),
+        Err(damage) => Err(Stop::Broken(damage.to_string())),
+    }
 }
 
 /// The answer's bytes and nothing behind them. A buffer that is too short is
