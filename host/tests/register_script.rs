@@ -4,9 +4,10 @@
 mod common;
 
 use std::fs::{self, File};
+use std::io::{BufRead, BufReader};
 use std::os::unix::fs::{symlink, PermissionsExt};
 use std::path::PathBuf;
-use std::process::{Command, Stdio};
+use std::process::{Child, Command, Stdio};
 use std::time::{Duration, SystemTime};
 
 use common::place::{names, Done, Place};
@@ -27,7 +28,7 @@ const CRATES: &str = "# Crates.\na:\nregister: a # leans on it\nother: a registe
 
 /// Each stand-in notes that it was called. The command prints where it was started
 /// and its words, and ends with a status of its own.
-const RT: &str = "#!/bin/sh\necho rt $* >>../called\n[ ! -f ../slow ] || sleep 0.5\n[ ! -f ../broken ] || { echo wrong; exit 1; }\necho 'rt: a proved (3 s)' >&2\nmkdir -p target/staticlib\necho made >target/staticlib/libregister.a\n";
+const RT: &str = "#!/bin/sh\necho rt $* >>../called\nwhile [ -f ../slow ]; do sleep 0.05; done\n[ ! -f ../broken ] || { echo wrong; exit 1; }\necho 'rt: a proved (3 s)' >&2\nmkdir -p target/staticlib\necho made >target/staticlib/libregister.a\n";
 const CARGO: &str = "#!/bin/sh\necho cargo $1 >>../../called\nmkdir -p target/release\ncat >target/release/register <<'END'\n#!/bin/sh\npwd\nprintf '[%s]\\n' \"$@\"\nexit 7\nEND\nchmod +x target/release/register\n";
 
 /// A repository with the script and nothing built, and a folder of tools.
@@ -250,20 +251,46 @@ fn a_link_stands_for_the_script() {
     assert_eq!(run(&place, &["a b.txt"]).error, "");
 }
 
+/// A run whose build goes on until the file `slow` is taken away.
+fn building(place: &Place) -> Child {
+    place.write("slow", "");
+    let child = script(place, "my repository/register", &["a b.txt"]).spawn();
+    while !place
+        .path("my repository/target/register.built.log")
+        .exists()
+    {
+        std::thread::sleep(Duration::from_millis(10));
+    }
+    child.expect("the script can be started")
+}
+
+fn go_on(place: &Place) {
+    fs::remove_file(place.path("slow")).expect("it was written");
+}
+
+fn ended(child: Child) -> Done {
+    Done::from(child.wait_with_output().expect("it ends"))
+}
+
 #[test]
 fn of_two_runs_at_once_one_waits_for_the_other() {
     let place = repository("twice", &[("rt", RT), ("cargo", CARGO)]);
-    place.write("slow", "");
-    let start = || script(&place, "my repository/register", &["a b.txt"]).spawn();
-    let both = [start(), start()].map(|child| child.expect("the script can be started"));
-    let ended = both.map(|child| Done::from(child.wait_with_output().expect("it ends")));
-    for done in &ended {
-        assert_eq!(done.status, 7, "{}", done.error);
-    }
+    let first = building(&place);
+    let second = script(&place, "my repository/register", &["a b.txt"]).spawn();
+    let mut second = second.expect("the script can be started");
+    let mut said = String::new();
+    let pipe = second.stderr.as_mut().expect("it has a pipe");
+    let read = BufReader::new(pipe).read_line(&mut said);
+    read.expect("it says something");
+    assert_eq!(
+        said,
+        "register: another run is building; this one waits for it\n"
+    );
+    go_on(&place);
+    assert_eq!(ended(first).status, 7);
+    let second = ended(second);
+    assert_eq!((second.status, second.error.as_str()), (7, ""));
     assert_eq!(built(&place), BOTH);
-    let waits = "register: another run is building; this one waits for it\n";
-    let waiting = ended.iter().filter(|done| done.error == waits).count();
-    assert_eq!(waiting, 1, "{ended:?}");
 }
 
 #[test]
@@ -307,19 +334,12 @@ fn a_build_that_fails_leaves_nothing_behind_and_is_begun_again() {
 #[test]
 fn a_build_that_is_cut_short_is_begun_again() {
     let place = repository("cut", &[("rt", RT), ("cargo", CARGO)]);
-    place.write("slow", "");
-    let child = script(&place, "my repository/register", &["a b.txt"]).spawn();
-    let child = child.expect("the script can be started");
-    while !place
-        .path("my repository/target/register.built.log")
-        .exists()
-    {
-        std::thread::sleep(Duration::from_millis(10));
-    }
+    let child = building(&place);
     let end = format!("kill -TERM {}", child.id());
-    let ended = Command::new("sh").args(["-c", &end]).status();
-    assert!(ended.expect("the shell is there").success());
-    let done = Done::from(child.wait_with_output().expect("it ends"));
+    let sent = Command::new("sh").args(["-c", &end]).status();
+    assert!(sent.expect("the shell is there").success());
+    go_on(&place);
+    let done = ended(child);
     assert_eq!((done.status, done.text().as_str()), (130, ""));
     let left = names(&place.path("my repository/target"));
     assert!(left.iter().all(|name| name == "staticlib"), "{left:?}");
