@@ -3,7 +3,7 @@
 
 use crate::format::text;
 
-/// A job of document 01's list.
+/// A job of the list of known jobs, [14.2] of docs/SPECIFICATION.md.
 pub struct KnownJob {
     /// What the list calls it.
     pub name: &'static str,

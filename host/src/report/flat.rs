@@ -1,4 +1,4 @@
-//! Points, lines and planes in few dimensions, as document 01 fits them: the first
+//! Points, lines and planes in few dimensions, as the register fits them ([4.4]): the first
 //! point is the offset, and what a further point adds joins the basis where it is
 //! longer than the tolerance.
 
