@@ -55,7 +55,7 @@ fn a_row_that_does_not_keep_distances_is_told_with_the_pair() {
     let note = only(&format!("{SQUARE}generators\n1 3 2 0\n"));
     assert_eq!(
         note.words,
-        "row 1 does not keep distances: points 2 and 3 are 1 apart, their images 2 and 0 are 1.414213562"
+        "row 1 (1 3 2 0) does not keep distances: points 2 and 3 are 1 apart, their images 2 and 0 are 1.414213562"
     );
     let correct = "correct the row or generator, or two points that stand in each other's place";
     assert_eq!(note.change, correct);

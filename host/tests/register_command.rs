@@ -475,7 +475,8 @@ fn page_and_json_name_engine_version_and_job() {
             _ => "original",
         };
         let version = env!("CARGO_PKG_VERSION");
-        let lines = format!("\nAnswered by: {engine}, command version {version}\nJob: sha256 {hash}\n");
+        let lines =
+            format!("\nAnswered by: {engine}, command version {version}\nJob: sha256 {hash}\n");
         let page = run(&["square.txt"]);
         assert!(page.contains(&lines), "{page}");
         assert_eq!(page.matches("the host's own look").count(), 0);

@@ -124,8 +124,10 @@ fn unkept_distances(set: &Set) -> Option<Note> {
         worst.map(|worst| (r, row, worst))
     })?;
     let to = image(row, pair);
+    let images: Vec<String> = row.iter().map(u8::to_string).collect();
     let words = format!(
-        "row {r} does not keep distances: points {} and {} are {} apart, their images {} and {} are {}",
+        "row {r} ({}) does not keep distances: points {} and {} are {} apart, their images {} and {} are {}",
+        images.join(" "),
         pair.0,
         pair.1,
         precise(distance(pair)),
