@@ -111,19 +111,8 @@ fn compare_register(arguments: Arguments) -> Result<(), Failure> {
     let start = Instant::now();
     let numbers = first..first.saturating_add(count);
     let generated = numbers.map(|number| case(seed, number, kind.or(at_the_brink(number))));
-    let mut differing = 0;
-    let mut cases = 0;
-    for case in known_cases()?.into_iter().chain(generated) {
-        let lines = trials.case(&case);
-        cases += 1;
-        differing += usize::from(!lines.is_empty());
-        for line in &lines {
-            print(&format!("{line}\n"))?;
-        }
-        if differing >= stop.max(1) {
-            break;
-        }
-    }
+    let all = known_cases()?.into_iter().chain(generated);
+    let (cases, differing) = tried(&mut trials, all, stop.max(1))?;
     print(&told(&trials, cases, start.elapsed().as_secs_f64()))?;
     match differing {
         0 => print("no difference\n"),
@@ -132,6 +121,27 @@ fn compare_register(arguments: Arguments) -> Result<(), Failure> {
             words: format!("{differing} of {cases} cases differ"),
         }),
     }
+}
+
+/// Tries cases until so many differ; how many were tried, and how many differ.
+fn tried(
+    trials: &mut Trials,
+    all: impl Iterator<Item = Case>,
+    most: usize,
+) -> Result<(usize, usize), Failure> {
+    let (mut cases, mut differing) = (0, 0);
+    for case in all {
+        let lines = trials.case(&case);
+        cases += 1;
+        differing += usize::from(!lines.is_empty());
+        for line in &lines {
+            print(&format!("{line}\n"))?;
+        }
+        if differing >= most {
+            break;
+        }
+    }
+    Ok((cases, differing))
 }
 
 /// The tables, and what the run took.

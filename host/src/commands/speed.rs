@@ -67,22 +67,7 @@ fn run(arguments: Arguments) -> Result<(), Failure> {
         chosen.collect::<Vec<_>>()
     };
     let slower = table(&mut watch, "jobs", &only(workload::table()), effort)?;
-    let growing = [
-        ("points: parabolas", workload::parabolas(lists)),
-        (
-            "lists examined: a parabola of 14 points",
-            workload::budgets(),
-        ),
-        (
-            "rows: a cube, limit 1, its row again and again",
-            workload::rows(),
-        ),
-        (
-            "orbits: moment curves of rank 4, limit 1",
-            workload::planes(),
-        ),
-    ];
-    for (title, jobs) in growing {
+    for (title, jobs) in growing(lists) {
         table(&mut watch, title, &only(jobs), effort)?;
     }
     let searched = [workload::parabolas(lists), workload::planes()];
@@ -96,6 +81,25 @@ fn run(arguments: Arguments) -> Result<(), Failure> {
             words: format!("slower than the Rust on {slower} jobs or cases"),
         }),
     }
+}
+
+/// Jobs that grow in one way each.
+fn growing(lists: u32) -> [(&'static str, Vec<Workload>); 4] {
+    [
+        ("points: parabolas", workload::parabolas(lists)),
+        (
+            "lists examined: a parabola of 14 points",
+            workload::budgets(),
+        ),
+        (
+            "rows: a cube, limit 1, its row again and again",
+            workload::rows(),
+        ),
+        (
+            "orbits: moment curves of rank 4, limit 1",
+            workload::planes(),
+        ),
+    ]
 }
 
 fn different(name: &str, words: &str) -> Failure {
