@@ -9,7 +9,7 @@ use std::time::{Duration, Instant};
 
 use common::{job, SQUARE, SQUARE_GROUP};
 use faceting_register::job::{is_permutation, Job};
-use facetings_host::symmetry::{compared, report, Kind, Symmetry};
+use facetings_host::symmetry::{comparison, report, Kind, Symmetry};
 
 fn read(text: &str) -> Job {
     Job::read(&job(text)).expect("the text form writes the layout")
@@ -259,7 +259,7 @@ fn no_points_that_are_refused_are_looked_at() {
 
 #[test]
 fn rows_are_compared_with_what_is_found() {
-    let note = |text: &str| compared(&read(text)).and_then(|found| found.note());
+    let note = |text: &str| comparison(&read(text)).and_then(|found| found.note());
     let words = |text: &str| note(text).expect("a note").0;
     assert_eq!(note(SQUARE), None);
     assert_eq!(note(&format!("{SQUARE}{SQUARE_GROUP}")), None);

@@ -11,7 +11,7 @@ use faceting_register::Job;
 use super::flat::Flat;
 use super::margin::{Distance, Margin};
 use crate::geometry::{flattened, minus, norm};
-use crate::symmetry::compared;
+use crate::symmetry::comparison;
 
 /// One thing to know, and what to do about it.
 #[derive(Clone, Debug, PartialEq, Eq)]
@@ -289,7 +289,7 @@ fn thin_margin(set: &Set) -> Option<Note> {
 /// Rows beside the symmetries that are found in the points. Fewer of them are a
 /// choice, and those that are none have a note of their own, so that it is light.
 fn other_symmetry(set: &Set) -> Option<Note> {
-    let (words, change) = compared(set.job)?.note()?;
+    let (words, change) = comparison(set.job)?.note()?;
     Some(Note {
         kind: "symmetry",
         words,

@@ -7,7 +7,7 @@
 //! these limits speak of.
 
 mod chain;
-mod compared;
+mod comparison;
 mod distances;
 mod orientation;
 mod report;
@@ -23,7 +23,8 @@ use chain::Chain;
 use distances::Distances;
 use orientation::Orientation;
 
-pub use compared::{compared, Compared};
+pub use carried::{carries, Carried};
+pub use comparison::{comparison, Comparison};
 pub use report::report;
 
 /// Which symmetries.

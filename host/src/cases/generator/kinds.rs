@@ -150,9 +150,7 @@ pub const KINDS: &[Kind] = &[
     ),
 ];
 
-/// What most cases get: more than their answer takes.
-
-/// A job with workspace and buffer enough.
+/// What most cases get: a workspace and a buffer of more than their answer takes.
 pub fn wide(job: Job) -> Draft {
     wide_bytes(job.write())
 }

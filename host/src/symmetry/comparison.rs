@@ -9,7 +9,7 @@ use faceting_register::job::{is_permutation, Job};
 
 /// How many of which there are.
 #[derive(Clone, Copy, Debug, PartialEq, Eq)]
-pub struct Compared {
+pub struct Comparison {
     /// Different rows of the job.
     pub rows: usize,
     /// Those of them that are symmetries of the points.
@@ -24,7 +24,7 @@ pub struct Compared {
 
 /// The rows of a job beside what was found; nothing where the job is refused for
 /// its points or rows.
-pub fn compared(job: &Job) -> Option<Compared> {
+pub fn comparison(job: &Job) -> Option<Comparison> {
     let symmetry = Symmetry::of(job)?;
     let points = job.points.len();
     let sound = |row: &Vec<u8>| row.len() == points && is_permutation(row);
@@ -35,7 +35,7 @@ pub fn compared(job: &Job) -> Option<Compared> {
     let rows: BTreeSet<&Vec<u8>> = job.rows.iter().collect();
     let kept = rows.iter().filter(|row| distances.are_kept(row));
     let turned = kept.clone().filter(|row| symmetry.is_turn(row));
-    Some(Compared {
+    Some(Comparison {
         rows: rows.len(),
         kept: kept.clone().count(),
         turned: turned.count(),
@@ -44,7 +44,7 @@ pub fn compared(job: &Job) -> Option<Compared> {
     })
 }
 
-impl Compared {
+impl Comparison {
     /// What is to be said of it, and what to do: nothing where the rows are all the
     /// symmetries, all the turns, or the identity alone, which asks for every figure.
     pub fn note(&self) -> Option<(String, &'static str)> {
