@@ -1,28 +1,26 @@
 -- The promise as an equation: whatever a norm is where the root [3.2] has no value, the outcome is the same, for all bytes and both buffers' lengths (`outcome-is-indifferent`).
 -- Before it the same for a job's call of any rank, with any rules whose tolerance is 1e-9 or more (`call-is-indifferent`). Leans on Covered and Jobs.
 use mathlib.Core.Path.{_≡_, refl, sym, ap}
-use mathlib.Core.Bool.{Bool, true, false, cond, not, true≢false}
-use mathlib.Core.List.{List, [], _∷_}
+use mathlib.Core.Bool.{Bool, true, false, cond, true≢false}
+use mathlib.Core.List.{List}
 use mathlib.Core.Option.{some}
 use Prim.Native.Nat.{ℕ, zero, suc, _-_}
 use lib.Dec.{T}
-use lib.ListN.{take}
 use lib.Ieee.{Float, nan, inf, fin, le}
 use lib.IntN.{pos, negsuc}
-use lib.Ieee.Fits.{and-i, and-l, and-r}
-use Rattle.definitions.specs.Lists.{allOf}
-use Rattle.definitions.specs.Outcome.{Outcome, andThen, refuseIf}
+use Rattle.definitions.specs.Outcome.{Outcome, andThen}
 use Rattle.definitions.specs.Vectors.{Vec, squareRoot, valueOf, hasRoot, dot, norm}
 use Rattle.definitions.specs.Subspace.{Subspace}
 use Rattle.definitions.specs.Orbits.{Row}
 use Rattle.definitions.specs.Recursion.{Bounds, Rules, Answer}
 use Rattle.definitions.specs.Faceting.{faceting}
-use Rattle.definitions.specs.Job.{Bytes, Job, Test, readJob, tests, passAll, rulesOf, planeOf, callOf, answerBytes, fitting, outcomeWithin}
+use Rattle.definitions.specs.Job.{Bytes, Job, readJob, jobTests, workspaceTests, tests, rulesOf, planeOf, callOf, answerBytes, fitting, outcomeWithin}
+use Rattle.laws.specs.Refusals.{front-passed, pass-all-same}
 use Rattle.bounds.specs.Norms.{billionth}
 use Rattle.bounds.specs.Calls.{outermost}
 use Rattle.bounds.specs.AnyNorm.{facetingBy, callBy, outcomeBy}
 use Rattle.bounds.specs.Covered.{call-same}
-use Rattle.bounds.specs.Jobs.{Admitted, Whole, job-whole, passesFirst, passed-is-admitted, tolerance-high-enough, job-asks-for-roots-that-exist}
+use Rattle.bounds.specs.Jobs.{Admitted, Whole, job-whole, passed-is-admitted, tolerance-high-enough, job-asks-for-roots-that-exist}
 
 -- where there is a root, it is the value
 pub root-has-value : (x : Float) → hasRoot x ≡ true → squareRoot x ≡ some (valueOf (squareRoot x))
@@ -52,33 +50,16 @@ call-is-indifferent other keeps job w h rules low rows budget =
 
 -- ---- from bytes to the outcome
 
--- two continuations that are alike where all tests are passed
-pass-all-same : {A : Type 0} (ts : List Test) (f g : Unit {0} → Outcome A) → (T (allOf (λ (t : Test). t .passes tt) ts) → f tt ≡ g tt) → passAll ts f ≡ passAll ts g
-unfolding passAll allOf refuseIf
-pass-all-same [] f g h = h tt
-pass-all-same {A} (t ∷ ts) f g h = go (t .passes tt) (λ p. pass-all-same ts f g (λ k. h (and-i (t .passes tt) (allOf (λ (t : Test). t .passes tt) ts) p k)))
-  where
-    go : (b : Bool) → (T b → passAll ts f ≡ passAll ts g) → refuseIf (not b) (t .number) (λ u. passAll ts f) ≡ refuseIf (not b) (t .number) (λ u. passAll ts g)
-    go true e = e tt
-    go false e = refl
-
--- all tests are passed, so the first ones are
-take-passes : {A : Type 0} (p : A → Bool) (many : ℕ) (xs : List A) → T (allOf p xs) → T (allOf p (take many xs))
-unfolding allOf
-take-passes p zero xs t = tt
-take-passes p (suc many) [] t = tt
-take-passes p (suc many) (x ∷ xs) t = and-i (p x) (allOf p (take many xs)) (and-l (p x) (allOf p xs) t) (take-passes p many xs (and-r (p x) (allOf p xs) t))
-
 -- for every job, refused or not
 pub outcome-is-indifferent : (other : Vec → Float) → KeepsRoots other → (bounds : Bounds) (bytes : Bytes) (workspace room : ℕ)
     → outcomeBy other bounds bytes workspace room ≡ outcomeWithin bounds bytes workspace room
-unfolding outcomeBy outcomeWithin callBy callOf rulesOf passesFirst
+unfolding outcomeBy outcomeWithin callBy callOf rulesOf tests
 outcome-is-indifferent other keeps bounds bytes workspace room =
     let job = readJob bytes in
     let finished : Outcome Answer → Outcome Bytes = λ o. andThen o (λ (a : Answer). fitting room (answerBytes (job .budget) a)) in
     pass-all-same (tests bytes workspace) (λ u. finished (callBy other bounds job)) (λ u. finished (callOf bounds job)) (λ t.
     ap finished
-    (call-is-indifferent other keeps job (job-whole bytes) (passed-is-admitted bytes workspace (take-passes (λ (t : Test). t .passes tt) 11 (tests bytes workspace) t)) (rulesOf bounds job) tolerance-high-enough (job .rows) (job .budget)))
+    (call-is-indifferent other keeps job (job-whole bytes) (passed-is-admitted bytes (front-passed (jobTests bytes) (workspaceTests bytes workspace) t)) (rulesOf bounds job) tolerance-high-enough (job .rows) (job .budget)))
 
 -- for instance: the norm where it has a value, and otherwise any float
 unfoldable pub normOr : Float → Vec → Float

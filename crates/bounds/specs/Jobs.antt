@@ -6,15 +6,16 @@ use mathlib.Core.List.{List, [], _∷_}
 use Prim.Native.Nat.{ℕ, zero, suc, _+_, _-_, _*_, _^_, _≤_, zero-le}
 use native.Mathlib.Omega.{arith}
 use lib.Dec.{T, leb, leb→le}
-use lib.ListN.{length, take, length-map}
+use lib.ListN.{length, length-map}
 use lib.Ieee.{Float, nan, inf, fin, binary64, up, down, ofBits, fits, le}
 use lib.Ieee.Bits.{ofBits-fits}
 use lib.Ieee.Fits.{and-l, and-r}
 use Rattle.laws.specs.Floats.{AtMostPower, not-above}
+use Rattle.laws.specs.Refusals.{AllPassed, passesAt, passed}
 use Rattle.definitions.specs.Lists.{allOf, countFrom}
 use Rattle.definitions.specs.Vectors.{Vec, dot, hasRoot}
 use Rattle.definitions.specs.Subspace.{Subspace}
-use Rattle.definitions.specs.Job.{Bytes, Job, Test, floatAt, floatsAt, vectorsAt, readJob, between, within, allWithin, limitGood, floatsGood, tests, tolerance1, planeOf}
+use Rattle.definitions.specs.Job.{Bytes, Job, floatAt, floatsAt, vectorsAt, readJob, between, within, allWithin, limitGood, floatsGood, headerTests, valueTests, jobTests, tolerance1, planeOf}
 use Rattle.bounds.specs.Sizes.{Each, IsDouble, is-double, each-of-map, each-so, each-both, Double, Small, small-wider}
 use Rattle.bounds.specs.Norms.{billionth}
 use Rattle.bounds.specs.Calls.{Takes, Occurs, depth-and-rank, Bounded, Rooted, NormsFit, boundAt, flattened, flattened-small, occurs-bounded, every-norm-has-its-root}
@@ -167,28 +168,22 @@ module _ (job : Job) (w : Whole job) (h : Admitted 5 job) (tolerance : Float) (l
 
 -- ---- version 1
 
--- the job passes so many of the refusals, in their order
-unfoldable pub passesFirst : ℕ → Bytes → ℕ → Bool
-passesFirst many bytes workspace = allOf (λ (t : Test). t .passes tt) (take many (tests bytes workspace))
-
-pub passed-is-admitted : (bytes : Bytes) (workspace : ℕ) → T (passesFirst 11 bytes workspace) → Admitted 5 (readJob bytes)
-unfolding passesFirst tests between
-passed-is-admitted bytes workspace t =
+pub passed-is-admitted : (bytes : Bytes) → AllPassed (jobTests bytes) → Admitted 5 (readJob bytes)
+unfolding passesAt jobTests headerTests valueTests between
+passed-is-admitted bytes h =
     let job = readJob bytes in
-    let passed = each-passes (λ (t : Test). t .passes tt) (take 11 (tests bytes workspace)) t in
-    let fourth : T (leb (job .rank - 1) (job .d) && leb (job .d) 4) = passed .1 .1 .1 .0 in
-    let ninth : T (floatsGood job) = passed .1 .1 .1 .1 .1 .1 .1 .1 .0 in
-    let most = leb→le (job .d) 4 (and-r (leb (job .rank - 1) (job .d)) (leb (job .d) 4) fourth) in
-    record { enough = leb→le (job .rank - 1) (job .d) (and-l (leb (job .rank - 1) (job .d)) (leb (job .d) 4) fourth); few = omega arith; good = ninth }
+    let dimension : T (leb (job .rank - 1) (job .d) && leb (job .d) 4) = passed 4 (jobTests bytes) h in
+    let most = leb→le (job .d) 4 (and-r (leb (job .rank - 1) (job .d)) (leb (job .d) 4) dimension) in
+    record { enough = leb→le (job .rank - 1) (job .d) (and-l (leb (job .rank - 1) (job .d)) (leb (job .d) 4) dimension); few = omega arith; good = passed 9 (jobTests bytes) h }
 
 -- 1e-7 is above 1e-9
 pub tolerance-high-enough : T (le billionth tolerance1)
 unfolding le ofBits
 tolerance-high-enough = tt
 
--- A double that is negative, infinite or no number has no root [3.2]: no job that passes refusals 1 to 11 ever asks for it.
-pub no-root-is-refused : (bytes : Bytes) (workspace : ℕ) → T (passesFirst 11 bytes workspace)
+-- A double that is negative, infinite or no number has no root [3.2]: no job that passes its own refusals ever asks for it.
+pub no-root-is-refused : (bytes : Bytes) → AllPassed (jobTests bytes)
     → {depth more : ℕ} {plane : Subspace} {points : List Vec} {v : Vec}
     → Occurs tolerance1 (readJob bytes .rank - 2) (planeOf (readJob bytes)) (readJob bytes .points) depth more plane points → Takes tolerance1 plane points v
     → hasRoot (dot v v) ≡ true
-no-root-is-refused bytes workspace t c k = job-asks-for-roots-that-exist (readJob bytes) (job-whole bytes) (passed-is-admitted bytes workspace t) tolerance1 tolerance-high-enough c k .root
+no-root-is-refused bytes t c k = job-asks-for-roots-that-exist (readJob bytes) (job-whole bytes) (passed-is-admitted bytes t) tolerance1 tolerance-high-enough c k .root

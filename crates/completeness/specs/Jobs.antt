@@ -16,33 +16,9 @@ use Rattle.definitions.specs.Faceting.{Prepared, prepare, faceting, searchFrom,
 use Rattle.definitions.specs.Job.{Bytes, Job, readJob, Test, tests, passAll, bounds1, rulesOf, planeOf, callOf, between, fitting, answerBytes, outcomeWithin, outcome, codeOf, bufferOf}
 use Rattle.definitions.specs.Demands.{Demand1, Demand2, Demand3, Accepted, CallComplete, EntriesComplete, preparedOf}
 use Rattle.laws.specs.Bools.{first, false→fails}
+use Rattle.laws.specs.Outcomes.{refusal-is-no-answer, answered-before, not-refused-if}
+use Rattle.laws.specs.Refusals.{answered-passed}
 use Rattle.completeness.specs.Entries.{entries-complete}
-
--- ---- outcomes that are answers
-
-isAnswered : {A : Type 0} → Outcome A → Bool
-isAnswered (refused number) = false
-isAnswered (answered a) = true
-
-refusal-is-no-answer : {A : Type 0} (number : ℕ) (a : A) → refused number ≡ answered a → ⊥
-unfolding isAnswered
-refusal-is-no-answer {A} number a e = subst (λ (o : Outcome A). T (not (isAnswered o))) e tt
-
--- a step that was answered was answered before
-pub answered-before : {A B : Type 0} (x : Outcome A) (next : A → Outcome B) (b : B) → andThen x next ≡ answered b → (a : A) × (x ≡ answered a) × (next a ≡ answered b)
-unfolding andThen
-answered-before (refused number) next b e = absurd (refusal-is-no-answer number b e)
-answered-before (answered a) next b e = (a, refl, e)
-
-pub not-refused-if : {A : Type 0} (test : Bool) (number : ℕ) (next : Unit {0} → Outcome A) (a : A) → refuseIf test number next ≡ answered a → (test ≡ false) × (next tt ≡ answered a)
-unfolding refuseIf
-not-refused-if true number next a e = absurd (refusal-is-no-answer number a e)
-not-refused-if false number next a e = (refl, e)
-
-pub passed-all : {A : Type 0} (ts : List Test) (next : Unit {0} → Outcome A) (a : A) → passAll ts next ≡ answered a → next tt ≡ answered a
-unfolding passAll
-passed-all [] next a e = e
-passed-all (t ∷ ts) next a e = passed-all ts next a (not-refused-if (not (t .passes tt)) (t .number) (λ u. passAll ts next) a e .1)
 
 -- ---- what an answered job says
 
@@ -56,7 +32,7 @@ pub answered-call : (bytes : Bytes) (workspace room : ℕ) (answer : Bytes) → 
 unfolding outcome outcomeWithin fitting
 answered-call bytes workspace room answer e =
     let job = readJob bytes in
-    let a = passed-all (tests bytes workspace) (λ u. andThen (callOf bounds1 job) (λ (x : Answer). fitting room (answerBytes (job .budget) x))) answer e in
+    let a = answered-passed (tests bytes workspace) (λ u. andThen (callOf bounds1 job) (λ (x : Answer). fitting room (answerBytes (job .budget) x))) answer e .1 in
     let b = answered-before (callOf bounds1 job) (λ (x : Answer). fitting room (answerBytes (job .budget) x)) answer a in
     let c = not-refused-if (ltb room (length (answerBytes (job .budget) (b .0)))) 17 (λ u. answered (answerBytes (job .budget) (b .0))) answer (b .2) in
     record {

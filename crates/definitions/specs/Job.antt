@@ -151,9 +151,9 @@ pub record Test : Type 0 where
   pub number : ℕ
   pub passes : Unit {0} → Bool
 
--- [11.1] the tests before the call, in their order
-unfoldable pub tests : Bytes → ℕ → List Test
-tests bytes workspace =
+-- [11.1] 1 to 8: the header, and the length that it states. Each line is what a job must pass.
+unfoldable pub headerTests : Bytes → List Test
+headerTests bytes =
     let job = readJob bytes in
     record { number = 1; passes = λ u. leb 11 (length bytes) && sameNats (take 3 bytes) (70 ∷ 67 ∷ 84 ∷ []) }
     ∷ record { number = 2; passes = λ u. eqb (numberAt bytes 3 2) 1 }
@@ -163,11 +163,28 @@ tests bytes workspace =
     ∷ record { number = 6; passes = λ u. between 1 120 (job .rowCount) }
     ∷ record { number = 7; passes = λ u. ltb (job .flags) 8 }
     ∷ record { number = 8; passes = λ u. eqb (length bytes) (job .size) }
-    ∷ record { number = 9; passes = λ u. floatsGood job }
+    ∷ []
+
+-- [11.1] 9 to 11: the floats and the rows
+unfoldable pub valueTests : Bytes → List Test
+valueTests bytes =
+    let job = readJob bytes in
+    record { number = 9; passes = λ u. floatsGood job }
     ∷ record { number = 10; passes = λ u. sameNats (getD (job .rows) 0 []) (countFrom 0 (job .n)) }
     ∷ record { number = 11; passes = λ u. allOf (isPermutation (job .n)) (job .rows) }
-    ∷ record { number = 12; passes = λ u. leb (workspaceFor (job .rank)) workspace }
     ∷ []
+
+-- [11.1] the job's own tests, in their order: what its bytes alone decide
+unfoldable pub jobTests : Bytes → List Test
+jobTests bytes = headerTests bytes ++ valueTests bytes
+
+-- [11.1] 12: the workspace that was lent
+unfoldable pub workspaceTests : Bytes → ℕ → List Test
+workspaceTests bytes workspace = record { number = 12; passes = λ u. leb (workspaceFor (readJob bytes .rank)) workspace } ∷ []
+
+-- [11.1] all tests before the call, in their order
+unfoldable pub tests : Bytes → ℕ → List Test
+tests bytes workspace = jobTests bytes ++ workspaceTests bytes workspace
 
 -- [11.1] the first test that is not passed refuses, and what follows is worked out only where all are passed
 unfoldable pub passAll : {A : Type 0} → List Test → (Unit {0} → Outcome A) → Outcome A

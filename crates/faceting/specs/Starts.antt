@@ -12,7 +12,7 @@ use Rattle.definitions.specs.Lists.{Pair}
 use Rattle.definitions.specs.Outcome.{Outcome, refused, answered, refuseIf}
 use Rattle.definitions.specs.Orbits.{Orbit}
 use Rattle.laws.specs.Segments.{le-or-lt}
-use Rattle.completeness.specs.Jobs.{not-refused-if}
+use Rattle.laws.specs.Outcomes.{not-refused-if}
 use Rattle.orbits.specs.Numbers.{orbitOf}
 use Rattle.orbits.specs.Workspace.{orbitsIn, orbits-length, orbits-front}
 use Rattle.orbits.specs.Answers.{answerIn, orbitsOrRefusal}

@@ -1,8 +1,8 @@
 -- What the proofs of the functions cite: each test one step at a time, and the order of the refusals. Assumes nothing.
 use mathlib.Core.Path.{_≡_, refl, sym, ap, _∙_}
 use mathlib.Core.Bool.{Bool, true, false, _&&_}
-use mathlib.Core.List.{List, [], _∷_}
-use mathlib.Core.Option.{some}
+use mathlib.Core.List.{List, [], _∷_, _++_}
+use mathlib.Core.Option.{Option, some, none}
 use Prim.Native.Nat.{ℕ, suc, _+_, _-_, _*_, _≤_, _<_}
 use native.Mathlib.Omega.{arith}
 use borrow.Author.Tests.{lt-leb, le-leb, eq-eqb, ne-eqb}
@@ -12,8 +12,9 @@ use lib.ListN.{length, getD, take, drop}
 use lib.Ieee.{Float, binary64, ofBits, le}
 use Rattle.definitions.specs.Lists.{allOf, countFrom}
 use Rattle.definitions.specs.Vectors.{zero64}
-use Rattle.definitions.specs.Job.{Bytes, readJob, numberAt, floatAt, floatsAt, vectorsAt, between, within, allWithin, limitGood, floatsGood, sameNats, isPermutation, workspaceFor, tests}
+use Rattle.definitions.specs.Job.{Bytes, readJob, numberAt, floatAt, floatsAt, vectorsAt, between, within, allWithin, limitGood, floatsGood, sameNats, isPermutation, Test}
 use Rattle.laws.specs.Bools.{true→holds, first, second}
+use Rattle.laws.specs.Refusals.{firstRefused, firstOf, stops, first-refused-append}
 use Rattle.laws.specs.Tests.{product-at-most, spaced, spaced-first, all-same, all-spaced, same-first, same-none, between-opposites}
 use Rattle.space.specs.Meaning.{lengthOf}
 use Rattle.load.specs.declared.Header.{Header}
@@ -22,7 +23,8 @@ use Rattle.load.specs.declared.Fields.{Fields}
 use Rattle.load.specs.Places.{headerOf, placesOf, Counted, Exact, size-is}
 use Rattle.load.specs.Meaning.{fieldsOf, rowsAt, Loadable}
 use Rattle.job.specs.declared.Checked.the-variants.{Refused, Passed}
-use Rattle.job.specs.Refusal.{firstRefused, goes-on, stops, checkedAs, checkedOf, hasMark, sizeWithin}
+use Rattle.job.specs.Refusal.{checkedAs, checkedBy, hasMark, sizeWithin}
+use Rattle.job.specs.Passed.{refused-as, passed-as}
 
 -- ---- the mark
 
@@ -159,9 +161,6 @@ counted h r d n k = record {
 pub rank-above-zero : (rank : ℕ) → between 2 4 rank ≡ true → 1 ≤ rank
 rank-above-zero rank e = let l = at-least 2 4 rank e in omega arith
 
-pub exact : (bytes : Bytes) (h : Header) (p : Places) → 11 ≤ length bytes → h ≡ headerOf bytes → Counted h → p ≡ placesOf h → length bytes ≡ p .size → Exact bytes
-exact bytes h p long e k q l = record { header-fits = long; counted = rw e at k; long = l ∙ ap (λ (z : Places). z .size) (q ∙ ap placesOf e) }
-
 first-of : (bytes : Bytes) (at n count : ℕ) → 1 ≤ count → getD (rowsAt bytes at n count) 0 [] ≡ take n (drop at bytes)
 unfolding rowsAt spaced
 first-of bytes at n count h =
@@ -172,115 +171,36 @@ pub first-row-fits : (bytes : Bytes) (f : Fields) → Loadable bytes f → f .ro
 first-row-fits bytes f k = let m = product-at-most (f .n) 1 (f .n) (f .count) (omega arith) (k .count-least) in omega arith
 
 -- row 0, and all rows
-first-row : (bytes : Bytes) (f : Fields) → Loadable bytes f → sameNats (getD (readJob bytes .rows) 0 []) (countFrom 0 (readJob bytes .n)) ≡ sameNats (take (f .n) (drop (f .rows) bytes)) (countFrom 0 (f .n))
+pub first-row : (bytes : Bytes) (f : Fields) → Loadable bytes f → sameNats (getD (readJob bytes .rows) 0 []) (countFrom 0 (readJob bytes .n)) ≡ sameNats (take (f .n) (drop (f .rows) bytes)) (countFrom 0 (f .n))
 first-row bytes f k = rw (k .rows-is, ← (k .n-is), first-of bytes (f .rows) (f .n) (f .count) (k .count-least)) refl
 
-all-rows : (bytes : Bytes) (f : Fields) → Loadable bytes f → allOf (isPermutation (readJob bytes .n)) (readJob bytes .rows) ≡ allOf (isPermutation (f .n)) (rowsAt bytes (f .rows) (f .n) (f .count))
+pub all-rows : (bytes : Bytes) (f : Fields) → Loadable bytes f → allOf (isPermutation (readJob bytes .n)) (readJob bytes .rows) ≡ allOf (isPermutation (f .n)) (rowsAt bytes (f .rows) (f .n) (f .count))
 all-rows bytes f k = rw (k .rows-is, ← (k .n-is)) refl
 
 -- ---- the order of the refusals
 
-module _ (bytes : Bytes) (workspace : ℕ) where
+-- a list of tests, and how far it has been passed
+module _ (ts : List Test) (bytes : Bytes) where
   -- the first refusal is the first among the tests behind so many
   abbrev pub Reached : ℕ → Type 0
-  Reached many = firstRefused (tests bytes workspace) ≡ firstRefused (drop many (tests bytes workspace))
+  Reached many = firstRefused ts ≡ firstRefused (drop many ts)
 
-  pub mark-passed : Reached 0 → hasMark bytes ≡ true → Reached 1
-  unfolding tests hasMark
-  mark-passed s t = goes-on (tests bytes workspace) _ _ s (t)
+  -- the first of those left is not passed: it decides
+  pub refused-here : (t : Test) (us : List Test) → firstRefused ts ≡ firstRefused (t ∷ us) → t .passes tt ≡ false → Refused (t .number) ≡ checkedBy ts bytes
+  unfolding checkedBy checkedAs
+  refused-here t us reached fails = sym (ap (checkedAs bytes) (stops ts t us reached fails))
 
-  pub mark-refused : Reached 0 → hasMark bytes ≡ false → Refused 1 ≡ checkedOf bytes workspace
-  unfolding tests hasMark checkedOf checkedAs
-  mark-refused s t = sym (ap (checkedAs bytes) (stops (tests bytes workspace) _ _ s (t)))
+  -- none is left
+  pub all-passed : firstRefused ts ≡ none → (f : Fields) → f ≡ fieldsOf bytes → Passed f ≡ checkedBy ts bytes
+  unfolding checkedBy checkedAs
+  all-passed none-fails f e = ap Passed e ∙ sym (ap (checkedAs bytes) none-fails)
 
-  pub version-passed : Reached 1 → eqb (numberAt bytes 3 2) 1 ≡ true → Reached 2
-  unfolding tests
-  version-passed s t = goes-on (tests bytes workspace) _ _ s (t)
+-- one list behind another: the first refuses, or leaves it to the second
+module _ (ts us : List Test) (bytes : Bytes) where
+  pub refused-before : (number : ℕ) → Refused number ≡ checkedBy ts bytes → Refused number ≡ checkedBy (ts ++ us) bytes
+  unfolding checkedBy checkedAs firstOf
+  refused-before number e = sym (ap (checkedAs bytes) (first-refused-append ts us ∙ ap (λ (o : Option ℕ). firstOf o (firstRefused us)) (refused-as bytes (firstRefused ts) number e)))
 
-  pub version-refused : Reached 1 → eqb (numberAt bytes 3 2) 1 ≡ false → Refused 2 ≡ checkedOf bytes workspace
-  unfolding tests checkedOf checkedAs
-  version-refused s t = sym (ap (checkedAs bytes) (stops (tests bytes workspace) _ _ s (t)))
-
-  pub rank-passed : Reached 2 → (h : Header) → h ≡ headerOf bytes → between 2 4 (h .rank) ≡ true → Reached 3
-  unfolding tests readJob headerOf
-  rank-passed s h e t = goes-on (tests bytes workspace) _ _ s (ap (λ (z : Header). between 2 4 (z .rank)) (sym e) ∙ t)
-
-  pub rank-refused : Reached 2 → (h : Header) → h ≡ headerOf bytes → between 2 4 (h .rank) ≡ false → Refused 3 ≡ checkedOf bytes workspace
-  unfolding tests readJob headerOf checkedOf checkedAs
-  rank-refused s h e t = sym (ap (checkedAs bytes) (stops (tests bytes workspace) _ _ s (ap (λ (z : Header). between 2 4 (z .rank)) (sym e) ∙ t)))
-
-  pub d-passed : Reached 3 → (h : Header) → h ≡ headerOf bytes → between (h .rank - 1) 4 (h .d) ≡ true → Reached 4
-  unfolding tests readJob headerOf
-  d-passed s h e t = goes-on (tests bytes workspace) _ _ s (ap (λ (z : Header). between (z .rank - 1) 4 (z .d)) (sym e) ∙ t)
-
-  pub d-refused : Reached 3 → (h : Header) → h ≡ headerOf bytes → between (h .rank - 1) 4 (h .d) ≡ false → Refused 4 ≡ checkedOf bytes workspace
-  unfolding tests readJob headerOf checkedOf checkedAs
-  d-refused s h e t = sym (ap (checkedAs bytes) (stops (tests bytes workspace) _ _ s (ap (λ (z : Header). between (z .rank - 1) 4 (z .d)) (sym e) ∙ t)))
-
-  pub n-passed : Reached 4 → (h : Header) → h ≡ headerOf bytes → between 2 20 (h .n) ≡ true → Reached 5
-  unfolding tests readJob headerOf
-  n-passed s h e t = goes-on (tests bytes workspace) _ _ s (ap (λ (z : Header). between 2 20 (z .n)) (sym e) ∙ t)
-
-  pub n-refused : Reached 4 → (h : Header) → h ≡ headerOf bytes → between 2 20 (h .n) ≡ false → Refused 5 ≡ checkedOf bytes workspace
-  unfolding tests readJob headerOf checkedOf checkedAs
-  n-refused s h e t = sym (ap (checkedAs bytes) (stops (tests bytes workspace) _ _ s (ap (λ (z : Header). between 2 20 (z .n)) (sym e) ∙ t)))
-
-  pub count-passed : Reached 5 → (h : Header) → h ≡ headerOf bytes → between 1 120 (h .count) ≡ true → Reached 6
-  unfolding tests readJob headerOf
-  count-passed s h e t = goes-on (tests bytes workspace) _ _ s (ap (λ (z : Header). between 1 120 (z .count)) (sym e) ∙ t)
-
-  pub count-refused : Reached 5 → (h : Header) → h ≡ headerOf bytes → between 1 120 (h .count) ≡ false → Refused 6 ≡ checkedOf bytes workspace
-  unfolding tests readJob headerOf checkedOf checkedAs
-  count-refused s h e t = sym (ap (checkedAs bytes) (stops (tests bytes workspace) _ _ s (ap (λ (z : Header). between 1 120 (z .count)) (sym e) ∙ t)))
-
-  pub flags-passed : Reached 6 → (h : Header) → h ≡ headerOf bytes → ltb (h .flags) 8 ≡ true → Reached 7
-  unfolding tests readJob headerOf
-  flags-passed s h e t = goes-on (tests bytes workspace) _ _ s (ap (λ (z : Header). ltb (z .flags) 8) (sym e) ∙ t)
-
-  pub flags-refused : Reached 6 → (h : Header) → h ≡ headerOf bytes → ltb (h .flags) 8 ≡ false → Refused 7 ≡ checkedOf bytes workspace
-  unfolding tests readJob headerOf checkedOf checkedAs
-  flags-refused s h e t = sym (ap (checkedAs bytes) (stops (tests bytes workspace) _ _ s (ap (λ (z : Header). ltb (z .flags) 8) (sym e) ∙ t)))
-
-  pub length-passed : Reached 7 → (p : Places) → p ≡ placesOf (headerOf bytes) → eqb (length bytes) (p .size) ≡ true → Reached 8
-  unfolding tests
-  length-passed s p e t = goes-on (tests bytes workspace) _ _ s (ap (λ (z : ℕ). eqb (length bytes) z) (size-is bytes ∙ ap (λ (z : Places). z .size) (sym e)) ∙ t)
-
-  pub length-refused : Reached 7 → (p : Places) → p ≡ placesOf (headerOf bytes) → eqb (length bytes) (p .size) ≡ false → Refused 8 ≡ checkedOf bytes workspace
-  unfolding tests checkedOf checkedAs
-  length-refused s p e t = sym (ap (checkedAs bytes) (stops (tests bytes workspace) _ _ s (ap (λ (z : ℕ). eqb (length bytes) z) (size-is bytes ∙ ap (λ (z : Places). z .size) (sym e)) ∙ t)))
-
-  pub floats-passed : Reached 8 → floatsGood (readJob bytes) ≡ true → Reached 9
-  unfolding tests
-  floats-passed s t = goes-on (tests bytes workspace) _ _ s (t)
-
-  pub floats-refused : Reached 8 → floatsGood (readJob bytes) ≡ false → Refused 9 ≡ checkedOf bytes workspace
-  unfolding tests checkedOf checkedAs
-  floats-refused s t = sym (ap (checkedAs bytes) (stops (tests bytes workspace) _ _ s (t)))
-
-  pub identity-passed : Reached 9 → (f : Fields) → Loadable bytes f → sameNats (take (f .n) (drop (f .rows) bytes)) (countFrom 0 (f .n)) ≡ true → Reached 10
-  unfolding tests
-  identity-passed s f k t = goes-on (tests bytes workspace) _ _ s (first-row bytes f k ∙ t)
-
-  pub identity-refused : Reached 9 → (f : Fields) → Loadable bytes f → sameNats (take (f .n) (drop (f .rows) bytes)) (countFrom 0 (f .n)) ≡ false → Refused 10 ≡ checkedOf bytes workspace
-  unfolding tests checkedOf checkedAs
-  identity-refused s f k t = sym (ap (checkedAs bytes) (stops (tests bytes workspace) _ _ s (first-row bytes f k ∙ t)))
-
-  pub rows-passed : Reached 10 → (f : Fields) → Loadable bytes f → allOf (isPermutation (f .n)) (rowsAt bytes (f .rows) (f .n) (f .count)) ≡ true → Reached 11
-  unfolding tests
-  rows-passed s f k t = goes-on (tests bytes workspace) _ _ s (all-rows bytes f k ∙ t)
-
-  pub rows-refused : Reached 10 → (f : Fields) → Loadable bytes f → allOf (isPermutation (f .n)) (rowsAt bytes (f .rows) (f .n) (f .count)) ≡ false → Refused 11 ≡ checkedOf bytes workspace
-  unfolding tests checkedOf checkedAs
-  rows-refused s f k t = sym (ap (checkedAs bytes) (stops (tests bytes workspace) _ _ s (all-rows bytes f k ∙ t)))
-
-  pub workspace-passed : Reached 11 → (f : Fields) → Loadable bytes f → leb (workspaceFor (f .rank)) workspace ≡ true → Reached 12
-  unfolding tests
-  workspace-passed s f k t = goes-on (tests bytes workspace) _ _ s (ap (λ (z : ℕ). leb (workspaceFor z) workspace) (sym (k .rank-is)) ∙ t)
-
-  pub workspace-refused : Reached 11 → (f : Fields) → Loadable bytes f → leb (workspaceFor (f .rank)) workspace ≡ false → Refused 12 ≡ checkedOf bytes workspace
-  unfolding tests checkedOf checkedAs
-  workspace-refused s f k t = sym (ap (checkedAs bytes) (stops (tests bytes workspace) _ _ s (ap (λ (z : ℕ). leb (workspaceFor z) workspace) (sym (k .rank-is)) ∙ t)))
-
-  pub all-passed : Reached 12 → (f : Fields) → f ≡ fieldsOf bytes → Passed f ≡ checkedOf bytes workspace
-  unfolding tests firstRefused checkedOf checkedAs
-  all-passed s f e = ap Passed e ∙ sym (ap (checkedAs bytes) s)
+  pub left-to-second : (f : Fields) → Passed f ≡ checkedBy ts bytes → checkedBy us bytes ≡ checkedBy (ts ++ us) bytes
+  unfolding checkedBy checkedAs firstOf
+  left-to-second f e = sym (ap (checkedAs bytes) (first-refused-append ts us ∙ ap (λ (o : Option ℕ). firstOf o (firstRefused us)) (passed-as bytes (firstRefused ts) f e .0)))

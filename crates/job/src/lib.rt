@@ -6,11 +6,11 @@ ghost use mathlib.Core.Path.{_≡_};
 ghost use Prim.Native.Nat.{_+_, _*_, _≤_};
 ghost use lib.ListN.{length, take, drop};
 ghost use Rattle.definitions.specs.Lists.{allOf, countFrom};
-ghost use Rattle.definitions.specs.Job.{readJob, floatsAt, between, limitGood, floatsGood, sameNats, isPermutation, workspaceFor};
+ghost use Rattle.definitions.specs.Job.{readJob, floatsAt, between, limitGood, floatsGood, sameNats, isPermutation, workspaceFor, headerTests, valueTests, jobTests};
 ghost use Rattle.space.specs.Meaning.{lengthOf};
 ghost use Rattle.load.specs.Places.{Exact};
 ghost use Rattle.load.specs.Meaning.{fieldsOf, rowsAt};
-ghost use Rattle.job.specs.Refusal.{hasMark, sizeWithin, checkedOf};
+ghost use Rattle.job.specs.Refusal.{hasMark, sizeWithin, checkedBy, checkedOf};
 
 // ---- single tests
 
@@ -166,14 +166,15 @@ fn workspace_for(rank: usize) -> usize
 
 // ---- the order
 
-// The number of the first refusal, or the fields of a job that passes all twelve.
+// The number of the first refusal, or the fields of a job that passes.
 pub enum Checked {
     Refused(u8),
     Passed(Fields),
 }
 
-pub fn check(job: &[u8], workspace: usize) -> Checked
-    ensures { λ r. ⌜ r ≡ checkedOf (now (job .entry)) workspace ⌝ }
+// Refusals 1 to 8: the header, and the length that it states.
+fn check_header(job: &[u8]) -> Checked
+    ensures { λ r. ⌜ r ≡ checkedBy (headerTests (now (job .entry))) (now (job .entry)) ⌝ }
 {
     if !has_mark(job) {
         return Checked::Refused(1);
@@ -201,7 +202,14 @@ pub fn check(job: &[u8], workspace: usize) -> Checked
     if job.len() != p.size {
         return Checked::Refused(8);
     }
-    let fields = load::fields_of(job);
+    Checked::Passed(load::fields_of(job))
+}
+
+// Refusals 9 to 11, of a job whose header passes: its floats and its rows.
+fn check_values(job: &[u8], fields: Fields) -> Checked
+    requires { ⌜ Exact (now job) × (fields ≡ fieldsOf (now job)) ⌝ }
+    ensures { λ r. ⌜ r ≡ checkedBy (valueTests (now (job .entry))) (now (job .entry)) ⌝ }
+{
     if !floats_good(job, fields) {
         return Checked::Refused(9);
     }
@@ -211,8 +219,30 @@ pub fn check(job: &[u8], workspace: usize) -> Checked
     if !rows_good(job, fields.rows, fields.n, fields.count) {
         return Checked::Refused(11);
     }
-    if workspace < workspace_for(fields.rank) {
-        return Checked::Refused(12);
-    }
     Checked::Passed(fields)
+}
+
+// The job's own refusals, 1 to 11: what its bytes alone decide.
+fn check_job(job: &[u8]) -> Checked
+    ensures { λ r. ⌜ r ≡ checkedBy (jobTests (now (job .entry))) (now (job .entry)) ⌝ }
+{
+    match check_header(job) {
+        Checked::Refused(number) => Checked::Refused(number),
+        Checked::Passed(fields) => check_values(job, fields),
+    }
+}
+
+// All refusals before the call, 1 to 12.
+pub fn check(job: &[u8], workspace: usize) -> Checked
+    ensures { λ r. ⌜ r ≡ checkedOf (now (job .entry)) workspace ⌝ }
+{
+    match check_job(job) {
+        Checked::Refused(number) => Checked::Refused(number),
+        Checked::Passed(fields) => {
+            if workspace < workspace_for(fields.rank) {
+                return Checked::Refused(12);
+            }
+            Checked::Passed(fields)
+        }
+    }
 }

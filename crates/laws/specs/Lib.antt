@@ -16,3 +16,5 @@ pub mod Parts
 pub mod Squares
 pub mod Tests
 pub mod Sets
+pub mod Outcomes
+pub mod Refusals

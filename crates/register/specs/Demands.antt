@@ -9,9 +9,11 @@ use lib.IntN.{ℤ}
 use lib.ListN.{length, replicate}
 use Rattle.definitions.specs.Outcome.{Outcome, answered, andThen}
 use Rattle.definitions.specs.Recursion.{Answer}
-use Rattle.definitions.specs.Job.{Bytes, readJob, tests, between, bounds1, callOf, answerBytes, answerWords, fitting, outcomeWithin, outcome, codeOf, bufferOf}
+use Rattle.definitions.specs.Job.{Bytes, readJob, jobTests, workspaceTests, tests, between, bounds1, callOf, answerBytes, answerWords, fitting, outcomeWithin, outcome, codeOf, bufferOf}
 use Rattle.definitions.specs.Demands.{Demand1, Demand2, Demand3, CallComplete}
-use Rattle.completeness.specs.Jobs.{answered-before, not-refused-if, passed-all, demand-1, demand-2, demand-3}
+use Rattle.laws.specs.Outcomes.{answered-before, not-refused-if}
+use Rattle.laws.specs.Refusals.{answered-passed, front-passed}
+use Rattle.completeness.specs.Jobs.{demand-1, demand-2, demand-3}
 use Rattle.completeness.specs.Refusals.{CodeSays, code-says}
 use Rattle.shapes.specs.Answered.{answers-equal}
 use Rattle.shapes.specs.Jobs.{RowsPassed, rows-passed}
@@ -29,20 +31,21 @@ record Called (bytes : Bytes) (answer : Bytes) : Type 0 where
   ranked : T (between 2 4 (readJob bytes .rank))
 
 called : (bytes : Bytes) (workspace room : ℕ) (answer : Bytes) → outcome bytes workspace room ≡ answered answer → Called bytes answer
-unfolding outcome outcomeWithin fitting
+unfolding outcome outcomeWithin fitting tests
 called bytes workspace room answer e =
     let job = readJob bytes in
     let next : Answer → Outcome Bytes = λ x. fitting room (answerBytes (job .budget) x) in
-    let a = passed-all (tests bytes workspace) (λ u. andThen (callOf bounds1 job) next) answer e in
-    let b = answered-before (callOf bounds1 job) next answer a in
+    let a = answered-passed (tests bytes workspace) (λ u. andThen (callOf bounds1 job) next) answer e in
+    let own = front-passed (jobTests bytes) (workspaceTests bytes workspace) (a .0) in
+    let b = answered-before (callOf bounds1 job) next answer (a .1) in
     let written = answerBytes (job .budget) (b .0) in
     let c = not-refused-if (ltb room (length written)) 17 (λ u. answered written) answer (b .2) in
     record {
       given = b .0;
       is-given = b .1;
       bytes-are = sym (answers-equal written answer (c .1));
-      passed = rows-passed bytes workspace (λ u. andThen (callOf bounds1 job) next) answer e;
-      ranked = rank-passed bytes workspace (λ u. andThen (callOf bounds1 job) next) answer e;
+      passed = rows-passed bytes own;
+      ranked = rank-passed bytes own;
     }
 
 -- ---- the answer read back

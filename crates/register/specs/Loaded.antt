@@ -5,18 +5,17 @@ use mathlib.Core.List.{List}
 use mathlib.Core.Option.{none}
 use Prim.Native.Nat.{ℕ, _-_, _*_, _≤_}
 use native.Mathlib.Omega.{arith}
-use lib.Dec.{leb, leb→le}
 use lib.ListN.{length}
-use Rattle.definitions.specs.Outcome.{refused, answered}
+use Rattle.definitions.specs.Outcome.{refused}
 use Rattle.definitions.specs.Recursion as recursion
 use Rattle.definitions.specs.Faceting.{faceting}
 use Rattle.definitions.specs.Job as job
 use Rattle.definitions.specs.Job.{Bytes, readJob, planeOf, tolerance1, bounds1, tests, workspaceFor, callOf, outcome}
-use Rattle.laws.specs.Lists.{here, there}
+use Rattle.laws.specs.Refusals.{firstRefused}
 use Rattle.openers.specs.Rows.{rowsIn}
 use Rattle.stabilizers.specs.Permutations.{Permutations, permutations-of, rows-fit}
 use Rattle.shapes.specs.Calls.{Given}
-use Rattle.shapes.specs.Jobs.{passed-test, rows-passed, job-given}
+use Rattle.shapes.specs.Jobs.{rows-passed, job-given}
 use Rattle.space.specs.declared.Subspace.{Subspace}
 use Rattle.space.specs.declared.Points.{Points}
 use Rattle.space.specs.Meaning.{HoldsSubspace, HoldsPoints, subspaceOf, pointsOf, limitsOf}
@@ -24,8 +23,8 @@ use Rattle.load.specs.declared.Fields.{Fields}
 use Rattle.load.specs.Places.{Exact}
 use Rattle.load.specs.Meaning.{fieldsOf, limitNumber, Loadable, loadable}
 use Rattle.job.specs.declared.Checked.the-variants.{Refused, Passed}
-use Rattle.job.specs.Refusal.{checkedOf, firstRefused, pass-all-passed}
-use Rattle.job.specs.Passed.{refused-means, passed-means, passed-exact, passed-rows, outcome-refused, outcome-passed}
+use Rattle.job.specs.Refusal.{checkedOf}
+use Rattle.job.specs.Passed.{refused-means, passed-means, own-passed, passed-exact, passed-rows, passed-workspace, outcome-refused, outcome-passed}
 use Rattle.calls.specs.declared.Rules.{Rules}
 use Rattle.faceting.specs.Stocks.{callRules}
 use Rattle.calls.specs.declared.Called.{Called}
@@ -48,11 +47,11 @@ pub record Loaded (bytes : Bytes) (f : Fields) (plane : Subspace) (points : Poin
   pub rules-are : callRules rules ≡ jobRules f
 
 module _ (bytes : Bytes) (workspace : ℕ) (f : Fields) (passed : Passed f ≡ checkedOf bytes workspace) where
-  none-refused : firstRefused (tests bytes workspace) ≡ none
-  none-refused = passed-means bytes workspace f passed .0
+  none-fails : firstRefused (tests bytes workspace) ≡ none
+  none-fails = passed-means bytes workspace f passed .0
 
   pub exact : Exact bytes
-  exact = passed-exact bytes workspace none-refused
+  exact = passed-exact bytes workspace none-fails
 
   pub own-fields : f ≡ fieldsOf bytes
   own-fields = passed-means bytes workspace f passed .1
@@ -74,21 +73,13 @@ module _ (bytes : Bytes) (workspace : ℕ) (f : Fields) (passed : Passed f ≡ c
     rules-are = u;
   }
 
-  -- every test is passed
-  abbrev all-passed : Type 0
-  all-passed = job.passAll (tests bytes workspace) (λ u. answered (tt {0})) ≡ answered (tt {0})
-
-  go-on : all-passed
-  go-on = pass-all-passed (tests bytes workspace) (λ u. answered (tt {0})) none-refused
-
   -- two points at least, and rows that permute them, the identity first
   given : Given (readJob bytes .points) (readJob bytes .rows)
-  given = job-given bytes (rows-passed bytes workspace (λ u. answered (tt {0})) (tt {0}) go-on)
+  given = job-given bytes (rows-passed bytes (own-passed bytes workspace none-fails))
 
   -- the workspace that the rank asks for [11.3]
   room : workspaceFor (readJob bytes .rank) ≤ workspace
-  unfolding tests
-  room = leb→le (workspaceFor (readJob bytes .rank)) workspace (passed-test (tests bytes workspace) (λ u. answered (tt {0})) (tt {0}) go-on _ (there (there (there (there (there (there (there (there (there (there (there (here refl)))))))))))))
+  room = passed-workspace bytes workspace none-fails
 
   room-at : (rank : ℕ) → f .rank ≡ rank → workspaceFor rank ≤ workspace
   room-at rank e = subst (λ (k : ℕ). workspaceFor k ≤ workspace) (sym (counts .rank-is) ∙ e) room
@@ -98,7 +89,7 @@ module _ (bytes : Bytes) (workspace : ℕ) (f : Fields) (passed : Passed f ≡ c
     rows-are = ap (λ (n : ℕ). rowsIn n (f .count) rows) (l .points-n) ∙ l .rows-held
 
     permute : Permutations (f .n) (f .count) rows
-    permute = permutations-of (f .n) (f .count) rows (counts .n-most) (l .rows-room) (rw (l .rows-held, counts .n-is) (passed-rows bytes workspace none-refused))
+    permute = permutations-of (f .n) (f .count) rows (counts .n-most) (l .rows-room) (rw (l .rows-held, counts .n-is) (passed-rows bytes workspace none-fails))
 
     -- what the call is asked
     pub call-asked : (ws : List ℕ) → length ws ≡ workspace → Asked (f .rank) plane points rows (f .count) rules ws
@@ -150,8 +141,8 @@ module _ (bytes : Bytes) (workspace : ℕ) (f : Fields) (passed : Passed f ≡ c
     pub outcome-is : (space : ℕ) → rest space (f .budget) (faceting (f .rank - 2) (callRules rules) (subspaceOf plane) (pointsOf points) (rowsIn (f .n) (f .count) rows) (f .budget)) ≡ outcome bytes workspace space
     unfolding outcome
     outcome-is space =
-        let same = ap (λ (n : ℕ). faceting (f .rank - 2) (callRules rules) (subspaceOf plane) (pointsOf points) (rowsIn n (f .count) rows) (f .budget)) (sym (l .points-n)) ∙ call-is in
-        (λ i. rest space (counts .budget-is i) (same i)) ∙ sym (outcome-passed bounds1 bytes workspace space none-refused)
+        let same = ap (λ (n : ℕ). faceting (f .rank - 2) (rulesOf rules) (subspaceOf plane) (pointsOf points) (rowsIn n (f .count) rows) (f .budget)) (sym (l .points-n)) ∙ call-is in
+        (λ i. rest space (counts .budget-is i) (same i)) ∙ sym (outcome-passed bounds1 bytes workspace space none-fails)
 
 -- ---- a job that is refused
 

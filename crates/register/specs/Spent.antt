@@ -15,7 +15,7 @@ use Rattle.definitions.specs.Orbits.{Row, Orbit, image, pointAt, hyperplaneOrbi
 use Rattle.definitions.specs.Search.{Facet, Table, Item, Verdict, over, closed, openAt, EntryLimits, Found, limitReached, emit, emitIf, judge, totals, putIn, examine, search, starts}
 use Rattle.definitions.specs.Recursion.{Rules, Answer, Inner, InnerCalls, innerCall, innerCalls, beforeThese, rowsWithin, edgeCall, swappedEnds, separateEnds}
 use Rattle.definitions.specs.Faceting.{Prepared, prepare, searchFrom, tableFor, entryLimits, finish, faceting}
-use Rattle.completeness.specs.Jobs.{answered-before, not-refused-if}
+use Rattle.laws.specs.Outcomes.{answered-before, not-refused-if}
 use Rattle.shapes.specs.Answered.{answers-equal}
 
 -- ---- the search

@@ -16,7 +16,7 @@ use Rattle.definitions.specs.Recursion.{Rules, Answer, Call, Inner, InnerCalls,
 use Rattle.definitions.specs.Faceting.{Prepared, prepare, searchFrom, finish, faceting}
 use Rattle.laws.specs.Bools.{false→fails}
 use Rattle.laws.specs.Lists.{Mem}
-use Rattle.completeness.specs.Jobs.{answered-before, not-refused-if}
+use Rattle.laws.specs.Outcomes.{answered-before, not-refused-if}
 
 contents : {A : Type 0} → A → Outcome A → A
 contents otherwise (refused number) = otherwise

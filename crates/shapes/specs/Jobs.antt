@@ -11,26 +11,15 @@ use Rattle.definitions.specs.Lists.{countFrom, compareNats, sortNats, allOf}
 use Rattle.definitions.specs.Outcome.{Outcome, answered, andThen}
 use Rattle.definitions.specs.Orbits.{Row}
 use Rattle.definitions.specs.Recursion.{Answer, Bounds}
-use Rattle.definitions.specs.Job.{Bytes, Job, Test, readJob, vectorsAt, between, sameNats, isPermutation, tests, passAll, rulesOf, planeOf, callOf, bounds1, outcome, outcomeWithin, fitting, answerBytes}
+use Rattle.definitions.specs.Job.{Bytes, Job, readJob, vectorsAt, between, sameNats, isPermutation, headerTests, valueTests, jobTests, workspaceTests, tests, rulesOf, planeOf, callOf, bounds1, outcome, outcomeWithin, fitting, answerBytes}
 use Rattle.definitions.specs.Demands.{Accepted}
 use Rattle.laws.specs.Bools.{first}
-use Rattle.laws.specs.Lists.{Mem, here, there, all-of, count-length}
+use Rattle.laws.specs.Lists.{all-of, count-length}
+use Rattle.laws.specs.Refusals.{AllPassed, passesAt, passed, front-passed, answered-passed}
 use Rattle.laws.specs.Orders.{nat-lists}
 use Rattle.laws.specs.Ascending.{tested-equal}
-use Rattle.completeness.specs.Jobs.{not-refused-if}
 use Rattle.shapes.specs.Sets.{Rows}
 use Rattle.shapes.specs.Calls.{Given, ShapedAnswer, shaped-answer}
-
--- an answer means that every test was passed
-pub passed-test : {A : Type 0} (ts : List Test) (next : Unit {0} → Outcome A) (a : A) → passAll ts next ≡ answered a → (t : Test) → Mem t ts → T (t .passes tt)
-unfolding passAll
-passed-test (t ∷ ts) next a e u (List·Memᴰ.List·Memᴰ·head q) =
-    subst (λ (x : Test). T (x .passes tt)) (sym q) (passes (t .passes tt) (not-refused-if (not (t .passes tt)) (t .number) (λ v. passAll ts next) a e .0))
-  where
-    passes : (b : Bool) → not b ≡ false → T b
-    passes true z = tt
-    passes false z = subst T z tt
-passed-test (t ∷ ts) next a e u (List·Memᴰ.List·Memᴰ·tail m) = passed-test ts next a (not-refused-if (not (t .passes tt)) (t .number) (λ v. passAll ts next) a e .1) u m
 
 -- what refusals 5, 6, 10 and 11 leave
 pub record RowsPassed (job : Job) : Type 0 where
@@ -39,16 +28,14 @@ pub record RowsPassed (job : Job) : Type 0 where
   pub first-row : T (sameNats (getD (job .rows) 0 []) (countFrom 0 (job .n)))
   pub permutations : T (allOf (isPermutation (job .n)) (job .rows))
 
-pub rows-passed : {A : Type 0} (bytes : Bytes) (workspace : ℕ) (next : Unit {0} → Outcome A) (a : A) → passAll (tests bytes workspace) next ≡ answered a → RowsPassed (readJob bytes)
-unfolding tests
-rows-passed bytes workspace next a e =
-    let passed = passed-test (tests bytes workspace) next a e in
-    record {
-      enough = passed _ (there (there (there (there (here refl)))));
-      some-row = passed _ (there (there (there (there (there (here refl))))));
-      first-row = passed _ (there (there (there (there (there (there (there (there (there (here refl))))))))));
-      permutations = passed _ (there (there (there (there (there (there (there (there (there (there (here refl)))))))))));
-    }
+pub rows-passed : (bytes : Bytes) → AllPassed (jobTests bytes) → RowsPassed (readJob bytes)
+unfolding passesAt jobTests headerTests valueTests
+rows-passed bytes h = record {
+  enough = passed 5 (jobTests bytes) h;
+  some-row = passed 6 (jobTests bytes) h;
+  first-row = passed 10 (jobTests bytes) h;
+  permutations = passed 11 (jobTests bytes) h;
+}
 
 -- the numbers of points and rows are those that the job states
 pub points-length : (bytes : Bytes) → length (readJob bytes .points) ≡ readJob bytes .n
@@ -90,11 +77,15 @@ job-shaped bounds bytes h a e =
     (shaped-answer (job .rank - 2) (rulesOf bounds job) (planeOf job) (job .points) (job .rows) (job .budget) a (job-given bytes h) e)
 
 -- what an accepted job passed
-pub accepted-rows : (bytes : Bytes) → Accepted bytes → RowsPassed (readJob bytes)
-unfolding outcome outcomeWithin
-accepted-rows bytes accepted =
+pub accepted-passed : (bytes : Bytes) → Accepted bytes → AllPassed (jobTests bytes)
+unfolding outcome outcomeWithin tests
+accepted-passed bytes accepted =
     let job = readJob bytes in
-    rows-passed bytes (accepted .workspace) (λ u. andThen (callOf bounds1 job) (λ (a : Answer). fitting (accepted .room) (answerBytes (job .budget) a))) (accepted .answer) (accepted .is-answered)
+    let next : Unit {0} → Outcome Bytes = λ u. andThen (callOf bounds1 job) (λ (a : Answer). fitting (accepted .room) (answerBytes (job .budget) a)) in
+    front-passed (jobTests bytes) (workspaceTests bytes (accepted .workspace)) (answered-passed (tests bytes (accepted .workspace)) next (accepted .answer) (accepted .is-answered) .0)
+
+pub accepted-rows : (bytes : Bytes) → Accepted bytes → RowsPassed (readJob bytes)
+accepted-rows bytes accepted = rows-passed bytes (accepted-passed bytes accepted)
 
 pub accepted-shaped : (bytes : Bytes) → Accepted bytes → (a : Answer) → callOf bounds1 (readJob bytes) ≡ answered a → ShapedAnswer (readJob bytes .n) (readJob bytes .rank - 2) a
 accepted-shaped bytes accepted = job-shaped bounds1 bytes (accepted-rows bytes accepted)
