@@ -14,7 +14,7 @@ use Rattle.definitions.specs.Subspace.{Subspace, residual, distance, addPoint, 
 use Rattle.definitions.specs.Orbits.{Row, Limits, Orbit, pointAt, vertexOpeners, tooShort, tooLong, breaksLimit, pairOpeners, pairsFrom, tuples, pointsNear, setImage, hyperplanes, hyperplaneOrbits}
 use Rattle.definitions.specs.Recursion.{Rules, Answer, Call, Inner, InnerCalls, innerCall, innerCalls, rowsWithin}
 use Rattle.definitions.specs.Search.{Found}
-use Rattle.definitions.specs.Faceting.{Prepared, prepare, searchFrom, finish, faceting}
+use Rattle.definitions.specs.Faceting.{Prepared, orbitsOf, prepare, searchFrom, finish, faceting}
 use Rattle.bounds.specs.Sizes.{Each}
 use Rattle.bounds.specs.Fits.{AddTakes, at-first, behind, FitTakes, fitting}
 use Rattle.bounds.specs.Calls.{Takes, in-length, in-fit, in-distance, Occurs, inner, flattened, chosen, through}
@@ -146,7 +146,7 @@ module _ (other : Vec → Float) where
         → callBy (through (rules .tolerance) plane points vertices) (chosen plane points vertices) rows budget
         ≡ call (through (rules .tolerance) plane points vertices) (chosen plane points vertices) rows budget) → (rows : List Row) (budget : ℕ)
         → prepareBy other more rules callBy plane points rows budget ≡ prepare more rules call plane points rows budget
-    unfolding prepareBy prepare flattened
+    unfolding prepareBy prepare orbitsOf flattened
     prepare-same {more = more} {plane = plane} {points = points} c callBy call same rows budget =
         let flat = flattened plane points in
         let prepared : List Orbit → (Orbit → ℕ → Outcome Inner) → Outcome Prepared = λ orbits one.

@@ -3,17 +3,17 @@
 use mathlib.Core.Path.{_≡_, refl, sym, ap, _∙_, subst}
 use mathlib.Core.Bool.{Bool, true, false, not}
 use mathlib.Core.List.{List, [], _∷_, _++_, map, append-nil, append-assoc}
-use Prim.Native.Nat.{ℕ, zero, suc, _+_, _≤_, _<_}
+use Prim.Native.Nat.{ℕ, suc, _+_, _≤_, _<_}
 use native.Mathlib.Omega.{arith}
 use lib.Dec.{T, ltb, eqb, lt→ltb, ltb→lt}
 use lib.ListN.{length}
 use Rattle.definitions.specs.Outcome.{Outcome, refused, answered, andThen, refuseIf}
 use Rattle.definitions.specs.Vectors.{Vec}
 use Rattle.definitions.specs.Subspace.{Subspace, flatten, fromPoints}
-use Rattle.definitions.specs.Orbits.{Row, Orbit, pointAt, hyperplaneOrbits}
+use Rattle.definitions.specs.Orbits.{Row, Orbit, pointAt}
 use Rattle.definitions.specs.Search.{Found}
 use Rattle.definitions.specs.Recursion.{Rules, Answer, Call, Inner, InnerCalls, innerCall, innerCalls, beforeThese, rowsWithin}
-use Rattle.definitions.specs.Faceting.{Prepared, prepare, searchFrom, finish, faceting}
+use Rattle.definitions.specs.Faceting.{Prepared, orbitsOf, prepare, searchFrom, finish, faceting}
 use Rattle.shapes.specs.Answered.{facetNumber, facetSum}
 
 -- ---- tests
@@ -145,7 +145,7 @@ module _ (more : ℕ) (rules : Rules) (plane : Subspace) (points : List Vec) (ro
   flat = map (flatten plane) points
 
   abbrev orbits : List Orbit
-  orbits = hyperplaneOrbits (rules .tolerance) (rules .lengths) more points flat rows
+  orbits = orbitsOf more rules plane points rows
 
   -- one orbit's inner call
   abbrev pub innerOf : Orbit → ℕ → Outcome Inner

@@ -1,22 +1,20 @@
 -- The demands, of the definitions themselves. Demands 1 and 2 of the return code and the answer buffer that the definitions give, for every job; demand 3 of the entries of a job's call,
 -- for every rank from 3. Leans on Entries.
-use mathlib.Core.Path.{_≡_, refl, sym, ap, _∙_, subst}
-use mathlib.Core.Bool.{Bool, true, false, not, _&&_}
-use mathlib.Core.List.{List, [], _∷_, _++_}
-use Prim.Native.Nat.{ℕ, zero, suc, _+_, _-_, _≤_, _<_}
+use mathlib.Core.Path.{_≡_, sym, ap, _∙_, subst}
+use mathlib.Core.List.{List, [], _++_}
+use Prim.Native.Nat.{ℕ, suc, _+_, _-_, _≤_}
 use native.Mathlib.Omega.{arith}
-use lib.Dec.{T, leb, ltb, leb→le, nltb→le}
-use lib.IntN.{pos}
+use lib.Dec.{leb, ltb, leb→le, nltb→le}
 use lib.ListN.{length, take, drop, replicate, length-append, length-replicate}
 use lib.Seq.{take-append-seam, drop-append-seam}
-use Rattle.definitions.specs.Outcome.{Outcome, refused, answered, andThen, refuseIf}
+use Rattle.definitions.specs.Outcome.{Outcome, refused, answered, andThen}
 use Rattle.definitions.specs.Search.{Found}
-use Rattle.definitions.specs.Recursion.{Answer, Entry, Rules, Bounds}
-use Rattle.definitions.specs.Faceting.{Prepared, prepare, faceting, searchFrom, finish}
-use Rattle.definitions.specs.Job.{Bytes, Job, readJob, Test, tests, passAll, bounds1, rulesOf, planeOf, callOf, between, fitting, answerBytes, outcomeWithin, outcome, codeOf, bufferOf}
+use Rattle.definitions.specs.Recursion.{Answer, Entry}
+use Rattle.definitions.specs.Faceting.{Prepared, faceting, searchFrom, finish}
+use Rattle.definitions.specs.Job.{Bytes, Job, readJob, tests, bounds1, rulesOf, planeOf, callOf, between, fitting, answerBytes, outcomeWithin, outcome, codeOf, bufferOf}
 use Rattle.definitions.specs.Demands.{Demand1, Demand2, Demand3, Accepted, CallComplete, EntriesComplete, preparedOf}
 use Rattle.laws.specs.Bools.{first, false→fails}
-use Rattle.laws.specs.Outcomes.{refusal-is-no-answer, answered-before, not-refused-if}
+use Rattle.laws.specs.Outcomes.{answered-before, not-refused-if}
 use Rattle.laws.specs.Refusals.{answered-passed}
 use Rattle.completeness.specs.Entries.{entries-complete}
 

@@ -7,12 +7,13 @@ use mathlib.Core.List.{List, [], _∷_}
 use Prim.Native.Nat.{ℕ, _≤_, _<_}
 use native.Mathlib.Omega.{arith}
 use lib.Dec.{leb, ltb, leb→le, le→leb, nltb→le, ltb→lt}
-use lib.ListN.{length, take}
+use lib.ListN.{length}
 use Rattle.definitions.specs.Outcome.{Outcome, refused, answered, andThen, refuseIf}
 use Rattle.definitions.specs.Recursion.{Answer}
-use Rattle.definitions.specs.Job.{Bytes, Job, Test, readJob, workspaceFor, tests, passAll, bounds1, callOf, fitting, answerBytes, outcomeWithin, outcome}
+use Rattle.definitions.specs.Job.{Bytes, Job, Test, readJob, workspaceFor, jobTests, workspaceTests, tests, passAll, bounds1, callOf, fitting, answerBytes, outcomeWithin, outcome}
 use Rattle.laws.specs.Bools.{false→fails, true→holds, holds→true}
-use Rattle.completeness.specs.Jobs.{answered-before, not-refused-if}
+use Rattle.laws.specs.Outcomes.{answered-before, not-refused-if}
+use Rattle.laws.specs.Refusals.{pass-all-append}
 use Rattle.completeness.specs.Refusals.{RefusedWithin, same-number, answer-is-no-refusal, by-answer, by-then, by-tests, wider, call-refusals, test-number}
 
 -- ---- the outcome before the buffer
@@ -61,14 +62,11 @@ alone-refusals bytes workspace =
 
 -- ---- a longer workspace
 
--- tests 1 to 11, which no length decides but the job's
-unfoldable pub earlier : Bytes → List Test
-earlier bytes = take 11 (tests bytes 0)
-
+-- the test of the workspace comes behind the job's own, which no length decides but the job's
 twelfth : {A : Type 0} (bytes : Bytes) (workspace : ℕ) (next : Unit {0} → Outcome A)
-    → passAll (tests bytes workspace) next ≡ passAll (earlier bytes) (λ u. refuseIf (not (leb (workspaceFor (readJob bytes .rank)) workspace)) 12 next)
-unfolding tests passAll earlier
-twelfth bytes workspace next = refl
+    → passAll (tests bytes workspace) next ≡ passAll (jobTests bytes) (λ u. refuseIf (not (leb (workspaceFor (readJob bytes .rank)) workspace)) 12 next)
+unfolding tests workspaceTests passAll
+twelfth bytes workspace next = pass-all-append (jobTests bytes) (workspaceTests bytes workspace) next
 
 -- tests passed before two outcomes that go on alike
 pass-same : {A : Type 0} (ts : List Test) (f g : Unit {0} → Outcome A) (o : Outcome A) → (f tt ≡ o → g tt ≡ o) → passAll ts f ≡ o → passAll ts g ≡ o
@@ -92,7 +90,7 @@ module _ (bytes : Bytes) (workspace other : ℕ) where
   unfolding alone
   by-twelfth o h e =
       twelfth bytes other next
-      ∙ pass-same (earlier bytes) (λ u. refuseIf (not (leb need workspace)) 12 next) (λ u. refuseIf (not (leb need other)) 12 next) o h (sym (twelfth bytes workspace next) ∙ e)
+      ∙ pass-same (jobTests bytes) (λ u. refuseIf (not (leb need workspace)) 12 next) (λ u. refuseIf (not (leb need other)) 12 next) o h (sym (twelfth bytes workspace next) ∙ e)
 
   -- a longer workspace changes nothing but 12
   pub alone-grows : workspace ≤ other → (o : Outcome Bytes) → (o ≡ refused 12 → ⊥) → alone bytes workspace ≡ o → alone bytes other ≡ o

@@ -11,11 +11,11 @@ use Rattle.definitions.specs.Lists.{allOf}
 use Rattle.definitions.specs.Outcome.{Outcome, refused, answered, andThen, refuseIf}
 use Rattle.definitions.specs.Vectors.{Vec}
 use Rattle.definitions.specs.Subspace.{Subspace, fromPoints, flatten}
-use Rattle.definitions.specs.Orbits.{Row, Orbit, pointAt, hyperplaneOrbits}
+use Rattle.definitions.specs.Orbits.{Row, Orbit, pointAt}
 use Rattle.definitions.specs.Search.{Facet, Table, Found, Item, Verdict, over, closed, openAt, EntryLimits, limitReached, emit, emitIf, examine, search, judge, totals, putIn, starts}
 use Rattle.definitions.specs.Recursion.{Rules, Call, Inner, edgeCall, innerCall, innerCalls, rowsWithin}
-use Rattle.definitions.specs.Faceting.{prepare, faceting, searchFrom}
-use Rattle.definitions.specs.Job.{Bytes, Test, tests, passAll, callOf, between, fitting, outcomeWithin, outcome, codeOf}
+use Rattle.definitions.specs.Faceting.{prepare, faceting, searchFrom, orbitsOf}
+use Rattle.definitions.specs.Job.{Bytes, Test, tests, passAll, callOf, between, fitting, outcomeWithin, outcome, codeOf, headerTests, valueTests, jobTests, workspaceTests}
 use Rattle.laws.specs.Bools.{first, second}
 use Rattle.laws.specs.Lists.{Mem, here, there, all-of}
 
@@ -123,7 +123,7 @@ unfolding faceting edgeCall prepare searchFrom
 call-refusals zero rules plane points rows budget = by-answer
 call-refusals (suc more) rules plane points rows budget =
     let flat = map (flatten plane) points in
-    let orbits = hyperplaneOrbits (rules .tolerance) (rules .lengths) more points flat rows in
+    let orbits = orbitsOf more rules plane points rows in
     let call = faceting more rules in
     by-then (prepare more rules call plane points rows budget) _
     (by-test (ltb (rules .bounds .orbits) (length orbits)) 13 _ (omega arith) (omega arith)
@@ -134,7 +134,7 @@ call-refusals (suc more) rules plane points rows budget =
 -- ---- a job: 1 to 17
 
 numbered : (bytes : Bytes) (workspace : ℕ) → T (allOf (λ (t : Test). between 1 12 (t .number)) (tests bytes workspace))
-unfolding allOf between tests
+unfolding allOf between tests jobTests headerTests valueTests workspaceTests
 numbered bytes workspace = tt
 
 pub test-number : (bytes : Bytes) (workspace : ℕ) (t : Test) → Mem t (tests bytes workspace) → (1 ≤ t .number) × (t .number ≤ 12)

@@ -23,12 +23,16 @@ pub record Prepared : Type 0 where
   pub inner : List Inner
   pub left : ℕ
 
--- [9.1] A call up to its search: the points are flattened, all orbits found, or 13, and the inner calls made.
--- `call` is the call of the rank below.
+-- [9.1] the hyperplane orbits of a call above rank 2, whose points are flattened by its plane
+unfoldable pub orbitsOf : ℕ → Rules → Subspace → List Vec → List Row → List Orbit
+orbitsOf more rules plane points rows = hyperplaneOrbits (rules .tolerance) (rules .lengths) more points (map (flatten plane) points) rows
+
+-- [9.1] A call up to its search: all orbits found, or 13, and the inner calls made. `call` is the call of the rank
+-- below.
 unfoldable pub prepare : ℕ → Rules → Call → Subspace → List Vec → List Row → ℕ → Outcome Prepared
 prepare more rules call plane points rows budget =
     let flat = map (flatten plane) points in
-    let orbits = hyperplaneOrbits (rules .tolerance) (rules .lengths) more points flat rows in
+    let orbits = orbitsOf more rules plane points rows in
     refuseIf (ltb (rules .bounds .orbits) (length orbits)) 13 (λ u.
     andThen (innerCalls (innerCall (suc more) rules call flat rows) (rules .bounds .facets) orbits 0 budget) (λ (done : InnerCalls).
     answered (record { more = more; points = length points; rows = rows; inner = done .calls; left = done .left })))

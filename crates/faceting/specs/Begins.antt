@@ -2,7 +2,7 @@
 -- writes lies behind the shelf. Leans on Says, on the rows within a set and on the shapes of inner calls.
 use mathlib.Core.Path.{_≡_, refl, sym, ap, _∙_, subst}
 use mathlib.Core.Bool.{true, cond}
-use mathlib.Core.List.{List, [], _∷_, map}
+use mathlib.Core.List.{List, _∷_, map}
 use Prim.Native.Nat.{ℕ, zero, suc, _+_, _*_, _-_, _/_, _%_, _^_, _≤_, _<_}
 use native.Mathlib.Nat.{two-pow-succ, one-le-pow}
 use native.Mathlib.Omega.{arith}
@@ -25,7 +25,8 @@ use Rattle.stabilizers.specs.Permutations.{Permutations, rows-fit}
 use Rattle.stabilizers.specs.Inner.{inner-rows, inner-permute}
 use Rattle.orbits.specs.Numbers.{orbitOf}
 use Rattle.orbits.specs.Workspace.{orbitsIn, orbits-front}
-use Rattle.shapes.specs.Sets.{VertexSet, Rows, orbit-set, rows-within, points-of-refit}
+use Rattle.shapes.specs.Sets.{VertexSet, Rows, rows-within, points-of-refit}
+use Rattle.shapes.specs.CallOrbits.{call-orbit-set}
 use Rattle.shapes.specs.Calls.{Given}
 use Rattle.shapes.specs.Kept.{Kept, keptOf}
 use Rattle.shelf.specs.Keeps.{ShelfFits}
@@ -57,9 +58,7 @@ module _ (g : Site) (shelf : Shelf) (left i : ℕ) (s : List ℕ) (st : SiteStat
       (member-at (siteOrbits g) i (siteOrbit g i s) below)
 
   next-set : VertexSet (length (g .points)) (siteOrbit g i s .vertices)
-  next-set =
-      subst (λ (n : ℕ). VertexSet n (siteOrbit g i s .vertices)) (length-map (g .points) (flatten (g .plane)))
-      (orbit-set (g .rules .tolerance) (g .rules .lengths) (g .more) (g .points) (map (flatten (g .plane)) (g .points)) (g .rows) (siteOrbit g i s) next-orbit)
+  next-set = call-orbit-set (g .more) (g .rules) (g .plane) (g .points) (g .rows) (siteOrbit g i s) next-orbit
 
   next-size : length (sitePoints g i s) ≡ length (siteOrbit g i s .vertices)
   next-size = length-map (siteOrbit g i s .vertices) (pointAt (map (flatten (g .plane)) (g .points)))

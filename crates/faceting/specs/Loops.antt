@@ -3,9 +3,9 @@
 use mathlib.Core.Path.{_≡_, refl, sym, ap, _∙_, subst}
 use mathlib.Core.Bool.{Bool, true, false, cond}
 use mathlib.Core.Logic.{⊎-elim}
-use mathlib.Core.Option.{Option, some, none}
-use mathlib.Core.List.{List, [], _∷_, map}
-use Prim.Native.Nat.{ℕ, zero, suc, _+_, _*_, _-_, _%_, _^_, _≤_, _<_}
+use mathlib.Core.Option.{some, none}
+use mathlib.Core.List.{List, [], map}
+use Prim.Native.Nat.{ℕ, suc, _+_, _*_, _-_, _%_, _^_, _≤_, _<_}
 use native.Mathlib.Omega.{arith}
 use lib.Dec.{eqb}
 use lib.ListN.{length, take, drop, length-map}
@@ -16,13 +16,13 @@ use Rattle.definitions.specs.Subspace.{Subspace, flatten, fromPoints}
 use Rattle.definitions.specs.Orbits.{Row, image, pointAt, hyperplaneOrbits}
 use Rattle.definitions.specs.Lists.{anyOf}
 use Rattle.definitions.specs.Recursion.{rowsWithin, edgeCall, swappedEnds, separateEnds}
-use Rattle.definitions.specs.Faceting.{faceting}
+use Rattle.definitions.specs.Faceting.{orbitsOf, faceting}
 use Rattle.laws.specs.Segments.{le-or-lt}
 use Rattle.laws.specs.Sets.{verticesOf}
 use Rattle.openers.specs.Rows.{rowsIn, RowsFit, writtenRows}
 use Rattle.space.specs.declared.Subspace as stored
 use Rattle.space.specs.declared.Points.{Points}
-use Rattle.space.specs.Meaning.{SubspaceFits, PointsFit, subspaceOf, pointsOf, HoldsPoints, limitsOf}
+use Rattle.space.specs.Meaning.{PointsFit, subspaceOf, pointsOf, HoldsPoints, limitsOf}
 use Rattle.space.specs.Counts.{points-length}
 use Rattle.stabilizers.specs.Permutations.{Permutations, rows-fit}
 use Rattle.sets.specs.Refitting.{Refitted, refittedPlane, fitted}
@@ -38,7 +38,7 @@ use Rattle.shelf.specs.declared.Shelf.{Shelf}
 use Rattle.calls.specs.Layouts.{shelfThree, shelfFour, shelfFor, three-fits, four-fits, at-three, at-four}
 use Rattle.calls.specs.declared.Rules.{Rules}
 use Rattle.calls.specs.declared.Called.{Called}
-use Rattle.calls.specs.declared.Called.the-variants.{Refused, Ends, Left}
+use Rattle.calls.specs.declared.Called.the-variants.{Refused, Ends}
 use Rattle.keep.specs.Edges.{edgeAnswer}
 use Rattle.faceting.specs.declared.Next.{Next}
 use Rattle.faceting.specs.declared.Stored.{Stored}
@@ -148,7 +148,7 @@ module _ (rank : ℕ) (plane : stored.Subspace) (points : Points) (rows : List �
   module _ (r : Answer) (u : List ℕ)
       (answers : answerIn (flat .n) r u ≡ orbitsOrRefusal (rules .orbits) (hyperplaneOrbits (rules .tolerance) (limitsOf (rules .min) (rules .max)) (rank - 3) (pointsOf points) (pointsOf flat) (rowsIn (flat .n) m rows))) where
     found-for : answerIn (flat .n) r u ≡ orbitsOrRefusal (callRules rules .bounds .orbits) (siteOrbits called)
-    unfolding callRules
+    unfolding callRules orbitsOf
     found-for =
         subst (λ (ps : List Vec). answerIn (flat .n) r u ≡ orbitsOrRefusal (rules .orbits) (hyperplaneOrbits (rules .tolerance) (limitsOf (rules .min) (rules .max)) (rank - 3) (pointsOf points) ps (rowsIn (flat .n) m rows))) (holds .means) answers
 

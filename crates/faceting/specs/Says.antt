@@ -1,30 +1,27 @@
 -- What a call of rank 2 + more answers, by what the code gives back, and one turn of the loop over its orbits. Leans on Turns, Spaces, InnerLeft and the rules' meaning.
-use mathlib.Core.Path.{_≡_, refl, sym, ap, _∙_, subst}
-use mathlib.Core.Bool.{Bool, true, false, cond}
-use mathlib.Core.List.{List, [], _∷_, _++_, map}
-use Prim.Native.Nat.{ℕ, zero, suc, _+_, _*_, _-_, _≤_, _<_}
-use native.Mathlib.Omega.{arith}
+use mathlib.Core.Path.{_≡_}
+use mathlib.Core.Bool.{true}
+use mathlib.Core.List.{List, map}
+use Prim.Native.Nat.{ℕ, zero, suc, _+_, _-_, _≤_, _<_}
 use lib.Dec.{eqb}
-use lib.ListN.{length, getD, take, drop, length-map}
+use lib.ListN.{length, drop}
 use Rattle.definitions.specs.Outcome.{Outcome, refused, answered}
 use Rattle.definitions.specs.Vectors.{Vec}
 use Rattle.definitions.specs.Subspace.{Subspace, flatten, fromPoints}
 use Rattle.definitions.specs.Orbits.{Row, Orbit, pointAt}
-use Rattle.definitions.specs.Recursion.{Rules, Entry, Answer, Inner, InnerCalls, innerCalls, rowsWithin, swappedEnds, separateEnds}
-use Rattle.definitions.specs.Faceting.{Prepared, prepare, faceting}
+use Rattle.definitions.specs.Recursion.{Rules, InnerCalls, innerCalls, rowsWithin}
+use Rattle.definitions.specs.Faceting.{Prepared, orbitsOf, prepare, faceting}
 use Rattle.openers.specs.Rows.{rowsIn, RowsFit}
 use Rattle.orbits.specs.Numbers.{orbitOf}
-use Rattle.shapes.specs.Answered.{preparation}
 use Rattle.shapes.specs.Calls.{Given}
-use Rattle.shapes.specs.Kept.{Kept, keptOf}
-use Rattle.shelf.specs.Keeps.{Keeps, Ridges}
+use Rattle.shapes.specs.Kept.{keptOf}
 use Rattle.shelf.specs.Leaves.{Leaves, answerLeft}
 use Rattle.shelf.specs.declared.Shelf.{Shelf}
 use Rattle.shelf.specs.declared.Level.{Level}
 use Rattle.calls.specs.Layouts.{shelfFor}
 use Rattle.calls.specs.declared.Called.{Called}
 use Rattle.calls.specs.declared.Called.the-variants.{Refused, Ends, Left}
-use Rattle.keep.specs.Adding.{orbitAt, withFacets}
+use Rattle.keep.specs.Adding.{orbitAt}
 use Rattle.keep.specs.Edges.{edgeAnswer}
 use Rattle.faceting.specs.State as state
 use Rattle.faceting.specs.State.{State}
@@ -59,7 +56,7 @@ pub record Site : Type 0 where
   pub budget : ℕ
 
 abbrev pub siteOrbits : Site → List Orbit
-siteOrbits g = state.orbitsOf (g .more) (g .rules) (g .plane) (g .points) (g .rows) (g .budget) (length (g .points))
+siteOrbits g = orbitsOf (g .more) (g .rules) (g .plane) (g .points) (g .rows)
 
 abbrev pub SiteState : Site → Shelf → ℕ → ℕ → List ℕ → Type 0
 SiteState g shelf left i s = State (g .more) (g .rules) (g .plane) (g .points) (g .rows) (g .budget) (length (g .points)) shelf left i s

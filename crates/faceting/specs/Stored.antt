@@ -1,31 +1,30 @@
 -- What became of an inner call: a refusal of the whole, or the loop one turn further. What `keep_edge` and `keep_polygons` are asked and what follows of what they ensure, for any number that is the
 -- number of points. Leans on Keeping.
-use mathlib.Core.Path.{_≡_, refl, sym, ap, _∙_, subst}
+use mathlib.Core.Path.{_≡_, refl, sym, ap, subst}
 use mathlib.Core.Bool.{Bool}
 use mathlib.Core.List.{List, [], _∷_, _++_, map}
 use Prim.Native.Nat.{ℕ, zero, suc, _+_, _*_, _≤_, _<_}
 use native.Mathlib.Omega.{arith}
-use lib.ListN.{length, take, drop}
+use lib.ListN.{length, drop}
 use Rattle.definitions.specs.Outcome.{refused}
 use Rattle.definitions.specs.Job.{numberAt}
-use Rattle.definitions.specs.Subspace.{flatten}
 use Rattle.definitions.specs.Recursion.{Inner}
 use Rattle.definitions.specs.Faceting.{faceting}
 use Rattle.laws.specs.Sets.{verticesOf}
 use Rattle.orbits.specs.Numbers.{orbitOf}
-use Rattle.shapes.specs.FewOrbits.{orbits-few, pairs-few}
+use Rattle.shapes.specs.FewOrbits.{pairs-few}
+use Rattle.shapes.specs.CallOrbits.{call-orbits-few}
 use Rattle.shapes.specs.Kept.{Kept, keptOf}
 use Rattle.shelf.specs.Keeps.{Keeps, Ridges}
 use Rattle.shelf.specs.declared.Shelf.{Shelf}
 use Rattle.shelf.specs.declared.Level.{Level}
-use Rattle.calls.specs.declared.Called.{Called}
 use Rattle.calls.specs.declared.Called.the-variants.{Refused, Ends, Left}
 use Rattle.keep.specs.Adding.{orbitAt, withFacets}
 use Rattle.keep.specs.Edges.{edgeAnswer}
 use Rattle.keep.specs.Rooms.{RoomFor}
 use Rattle.keep.specs.Storing.{beside-take}
 use Rattle.keep.specs.Stocked.{ShelfWritten}
-use Rattle.keep.specs.Whole.{nextVertices, InnerLeft, innerAnswer, PolygonRoom}
+use Rattle.keep.specs.Whole.{InnerLeft, innerAnswer, PolygonRoom}
 use Rattle.faceting.specs.Spaces.{Laid}
 use Rattle.faceting.specs.Says.{Site, Turn, Says, SiteState, siteOrbits, siteOrbit, sitePoints, sitePlane, siteRows, siteWhole}
 use Rattle.faceting.specs.Keeping as keeping
@@ -46,7 +45,7 @@ few-three : (g : Site) → g .more ≡ 0 → length (g .points) ≤ 20 → lengt
 few-three g e few =
     pairs-few (length (g .points)) (length (siteOrbits g)) few
     (subst (λ (more : ℕ). 2 * length (siteOrbits (record { more = more; rules = g .rules; plane = g .plane; points = g .points; rows = g .rows; budget = g .budget })) + length (g .points) ≤ length (g .points) * length (g .points)) (sym e)
-    (orbits-few (g .rules .tolerance) (g .rules .lengths) (g .points) (map (flatten (g .plane)) (g .points)) (g .rows)))
+    (call-orbits-few (g .rules) (g .plane) (g .points) (g .rows)))
 
 laid-more : (shelf : Shelf) (k : ℕ) → Laid (withFacets shelf k) shelf
 unfolding withFacets

@@ -1,7 +1,7 @@
 -- One turn of a call's loop: the refit of the next orbit's set, the inner call, and the test of the facets, each with what it says of the definition's whole. Leans on State.
-use mathlib.Core.Path.{_≡_, refl, sym, ap, _∙_, subst}
+use mathlib.Core.Path.{_≡_, refl, sym, _∙_}
 use mathlib.Core.Bool.{true, false}
-use mathlib.Core.List.{List, [], _∷_, _++_, map, flatMap}
+use mathlib.Core.List.{List, [], _∷_, map, flatMap}
 use Prim.Native.Nat.{ℕ, suc, _+_, _≤_, _<_}
 use native.Mathlib.Omega.{arith}
 use lib.Dec.{eqb}
@@ -12,10 +12,10 @@ use Rattle.definitions.specs.Vectors.{Vec}
 use Rattle.definitions.specs.Subspace.{Subspace, flatten, fromPoints}
 use Rattle.definitions.specs.Orbits.{Row, Orbit, pointAt}
 use Rattle.definitions.specs.Recursion.{Rules, Entry, Answer, Inner, InnerCalls, innerCalls, rowsWithin}
-use Rattle.definitions.specs.Faceting.{faceting}
+use Rattle.definitions.specs.Faceting.{orbitsOf, faceting}
 use Rattle.shapes.specs.Answered.{facetNumber, facetSum}
-use Rattle.shapes.specs.Kept.{Kept, keptOf}
-use Rattle.shelf.specs.Keeps.{Keeps, facetsOf, placesOf}
+use Rattle.shapes.specs.Kept.{keptOf}
+use Rattle.shelf.specs.Keeps.{placesOf}
 use Rattle.shelf.specs.declared.Shelf.{Shelf}
 use Rattle.calls.specs.Steps.{inner-refit, inner-refused, inner-answered, reached-refused, reached-full}
 use Rattle.keep.specs.Rooms.{places-number}
@@ -31,7 +31,7 @@ kept-sum (i ∷ done) =
     ∙ ((λ t. length-map (i .answer .entries) (λ (e : Entry). map (λ (place : Pair). place .0) (e .list)) t + kept-sum done t))
 
 module _ (more : ℕ) (rules : Rules) (plane : Subspace) (points : List Vec) (rows : List Row) (budget n : ℕ) (shelf : Shelf) (left i : ℕ) (s : List ℕ)
-    (st : State more rules plane points rows budget n shelf left i s) (h : i < length (state.orbitsOf more rules plane points rows budget n)) where
+    (st : State more rules plane points rows budget n shelf left i s) (h : i < length (orbitsOf more rules plane points rows)) where
   abbrev pub orbit : Orbit
   orbit = state.next more rules plane points rows budget n shelf left i s st h
 
@@ -47,7 +47,7 @@ module _ (more : ℕ) (rules : Rules) (plane : Subspace) (points : List Vec) (ro
 
   -- what the inner calls of the whole call come to
   abbrev pub whole : Outcome InnerCalls
-  whole = innerCalls (state.inner more rules plane points rows budget n) (rules .bounds .facets) (state.orbitsOf more rules plane points rows budget n) 0 budget
+  whole = innerCalls (state.inner more rules plane points rows budget n) (rules .bounds .facets) (orbitsOf more rules plane points rows) 0 budget
 
   pub facets-so-far : shelf .facets ≡ facetSum (st .done)
   facets-so-far = st .keeps .facets ∙ (sym (places-number (map keptOf (st .done))) ∙ kept-sum (st .done))

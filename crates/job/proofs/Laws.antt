@@ -6,21 +6,20 @@ use mathlib.Core.Option.{Option, some, none}
 use Prim.Native.Nat.{ℕ, suc, _+_, _-_, _*_, _≤_, _<_}
 use native.Mathlib.Omega.{arith}
 use borrow.Author.Tests.{lt-leb, le-leb, eq-eqb, ne-eqb}
-use lib.Dec.{leb, ltb, eqb, leb→le}
+use lib.Dec.{leb, eqb, leb→le}
 use lib.IntN.{pos}
 use lib.ListN.{length, getD, take, drop}
 use lib.Ieee.{Float, binary64, ofBits, le}
 use Rattle.definitions.specs.Lists.{allOf, countFrom}
 use Rattle.definitions.specs.Vectors.{zero64}
-use Rattle.definitions.specs.Job.{Bytes, readJob, numberAt, floatAt, floatsAt, vectorsAt, between, within, allWithin, limitGood, floatsGood, sameNats, isPermutation, Test}
+use Rattle.definitions.specs.Job.{Bytes, readJob, floatAt, floatsAt, vectorsAt, between, within, allWithin, limitGood, floatsGood, sameNats, isPermutation, Test}
 use Rattle.laws.specs.Bools.{true→holds, first, second}
 use Rattle.laws.specs.Refusals.{firstRefused, firstOf, stops, first-refused-append}
 use Rattle.laws.specs.Tests.{product-at-most, spaced, spaced-first, all-same, all-spaced, same-first, same-none, between-opposites}
 use Rattle.space.specs.Meaning.{lengthOf}
 use Rattle.load.specs.declared.Header.{Header}
-use Rattle.load.specs.declared.Places.{Places}
 use Rattle.load.specs.declared.Fields.{Fields}
-use Rattle.load.specs.Places.{headerOf, placesOf, Counted, Exact, size-is}
+use Rattle.load.specs.Places.{Counted}
 use Rattle.load.specs.Meaning.{fieldsOf, rowsAt, Loadable}
 use Rattle.job.specs.declared.Checked.the-variants.{Refused, Passed}
 use Rattle.job.specs.Refusal.{checkedAs, checkedBy, hasMark, sizeWithin}

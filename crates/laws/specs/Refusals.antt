@@ -125,6 +125,12 @@ answered-passed (t ∷ ts) next a e =
     passes true z = tt
     passes false z = absurd (true≢false z)
 
+-- one list behind another
+pub pass-all-append : {A : Type 0} (ts us : List Test) (next : Unit {0} → Outcome A) → passAll (ts ++ us) next ≡ passAll ts (λ u. passAll us next)
+unfolding passAll
+pass-all-append [] us next = refl
+pass-all-append {A} (t ∷ ts) us next = ap (λ (o : Outcome A). refuseIf (not (t .passes tt)) (t .number) (λ u. o)) (pass-all-append ts us next)
+
 -- two continuations that are alike where all tests are passed
 pub pass-all-same : {A : Type 0} (ts : List Test) (f g : Unit {0} → Outcome A) → (AllPassed ts → f tt ≡ g tt) → passAll ts f ≡ passAll ts g
 unfolding passAll allOf refuseIf

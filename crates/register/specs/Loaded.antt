@@ -1,6 +1,6 @@
 -- A job that passes refusals 1 to 12, loaded: its plane, points, rows and rules are what a call asks, and the definition's call on them is the job's. Leans on the check, on the loaded fields
 -- and on what a call asks.
-use mathlib.Core.Path.{_≡_, refl, sym, ap, _∙_, subst}
+use mathlib.Core.Path.{_≡_, sym, ap, _∙_, subst}
 use mathlib.Core.List.{List}
 use mathlib.Core.Option.{none}
 use Prim.Native.Nat.{ℕ, _-_, _*_, _≤_}
@@ -141,7 +141,7 @@ module _ (bytes : Bytes) (workspace : ℕ) (f : Fields) (passed : Passed f ≡ c
     pub outcome-is : (space : ℕ) → rest space (f .budget) (faceting (f .rank - 2) (callRules rules) (subspaceOf plane) (pointsOf points) (rowsIn (f .n) (f .count) rows) (f .budget)) ≡ outcome bytes workspace space
     unfolding outcome
     outcome-is space =
-        let same = ap (λ (n : ℕ). faceting (f .rank - 2) (rulesOf rules) (subspaceOf plane) (pointsOf points) (rowsIn n (f .count) rows) (f .budget)) (sym (l .points-n)) ∙ call-is in
+        let same = ap (λ (n : ℕ). faceting (f .rank - 2) (callRules rules) (subspaceOf plane) (pointsOf points) (rowsIn n (f .count) rows) (f .budget)) (sym (l .points-n)) ∙ call-is in
         (λ i. rest space (counts .budget-is i) (same i)) ∙ sym (outcome-passed bounds1 bytes workspace space none-fails)
 
 -- ---- a job that is refused

@@ -11,10 +11,10 @@ use Rattle.definitions.specs.Lists.{anyOf}
 use Rattle.definitions.specs.Outcome.{Outcome, answered, andThen, refuseIf}
 use Rattle.definitions.specs.Vectors.{Vec}
 use Rattle.definitions.specs.Subspace.{Subspace, flatten, fromPoints}
-use Rattle.definitions.specs.Orbits.{Row, Orbit, image, pointAt, hyperplaneOrbits}
+use Rattle.definitions.specs.Orbits.{Row, Orbit, image, pointAt}
 use Rattle.definitions.specs.Search.{Facet, Table, Item, Verdict, over, closed, openAt, EntryLimits, Found, limitReached, emit, emitIf, judge, totals, putIn, examine, search, starts}
 use Rattle.definitions.specs.Recursion.{Rules, Answer, Inner, InnerCalls, innerCall, innerCalls, beforeThese, rowsWithin, edgeCall, swappedEnds, separateEnds}
-use Rattle.definitions.specs.Faceting.{Prepared, prepare, searchFrom, tableFor, entryLimits, finish, faceting}
+use Rattle.definitions.specs.Faceting.{Prepared, orbitsOf, prepare, searchFrom, tableFor, entryLimits, finish, faceting}
 use Rattle.laws.specs.Outcomes.{answered-before, not-refused-if}
 use Rattle.shapes.specs.Answered.{answers-equal}
 
@@ -103,7 +103,7 @@ unfolding faceting prepare finish
 call-spends zero rules plane points rows budget a e = edge-spends plane points rows budget a e
 call-spends (suc more) rules plane points rows budget a e =
     let flat = map (flatten plane) points in
-    let orbits = hyperplaneOrbits (rules .tolerance) (rules .lengths) more points flat rows in
+    let orbits = orbitsOf more rules plane points rows in
     let inner = innerCall (suc more) rules (faceting more rules) flat rows in
     let calls = innerCalls inner (rules .bounds .facets) orbits 0 budget in
     let next : InnerCalls → Outcome Prepared = λ done. answered (record { more = more; points = length points; rows = rows; inner = done .calls; left = done .left }) in

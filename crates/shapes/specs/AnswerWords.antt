@@ -10,14 +10,14 @@ use lib.ListN.{length, getD, take, length-map, length-replicate}
 use Rattle.definitions.specs.Lists.{Pair, countFrom}
 use Rattle.definitions.specs.Outcome.{answered}
 use Rattle.definitions.specs.Vectors.{Vec}
-use Rattle.definitions.specs.Subspace.{Subspace, flatten}
-use Rattle.definitions.specs.Orbits.{Row, Orbit, hyperplaneOrbits}
+use Rattle.definitions.specs.Subspace.{Subspace}
+use Rattle.definitions.specs.Orbits.{Row, Orbit}
 use Rattle.definitions.specs.Figures.{Figure, Compound, dyad, moveEnds, labelIrc}
 use Rattle.definitions.specs.Search.{Facet}
 use Rattle.definitions.specs.Recursion.{Rules, Bounds, Entry, Answer, Inner, vertexRidge, rowsWithin}
 use Rattle.definitions.specs.Faceting.{Prepared, possibleFacets, split, facetImages, entryOf, finish, faceting}
 use Rattle.definitions.specs.Job.{counted, figureWords, entryWords, compoundWords, summaryWords, answerWords}
-use Rattle.laws.specs.Lists.{Mem, in-map, of-map, of-count, count-length, in-replicate}
+use Rattle.laws.specs.Lists.{Mem, in-map, of-map, of-count, count-length, in-replicate, there}
 use Rattle.laws.specs.Ascending.{Differ, Distinct}
 use Rattle.laws.specs.Pairs.{pairs-map}
 use Rattle.laws.specs.Ranges.{distinct-below}
@@ -27,9 +27,9 @@ use Rattle.shapes.specs.LowRanks.{RankTwo, rank-two, innerAt, inner-at-m
 use Rattle.shapes.specs.Compounds.{composed, compounds-ascend}
 use Rattle.shapes.specs.Calls.{Given, innerPoints, inner-given, facetRank, ShapedAnswer, shaped-answer}
 use Rattle.shapes.specs.EntryFigures.{facets-many, call-split, found-split-in-call}
-use Rattle.shapes.specs.Sets.{Rows}
-use Rattle.shapes.specs.Sizes.{split-length, orbit-counted}
+use Rattle.shapes.specs.Sizes.{split-length}
 use Rattle.shapes.specs.FewElements.{sizes, Few, step-few, mostElements, few-elements, inner-points, inner-rows, possible-few}
+use Rattle.shapes.specs.CallOrbits.{call-orbit-counted}
 use Rattle.shapes.specs.FigureNumbers.{WordsBelow, none-below, more-below, joined-below, each-below, counted-below, OnGround, ground-wider, ground-moved, figure-ground, dyad-ground, ridge-ground, figure-below, summary-below}
 
 -- ---- what is counted beside figures
@@ -131,11 +131,8 @@ module _ (most more : ℕ) (rules : Rules) (plane : Subspace) (points : List Vec
   -- an orbit has no more sets than there are rows
   count-below : (i : Inner) → Mem i (p .inner) → i .orbit .count < most
   count-below i m =
-      let flat = map (flatten plane) points in
-      let orbits = hyperplaneOrbits (rules .tolerance) (rules .lengths) more points flat rows in
-      let is-orbit : Mem (i .orbit) orbits = subst (λ (os : List Orbit). Mem (i .orbit) os) (c .prepared .inner .of-orbits) (in-map (λ (j : Inner). j .orbit) i (p .inner) m) in
-      let good = subst (λ (k : ℕ). Rows k rows) (sym (length-map points (flatten plane))) (given .rows-good) in
-      let k = orbit-counted (rules .tolerance) (rules .lengths) more points flat rows good (i .orbit) is-orbit .few in
+      let is-orbit = subst (λ (os : List Orbit). Mem (i .orbit) os) (c .prepared .inner .of-orbits) (in-map (λ (j : Inner). j .orbit) i (p .inner) m) in
+      let k = call-orbit-counted more rules plane points rows (given .rows-good) (i .orbit) is-orbit .few in
       let r = under .few-rows in
       omega arith
 

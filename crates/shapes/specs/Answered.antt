@@ -10,10 +10,10 @@ use lib.ListN.{length, length-append, length-map}
 use Rattle.definitions.specs.Outcome.{Outcome, refused, answered, andThen, refuseIf}
 use Rattle.definitions.specs.Vectors.{Vec}
 use Rattle.definitions.specs.Subspace.{Subspace, flatten, fromPoints}
-use Rattle.definitions.specs.Orbits.{Row, Orbit, pointAt, hyperplaneOrbits}
+use Rattle.definitions.specs.Orbits.{Row, Orbit, pointAt}
 use Rattle.definitions.specs.Search.{Facet, Table, Item, Verdict, over, closed, openAt, EntryLimits, Found, limitReached, emit, emitIf, judge, totals, putIn, examine, search, starts}
 use Rattle.definitions.specs.Recursion.{Rules, Answer, Call, Inner, InnerCalls, innerCall, innerCalls, beforeThese, rowsWithin}
-use Rattle.definitions.specs.Faceting.{Prepared, prepare, searchFrom, finish, faceting}
+use Rattle.definitions.specs.Faceting.{Prepared, orbitsOf, prepare, searchFrom, finish, faceting}
 use Rattle.laws.specs.Bools.{false→fails}
 use Rattle.laws.specs.Lists.{Mem}
 use Rattle.laws.specs.Outcomes.{answered-before, not-refused-if}
@@ -108,7 +108,7 @@ pub record Preparation (more : ℕ) (rules : Rules) (call : Call) (plane : Subsp
   pub more-is : p .more ≡ more
   pub points-are : p .points ≡ length points
   pub rows-are : p .rows ≡ rows
-  pub inner : AllInner (suc more) rules call (map (flatten plane) points) rows (hyperplaneOrbits (rules .tolerance) (rules .lengths) more points (map (flatten plane) points) rows) (p .inner)
+  pub inner : AllInner (suc more) rules call (map (flatten plane) points) rows (orbitsOf more rules plane points rows) (p .inner)
   pub few-orbits : length (p .inner) ≤ rules .bounds .orbits
   pub few-facets : facetSum (p .inner) ≤ rules .bounds .facets
 
@@ -117,7 +117,7 @@ pub preparation : (more : ℕ) (rules : Rules) (call : Call) (plane : Subspace) 
 unfolding prepare
 preparation more rules call plane points rows budget p e =
     let flat = map (flatten plane) points in
-    let orbits = hyperplaneOrbits (rules .tolerance) (rules .lengths) more points flat rows in
+    let orbits = orbitsOf more rules plane points rows in
     let calls = innerCalls (innerCall (suc more) rules call flat rows) (rules .bounds .facets) orbits 0 budget in
     let next : InnerCalls → Outcome Prepared = λ done. answered (record { more = more; points = length points; rows = rows; inner = done .calls; left = done .left }) in
     let a = not-refused-if (ltb (rules .bounds .orbits) (length orbits)) 13 (λ u. andThen calls next) p e in

@@ -10,7 +10,7 @@ use Rattle.definitions.specs.Lists.{countFrom}
 use Rattle.definitions.specs.Outcome.{answered}
 use Rattle.definitions.specs.Vectors.{Vec}
 use Rattle.definitions.specs.Subspace.{Subspace, flatten}
-use Rattle.definitions.specs.Orbits.{Row, Orbit, image, pointAt, hyperplaneOrbits}
+use Rattle.definitions.specs.Orbits.{Row, Orbit, image, pointAt}
 use Rattle.definitions.specs.Figures.{Figure, Elements, dyad, moveEnds, sortStrong}
 use Rattle.definitions.specs.Search.{Facet, Found}
 use Rattle.definitions.specs.Recursion.{Rules, Entry, Answer, Call, Inner, vertexRidge, moveSorted, rowsWithin}
@@ -25,7 +25,8 @@ use Rattle.shapes.specs.LowRanks.{RankTwo, rank-two}
 use Rattle.shapes.specs.Shape.{Element, Stack, Shaped, shaped-drop}
 use Rattle.shapes.specs.Move.{moved-shaped, raised-shaped}
 use Rattle.shapes.specs.FigureOf.{Stacked, figure-shaped, figure-same}
-use Rattle.shapes.specs.Sets.{VertexSet, Rows, orbit-set, set-rising, row-into, rows-within, points-of-refit}
+use Rattle.shapes.specs.Sets.{VertexSet, Rows, set-rising, row-into, rows-within, points-of-refit}
+use Rattle.shapes.specs.CallOrbits.{call-orbit-set}
 
 -- ---- inner calls inherit
 
@@ -42,10 +43,8 @@ module _ (more : ℕ) (rules : Rules) (call : Call) (plane : Subspace) (points :
   -- the vertices of an orbit's first set ascend, below the number of points
   pub inner-set : (i : Inner) → Mem i (p .inner) → VertexSet (length points) (i .orbit .vertices)
   inner-set i m =
-      let orbits = hyperplaneOrbits (rules .tolerance) (rules .lengths) more points (map (flatten plane) points) rows in
-      let is-orbit : Mem (i .orbit) orbits = subst (λ (os : List Orbit). Mem (i .orbit) os) (made .inner .of-orbits) (in-map (λ (j : Inner). j .orbit) i (p .inner) m) in
-      subst (λ (n : ℕ). VertexSet n (i .orbit .vertices)) (length-map points (flatten plane))
-      (orbit-set (rules .tolerance) (rules .lengths) more points (map (flatten plane) points) rows (i .orbit) is-orbit)
+      call-orbit-set more rules plane points rows (i .orbit)
+      (subst (λ (os : List Orbit). Mem (i .orbit) os) (made .inner .of-orbits) (in-map (λ (j : Inner). j .orbit) i (p .inner) m))
 
   pub inner-size : (i : Inner) → length (innerPoints plane points i) ≡ length (i .orbit .vertices)
   inner-size i = length-map (i .orbit .vertices) (pointAt (map (flatten plane) points))

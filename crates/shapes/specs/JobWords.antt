@@ -6,14 +6,15 @@ use Prim.Native.Nat.{ℕ, zero, suc, _-_, _≤_, _<_}
 use native.Mathlib.Omega.{arith}
 use lib.Dec.{T, leb, leb→le}
 use lib.ListN.{length, take, drop, length-take}
-use Rattle.definitions.specs.Outcome.{Outcome, answered, andThen}
+use Rattle.definitions.specs.Outcome.{answered}
 use Rattle.definitions.specs.Recursion.{Answer}
-use Rattle.definitions.specs.Job.{Bytes, little, numberAt, readJob, between, tests, passAll, bounds1, rulesOf, planeOf, callOf, fitting, answerBytes, answerWords, outcomeWithin, outcome}
+use Rattle.definitions.specs.Job.{Bytes, little, numberAt, readJob, between, bounds1, rulesOf, planeOf, callOf, answerWords, headerTests, valueTests, jobTests}
 use Rattle.definitions.specs.Demands.{Accepted}
 use Rattle.laws.specs.Bools.{second}
 use Rattle.laws.specs.Lists.{Mem, here, there}
+use Rattle.laws.specs.Refusals.{AllPassed, passesAt, passed}
 use Rattle.laws.specs.Pairs.{in-take}
-use Rattle.shapes.specs.Jobs.{RowsPassed, passed-test, points-length, rows-length, job-given, accepted-rows}
+use Rattle.shapes.specs.Jobs.{RowsPassed, accepted-passed, points-length, rows-length, job-given, accepted-rows}
 use Rattle.shapes.specs.FewElements.{mostElements}
 use Rattle.shapes.specs.FigureNumbers.{WordsBelow}
 use Rattle.shapes.specs.AnswerWords.{words-below}
@@ -59,9 +60,9 @@ budget-below bytes are = number-below bytes are _
 
 -- ---- the ranks of jobs
 
-pub rank-passed : {A : Type 0} (bytes : Bytes) (workspace : ℕ) (next : Unit {0} → Outcome A) (a : A) → passAll (tests bytes workspace) next ≡ answered a → T (between 2 4 (readJob bytes .rank))
-unfolding tests
-rank-passed bytes workspace next a e = passed-test (tests bytes workspace) next a e _ (there (there (here refl)))
+pub rank-passed : (bytes : Bytes) → AllPassed (jobTests bytes) → T (between 2 4 (readJob bytes .rank))
+unfolding passesAt jobTests headerTests valueTests
+rank-passed bytes h = passed 3 (jobTests bytes) h
 
 -- the figures of calls of these ranks, on 20 points, with 120 rows and 1,024 possible facets
 fewest : (k : ℕ) → k ≤ 2 → mostElements 20 120 1024 k < u32s
@@ -90,8 +91,4 @@ job-words bytes passed ranked a e =
 
 -- of every accepted job
 pub accepted-words : (bytes : Bytes) → AreBytes bytes → Accepted bytes → (a : Answer) → callOf bounds1 (readJob bytes) ≡ answered a → WordsBelow u32s (answerWords (readJob bytes .budget) a)
-unfolding outcome outcomeWithin
-accepted-words bytes are accepted a e =
-    let job = readJob bytes in
-    let next : Unit {0} → Outcome Bytes = λ u. andThen (callOf bounds1 job) (λ (x : Answer). fitting (accepted .room) (answerBytes (job .budget) x)) in
-    job-words bytes (accepted-rows bytes accepted) (rank-passed bytes (accepted .workspace) next (accepted .answer) (accepted .is-answered)) a e (job .budget) (budget-below bytes are)
+accepted-words bytes are accepted a e = job-words bytes (accepted-rows bytes accepted) (rank-passed bytes (accepted-passed bytes accepted)) a e (readJob bytes .budget) (budget-below bytes are)

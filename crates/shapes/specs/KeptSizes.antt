@@ -12,10 +12,10 @@ use Rattle.definitions.specs.Lists.{Pair, anyOf, keep, countFrom}
 use Rattle.definitions.specs.Outcome.{answered}
 use Rattle.definitions.specs.Vectors.{Vec}
 use Rattle.definitions.specs.Subspace.{Subspace, flatten}
-use Rattle.definitions.specs.Orbits.{Row, Orbit, image, hyperplaneOrbits}
+use Rattle.definitions.specs.Orbits.{Row, Orbit, image}
 use Rattle.definitions.specs.Figures.{Figure, Compound, rankOf, dyad}
 use Rattle.definitions.specs.Recursion.{Rules, Entry, Answer, Inner, vertexRidge, swappedEnds, separateEnds, edgeCall, keepsSet, rowWithin, rowsWithin}
-use Rattle.definitions.specs.Faceting.{Prepared, possibleFacets, finish, faceting}
+use Rattle.definitions.specs.Faceting.{Prepared, orbitsOf, possibleFacets, finish, faceting}
 use Rattle.laws.specs.Bools.{true→holds}
 use Rattle.laws.specs.Lists.{Mem, in-map, of-map, in-count, of-count, count-at, count-length, member-at, any-witness}
 use Rattle.laws.specs.Orders.{nats}
@@ -33,8 +33,9 @@ use Rattle.shapes.specs.EdgeSets.{Proper, EdgeSet}
 use Rattle.shapes.specs.AllPairs.{allPairs, in-all-pairs, of-all-pairs}
 use Rattle.shapes.specs.Polygons.{edgeVia, via-proper, edgePairs, polygon-edges}
 use Rattle.shapes.specs.SplitCalls.{listsOf}
-use Rattle.shapes.specs.Sizes.{edges-few, found-length, Counted, orbit-counted}
-use Rattle.shapes.specs.FewOrbits.{keep-few, orbits-few, pairs-few}
+use Rattle.shapes.specs.Sizes.{edges-few, found-length, Counted}
+use Rattle.shapes.specs.CallOrbits.{call-orbit-counted, call-orbits-few}
+use Rattle.shapes.specs.FewOrbits.{keep-few, pairs-few}
 use Rattle.shapes.specs.EntryFigures.{facets-many, call-split, edge-proper, possible-polygon}
 use Rattle.shapes.specs.Ridges.{twice, vertices-twice}
 use Rattle.shapes.specs.Kept.{Kept, endsOf, keptOf}
@@ -43,22 +44,19 @@ use Rattle.shapes.specs.KeptTable.{inner-one-ridge}
 -- ---- orbits
 
 module _ (more : ℕ) (rules : Rules) (plane : Subspace) (points : List Vec) (rows : List Row) (p : Prepared) (made : Preparation more rules (faceting more rules) plane points rows p) where
-  call-orbit : (i : Inner) → Mem i (p .inner) → Mem (i .orbit) (hyperplaneOrbits (rules .tolerance) (rules .lengths) more points (map (flatten plane) points) rows)
+  call-orbit : (i : Inner) → Mem i (p .inner) → Mem (i .orbit) (orbitsOf more rules plane points rows)
   call-orbit i m = subst (λ (os : List Orbit). Mem (i .orbit) os) (made .inner .of-orbits) (in-map (λ (j : Inner). j .orbit) i (p .inner) m)
 
   -- every orbit of a call has a set, and no more than rows
   pub call-counted : Given points rows → (i : Inner) → Mem i (p .inner) → Counted rows (i .orbit .count)
-  call-counted given i m =
-      orbit-counted (rules .tolerance) (rules .lengths) more points (map (flatten plane) points) rows
-      (subst (λ (n : ℕ). Rows n rows) (sym (length-map points (flatten plane))) (given .rows-good)) (i .orbit) (call-orbit i m)
+  call-counted given i m = call-orbit-counted more rules plane points rows (given .rows-good) (i .orbit) (call-orbit i m)
 
 -- the orbits of a call of rank 3 are no more than its pairs of points
 pub rank-three-orbits : (rules : Rules) (plane : Subspace) (points : List Vec) (rows : List Row) (p : Prepared) → Preparation 0 rules (faceting 0 rules) plane points rows p
     → 2 * length (p .inner) + length points ≤ length points * length points
 rank-three-orbits rules plane points rows p made =
-    let flat = map (flatten plane) points in
-    let e : length (p .inner) ≡ length (hyperplaneOrbits (rules .tolerance) (rules .lengths) 0 points flat rows) = sym (length-map (p .inner) (λ (i : Inner). i .orbit)) ∙ ap length (made .inner .of-orbits) in
-    let k = orbits-few (rules .tolerance) (rules .lengths) points flat rows in
+    let e : length (p .inner) ≡ length (orbitsOf 0 rules plane points rows) = sym (length-map (p .inner) (λ (i : Inner). i .orbit)) ∙ ap length (made .inner .of-orbits) in
+    let k = call-orbits-few rules plane points rows in
     omega arith
 
 -- ---- answers of rank 2 and 3

@@ -35,6 +35,7 @@ pub mod FewElements
 pub mod FigureNumbers
 pub mod AnswerWords
 pub mod JobWords
+pub mod CallOrbits
 pub mod KeptSizes
 pub mod KeptRidges
 pub mod KeptAnswer
