@@ -18,8 +18,8 @@ use Rattle.laws.specs.Sorting.{byKey, sort-map, of-sorted}
 use Rattle.laws.specs.Merging.{sort-same}
 use Rattle.laws.specs.Places.{map-same, map-self}
 use Rattle.completeness.specs.Taken.{OtherOrbit}
-use Rattle.compounds.specs.Numbers.{AllBelow, compare-numbered, labels-numbered, labelsOf, compoundsFrom}
-use Rattle.compounds.specs.Splitting.{splitList}
+use Rattle.order.specs.Numbers.{AllBelow, compare-numbered, labels-numbered, labelsOf, compoundsFrom}
+use Rattle.splitting.specs.Splitting.{splitList}
 use Rattle.shapes.specs.Kept.{Kept, keptParts, keptFigure, keptPossible, keptEntry, keptAnswer}
 use Rattle.shelf.specs.declared.Shelf.{Shelf}
 use Rattle.shelf.specs.declared.Level.{Level}

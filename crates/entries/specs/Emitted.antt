@@ -15,7 +15,7 @@ use Rattle.pool.specs.Pool.{closedLists, Sound}
 use Rattle.facets.specs.declared.Areas.{Areas}
 use Rattle.facets.specs.Layout.{facetOf, listsPart}
 use Rattle.frames.specs.Paths.{emittedIn, Emitted}
-use Rattle.compounds.specs.Numbers.{AllBelow}
+use Rattle.order.specs.Numbers.{AllBelow}
 use Rattle.shapes.specs.Kept.{Kept}
 use Rattle.shelf.specs.declared.Shelf.{Shelf}
 use Rattle.shelf.specs.Keeps.{Keeps, facetsOf}

@@ -12,10 +12,10 @@ use Rattle.laws.specs.Lists.{Mem}
 use Rattle.laws.specs.Sorting.{of-sorted}
 use Rattle.laws.specs.Segments.{part, take-sets-le}
 use Rattle.pool.specs.Pool.{count, closedLists, closed-length, Sound}
-use Rattle.compounds.specs.Areas.{HoldsOrder, listsIn, lists-length, lists-kept, holds-kept}
-use Rattle.compounds.specs.Numbers.{AllBelow, AllAscending, labelsOf}
-use Rattle.compounds.specs.Labels.{labelBytes, labelsIn, labels-read}
-use Rattle.compounds.specs.Sorted.{ordered, ordered-length, ordered-holds, ordered-ascends, sorted-lists}
+use Rattle.order.specs.Areas.{HoldsOrder, listsIn, lists-length, lists-kept, holds-kept}
+use Rattle.order.specs.Numbers.{AllBelow, AllAscending, labelsOf}
+use Rattle.labels.specs.Labels.{labelBytes, labelsIn, labels-read}
+use Rattle.order.specs.Sorted.{ordered, ordered-length, ordered-holds, ordered-ascends, sorted-lists}
 use Rattle.shapes.specs.Kept.{Kept}
 use Rattle.shelf.specs.declared.Shelf.{Shelf}
 use Rattle.shelf.specs.declared.Level.{Level}

@@ -18,9 +18,9 @@ use Rattle.laws.specs.Ascending.{Differ, Distinct}
 use Rattle.laws.specs.Ranges.{distinct-below}
 use Rattle.laws.specs.Places.{flat-singles}
 use Rattle.completeness.specs.Taken.{OtherOrbit}
-use Rattle.compounds.specs.Numbers.{ItemsBelow, AllBelow}
-use Rattle.compounds.specs.Splitting.{splitNats, splitList}
-use Rattle.compounds.specs.Parts.{Of, Matches, within, queue-numbered, lists-numbered, splitNats-below}
+use Rattle.order.specs.Numbers.{ItemsBelow, AllBelow}
+use Rattle.splitting.specs.Splitting.{splitNats, splitList}
+use Rattle.splitting.specs.Parts.{Of, Matches, within, queue-numbered, lists-numbered, splitNats-below}
 use Rattle.shapes.specs.Compounds.{Composed, components-of, some-equal, none-is-not-some}
 use Rattle.shapes.specs.LowRanks.{nothing-to-split}
 use Rattle.shapes.specs.Splitting.{parts-stable, parts-distinct}

@@ -13,11 +13,11 @@ use Rattle.laws.specs.Places.{flatMap-map}
 use Rattle.laws.specs.Segments.{part, placed, part-take, part-part, part-length, part-placed, take-placed, placed-length}
 use Rattle.words.specs.Words.{words, words-take}
 use Rattle.pool.specs.Pool.{count, base, closedLists, emptied, Sound, closed-length, emptied-sound, emptied-closed, emptied-opened, emptied-used, emptied-length}
-use Rattle.compounds.specs.declared.Layout.{Layout}
-use Rattle.compounds.specs.Labels.{labelOf, labelsIn}
-use Rattle.compounds.specs.Numbers.{AllBelow, labelsOf}
-use Rattle.compounds.specs.Splitting.{splitList, fillAll, fillAll-filled, Filled, PoolRoom, facetLabels, poolOf, restOf, partsIn}
-use Rattle.compounds.specs.Splitting as compounds
+use Rattle.splitting.specs.declared.Layout.{Layout}
+use Rattle.labels.specs.Labels.{labelOf, labelsIn}
+use Rattle.order.specs.Numbers.{AllBelow, labelsOf}
+use Rattle.splitting.specs.Splitting.{splitList, fillAll, fillAll-filled, Filled, PoolRoom, facetLabels, poolOf, restOf, partsIn}
+use Rattle.splitting.specs.Splitting as compounds
 use Rattle.shelf.specs.declared.Shelf.{Shelf}
 use Rattle.shelf.specs.declared.Level.{Level}
 use Rattle.shelf.specs.Keeps.{ShelfFits, labelsPart}

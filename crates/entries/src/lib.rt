@@ -6,10 +6,10 @@ ghost use Rattle.laws.specs.Segments.{part};
 ghost use Rattle.pool.specs.Pool.{closedLists};
 ghost use Rattle.entries.specs.Listed.{many, labelled, Pool, ListsBehind, Listed};
 ghost use Rattle.entries.specs.Split.{splitOn, Splits};
-use compounds::Area;
-use compounds::Layout;
+use order::Area;
 use shelf::Level;
 use shelf::Shelf;
+use splitting::Layout;
 
 // ---- the order and the labels
 
@@ -24,8 +24,8 @@ fn order_lists(s: &mut [u8], bytes: usize) -> usize
         bytes: bytes,
         count: lists,
     };
-    compounds::sort_lists(s, 1024, bytes);
-    compounds::label_irc(s, area, bytes + 2048);
+    order::sort_lists(s, 1024, bytes);
+    labels::label_irc(s, area, bytes + 2048);
     lists
 }
 
@@ -62,6 +62,6 @@ pub fn split_entries(ws: &mut [u8], shelf: Shelf, from: usize, bytes: usize) -> 
         steps: 380,
     };
     words::copy_within(ws, from, at, bytes);
-    compounds::split_lists(&mut ws[labels..to + 2101260], layout);
+    splitting::split_lists(&mut ws[labels..to + 2101260], layout);
     sort_entries(ws, shelf, to, 2101260)
 }

@@ -23,9 +23,9 @@ use Rattle.shapes.specs.Kept.{Kept, keptOf}
 use Rattle.shapes.specs.KeptSizes.{kept-edge, kept-sized}
 use Rattle.shapes.specs.Compounds.{none-is-not-some}
 use Rattle.shapes.specs.SplitCalls.{split-answer}
-use Rattle.compounds.specs.Areas.{lists-length}
-use Rattle.compounds.specs.Labels.{labelsIn}
-use Rattle.compounds.specs.Numbers.{compoundAt, compoundsFrom}
+use Rattle.order.specs.Areas.{lists-length}
+use Rattle.labels.specs.Labels.{labelsIn}
+use Rattle.order.specs.Numbers.{compoundAt, compoundsFrom}
 use Rattle.openers.specs.Rows.{rowsIn, RowsFit}
 use Rattle.shelf.specs.Leaves.{Leaves, answerLeft, entryLeft, listsLeft}
 use Rattle.shelf.specs.declared.Level.{Level}

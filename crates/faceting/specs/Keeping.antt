@@ -34,7 +34,7 @@ use Rattle.keep.specs.Polygons.{EdgesLeft, polygonKept, polygon-kept, entryEdge
 use Rattle.keep.specs.Reading.{lists-below, lists-many}
 use Rattle.keep.specs.Vertices.{vertex-rises}
 use Rattle.keep.specs.Totals.{joined-few}
-use Rattle.compounds.specs.Labels.{labelsIn}
+use Rattle.labels.specs.Labels.{labelsIn}
 use Rattle.faceting.specs.InnerLeft.{edges-left}
 use Rattle.faceting.specs.Amounts.{Amounts, OrbitAmounts, mostAt}
 use Rattle.faceting.specs.InnerAmounts.{two-amounts, three-amounts}

@@ -19,7 +19,7 @@ use Rattle.pool.specs.Pool.{closedLists}
 use Rattle.openers.specs.Rows.{rowsIn}
 use Rattle.facets.specs.declared.Areas.{Areas}
 use Rattle.facets.specs.Layout.{Inputs, listsPart}
-use Rattle.compounds.specs.Numbers.{AllBelow}
+use Rattle.order.specs.Numbers.{AllBelow}
 use Rattle.frames.specs.Paths.{Emitted, emittedIn}
 use Rattle.search.specs.declared.Outcome.{Outcome}
 use Rattle.search.specs.declared.Outcome.the-variants as search

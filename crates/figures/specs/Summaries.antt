@@ -8,7 +8,7 @@ use Rattle.definitions.specs.Figures.{Figure, rankOf}
 use Rattle.definitions.specs.Recursion.{Entry}
 use Rattle.definitions.specs.Job.{summaryWords}
 use Rattle.pool.specs.Pool.{count, closedLists, closed-length}
-use Rattle.compounds.specs.Areas.{listAt}
+use Rattle.order.specs.Areas.{listAt}
 use Rattle.figures.specs.Flat.{figureIn, figureLists}
 
 -- the definition's summary of an entry with this figure; its split list does not matter

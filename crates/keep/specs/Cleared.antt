@@ -11,7 +11,7 @@ use Rattle.words.specs.Words.{words, put-length}
 use Rattle.pool.specs.Pool.{base, emptied}
 use Rattle.pool.specs.Holds.{Holds, holds-none}
 use Rattle.orbits.specs.Workspace.{orbitsIn}
-use Rattle.compounds.specs.Labels.{labelsIn}
+use Rattle.labels.specs.Labels.{labelsIn}
 use Rattle.shelf.specs.declared.Shelf.{Shelf}
 use Rattle.shelf.specs.Keeps.{Keeps, Ridges, ShelfFits, facetsOf, ownersOf, placesOf, edgesOf, labelsFrom, edgesPart, ridgesPart, placesPart}
 use Rattle.keep.specs.Storing.{Beside, beside-both, beside-wider, beside-part, beside-placed}

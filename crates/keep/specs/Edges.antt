@@ -14,7 +14,7 @@ use Rattle.definitions.specs.Recursion.{Answer, Inner, vertexRidge, swappedEnds
 use Rattle.definitions.specs.Faceting.{possibleFacets}
 use Rattle.laws.specs.Sets.{verticesOf}
 use Rattle.words.specs.Words.{put}
-use Rattle.compounds.specs.Labels.{labelOf}
+use Rattle.labels.specs.Labels.{labelOf}
 use Rattle.openers.specs.Meaning.{pairCode}
 use Rattle.orbits.specs.Numbers.{orbitOf}
 use Rattle.shapes.specs.Polygons.{edgeVia, edgePairs}

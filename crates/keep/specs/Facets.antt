@@ -14,8 +14,8 @@ use Rattle.laws.specs.Parts.{take-more}
 use Rattle.words.specs.Words.{put, words, words-length, getD-words, numberAt-drop}
 use Rattle.pool.specs.Pool.{base}
 use Rattle.openers.specs.Rows.{rowsIn}
-use Rattle.compounds.specs.Areas.{lists-length}
-use Rattle.compounds.specs.Labels.{labelOf, labelsIn}
+use Rattle.order.specs.Areas.{lists-length}
+use Rattle.labels.specs.Labels.{labelOf, labelsIn}
 use Rattle.shapes.specs.Kept.{Kept}
 use Rattle.shelf.specs.declared.Shelf.{Shelf}
 use Rattle.shelf.specs.declared.Level.{Level}

@@ -10,8 +10,8 @@ use Rattle.definitions.specs.Lists.{Pair, countFrom}
 use Rattle.definitions.specs.Figures.{Compound, componentsOf}
 use Rattle.laws.specs.Ranges.{map-places}
 use Rattle.laws.specs.Places.{map-same}
-use Rattle.compounds.specs.Labels.{labelOf, label-range}
-use Rattle.compounds.specs.Numbers.{compoundAt, compoundsFrom, labelNats, labelsOf}
+use Rattle.labels.specs.Labels.{labelOf, label-range}
+use Rattle.order.specs.Numbers.{compoundAt, compoundsFrom, labelNats, labelsOf}
 use Rattle.laws.specs.Lists.{Mem, of-map}
 use Rattle.shapes.specs.Kept.{Kept}
 use Rattle.shelf.specs.Keeps.{facetsIn, raised}

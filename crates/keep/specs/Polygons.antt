@@ -16,8 +16,8 @@ use Rattle.laws.specs.Lists.{Mem, here, there, map-at, count-at, count-length, 
 use Rattle.laws.specs.Places.{map-same, map-self, flatMap-map}
 use Rattle.openers.specs.Rows.{rowsIn, RowsFit}
 use Rattle.openers.specs.Meaning.{pairCode}
-use Rattle.compounds.specs.Labels.{labelsIn}
-use Rattle.compounds.specs.Numbers.{AllBelow, compoundsFrom}
+use Rattle.labels.specs.Labels.{labelsIn}
+use Rattle.order.specs.Numbers.{AllBelow, compoundsFrom}
 use Rattle.shapes.specs.Edges.{edgeFigure}
 use Rattle.shapes.specs.EdgeSets.{Proper, polygon, edgesInOrder}
 use Rattle.shapes.specs.Polygons.{endsVia, edgeVia, edgePairs, polygon-raised, polygon-edges}

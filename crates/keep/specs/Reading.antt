@@ -18,8 +18,8 @@ use Rattle.laws.specs.Places.{map-same}
 use Rattle.laws.specs.Segments.{le-or-lt}
 use Rattle.laws.specs.Parts.{rows, take-more, length-rows, getD-rows}
 use Rattle.openers.specs.Rows.{rowsIn, RowsFit, ImagesBelow, image-at}
-use Rattle.compounds.specs.Areas.{lists-length}
-use Rattle.compounds.specs.Numbers.{AllBelow}
+use Rattle.order.specs.Areas.{lists-length}
+use Rattle.order.specs.Numbers.{AllBelow}
 use Rattle.openers.specs.Marks.{marked}
 use Rattle.openers.specs.Meaning.{pairCode, pairOf, pairCodes}
 use Rattle.orbits.specs.Numbers.{orbitOf}

@@ -9,7 +9,7 @@ use lib.ListN.{length, length-append}
 use Rattle.definitions.specs.Lists.{Pair}
 use Rattle.laws.specs.Segments.{part, part-length}
 use Rattle.words.specs.Words.{words, put, put-length, words-push, part-put-in, part-put-off}
-use Rattle.compounds.specs.Labels.{labelOf, labelsIn}
+use Rattle.labels.specs.Labels.{labelOf, labelsIn}
 use Rattle.shelf.specs.declared.Shelf.{Shelf}
 use Rattle.shelf.specs.Keeps.{Lists, ShelfFits, edgesPart, labelsPart, ownersPart, ridgesPart, placesPart}
 use Rattle.keep.specs.Storing.{Beside, beside-both, beside-wider, beside-part, beside-put, Stored}

@@ -14,7 +14,7 @@ use Rattle.openers.specs.Rows.{rowsIn}
 use Rattle.openers.specs.Meaning.{pairCode, HoldsVertices}
 use Rattle.openers.specs.declared.Vertices.{Vertices}
 use Rattle.orbits.specs.Numbers.{orbitOf}
-use Rattle.compounds.specs.Areas.{lists-length}
+use Rattle.order.specs.Areas.{lists-length}
 use Rattle.shapes.specs.Polygons.{endsVia}
 use Rattle.shapes.specs.Kept.{Kept, keptOf}
 use Rattle.shelf.specs.declared.Shelf.{Shelf}

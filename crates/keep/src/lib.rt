@@ -1,8 +1,8 @@
 // What a call stores of an inner call's answer on its shelf: the orbit's ridges, and for each possible facet its places, its edges, its components and its orbit.
 // A call of rank 3 stores an edge (`keep_edge`), one of rank 4 the polygons that its inner call has left (`keep_polygons`). The contracts say what the shelf keeps then, as `keptOf` has
 // it. Leans on the shelf, on pools, and on the marks of pairs.
-use compounds::Area;
 use openers::Vertices;
+use order::Area;
 use shelf::Level;
 use shelf::Shelf;
 ghost use mathlib.Core.Path.{_≡_};
@@ -20,8 +20,8 @@ ghost use Rattle.openers.specs.Rows.{rowsIn};
 ghost use Rattle.openers.specs.Marks.{marked};
 ghost use Rattle.openers.specs.Meaning.{verticesIn, HoldsVertices, pairCode};
 ghost use Rattle.orbits.specs.Numbers.{orbitOf};
-ghost use Rattle.compounds.specs.Areas.{HoldsOrder};
-ghost use Rattle.compounds.specs.Labels.{labelOf};
+ghost use Rattle.order.specs.Areas.{HoldsOrder};
+ghost use Rattle.labels.specs.Labels.{labelOf};
 ghost use Rattle.shapes.specs.Kept.{Kept, keptOf};
 ghost use Rattle.shelf.specs.Keeps.{Keeps, Ridges, ShelfFits, Lists, edgesPart, raised};
 ghost use Rattle.shelf.specs.Leaves.{listsLeft};
@@ -205,7 +205,7 @@ fn facets_of(s: &[u8], level: Level, k: usize) -> usize
         bytes: level.bytes,
         count: level.count,
     };
-    compounds::length_at(&s[lists..], area, k)
+    order::length_at(&s[lists..], area, k)
 }
 
 // Facet i of entry k.
@@ -219,7 +219,7 @@ fn facet_at(s: &[u8], level: Level, k: usize, i: usize) -> u16
         bytes: level.bytes,
         count: level.count,
     };
-    compounds::item_at(&s[lists..], area, k, i)
+    order::item_at(&s[lists..], area, k, i)
 }
 
 // The first edge of facet x, as its code.

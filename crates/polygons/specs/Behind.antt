@@ -7,9 +7,9 @@ use lib.ListN.{length, take, drop, length-drop}
 use Rattle.definitions.specs.Orbits.{Row}
 use Rattle.laws.specs.Segments.{part, part-take}
 use Rattle.words.specs.Words.{words, words-take}
-use Rattle.compounds.specs.Areas.{lists-kept, holds-kept}
-use Rattle.compounds.specs.Labels.{labelsIn, labelOf}
-use Rattle.compounds.specs.Numbers.{AllBelow, compoundsFrom}
+use Rattle.order.specs.Areas.{lists-kept, holds-kept}
+use Rattle.labels.specs.Labels.{labelsIn, labelOf}
+use Rattle.order.specs.Numbers.{AllBelow, compoundsFrom}
 use Rattle.shapes.specs.Kept.{Kept, keptPossible}
 use Rattle.shelf.specs.Front.{keeps-front}
 use Rattle.shelf.specs.Leaves.{Leaves, listsLeft, entryLeft, answerLeft}

@@ -19,7 +19,7 @@ use Rattle.sorted.specs.Gathering.{added, ascending-added, member-added}
 use Rattle.openers.specs.Meaning.{pairCode}
 use Rattle.openers.specs.Rows.{rowsIn, RowsFit}
 use Rattle.openers.specs.Codes.{code-at}
-use Rattle.compounds.specs.Areas.{listAt}
+use Rattle.order.specs.Areas.{listAt}
 use Rattle.pool.specs.Pool.{count}
 use Rattle.pool.specs.Holds.{holds-count}
 use Rattle.shapes.specs.Kept.{Kept}

@@ -16,7 +16,7 @@ use Rattle.pool.specs.Holds.{Holds}
 use Rattle.openers.specs.Meaning.{pairCode}
 use Rattle.orbits.specs.Numbers.{orbitOf}
 use Rattle.orbits.specs.Workspace.{orbitsIn}
-use Rattle.compounds.specs.Labels.{labelsIn}
+use Rattle.labels.specs.Labels.{labelsIn}
 use Rattle.shapes.specs.Kept.{Kept}
 use Rattle.shelf.specs.declared.Shelf.{Shelf}
 

@@ -7,9 +7,9 @@ use lib.ListN.{length, getD, drop}
 use Rattle.definitions.specs.Orbits.{Row}
 use Rattle.definitions.specs.Search.{Facet}
 use Rattle.definitions.specs.Recursion.{Entry, Answer}
-use Rattle.compounds.specs.Areas.{HoldsOrder, listsIn}
-use Rattle.compounds.specs.Labels.{labelsIn}
-use Rattle.compounds.specs.Numbers.{AllBelow, compoundsFrom}
+use Rattle.order.specs.Areas.{HoldsOrder, listsIn}
+use Rattle.labels.specs.Labels.{labelsIn}
+use Rattle.order.specs.Numbers.{AllBelow, compoundsFrom}
 use Rattle.shapes.specs.Kept.{Kept, keptFigure, keptPossible}
 use Rattle.shelf.specs.Keeps.{Keeps, facetsOf}
 use Rattle.shelf.specs.declared.Level.{Level}

@@ -9,9 +9,9 @@ use Rattle.definitions.specs.Job.{counted, compoundWords}
 use Rattle.laws.specs.Lists.{member-at}
 use Rattle.laws.specs.Segments.{part-length}
 use Rattle.pool.specs.Pool.{count}
-use Rattle.compounds.specs.Areas.{HoldsOrder, listsIn, lists-length}
-use Rattle.compounds.specs.Labels.{labelsIn}
-use Rattle.compounds.specs.Numbers.{ItemsBelow, compoundsFrom}
+use Rattle.order.specs.Areas.{HoldsOrder, listsIn, lists-length}
+use Rattle.labels.specs.Labels.{labelsIn}
+use Rattle.order.specs.Numbers.{ItemsBelow, compoundsFrom}
 use Rattle.shelf.specs.Keeps.{ownersPart}
 use Rattle.shelf.specs.Leaves.{listsLeft}
 use Rattle.shelf.specs.declared.Level.{Level}

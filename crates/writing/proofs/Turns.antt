@@ -21,8 +21,8 @@ use Rattle.words.specs.Words.{words, words-more, words-length, numberAt-drop}
 use Rattle.orbits.specs.Workspace.{orbitsIn, orbits-length}
 use Rattle.openers.specs.Marks.{marked}
 use Rattle.openers.specs.Meaning.{pairOf}
-use Rattle.compounds.specs.Labels.{labelOf, labelsIn}
-use Rattle.compounds.specs.Numbers.{compoundAt, compoundsFrom}
+use Rattle.labels.specs.Labels.{labelOf, labelsIn}
+use Rattle.order.specs.Numbers.{compoundAt, compoundsFrom}
 use Rattle.shapes.specs.FigureWords.{edgeWords}
 use Rattle.writing.specs.Facets.{firstOf, FirstsFrom, Firsts, leading}
 use Rattle.writing.specs.Marks.{keep-append, codesMarked, markAt, markWords}

@@ -8,7 +8,7 @@ use lib.Dec.{eqb, leb}
 use lib.ListN.{length, getD, drop, replicate}
 use Rattle.openers.specs.Marks.{marked}
 use Rattle.openers.specs.Rows.{rowsIn}
-use Rattle.compounds.specs.Areas.{listAt}
+use Rattle.order.specs.Areas.{listAt}
 use Rattle.writing.specs.Marks.{imageCodes, codesMarked}
 
 -- a table of the marked edges' numbers

@@ -22,7 +22,7 @@ use Rattle.openers.specs.Marks.{marked, marked-at}
 use Rattle.openers.specs.Meaning.{pairCode, pairOf, pairCodes}
 use Rattle.openers.specs.Rows.{ImagesBelow, rowsIn, RowsFit}
 use Rattle.openers.specs.Codes.{pair-of-code, code-small, row-below, codes-wide, map-codes}
-use Rattle.compounds.specs.Areas.{listAt}
+use Rattle.order.specs.Areas.{listAt}
 use Rattle.shapes.specs.FigureWords.{edgeWords}
 use Rattle.shapes.specs.EdgeSets.{edgesInOrder}
 

@@ -28,8 +28,8 @@ use Rattle.orbits.specs.Numbers.{orbitOf}
 use Rattle.openers.specs.Marks.{marked, marked-at}
 use Rattle.openers.specs.Meaning.{pairCode, pairOf}
 use Rattle.openers.specs.Rows.{rowsIn, RowsFit}
-use Rattle.compounds.specs.Labels.{labelsIn}
-use Rattle.compounds.specs.Numbers.{compoundsFrom}
+use Rattle.labels.specs.Labels.{labelsIn}
+use Rattle.order.specs.Numbers.{compoundsFrom}
 use Rattle.shapes.specs.EdgeSets.{edgesInOrder, polygonsInOrder, edgeNumber, polygon, Proper}
 use Rattle.shapes.specs.FigureWords.{pointWords, edgeWords, bodyWords, polyhedron-words, polyhedron-summary}
 use Rattle.shapes.specs.Kept.{Kept, keptAt, keptPossible, keptEdgeImages, keptPolygons, keptFigure}

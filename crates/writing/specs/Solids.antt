@@ -9,8 +9,8 @@ use Rattle.pool.specs.Pool.{count}
 use Rattle.orbits.specs.Workspace.{orbitsIn}
 use Rattle.openers.specs.Marks.{marked}
 use Rattle.openers.specs.Rows.{rowsIn}
-use Rattle.compounds.specs.Labels.{labelsIn}
-use Rattle.compounds.specs.Numbers.{compoundsFrom}
+use Rattle.labels.specs.Labels.{labelsIn}
+use Rattle.order.specs.Numbers.{compoundsFrom}
 use Rattle.shapes.specs.FigureWords.{pointWords, edgeWords, bodyWords}
 use Rattle.shelf.specs.Keeps.{edgesPart}
 use Rattle.shelf.specs.Leaves.{listsLeft}

@@ -8,9 +8,9 @@ use Rattle.definitions.specs.Orbits.{Row}
 use Rattle.words.specs.Words.{words}
 use Rattle.pool.specs.Pool.{count, closedLists}
 use Rattle.orbits.specs.Workspace.{orbitsIn}
-use Rattle.compounds.specs.Areas.{HoldsOrder}
-use Rattle.compounds.specs.Labels.{labelsIn}
-use Rattle.compounds.specs.Numbers.{AllBelow, compoundsFrom}
+use Rattle.order.specs.Areas.{HoldsOrder}
+use Rattle.labels.specs.Labels.{labelsIn}
+use Rattle.order.specs.Numbers.{AllBelow, compoundsFrom}
 use Rattle.shapes.specs.EdgeSets.{polygon}
 use Rattle.shelf.specs.Keeps.{ShelfFits, ownersPart, edgesPart}
 use Rattle.shelf.specs.Leaves.{listsLeft}

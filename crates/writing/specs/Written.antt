@@ -18,9 +18,9 @@ use Rattle.orbits.specs.Numbers.{orbitOf}
 use Rattle.orbits.specs.Workspace.{orbitsIn}
 use Rattle.openers.specs.Meaning.{pairCode, pairOf}
 use Rattle.openers.specs.Rows.{rowsIn, RowsFit, ImagesBelow}
-use Rattle.compounds.specs.Areas.{listAt}
-use Rattle.compounds.specs.Labels.{labelsIn}
-use Rattle.compounds.specs.Numbers.{compoundsFrom}
+use Rattle.order.specs.Areas.{listAt}
+use Rattle.labels.specs.Labels.{labelsIn}
+use Rattle.order.specs.Numbers.{compoundsFrom}
 use Rattle.shapes.specs.Edges.{edgeFigure}
 use Rattle.shapes.specs.EdgeSets.{Proper, polygon, edgesInOrder}
 use Rattle.shapes.specs.FigureWords.{polygon-summary}

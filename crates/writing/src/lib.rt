@@ -1,6 +1,6 @@
 // The answer's words from what a call leaves in the workspace. Every function takes the answer buffer and its cursor and returns the new cursor; its contract names the words that it
 // writes behind those that stand there (`Wrote`). Words for which there is no room are dropped, and the cursor tells.
-use compounds::Area;
+use order::Area;
 use shelf::Level;
 ghost use mathlib.Core.Path.{_≡_};
 ghost use mathlib.Core.List.{_∷_, [], _++_, map, flatMap};
@@ -16,9 +16,9 @@ ghost use Rattle.definitions.specs.Job.{counted, figureWords, compoundWords, an
 ghost use Rattle.definitions.specs.Figures.{dyad};
 ghost use Rattle.definitions.specs.Recursion.{vertexRidge, swappedEnds, separateEnds};
 ghost use Rattle.orbits.specs.Workspace.{orbitsIn};
-ghost use Rattle.compounds.specs.Areas.{listAt, listOf, Holding};
-ghost use Rattle.compounds.specs.Labels.{labelOf, labelsIn};
-ghost use Rattle.compounds.specs.Numbers.{ItemsBelow, compoundAt, compoundsFrom};
+ghost use Rattle.order.specs.Areas.{listAt, listOf, Holding};
+ghost use Rattle.labels.specs.Labels.{labelOf, labelsIn};
+ghost use Rattle.order.specs.Numbers.{ItemsBelow, compoundAt, compoundsFrom};
 ghost use Rattle.openers.specs.Meaning.{pairOf};
 ghost use Rattle.openers.specs.Marks.{marked};
 ghost use Rattle.openers.specs.Rows.{rowsIn};
@@ -91,11 +91,11 @@ fn write_edges(answer: &mut [u8], at: usize, pool: &[u8], most: usize, k: usize)
     requires { ⌜ Sound 2 most (now pool) × (k < count (now pool)) ⌝ }
     ensures { λ r. ⌜ Wrote (now (answer .entry)) at (now (answer .exit)) r (edgeWords (map pairOf (listAt most (now (pool .entry)) k))) ⌝ }
 {
-    let n = compounds::length_of(pool, most, k);
+    let n = order::length_of(pool, most, k);
     let mut cursor = at;
     let mut i = 0;
     while i < n {
-        let code = compounds::item_of(pool, most, k, i) as usize;
+        let code = order::item_of(pool, most, k, i) as usize;
         cursor = write_edge(answer, cursor, code);
         i += 1;
     }
@@ -141,7 +141,7 @@ fn write_polygon(
     requires { ⌜ (n < 4294967296) × Sound 2 most (now pool) × (k < count (now pool)) ⌝ }
     ensures { λ r. ⌜ Wrote (now (answer .entry)) at (now (answer .exit)) r (figureWords (polygon n (map pairOf (listAt most (now (pool .entry)) k)))) ⌝ }
 {
-    let edges = compounds::length_of(pool, most, k);
+    let edges = order::length_of(pool, most, k);
     let head = write_head(answer, at, 4, n);
     let many = push(answer, head, edges as u32);
     let body = write_edges(answer, many, pool, most, k);
@@ -211,11 +211,11 @@ fn write_list(
     requires { ⌜ (2 * facets ≤ length (now owners)) × (facets < 4294967296) × OwnersBelow 256 (words 2 (now owners) facets) × Firsts (words 2 (now owners) facets) (now firsts) × Holding area (now lists) × (k < area .count) × ItemsBelow facets (listOf area (now lists) k) ⌝ }
     ensures { λ r. ⌜ Wrote (now (answer .entry)) at (now (answer .exit)) r (listWords (words 2 (now (owners .entry)) facets) (listOf area (now (lists .entry)) k)) ⌝ }
 {
-    let n = compounds::length_at(lists, area, k);
+    let n = order::length_at(lists, area, k);
     let mut cursor = push(answer, at, n as u32);
     let mut i = 0;
     while i < n {
-        let x = compounds::item_at(lists, area, k, i) as usize;
+        let x = order::item_at(lists, area, k, i) as usize;
         cursor = write_item(answer, cursor, owners, facets, firsts, x);
         i += 1;
     }
@@ -229,10 +229,10 @@ fn mark_facet(edges: &[u8], x: usize, rows: &[u8], m: usize, marks: &mut [bool; 
     requires { ⌜ (32 * m ≤ length (now rows)) × EdgesFit m (now rows) (now edges) × (x < count (now edges)) ⌝ }
     ensures { λ _. ⌜ now (marks .exit) ≡ marked (now (marks .entry)) (imageCodes (rowsIn 32 m (now (rows .entry))) (listAt 1024 (now (edges .entry)) x)) ⌝ }
 {
-    let n = compounds::length_of(edges, 1024, x);
+    let n = order::length_of(edges, 1024, x);
     let mut i = 0;
     while i < n {
-        let code = compounds::item_of(edges, 1024, x, i) as usize;
+        let code = order::item_of(edges, 1024, x, i) as usize;
         openers::mark_pair_images(rows, m, code / 20, code % 20, marks);
         i += 1;
     }
@@ -244,10 +244,10 @@ fn mark_list(lists: &[u8], area: Area, k: usize, edges: &[u8], rows: &[u8], m: u
     ensures { λ r. ⌜ r ≡ marksOf (rowsIn 32 m (now (rows .entry))) (closedLists 2 1024 (now (edges .entry))) (listOf area (now (lists .entry)) k) ⌝ }
 {
     let mut marks = [false; 400];
-    let n = compounds::length_at(lists, area, k);
+    let n = order::length_at(lists, area, k);
     let mut i = 0;
     while i < n {
-        let x = compounds::item_at(lists, area, k, i) as usize;
+        let x = order::item_at(lists, area, k, i) as usize;
         mark_facet(edges, x, rows, m, &mut marks);
         i += 1;
     }
@@ -379,10 +379,10 @@ fn first_code(edges: &[u8], x: usize) -> usize
     requires { ⌜ Sound 2 1024 (now edges) × (x < count (now edges)) ⌝ }
     ensures { λ r. ⌜ (r ≡ getD (listAt 1024 (now (edges .entry)) x) 0 0) × (r < 65536) ⌝ }
 {
-    if compounds::length_of(edges, 1024, x) == 0 {
+    if order::length_of(edges, 1024, x) == 0 {
         return 0;
     }
-    compounds::item_of(edges, 1024, x, 0) as usize
+    order::item_of(edges, 1024, x, 0) as usize
 }
 
 // The figures of the facets from one number to another, each an edge.
@@ -729,10 +729,10 @@ fn list_marks(lists: &[u8], area: Area, k: usize) -> [bool; 1024]
     ensures { λ r. ⌜ r ≡ marked (replicate 1024 false) (listOf area (now (lists .entry)) k) ⌝ }
 {
     let mut marks = [false; 1024];
-    let n = compounds::length_at(lists, area, k);
+    let n = order::length_at(lists, area, k);
     let mut i = 0;
     while i < n {
-        let x = compounds::item_at(lists, area, k, i) as usize;
+        let x = order::item_at(lists, area, k, i) as usize;
         marks[x] = true;
         i += 1;
     }

@@ -4,8 +4,8 @@ use Prim.Native.Nat.{ℕ, _-_, _≤_}
 use native.Mathlib.Omega.{arith}
 use borrow.Author.Needs.{needs}
 use lib.ListN.{length}
-use Rattle.compounds.specs.Labels.{labelOf, labelsIn}
-use Rattle.compounds.specs.Numbers.{compoundAt, compoundsFrom}
+use Rattle.labels.specs.Labels.{labelOf, labelsIn}
+use Rattle.order.specs.Numbers.{compoundAt, compoundsFrom}
 use Rattle.writing.proofs.Turns.{compounds-none, compounds-count}
 use Rattle.writing.proofs.count_compounds.Statement.{statement}
 use Rattle.writing.proofs.count_compounds.Tie as tie

@@ -3,7 +3,7 @@ use mathlib.Core.Path.{sym}
 use native.Mathlib.Omega.{arith}
 use borrow.Author.Needs.{needs}
 use lib.ListN.{List·getD-eq-default}
-use Rattle.compounds.specs.Areas.{listAt}
+use Rattle.order.specs.Areas.{listAt}
 use Rattle.writing.proofs.first_code.Statement.{statement}
 use Rattle.writing.proofs.first_code.Tie as tie
 

@@ -8,7 +8,7 @@ use borrow.Author.Needs.{needs}
 use lib.ListN.{length, replicate, length-drop}
 use Rattle.openers.specs.Marks.{marked}
 use Rattle.openers.specs.Rows.{rowsIn}
-use Rattle.compounds.specs.Areas.{listAt}
+use Rattle.order.specs.Areas.{listAt}
 use Rattle.writing.specs.Marks.{imageCodes, EdgesFit}
 use Rattle.writing.specs.Images.{imageMarks}
 use Rattle.writing.proofs.Asked.{rest-is}

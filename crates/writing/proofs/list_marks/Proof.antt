@@ -9,7 +9,7 @@ use lib.ListN.{getD, set, length-set, length, take, replicate}
 use lib.Seq.{take-all}
 use Rattle.laws.specs.Lists.{member-at}
 use Rattle.openers.specs.Marks.{marked}
-use Rattle.compounds.specs.Areas.{listOf}
+use Rattle.order.specs.Areas.{listOf}
 use Rattle.writing.proofs.Choosing.{marks-start, marks-turn}
 use Rattle.writing.proofs.list_marks.Statement.{statement}
 use Rattle.writing.proofs.list_marks.Tie as tie

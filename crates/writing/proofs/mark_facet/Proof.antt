@@ -9,7 +9,7 @@ use lib.Seq.{take-all}
 use Rattle.openers.specs.Rows.{ImagesBelow, rowsIn}
 use Rattle.openers.specs.Meaning.{pairOf, pairCodes}
 use Rattle.openers.specs.Marks.{marked}
-use Rattle.compounds.specs.Areas.{listAt}
+use Rattle.order.specs.Areas.{listAt}
 use Rattle.writing.specs.Marks.{imageCodes}
 use Rattle.writing.proofs.Turns.{marked-none, marked-flat}
 use Rattle.writing.proofs.mark_facet.Statement.{statement}

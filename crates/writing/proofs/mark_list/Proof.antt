@@ -11,7 +11,7 @@ use Rattle.laws.specs.Lists.{member-at}
 use Rattle.pool.specs.Pool.{count, closedLists}
 use Rattle.openers.specs.Marks.{marked}
 use Rattle.openers.specs.Rows.{rowsIn}
-use Rattle.compounds.specs.Areas.{listAt, listOf}
+use Rattle.order.specs.Areas.{listAt, listOf}
 use Rattle.writing.specs.Marks.{imageCodes, marksOf, facetCodes}
 use Rattle.writing.proofs.Turns.{marked-none, marked-flat}
 use Rattle.writing.proofs.mark_list.Statement.{statement}

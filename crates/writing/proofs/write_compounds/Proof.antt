@@ -5,8 +5,8 @@ use Prim.Native.Nat.{ℕ, _+_, _-_, _≤_}
 use native.Mathlib.Omega.{arith}
 use borrow.Author.Needs.{needs}
 use Rattle.definitions.specs.Job.{counted, compoundWords}
-use Rattle.compounds.specs.Labels.{labelOf, labelsIn}
-use Rattle.compounds.specs.Numbers.{compoundAt, compoundsFrom}
+use Rattle.labels.specs.Labels.{labelOf, labelsIn}
+use Rattle.order.specs.Numbers.{compoundAt, compoundsFrom}
 use Rattle.writing.specs.Wrote.{Wrote, wrote-none, wrote-then, wrote-as}
 use Rattle.writing.proofs.Turns.{words-none, compound-words}
 use Rattle.writing.proofs.write_compounds.Statement.{statement}

@@ -8,7 +8,7 @@ use lib.ListN.{take, drop}
 use Rattle.definitions.specs.Job.{figureWords}
 use Rattle.pool.specs.Pool.{closedLists, closed-length}
 use Rattle.openers.specs.Meaning.{pairOf}
-use Rattle.compounds.specs.Areas.{listAt}
+use Rattle.order.specs.Areas.{listAt}
 use Rattle.shapes.specs.Edges.{edgeFigure}
 use Rattle.writing.specs.Wrote.{Wrote, wrote-none, wrote-then, wrote-as}
 use Rattle.writing.specs.Answers.{edgeFigureWords}

@@ -7,7 +7,7 @@ use borrow.Author.Needs.{needs}
 use lib.Seq.{take-all}
 use lib.ListN.{take}
 use Rattle.openers.specs.Meaning.{pairOf}
-use Rattle.compounds.specs.Areas.{listAt}
+use Rattle.order.specs.Areas.{listAt}
 use Rattle.shapes.specs.FigureWords.{edgeWords}
 use Rattle.writing.specs.Wrote.{Wrote, wrote-none, wrote-then, wrote-as}
 use Rattle.writing.proofs.Laws.{edges-none, edges-more}

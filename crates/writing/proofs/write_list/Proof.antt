@@ -8,7 +8,7 @@ use lib.ListN.{getD, take}
 use lib.Seq.{take-all}
 use Rattle.laws.specs.Lists.{member-at}
 use Rattle.words.specs.Words.{words}
-use Rattle.compounds.specs.Areas.{place-short, listOf}
+use Rattle.order.specs.Areas.{place-short, listOf}
 use Rattle.writing.specs.Facets.{listWords, itemWords}
 use Rattle.writing.specs.Wrote.{Wrote, wrote-none, wrote-then, wrote-as}
 use Rattle.writing.proofs.Laws.{flat-more}

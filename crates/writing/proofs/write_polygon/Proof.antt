@@ -1,7 +1,7 @@
 -- `writing::write_polygon` meets its contract.
 use native.Mathlib.Omega.{arith}
 use borrow.Author.Needs.{needs}
-use Rattle.compounds.specs.Areas.{listAt, list-short}
+use Rattle.order.specs.Areas.{listAt, list-short}
 use Rattle.writing.specs.Wrote.{wrote-then, wrote-as}
 use Rattle.writing.proofs.Laws.{polygon-is}
 use Rattle.writing.proofs.write_polygon.Statement.{statement}

@@ -6,7 +6,7 @@ use native.Mathlib.Omega.{arith}
 use borrow.Author.Needs.{needs}
 use lib.ListN.{take, drop}
 use Rattle.pool.specs.Pool.{closed-length, closedLists}
-use Rattle.compounds.specs.Areas.{listAt}
+use Rattle.order.specs.Areas.{listAt}
 use Rattle.writing.specs.Wrote.{Wrote, wrote-none, wrote-then, wrote-as}
 use Rattle.writing.specs.Answers.{polygonWords}
 use Rattle.writing.proofs.Turns.{stretch-none, stretch-more}

@@ -1,6 +1,0 @@
--- What the proofs of this crate cite.
-mod Walking
-mod Labelling
-mod Ordering
-mod Splitting
-mod Lists

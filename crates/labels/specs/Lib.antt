@@ -1,0 +1,2 @@
+-- The label of an entry, and its bytes.
+pub mod Labels
