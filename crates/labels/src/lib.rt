@@ -74,7 +74,7 @@ pub fn label_irc(ws: &mut [u8], area: Area, at: usize)
     ensures { λ _. ⌜ now (ws .exit) ≡ sets (now (ws .entry)) at (labelBytes (labelsOf (listsOf area (now (ws .entry))))) ⌝ }
 {
     let lists = area.count;
-    'base: for a in 0..lists {
+    'a: for a in 0..lists {
         words::put_u32(ws, at + 4 * a, 0);
         let m = order::length_at(ws, area, a);
         'subset: for b in 0..lists {
@@ -101,10 +101,10 @@ pub fn label_irc(ws: &mut [u8], area: Area, at: usize)
             for c in b + 1..lists {
                 if is_left(ws, area, a, b, c) {
                     words::put_u32(ws, at + 4 * a, b as u32 + 65536 * c as u32);
-                    continue 'base;
+                    continue 'a;
                 }
             }
-            continue 'base;
+            continue 'a;
         }
     }
 }
