@@ -30,7 +30,7 @@ use Rattle.faceting.specs.Stocks.{callRules}
 use Rattle.calls.specs.declared.Called.{Called}
 use Rattle.faceting.specs.Asked.{Asked}
 use Rattle.faceting.specs.Says.{Says}
-use Rattle.register.specs.Called.{Said, rest}
+use Rattle.register.specs.Said.{Said, rest}
 
 -- the definition's rules, from the fields of a job: the tolerance and the bounds of version 1
 unfoldable pub jobRules : Fields → recursion.Rules
@@ -45,6 +45,11 @@ pub record Loaded (bytes : Bytes) (f : Fields) (plane : Subspace) (points : Poin
   pub rows-held : rowsIn (f .n) (f .count) rows ≡ readJob bytes .rows
   pub rows-room : 32 * f .count ≤ length rows
   pub rules-are : callRules rules ≡ jobRules f
+
+-- what the outermost call [12.1] of a job says, its rows lying where they were loaded
+pub record JobCalled (bytes : Bytes) (f : Fields) (rows : List ℕ) (called : Called) (s : List ℕ) : Type 0 where
+  pub said : Said (f .rank) (job.rulesOf bounds1 (readJob bytes)) (planeOf (readJob bytes)) (readJob bytes .points) (f .n) (f .count) rows (f .budget) called s
+  pub rows-are : rowsIn (f .n) (f .count) rows ≡ readJob bytes .rows
 
 module _ (bytes : Bytes) (workspace : ℕ) (f : Fields) (passed : Passed f ≡ checkedOf bytes workspace) where
   none-fails : firstRefused (tests bytes workspace) ≡ none
@@ -115,12 +120,7 @@ module _ (bytes : Bytes) (workspace : ℕ) (f : Fields) (passed : Passed f ≡ c
     unfolding jobRules job.rulesOf limitsOf
     rules-job = l .rules-are ∙ (λ i. record { tolerance = tolerance1; lengths = record { shortest = counts .min-is i; longest = counts .max-is i }; entryLimit = counts .entries-is i; bounds = bounds1 })
 
-    -- the call on what is loaded is the job's call
-    pub call-is : faceting (f .rank - 2) (callRules rules) (subspaceOf plane) (pointsOf points) (rowsIn (points .n) (f .count) rows) (f .budget) ≡ callOf bounds1 (readJob bytes)
-    unfolding callOf
-    call-is = λ i. faceting (counts .rank-is i - 2) (rules-job i) (l .plane-held .means i) (l .points-held .means i) (rows-are i) (counts .budget-is i)
-
-    -- and so is what it says
+    -- what the call on what is loaded says
     pub call-said : (called : Called) (s : List ℕ) → length s ≡ workspace
         → Says (f .rank - 2) (callRules rules) (subspaceOf plane) (pointsOf points) (rowsIn (points .n) (f .count) rows) (f .budget) called s
         → Said (f .rank) (callRules rules) (subspaceOf plane) (pointsOf points) (f .n) (f .count) rows (f .budget) called s
@@ -137,12 +137,22 @@ module _ (bytes : Bytes) (workspace : ℕ) (f : Fields) (passed : Passed f ≡ c
           room = asked .room-four;
         })
 
-    -- the outcome of the job, from the call's
-    pub outcome-is : (space : ℕ) → rest space (f .budget) (faceting (f .rank - 2) (callRules rules) (subspaceOf plane) (pointsOf points) (rowsIn (f .n) (f .count) rows) (f .budget)) ≡ outcome bytes workspace space
-    unfolding outcome
-    outcome-is space =
-        let same = ap (λ (n : ℕ). faceting (f .rank - 2) (callRules rules) (subspaceOf plane) (pointsOf points) (rowsIn n (f .count) rows) (f .budget)) (sym (l .points-n)) ∙ call-is in
-        (λ i. rest space (counts .budget-is i) (same i)) ∙ sym (outcome-passed bounds1 bytes workspace space none-fails)
+    -- the same, of the definition's own rules, plane and points
+    pub job-called : (called : Called) (s : List ℕ) → length s ≡ workspace
+        → Says (f .rank - 2) (callRules rules) (subspaceOf plane) (pointsOf points) (rowsIn (points .n) (f .count) rows) (f .budget) called s → JobCalled bytes f rows called s
+    job-called called s long h = record {
+      said = rw (← rules-job, ← (l .plane-held .means), ← (l .points-held .means)) (call-said called s long h);
+      rows-are = l .rows-held;
+    }
+
+  -- the outcome of the job, from its outermost call
+  pub outcome-is : {rows : List ℕ} {called : Called} {s : List ℕ} → JobCalled bytes f rows called s → (space : ℕ)
+      → rest space (f .budget) (faceting (f .rank - 2) (job.rulesOf bounds1 (readJob bytes)) (planeOf (readJob bytes)) (readJob bytes .points) (rowsIn (f .n) (f .count) rows) (f .budget)) ≡ outcome bytes workspace space
+  unfolding outcome callOf
+  outcome-is k space =
+      let own = readJob bytes in
+      (λ i. rest space (counts .budget-is i) (faceting (counts .rank-is i - 2) (job.rulesOf bounds1 own) (planeOf own) (own .points) (k .rows-are i) (counts .budget-is i)))
+      ∙ sym (outcome-passed bounds1 bytes workspace space none-fails)
 
 -- ---- a job that is refused
 

@@ -32,8 +32,8 @@ ghost use Rattle.faceting.specs.Stocks.{callRules};
 ghost use Rattle.writing.specs.Wrote.{Wrote};
 ghost use Rattle.register.specs.Writable.{Writable};
 ghost use Rattle.register.specs.Closed.{WroteAll};
-ghost use Rattle.register.specs.Called.{Said};
-ghost use Rattle.register.specs.Loaded.{jobRules};
+ghost use Rattle.register.specs.Said.{Said};
+ghost use Rattle.register.specs.Loaded.{jobRules, JobCalled};
 ghost use Rattle.register.specs.Reading.{entriesRead};
 
 // ---- writing what a call leaves
@@ -185,7 +185,25 @@ fn write_called(
     }
 }
 
-// A job that passed refusals 1 to 12: it is loaded, called, and what the call says is written into the cleared buffer.
+// The bytes of a job's rows in a call: 32 to a row, 120 rows at most.
+const ROWS_ROOM: usize = 3840;
+
+// A job that passed refusals 1 to 12, loaded and called [12.1]. Its rows stay with the caller, who needs them for what the call leaves.
+fn call_job(job: &[u8], fields: Fields, ws: &mut [u8], rows: &mut [u8]) -> Called
+    requires { ⌜ (Passed fields ≡ checkedOf (now job) (length (now ws))) × (length (now rows) ≡ 3840) ⌝ }
+    ensures { λ r. ⌜ JobCalled (now (job .entry)) fields (now (rows .exit)) r (now (ws .exit)) ⌝ }
+{
+    let rank = fields.rank;
+    let m = fields.count;
+    let budget = fields.budget;
+    let plane = load::plane_of(job, fields);
+    let points = load::points_of(job, fields);
+    let rules = rules_of(fields);
+    load::load_rows(job, fields, rows);
+    faceting::faceting(rank, plane, points, rows, m, rules, budget, ws)
+}
+
+// Such a job, called, and what its call says written into the cleared buffer.
 fn answer_job(job: &[u8], fields: Fields, ws: &mut [u8], answer: &mut [u8]) -> i64
     requires { ⌜ (Passed fields ≡ checkedOf (now job) (length (now ws))) × (now answer ≡ replicate (length (now answer)) 0) ⌝ }
     ensures code { λ r. ⌜ r ≡ codeOf (outcome (now (job .entry)) (length (now (ws .entry))) (length (now (answer .entry)))) ⌝ }
@@ -195,12 +213,8 @@ fn answer_job(job: &[u8], fields: Fields, ws: &mut [u8], answer: &mut [u8]) -> i
     let n = fields.n;
     let m = fields.count;
     let budget = fields.budget;
-    let plane = load::plane_of(job, fields);
-    let points = load::points_of(job, fields);
-    let rules = rules_of(fields);
-    let mut rows = [0; 3840];
-    load::load_rows(job, fields, &mut rows);
-    let called = faceting::faceting(rank, plane, points, &rows, m, rules, budget, ws);
+    let mut rows = [0; ROWS_ROOM];
+    let called = call_job(job, fields, ws, &mut rows);
     write_called(called, rank, ws, &rows, m, n, budget, answer)
 }
 

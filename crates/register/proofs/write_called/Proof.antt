@@ -5,7 +5,8 @@ use borrow.Author.Needs.{needs}
 use mir.Facts.{toZ-ofZ}
 use mir.Syntax.{w64}
 use mir.Val.{SFits}
-use Rattle.register.specs.Called.{said-as, said-refused, said-ends, ends-spent, said-left, refused-code, refused-buffer, answered-code, answered-buffer}
+use Rattle.register.specs.Said.{said-as, said-refused, said-ends, ends-spent}
+use Rattle.register.specs.Called.{said-left, refused-code, refused-buffer, answered-code, answered-buffer}
 use Rattle.register.specs.Closed.{wrote-all}
 use Rattle.register.proofs.write_called.Statement.{statement}
 use Rattle.register.proofs.write_called.Tie as tie
