@@ -8,6 +8,9 @@ pub mod Move
 pub mod Assemble
 pub mod Gathered
 pub mod FigureOf
+pub mod Levels
+pub mod LevelFigures
+pub mod LevelMoves
 pub mod Sets
 pub mod Calls
 pub mod Jobs
