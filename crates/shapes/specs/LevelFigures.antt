@@ -14,7 +14,7 @@ use Rattle.laws.specs.Places.{placeIn, place-below, at-place, place-ascends, pl
 use Rattle.shapes.specs.Shape.{Element, Rank, Stack}
 use Rattle.shapes.specs.Assemble.{lowestOf, lowestAll, lowestBy}
 use Rattle.shapes.specs.Gathered.{elementsOf, gathered, sortAll}
-use Rattle.shapes.specs.Levels.{Levels, over, itemsInOrder, AllGood, under, lowest, lowestIn, placesIn, upperRanks, bodyOf, ranksOn, ranksOf, lowest-items, lowest-ascends, lowest-good, lowest-in-ascends, lowest-in-good, lowest-in-over, ranks-over, ranks-of-over, ranks-of-sent}
+use Rattle.shapes.specs.Levels.{Levels, Sets, over, overSets, itemsInOrder, AllGood, under, lowest, lowestIn, placesIn, upperRanks, bodyOf, ranksOn, ranksOf, lowest-items, lowest-ascends, lowest-good, lowest-in-ascends, lowest-in-good, lowest-in-over, ranks-over, ranks-of-over, ranks-of-sent}
 
 -- ---- items written as elements
 
@@ -43,10 +43,10 @@ module _ (T : Levels) (bound : ℕ) (P : T .Item zero → Type 0) (write : T .It
   written-number all h z p = place-map (T .order zero) (T .linear zero) compareNats nat-lists write z all (λ y m. written-apart z y p (h y m))
 
 -- good items whose subs are among these
-abbrev pub Within : (T : Levels) → List (T .Item zero) → T .Item (suc zero) → Type 0
-Within T all y = T .Good (suc zero) y × ((z : T .Item zero) → Mem z (T .subs zero y) → Mem z all)
+abbrev pub Within : (T : Levels) → Sets T → List (T .Item zero) → T .Item (suc zero) → Type 0
+Within T G all y = G .Good (suc zero) y × ((z : T .Item zero) → Mem z (T .subs zero y) → Mem z all)
 
-module _ (T : Levels) (all : List (T .Item zero)) (up : Ascends (T .order zero) all) where
+module _ (T : Levels) (G : Sets T) (all : List (T .Item zero)) (up : Ascends (T .order zero) all) where
   abbrev c : T .Item zero → T .Item zero → Ordering
   c = T .order zero
 
@@ -60,34 +60,34 @@ module _ (T : Levels) (all : List (T .Item zero)) (up : Ascends (T .order zero) 
   rises y z i j e = lt-compare (placeAmong y) (placeAmong z) (place-ascends c order y y z all up i j e)
 
   -- written as the places of their subs, they are written in their order
-  pub places-written : Written (over T) (length all) (Within T all) (placesIn T zero all)
+  pub places-written : Written (over T) (length all) (Within T G all) (placesIn T zero all)
   unfolding compareNats
   places-written = record {
     element = λ y p. record {
-      ascends = ascends-map c order compare nats placeAmong (λ z. Mem z all) rises (T .subs zero y) (p .1) (T .ascends zero y (p .0));
+      ascends = ascends-map c order compare nats placeAmong (λ z. Mem z all) rises (T .subs zero y) (p .1) (G .ascends zero y (p .0));
       below = λ i m. let r = of-map placeAmong i (T .subs zero y) m in subst (λ (n : ℕ). n < length all) (sym (r .2)) (place-below c order (r .0) all (p .1 (r .0) (r .1)));
     };
     keeps = λ x y p q.
         compare-map c order compare nats placeAmong (λ z. Mem z all) (keeps-compare c order compare nats placeAmong (λ z. Mem z all) rises) (T .subs zero x) (T .subs zero y) (p .1) (q .1)
-        ∙ sym (T .by-subs zero x y (p .0) (q .0));
+        ∙ sym (G .by-subs zero x y (p .0) (q .0));
   }
 
 -- the items under an item are good and within what is lowest there
-pub over-within : (T : Levels) (k : ℕ) (x : T .Item (suc k)) → T .Good (suc k) x → (all : List (T .Item zero)) → ((z : T .Item zero) → Mem z (lowestIn T (suc k) x) → Mem z all)
-    → (y : T .Item (suc zero)) → Mem y (lowestIn (over T) k x) → Within T all y
-over-within T k x h all within y m = (lowest-in-good (over T) k x h y m, λ z i. within z (lowest-in-over T k x y m z i))
+pub over-within : (T : Levels) (G : Sets T) (k : ℕ) (x : T .Item (suc k)) → G .Good (suc k) x → (all : List (T .Item zero)) → ((z : T .Item zero) → Mem z (lowestIn T (suc k) x) → Mem z all)
+    → (y : T .Item (suc zero)) → Mem y (lowestIn (over T) k x) → Within T G all y
+over-within T G k x h all within y m = (lowest-in-good (over T) (overSets T G) k x h y m, λ z i. within z (lowest-in-over T k x y m z i))
 
 -- ---- their ranks stand one upon the other
 
-pub ranks-stack : (k : ℕ) (T : Levels) (bound : ℕ) (P : T .Item zero → Type 0) (write : T .Item zero → List ℕ) → Written T bound P write → (x : T .Item k) → T .Good k x
+pub ranks-stack : (k : ℕ) (T : Levels) (G : Sets T) (bound : ℕ) (P : T .Item zero → Type 0) (write : T .Item zero → List ℕ) → Written T bound P write → (x : T .Item k) → G .Good k x
     → ((z : T .Item zero) → Mem z (lowestIn T k x) → P z) → Stack bound (ranksOf T write k x)
 unfolding lowestIn ranksOf
-ranks-stack zero T bound P write written x h p = (written-rank T bound P write written (x ∷ []) p ((λ y i. elim i [ ]), tt), tt)
-ranks-stack (suc k) T bound P write written x h p =
+ranks-stack zero T G bound P write written x h p = (written-rank T bound P write written (x ∷ []) p ((λ y i. elim i [ ]), tt), tt)
+ranks-stack (suc k) T G bound P write written x h p =
     let own = lowestIn T (suc k) x in
-    let up = lowest-in-ascends T (suc k) x h in
-    let rest = ranks-stack k (over T) (length own) (Within T own) (placesIn T zero own) (places-written T own up) x h (over-within T k x h own (λ z m. m)) in
-    subst (Stack bound) (sym (ranks-of-over T write k x h))
+    let up = lowest-in-ascends T G (suc k) x h in
+    let rest = ranks-stack k (over T) (overSets T G) (length own) (Within T G own) (placesIn T zero own) (places-written T G own up) x h (over-within T G k x h own (λ z m. m)) in
+    subst (Stack bound) (sym (ranks-of-over T G write k x h))
     (written-rank T bound P write written own p up, subst (λ (n : ℕ). Stack n (ranksOf (over T) (placesIn T zero own) k x)) (sym (length-map own write)) rest)
 
 -- ---- one rank taken off
@@ -107,20 +107,20 @@ module _ (T : Levels) (bound : ℕ) (P : T .Item zero → Type 0) (write : T .It
   place = placeIn (T .order zero) (T .linear zero)
 
   -- an item above, without its lowest rank, named by the numbers in a larger rank
-  pub ranks-without : (k : ℕ) (x : T .Item (suc k)) → T .Good (suc k) x → (all : List (T .Item zero)) → Ascends (T .order zero) all → ((z : T .Item zero) → Mem z all → P z)
+  pub ranks-without : (G : Sets T) (k : ℕ) (x : T .Item (suc k)) → G .Good (suc k) x → (all : List (T .Item zero)) → Ascends (T .order zero) all → ((z : T .Item zero) → Mem z all → P z)
       → ((z : T .Item zero) → Mem z (lowestIn T (suc k) x) → Mem z all) → withoutLowest (map write all) (ranksOf T write (suc k) x) ≡ ranksOf (over T) (placesIn T zero all) k x
   unfolding sortNats
-  ranks-without k x h all up p within =
+  ranks-without G k x h all up p within =
       let own = lowestIn T (suc k) x in
       let number : ℕ → ℕ = λ i. numberIn (map write all) (getD (map write own) i []) in
       let one : (y : T .Item (suc zero)) → Mem y (lowestIn (over T) k x) → sortNats (map number (placesIn T zero own y)) ≡ placesIn T zero all y = λ y m.
-      let own-subs = over-within T k x h own (λ z i. i) y m .1 in
+      let own-subs = over-within T G k x h own (λ z i. i) y m .1 in
       ap sortNats
       (map-map number (place own) (T .subs zero y)
       ∙ map-same (λ (z : T .Item zero). number (place own z)) (place all) (T .subs zero y)
       (λ z i. ap (numberIn (map write all)) (written-at T write own z (own-subs z i)) ∙ written-number T bound P write written all p z (p z (within z (own-subs z i)))))
-      ∙ sort-ascending compare nats (placesIn T zero all y) (places-written T all up .element y (over-within T k x h all within y m) .ascends) in
-      ap (withoutLowest (map write all)) (ranks-of-over T write k x h)
+      ∙ sort-ascending compare nats (placesIn T zero all y) (places-written T G all up .element y (over-within T G k x h all within y m) .ascends) in
+      ap (withoutLowest (map write all)) (ranks-of-over T G write k x h)
       ∙ without-by (map write all) (map write own) (ranksOf (over T) (placesIn T zero own) k x)
       ∙ ranks-of-sent (over T) (placesIn T zero own) (placesIn T zero all) number k x one
 
@@ -167,14 +167,14 @@ module _ (T : Levels) (bound : ℕ) (P : T .Item zero → Type 0) (write : T .It
 
 -- ---- the figure of a list of items
 
-pub gathered-items : (k : ℕ) (T : Levels) (bound : ℕ) (P : T .Item zero → Type 0) (write : T .Item zero → List ℕ) → Written T bound P write → (xs : List (T .Item k)) → AllGood T k xs
+pub gathered-items : (k : ℕ) (T : Levels) (G : Sets T) (bound : ℕ) (P : T .Item zero → Type 0) (write : T .Item zero → List ℕ) → Written T bound P write → (xs : List (T .Item k)) → AllGood T G k xs
     → ((x : T .Item k) → Mem x xs → (z : T .Item zero) → Mem z (lowestIn T k x) → P z) → gathered k (map (ranksOf T write k) xs) ≡ ranksOn T write k (itemsInOrder T k xs)
 unfolding gathered ranksOn upperRanks lowest bodyOf
-gathered-items zero T bound P write written xs h p =
+gathered-items zero T G bound P write written xs h p =
     let es = elements-of-items T bound P write written zero xs p in
     let many : length (elementsOf (map (ranksOf T write zero) xs)) ≡ length (itemsInOrder T zero xs) = ap length es ∙ length-map (itemsInOrder T zero xs) write in
     λ t. es t ∷ (countFrom 0 (many t) ∷ []) ∷ []
-gathered-items (suc k) T bound P write written xs h p =
+gathered-items (suc k) T G bound P write written xs h p =
     let facets = map (ranksOf T write (suc k)) xs in
     let sorted = itemsInOrder T (suc k) xs in
     let all = lowest T (suc k) sorted in
@@ -187,9 +187,9 @@ gathered-items (suc k) T bound P write written xs h p =
     let upper : map (withoutLowest (map write all)) facets ≡ map (ranksOf (over T) (placesIn T zero all) k) xs =
     map-map (withoutLowest (map write all)) (ranksOf T write (suc k)) xs
     ∙ map-same (λ (x : T .Item (suc k)). withoutLowest (map write all) (ranksOf T write (suc k) x)) (ranksOf (over T) (placesIn T zero all) k) xs
-    (λ x m. ranks-without T bound P write written k x (h x m) all up inside (within x m)) in
+    (λ x m. ranks-without T bound P write written G k x (h x m) all up inside (within x m)) in
     ap (λ (es : Elements). es ∷ gathered k (map (withoutLowest es) facets)) (elements-of-items T bound P write written (suc k) xs p)
     ∙ ap (λ (fs : List (List Elements)). map write all ∷ gathered k fs) upper
     ∙ ap (λ (ranks : List Elements). map write all ∷ ranks)
-    (gathered-items k (over T) (length all) (Within T all) (placesIn T zero all) (places-written T all up) xs h (λ x m. over-within T k x (h x m) all (within x m)))
+    (gathered-items k (over T) (overSets T G) (length all) (Within T G all) (placesIn T zero all) (places-written T G all up) xs h (λ x m. over-within T G k x (h x m) all (within x m)))
     ∙ sym (ranks-over T write k sorted)

@@ -17,36 +17,33 @@ use Rattle.shapes.specs.Assemble.{lowestBy}
 
 -- ---- levels
 
--- Items of each level with a linear order and their subs. Of good items the subs ascend and are good, and they compare as their lists of subs do.
+-- items of each level with a linear order, and their subs
 pub record Levels : Type 1 where
   pub Item : ℕ → Type 0
   pub order : (k : ℕ) → Item k → Item k → Ordering
   pub linear : (k : ℕ) → Linear (order k)
   pub subs : (k : ℕ) → Item (suc k) → List (Item k)
-  pub Good : (k : ℕ) → Item k → Type 0
-  pub ascends : (k : ℕ) (x : Item (suc k)) → Good (suc k) x → Ascends (order k) (subs k x)
-  pub good : (k : ℕ) (x : Item (suc k)) → Good (suc k) x → (y : Item k) → Mem y (subs k x) → Good k y
-  pub by-subs : (k : ℕ) (x y : Item (suc k)) → Good (suc k) x → Good (suc k) y → order (suc k) x y ≡ compareList (order k) (subs k x) (subs k y)
+
+-- of good items the subs ascend and are good, and they compare as their lists of subs do
+pub record Sets (T : Levels) : Type 1 where
+  pub Good : (k : ℕ) → T .Item k → Type 0
+  pub ascends : (k : ℕ) (x : T .Item (suc k)) → Good (suc k) x → Ascends (T .order k) (T .subs k x)
+  pub good : (k : ℕ) (x : T .Item (suc k)) → Good (suc k) x → (y : T .Item k) → Mem y (T .subs k x) → Good k y
+  pub by-subs : (k : ℕ) (x y : T .Item (suc k)) → Good (suc k) x → Good (suc k) y → T .order (suc k) x y ≡ compareList (T .order k) (T .subs k x) (T .subs k y)
 
 -- the levels without the lowest
 abbrev pub over : Levels → Levels
-over T = record {
-  Item = λ k. T .Item (suc k);
-  order = λ k. T .order (suc k);
-  linear = λ k. T .linear (suc k);
-  subs = λ k. T .subs (suc k);
-  Good = λ k. T .Good (suc k);
-  ascends = λ k. T .ascends (suc k);
-  good = λ k. T .good (suc k);
-  by-subs = λ k. T .by-subs (suc k);
-}
+over T = record { Item = λ k. T .Item (suc k); order = λ k. T .order (suc k); linear = λ k. T .linear (suc k); subs = λ k. T .subs (suc k) }
+
+abbrev pub overSets : (T : Levels) → Sets T → Sets (over T)
+overSets T G = record { Good = λ k. G .Good (suc k); ascends = λ k. G .ascends (suc k); good = λ k. G .good (suc k); by-subs = λ k. G .by-subs (suc k) }
 
 -- ascending, each once
 abbrev pub itemsInOrder : (T : Levels) (k : ℕ) → List (T .Item k) → List (T .Item k)
 itemsInOrder T k l = inOrder (T .order k) (T .linear k) l
 
-abbrev pub AllGood : (T : Levels) (k : ℕ) → List (T .Item k) → Type 0
-AllGood T k xs = (x : T .Item k) → Mem x xs → T .Good k x
+abbrev pub AllGood : (T : Levels) → Sets T → (k : ℕ) → List (T .Item k) → Type 0
+AllGood T G k xs = (x : T .Item k) → Mem x xs → G .Good k x
 
 -- all subs of items
 unfoldable pub under : (T : Levels) (k : ℕ) → List (T .Item (suc k)) → List (T .Item k)
@@ -116,32 +113,32 @@ pub under-ascends : (T : Levels) (k : ℕ) (xs : List (T .Item (suc k))) → Asc
 unfolding under
 under-ascends T k xs = in-order-ascends (T .order k) (T .linear k) (flatMap (T .subs k) xs)
 
-pub under-good : (T : Levels) (k : ℕ) (xs : List (T .Item (suc k))) → AllGood T (suc k) xs → AllGood T k (under T k xs)
+pub under-good : (T : Levels) (G : Sets T) (k : ℕ) (xs : List (T .Item (suc k))) → AllGood T G (suc k) xs → AllGood T G k (under T k xs)
 unfolding under
-under-good T k xs h y m =
+under-good T G k xs h y m =
     let r = of-flatMap (T .subs k) y xs (of-in-order (T .order k) (T .linear k) y (flatMap (T .subs k) xs) m) in
-    T .good k (r .0) (h (r .0) (r .1)) y (r .2)
+    G .good k (r .0) (h (r .0) (r .1)) y (r .2)
 
 pub lowest-ascends : (T : Levels) (k : ℕ) (xs : List (T .Item k)) → Ascends (T .order k) xs → Ascends (T .order zero) (lowest T k xs)
 unfolding lowest
 lowest-ascends T zero xs h = h
 lowest-ascends T (suc k) xs h = lowest-ascends T k (under T k xs) (under-ascends T k xs)
 
-pub lowest-good : (T : Levels) (k : ℕ) (xs : List (T .Item k)) → AllGood T k xs → AllGood T zero (lowest T k xs)
+pub lowest-good : (T : Levels) (G : Sets T) (k : ℕ) (xs : List (T .Item k)) → AllGood T G k xs → AllGood T G zero (lowest T k xs)
 unfolding lowest
-lowest-good T zero xs h = h
-lowest-good T (suc k) xs h = lowest-good T k (under T k xs) (under-good T k xs h)
+lowest-good T G zero xs h = h
+lowest-good T G (suc k) xs h = lowest-good T G k (under T k xs) (under-good T G k xs h)
 
-pub lowest-in-ascends : (T : Levels) (k : ℕ) (x : T .Item k) → T .Good k x → Ascends (T .order zero) (lowestIn T k x)
+pub lowest-in-ascends : (T : Levels) (G : Sets T) (k : ℕ) (x : T .Item k) → G .Good k x → Ascends (T .order zero) (lowestIn T k x)
 unfolding lowestIn
-lowest-in-ascends T zero x h = ((λ y i. elim i [ ]), tt)
-lowest-in-ascends T (suc k) x h = lowest-ascends T k (T .subs k x) (T .ascends k x h)
+lowest-in-ascends T G zero x h = ((λ y i. elim i [ ]), tt)
+lowest-in-ascends T G (suc k) x h = lowest-ascends T k (T .subs k x) (G .ascends k x h)
 
-pub lowest-in-good : (T : Levels) (k : ℕ) (x : T .Item k) → T .Good k x → AllGood T zero (lowestIn T k x)
+pub lowest-in-good : (T : Levels) (G : Sets T) (k : ℕ) (x : T .Item k) → G .Good k x → AllGood T G zero (lowestIn T k x)
 unfolding lowestIn
-lowest-in-good T zero x h y (List·Memᴰ.List·Memᴰ·head e) = subst (T .Good zero) (sym e) h
-lowest-in-good T zero x h y (List·Memᴰ.List·Memᴰ·tail i) = elim i [ ]
-lowest-in-good T (suc k) x h y m = lowest-good T k (T .subs k x) (T .good k x h) y m
+lowest-in-good T G zero x h y (List·Memᴰ.List·Memᴰ·head e) = subst (G .Good zero) (sym e) h
+lowest-in-good T G zero x h y (List·Memᴰ.List·Memᴰ·tail i) = elim i [ ]
+lowest-in-good T G (suc k) x h y m = lowest-good T G k (T .subs k x) (G .good k x h) y m
 
 -- ---- the lowest level taken off
 
@@ -188,12 +185,12 @@ own-places {A} c order (x ∷ l) h =
         all-self [] = refl
         all-self (i ∷ m) = ap (λ (r : List ℕ). i ∷ r) (all-self m)
 
-pub ranks-of-over : (T : Levels) (write : T .Item zero → List ℕ) (k : ℕ) (x : T .Item (suc k)) → T .Good (suc k) x
+pub ranks-of-over : (T : Levels) (G : Sets T) (write : T .Item zero → List ℕ) (k : ℕ) (x : T .Item (suc k)) → G .Good (suc k) x
     → ranksOf T write (suc k) x ≡ map write (lowestIn T (suc k) x) ∷ ranksOf (over T) (placesIn T zero (lowestIn T (suc k) x)) k x
 unfolding ranksOf ranksOn lowestIn lowest upperRanks bodyOf
-ranks-of-over T write zero x h =
-    ap (λ (body : List ℕ). map write (T .subs zero x) ∷ (body ∷ []) ∷ []) (sym (own-places (T .order zero) (T .linear zero) (T .subs zero x) (T .ascends zero x h)))
-ranks-of-over T write (suc k) x h = ranks-over T write k (T .subs (suc k) x)
+ranks-of-over T G write zero x h =
+    ap (λ (body : List ℕ). map write (T .subs zero x) ∷ (body ∷ []) ∷ []) (sym (own-places (T .order zero) (T .linear zero) (T .subs zero x) (G .ascends zero x h)))
+ranks-of-over T G write (suc k) x h = ranks-over T write k (T .subs (suc k) x)
 
 -- ---- the lowest items written otherwise
 

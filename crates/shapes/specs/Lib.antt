@@ -16,6 +16,8 @@ pub mod Calls
 pub mod Jobs
 pub mod EdgeSets
 pub mod Polygons
+pub mod Nested
+pub mod NestedFigures
 pub mod Compounds
 pub mod Splitting
 pub mod SplitCalls
