@@ -92,6 +92,11 @@ ranks-stack (suc k) T G bound P write written x h p =
 
 -- ---- one rank taken off
 
+pub lowest-of-ranks : (T : Levels) (write : T .Item zero → List ℕ) (k : ℕ) (x : T .Item k) → lowestOf (ranksOf T write k x) ≡ map write (lowestIn T k x)
+unfolding ranksOf ranksOn lowestIn
+lowest-of-ranks T write zero x = refl
+lowest-of-ranks T write (suc k) x = refl
+
 -- what stands at an item's place
 pub written-at : (T : Levels) (write : T .Item zero → List ℕ) (own : List (T .Item zero)) (z : T .Item zero) → Mem z own → getD (map write own) (placeIn (T .order zero) (T .linear zero) own z) [] ≡ write z
 written-at T write own z m =
@@ -126,16 +131,11 @@ module _ (T : Levels) (bound : ℕ) (P : T .Item zero → Type 0) (write : T .It
 
   -- ---- the lowest rank of facets
 
-  lowest-of : (k : ℕ) (x : T .Item k) → lowestOf (ranksOf T write k x) ≡ map write (lowestIn T k x)
-  unfolding ranksOf ranksOn lowestIn
-  lowest-of zero x = refl
-  lowest-of (suc k) x = refl
-
   lowest-all : (k : ℕ) (xs : List (T .Item k)) → lowestAll (map (ranksOf T write k) xs) ≡ map write (flatMap (lowestIn T k) xs)
   unfolding flatMap
   lowest-all k [] = refl
   lowest-all k (x ∷ xs) =
-      (λ t. lowest-of k x t ++ lowest-all k xs t) ∙ append-map (lowestIn T k x) (flatMap (lowestIn T k) xs)
+      (λ t. lowest-of-ranks T write k x t ++ lowest-all k xs t) ∙ append-map (lowestIn T k x) (flatMap (lowestIn T k) xs)
     where
       append-map : (l m : List (T .Item zero)) → map write l ++ map write m ≡ map write (l ++ m)
       append-map [] m = refl

@@ -10,11 +10,11 @@ use Rattle.definitions.specs.Figures.{Elements, numberIn, sortRanks}
 use Rattle.laws.specs.Lists.{Mem, here, there, in-map, of-map, in-flatMap, of-flatMap, flatMap-same}
 use Rattle.laws.specs.Orders.{Linear, nats, nat-lists, lt-compare}
 use Rattle.laws.specs.Ascending.{Ascends, Distinct, ascends-distinct, inOrder, in-order-ascends, in-in-order, of-in-order, in-order-same}
-use Rattle.laws.specs.Places.{placeIn, place-apart, place-ascends, place-map, in-order-map, sort-distinct, distinct-map, map-same, map-flatMap, flatMap-map}
+use Rattle.laws.specs.Places.{placeIn, at-place, place-apart, place-ascends, place-map, in-order-map, sort-distinct, distinct-map, map-same, map-self, map-flatMap, flatMap-map}
 use Rattle.shapes.specs.Assemble.{lowestBy}
 use Rattle.shapes.specs.Gathered.{sortAll}
-use Rattle.shapes.specs.Levels.{Levels, Sets, over, overSets, itemsInOrder, AllGood, under, lowest, lowestIn, placesIn, upperRanks, bodyOf, ranksOn, ranksOf, under-good, lowest-in-ascends, lowest-in-good, ranks-of-over, ranks-of-sent}
-use Rattle.shapes.specs.LevelFigures.{Written, Within, written-apart, written-number, written-at, places-written, over-within}
+use Rattle.shapes.specs.Levels.{Levels, Sets, over, overSets, itemsInOrder, AllGood, under, lowest, lowestIn, placesIn, upperRanks, bodyOf, ranksOn, ranksOf, under-good, lowest-in-over, lowest-in-ascends, lowest-in-good, ranks-of-over, ranks-of-sent}
+use Rattle.shapes.specs.LevelFigures.{Written, Within, lowest-of-ranks, written-apart, written-number, written-at, places-written, over-within}
 
 -- ---- items sent and put in order
 
@@ -233,3 +233,43 @@ ranks-apart (suc k) T G bound P write written x y g h p q e =
     ap (drop 1) both ∙ ap (λ (all : List (T .Item zero)). ranksOf (over T) (placesIn T zero all) k y) (sym same) in
     ranks-apart k (over T) (overSets T G) (length own) (Within T G own) (placesIn T zero own) (places-written T G own up) x y g h (over-within T G k x g own (λ z i. i))
     (over-within T G k y h own (λ z i. subst (λ (l : List (T .Item zero)). Mem z l) (sym same) i)) rest
+
+-- ---- an item read off its ranks
+
+-- items made of their subs, and one to stand for none
+pub record Building (T : Levels) : Type 0 where
+  pub none : (k : ℕ) → T .Item k
+  pub build : (k : ℕ) → List (T .Item k) → T .Item (suc k)
+  pub built : (k : ℕ) (x : T .Item (suc k)) → build k (T .subs k x) ≡ x
+
+abbrev pub overBuilding : (T : Levels) → Building T → Building (over T)
+overBuilding T B = record { none = λ k. B .none (suc k); build = λ k. B .build (suc k); built = λ k. B .built (suc k) }
+
+-- the subs that an element names
+abbrev pub namedBy : (T : Levels) → Building T → List (T .Item zero) → List ℕ → T .Item (suc zero)
+namedBy T B all e = B .build zero (map (λ (i : ℕ). getD all i (B .none zero)) e)
+
+-- from the lowest items and the ranks above: each rank's elements made of the items that they name, up to the body
+unfoldable pub readItem : (k : ℕ) (T : Levels) → Building T → List (T .Item zero) → List Elements → T .Item k
+readItem zero T B all ranks = getD all 0 (B .none zero)
+readItem (suc k) T B all ranks = readItem k (over T) (overBuilding T B) (map (namedBy T B all) (getD ranks 0 [])) (drop 1 ranks)
+
+pub ranks-read : (k : ℕ) (T : Levels) (G : Sets T) (B : Building T) (write : T .Item zero → List ℕ) (x : T .Item k) → G .Good k x → readItem k T B (lowestIn T k x) (drop 1 (ranksOf T write k x)) ≡ x
+unfolding readItem lowestIn
+ranks-read zero T G B write x h = refl
+ranks-read (suc k) T G B write x h =
+    let own = lowestIn T (suc k) x in
+    let next = lowestIn (over T) k x in
+    let place : T .Item zero → ℕ = placeIn (T .order zero) (T .linear zero) own in
+    let rest = ranksOf (over T) (placesIn T zero own) k x in
+    let named : (y : T .Item (suc zero)) → Mem y next → namedBy T B own (placesIn T zero own y) ≡ y = λ y m.
+    ap (B .build zero)
+    (map-map (λ (i : ℕ). getD own i (B .none zero)) place (T .subs zero y)
+    ∙ map-self (λ (z : T .Item zero). getD own (place z) (B .none zero)) (T .subs zero y)
+    (λ z i. at-place (T .order zero) (T .linear zero) (B .none zero) z own (lowest-in-over T k x y m z i)))
+    ∙ B .built zero y in
+    let items : map (namedBy T B own) (getD rest 0 []) ≡ next =
+    ap (map (namedBy T B own)) (lowest-of-ranks (over T) (placesIn T zero own) k x) ∙ map-map (namedBy T B own) (placesIn T zero own) next ∙ map-self (λ (y : T .Item (suc zero)). namedBy T B own (placesIn T zero own y)) next named in
+    ap (λ (ranks : List Elements). readItem (suc k) T B own (drop 1 ranks)) (ranks-of-over T G write k x h)
+    ∙ ap (λ (l : List (T .Item (suc zero))). readItem k (over T) (overBuilding T B) l (drop 1 rest)) items
+    ∙ ranks-read k (over T) (overSets T G) (overBuilding T B) (placesIn T zero own) x h

@@ -22,6 +22,7 @@ pub mod Compounds
 pub mod Splitting
 pub mod SplitCalls
 pub mod SplitEnded
+pub mod NestedCalls
 pub mod EntryFigures
 pub mod Ridges
 pub mod RidgeCalls

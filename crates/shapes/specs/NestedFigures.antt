@@ -3,22 +3,23 @@
 use mathlib.Core.Path.{_≡_, refl, sym, ap, _∙_, subst}
 use mathlib.Core.List.{List, [], _∷_, map, map-map}
 use Prim.Native.Nat.{ℕ, zero, suc}
-use lib.ListN.{length, drop, replicate}
+use lib.ListN.{length, getD, drop, replicate, length-replicate}
 use Rattle.definitions.specs.Lists.{Pair, sortNats}
-use Rattle.definitions.specs.Figures.{Elements, Figure, sortRanks, sortStrong, moveEnds, renumber, figureOf}
+use Rattle.definitions.specs.Figures.{Elements, Figure, rankOf, sortRanks, sortStrong, moveEnds, renumber, figureOf}
 use Rattle.definitions.specs.Recursion.{moveSorted}
 use Rattle.laws.specs.Lists.{Mem, of-map}
+use Rattle.laws.specs.Places.{map-self}
 use Rattle.shapes.specs.Edges.{sort-two}
 use Rattle.shapes.specs.Shape.{Stack}
 use Rattle.shapes.specs.Move.{Into, Rising}
-use Rattle.shapes.specs.Assemble.{lowestBy}
+use Rattle.shapes.specs.Assemble.{lowestOf, lowestBy}
 use Rattle.shapes.specs.Gathered.{gathered, sortAll}
 use Rattle.shapes.specs.FigureOf.{Stacked, figure-of}
 use Rattle.shapes.specs.EdgeSets.{Proper, ends}
-use Rattle.shapes.specs.Polygons.{edgeVia, endsVia}
+use Rattle.shapes.specs.Polygons.{edgeVia, endsVia, edgePairs}
 use Rattle.shapes.specs.Levels.{lowest, lowestIn, upperRanks, bodyOf, ranksOn, ranksOf, lowest-in-good, ranks-of-sent}
-use Rattle.shapes.specs.LevelFigures.{ranks-stack, gathered-items}
-use Rattle.shapes.specs.LevelMoves.{ranks-sent, ranks-kept, ranks-apart}
+use Rattle.shapes.specs.LevelFigures.{lowest-of-ranks, ranks-stack, gathered-items}
+use Rattle.shapes.specs.LevelMoves.{Building, readItem, ranks-read, ranks-sent, ranks-kept, ranks-apart}
 use Rattle.shapes.specs.Nested.{Nested, nestedInOrder, NestedSet, nested, nestedSets, ends-written, moveNested, raiseNested, moved-set, nested-sending, nested-raising}
 
 -- the ranks of an element from the edges up
@@ -102,3 +103,27 @@ pub nested-apart : (n points k : ℕ) (x y : Nested k) → NestedSet n k x → N
 unfolding nestedFigure
 nested-apart n points k x y h j e =
     ranks-apart k nested (nestedSets n) n (Proper n) ends (ends-written n) x y h j (edges-proper n k x h) (edges-proper n k y j) (ap (drop 2) e)
+
+-- ---- an element read off its figure
+
+unfoldable pub nestedBuilding : Building nested
+nestedBuilding = record { none = noElement; build = λ k l. l; built = λ k x. refl }
+  where
+    noElement : (k : ℕ) → Nested k
+    noElement zero = (0, 0)
+    noElement (suc k) = []
+
+unfoldable pub readNested : (k : ℕ) → Figure → Nested k
+readNested k f = readItem k nested nestedBuilding (edgePairs f) (drop 3 f)
+
+pub nested-read : (n points k : ℕ) (x : Nested k) → NestedSet n k x → readNested k (nestedFigure points k x) ≡ x
+unfolding readNested nestedFigure edgePairs rankOf ends
+nested-read n points k x h =
+    let edge : List ℕ → Pair = λ e. (getD e 0 0, getD e 1 0) in
+    let edges : map edge (lowestOf (nestedRanks k x)) ≡ lowestIn nested k x =
+    ap (map edge) (lowest-of-ranks nested ends k x) ∙ map-map edge ends (lowestIn nested k x) ∙ map-self (λ (e : Pair). (e .0, e .1)) (lowestIn nested k x) (λ e i. refl) in
+    ap (λ (es : List Pair). readItem k nested nestedBuilding es (drop 1 (nestedRanks k x))) edges ∙ ranks-read k nested (nestedSets n) nestedBuilding ends x h
+
+pub nested-points : (points k : ℕ) (x : Nested k) → length (rankOf 1 (nestedFigure points k x)) ≡ points
+unfolding rankOf nestedFigure
+nested-points points k x = length-replicate {A = List ℕ} points (0 ∷ [])
