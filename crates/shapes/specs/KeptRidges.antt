@@ -27,20 +27,12 @@ use Rattle.shapes.specs.AllPairs.{allPairs, in-all-pairs, of-all-pairs, 
 use Rattle.shapes.specs.Polygons.{edgeVia, via-proper}
 use Rattle.shapes.specs.Sizes.{edges-few, Counted}
 use Rattle.shapes.specs.FewOrbits.{pairs-few}
-use Rattle.shapes.specs.Ridges.{KnownKeys, noKeys, keyHeldBy, openKeyOrbit, numberOrOpenKey, ridgeNumbers, twice, vertices-twice}
+use Rattle.shapes.specs.Ridges.{KnownKeys, noKeys, map-with-good, keyHeldBy, openKeyOrbit, numberOrOpenKey, ridgeNumbers, twice, twice-moved}
 use Rattle.shapes.specs.RidgeCounts.{call-ridges}
 use Rattle.shapes.specs.KeyMarks.{held-marked, held-once}
 use Rattle.shapes.specs.Kept.{Kept, keptOf, numberEnds, numbersKept, keptShare, keptShares, keptTable}
 use Rattle.shapes.specs.KeptTable.{alone, kept-ridges}
 use Rattle.shapes.specs.KeptSizes.{ridgeKeys, keys-below, kept-sized, facetsKept, few-facets-kept}
-
--- ---- a state that stays good
-
-module _ {A B S : Type 0} (f : S → A → B × S) (Good : S → Type 0) (Fits : A → Type 0) (one : (s : S) (x : A) → Good s → Fits x → Good (f s x .1)) where
-  map-with-good : (s : S) (l : List A) → Good s → ((x : A) → Mem x l → Fits x) → Good (mapWith f s l .1)
-  unfolding mapWith
-  map-with-good s [] good fits = good
-  map-with-good s (x ∷ l) good fits = map-with-good (f s x .1) l (one s x good (fits x (here refl))) (λ y m. fits y (there m))
 
 -- ---- no more ridge orbits than keys
 
@@ -120,7 +112,7 @@ keys-closed zero n row p e m =
     let k = of-count 0 n (r .0) (r .1) .1 in
     let v = image row (r .0) in
     let below : v < n = row-into n row p .below (r .0) (omega arith) in
-    subst (λ (x : Pair). Mem x (map twice (countFrom 0 n))) (sym (ap (edgeVia (image row)) (r .2) ∙ vertices-twice .moved (image row) (r .0)))
+    subst (λ (x : Pair). Mem x (map twice (countFrom 0 n))) (sym (ap (edgeVia (image row)) (r .2) ∙ twice-moved (image row) (r .0)))
     (in-map twice v (countFrom 0 n) (in-count 0 n v (omega arith) (omega arith)))
 keys-closed (suc more) n row p e m = in-all-pairs n (edgeVia (image row) e) (via-proper n n (image row) (row-into n row p) e (of-all-pairs n e m))
 

@@ -37,7 +37,7 @@ use Rattle.shapes.specs.Sizes.{edges-few, found-length, Counted}
 use Rattle.shapes.specs.CallOrbits.{call-orbit-counted, call-orbits-few}
 use Rattle.shapes.specs.FewOrbits.{keep-few, pairs-few}
 use Rattle.shapes.specs.EntryFigures.{facets-many, call-split, edge-proper, possible-polygon}
-use Rattle.shapes.specs.Ridges.{twice, vertices-twice}
+use Rattle.shapes.specs.Ridges.{twice, twice-moved}
 use Rattle.shapes.specs.Kept.{Kept, endsOf, keptOf}
 use Rattle.shapes.specs.KeptTable.{inner-one-ridge}
 
@@ -297,7 +297,7 @@ module _ (more : ℕ) (rules : Rules) (plane : Subspace) (points : List Vec) (ro
           let d = inner-enough 0 rules (faceting 0 rules) plane points rows p made i m in
           let s = inner-set 0 rules (faceting 0 rules) plane points rows p made i m in
           let inside : toCall i v < n = s .below (toCall i v) (member-at (i .orbit .vertices) v 0 (omega arith)) in
-          subst (λ (x : Pair). Mem x (map twice (countFrom 0 n))) (sym (ap (λ (l : List Figure). edgeVia (toCall i) (endsOf (getD l 0 []))) (q .2) ∙ vertices-twice .moved (toCall i) v))
+          subst (λ (x : Pair). Mem x (map twice (countFrom 0 n))) (sym (ap (λ (l : List Figure). edgeVia (toCall i) (endsOf (getD l 0 []))) (q .2) ∙ twice-moved (toCall i) v))
           (in-map twice (toCall i v) (countFrom 0 n) (in-count 0 n (toCall i v) (omega arith) (omega arith)))
       at-rank (suc zero) few made fs k =
           let inner = made .inner .each i m in

@@ -86,7 +86,7 @@ orbit-numbers : (rows : List Row) (known : KnownKeys Pair) (i : Inner) → OneRi
 unfolding endKeys keptOf numberEnds numberKey mapWith
 orbit-numbers rows known i h =
     let number = numberKey comparePair edgeVia rows (i .orbit .vertices) in
-    map-with-items (mapWith number) (λ s (fs : List Figure). mapWith number s (map endsOf fs)) (λ s. s) (map endsOf) (λ s fs. refl) known (i .answer .possible)
+    map-with-items (mapWith number) (λ s (fs : List Figure). mapWith number s (map endsOf fs)) (λ s. s) (map endsOf) (λ s. Unit {0}) (λ fs. Unit {0}) (λ s fs g h. tt) (λ s fs g h. refl) known (i .answer .possible) tt (λ fs m. tt)
     ∙ map-with-results (λ s (fs : List Figure). mapWith number s (map endsOf fs)) (numberEnds rows) (firstEnds i) alone known (i .answer .possible)
     (λ s fs m. ap (λ (l : List Figure). mapWith number s (map endsOf l)) (h .single fs m))
 

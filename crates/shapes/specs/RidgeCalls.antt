@@ -19,7 +19,7 @@ use Rattle.shapes.specs.LowRanks.{inner-rank-two, edgeOf, possible-edges
 use Rattle.shapes.specs.Calls.{innerPoints}
 use Rattle.shapes.specs.Polygons.{edgeVia}
 use Rattle.shapes.specs.Kept.{endsOf}
-use Rattle.shapes.specs.Ridges.{keyNumbers, ridgeNumbers, numbers-carried, numbers-by-keys, vertices-keyed, edges-keyed, twice, vertices-twice}
+use Rattle.shapes.specs.Ridges.{AnyKey, AnyMap, any-keys, keyNumbers, ridgeNumbers, numbers-carried, numbers-by-keys, vertices-keyed, edges-keyed, twice, vertices-twice}
 
 -- the ridges of an orbit's inner answer as pairs of ends, in the set's positions
 unfoldable pub endKeys : Inner → List (List Pair)
@@ -43,7 +43,7 @@ module _ (rules : Rules) (plane : Subspace) (points : List Vec) (rows : List Row
 
   -- the ridges of a call of rank 3, numbered by vertices
   pub rank-three-vertices : ridgeNumbers (p .rows) (p .inner) ≡ keyNumbers compare (λ to v. to v) (p .rows) vertexKeys (p .inner)
-  rank-three-vertices = numbers-by-keys compare (λ to v. to v) vertexRidge vertices-keyed (p .rows) vertexKeys (p .inner) vertex-ridges
+  rank-three-vertices = numbers-by-keys compare (λ to v. to v) vertexRidge AnyKey AnyMap vertices-keyed 0 (p .rows) vertexKeys (p .inner) vertex-ridges (any-keys 0 (p .rows) vertexKeys (p .inner))
 
   -- a vertex is a pair of equal ends
   pub vertices-as-ends : (i : Inner) → Mem i (p .inner) → endKeys i ≡ map (map twice) (vertexKeys i)
@@ -56,7 +56,7 @@ module _ (rules : Rules) (plane : Subspace) (points : List Vec) (rows : List Row
 
   -- numbered by pairs of ends
   pub rank-three-ends : ridgeNumbers (p .rows) (p .inner) ≡ keyNumbers comparePair edgeVia (p .rows) endKeys (p .inner)
-  rank-three-ends = rank-three-vertices ∙ sym (numbers-carried compare (λ to v. to v) comparePair edgeVia twice vertices-twice (p .rows) vertexKeys endKeys (p .inner) vertices-as-ends)
+  rank-three-ends = rank-three-vertices ∙ sym (numbers-carried compare (λ to v. to v) comparePair edgeVia twice AnyKey AnyMap vertices-twice 0 (p .rows) vertexKeys endKeys (p .inner) vertices-as-ends (any-keys 0 (p .rows) vertexKeys (p .inner)))
 
   -- the shares of an orbit's one facet: those of its ridge rows, one place each
   pub rank-three-shares : (ridgeCounts : List ℕ) (numbers : List (List ℕ)) (i : Inner) → Mem i (p .inner)
@@ -87,7 +87,7 @@ module _ (rules : Rules) (plane : Subspace) (points : List Vec) (rows : List Row
 
   -- the ridges of a call of rank 4, numbered by pairs of ends
   pub rank-four-ends : ridgeNumbers (p .rows) (p .inner) ≡ keyNumbers comparePair edgeVia (p .rows) endKeys (p .inner)
-  rank-four-ends = numbers-by-keys comparePair edgeVia edgeFigure edges-keyed (p .rows) endKeys (p .inner) edge-ridges
+  rank-four-ends = numbers-by-keys comparePair edgeVia edgeFigure AnyKey AnyMap edges-keyed 0 (p .rows) endKeys (p .inner) edge-ridges (any-keys 0 (p .rows) endKeys (p .inner))
 
 -- ---- both
 
