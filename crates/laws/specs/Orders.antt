@@ -118,22 +118,30 @@ module _ {A : Type 0} (c : A → A → Ordering) (order : Linear c) (x y z : A) 
   then-less Ordering·gt b e f p q = absurd (lt≢gt (sym p))
 
 -- ---- pairs
+-- by the first item, then by the second
+abbrev pub compareBoth : {A B : Type 0} → (A → A → Ordering) → (B → B → Ordering) → A × B → A × B → Ordering
+compareBoth c d p q = thenBy (c (p .0) (q .0)) (d (p .1) (q .1))
+
+module _ {A B : Type 0} (c : A → A → Ordering) (order : Linear c) (d : B → B → Ordering) (next : Linear d) where
+  pub both : Linear (compareBoth c d)
+  both = record {
+    equal = λ p q e.
+        let h = then-equal (c (p .0) (q .0)) (d (p .1) (q .1)) e in
+        let first = order .equal (p .0) (q .0) (h .0) in
+        let second = next .equal (p .1) (q .1) (h .1) in
+        λ i. (first i, second i);
+    self = λ p. then-self (c (p .0) (p .0)) (d (p .1) (p .1)) (order .self (p .0)) (next .self (p .1));
+    mirror = λ p q.
+        ap (λ (o : Ordering). thenBy o (d (q .1) (p .1))) (order .mirror (p .0) (q .0))
+        ∙ ap (thenBy (turned (c (p .0) (q .0)))) (next .mirror (p .1) (q .1))
+        ∙ then-turned (c (p .0) (q .0)) (d (p .1) (q .1));
+    less = λ p q r e f.
+        then-less c order (p .0) (q .0) (r .0) (d (p .1) (q .1)) (d (q .1) (r .1)) (d (p .1) (r .1)) (next .less (p .1) (q .1) (r .1)) (c (p .0) (q .0)) (c (q .0) (r .0)) refl refl e f;
+  }
+
 pub pairs : Linear comparePair
 unfolding comparePair
-pairs = record {
-  equal = λ p q e. let h = then-equal (compare (p .0) (q .0)) (compare (p .1) (q .1)) e in both-equal p q (compare-equal (p .0) (q .0) (h .0)) (compare-equal (p .1) (q .1) (h .1));
-  self = λ p. then-self (compare (p .0) (p .0)) (compare (p .1) (p .1)) (compare-self (p .0)) (compare-self (p .1));
-  mirror = λ p q.
-      ap (λ (o : Ordering). thenBy o (compare (q .1) (p .1))) (compare-mirror (p .0) (q .0))
-      ∙ ap (thenBy (turned (compare (p .0) (q .0)))) (compare-mirror (p .1) (q .1))
-      ∙ then-turned (compare (p .0) (q .0)) (compare (p .1) (q .1));
-  less = λ p q r e f.
-      then-less compare nats (p .0) (q .0) (r .0) (compare (p .1) (q .1)) (compare (q .1) (r .1)) (compare (p .1) (r .1))
-      (nats .less (p .1) (q .1) (r .1)) (compare (p .0) (q .0)) (compare (q .0) (r .0)) refl refl e f;
-}
-  where
-    both-equal : (p q : Pair) → p .0 ≡ q .0 → p .1 ≡ q .1 → p ≡ q
-    both-equal p q e f = λ i. (e i, f i)
+pairs = both compare nats compare nats
 
 -- ---- lists
 module _ {A : Type 0} (c : A → A → Ordering) (order : Linear c) where

@@ -25,6 +25,10 @@ pub mod SplitEnded
 pub mod NestedCalls
 pub mod EntryFigures
 pub mod Ridges
+pub mod RidgeKeys
+pub mod KeptOrbits
+pub mod KeptOrbitTable
+pub mod KeptOrbitAnswer
 pub mod RidgeCalls
 pub mod Ends
 pub mod Sizes

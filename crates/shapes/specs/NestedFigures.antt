@@ -106,12 +106,13 @@ nested-apart n points k x y h j e =
 
 -- ---- an element read off its figure
 
+-- what stands for an element where there is none
+unfoldable pub noElement : (k : ℕ) → Nested k
+noElement zero = (0, 0)
+noElement (suc k) = []
+
 unfoldable pub nestedBuilding : Building nested
 nestedBuilding = record { none = noElement; build = λ k l. l; built = λ k x. refl }
-  where
-    noElement : (k : ℕ) → Nested k
-    noElement zero = (0, 0)
-    noElement (suc k) = []
 
 unfoldable pub readNested : (k : ℕ) → Figure → Nested k
 readNested k f = readItem k nested nestedBuilding (edgePairs f) (drop 3 f)
