@@ -20,11 +20,13 @@ use Rattle.laws.specs.Places.{map-same, map-self}
 use Rattle.shapes.specs.Answered.{Preparation, AnsweredCall}
 use Rattle.shapes.specs.Edges.{edgeFigure}
 use Rattle.shapes.specs.Emitted.{found-facet}
-use Rattle.shapes.specs.LowRanks.{innerAt, inner-at-member, at-orbit, facet-orbit, edgeOf, one-edge, found-first, found-unsplit}
+use Rattle.shapes.specs.LowRanks.{innerAt, at-orbit, facet-orbit}
 use Rattle.shapes.specs.Calls.{Given}
 use Rattle.shapes.specs.EdgeSets.{edgesInOrder, polygonsInOrder, polygon, polyhedron}
-use Rattle.shapes.specs.Polygons.{edgePairs, polygon-edges}
-use Rattle.shapes.specs.EntryFigures.{edgeImages, edgesOfList, rank-three-figure, facetFigure, polygonImages, polygonsOfList, possible-polygon, rank-four-figure}
+use Rattle.shapes.specs.Polygons.{edgeVia, edgePairs, polygon-edges}
+use Rattle.shapes.specs.Nested.{moveNested}
+use Rattle.shapes.specs.NestedCalls.{entryPoints, facetFigure, facetElement, nestedImages, nestedFacets, found-split-in-call, facet-nested, possible-nested, list-nested}
+use Rattle.shapes.specs.EntryFigures.{edge-nested, polygon-nested, polygonImages, polygonsOfList, possible-polygon, rank-four-figure}
 use Rattle.shapes.specs.Kept.{Kept, keptOf, keptAt, keptPossible, keptParts, keptEdgeImages, keptPolygons, keptFigure, keptEntry, keptAnswer}
 use Rattle.shapes.specs.KeptSizes.{edge-alone}
 
@@ -80,31 +82,21 @@ found-in-orbits rules p found is-found list m f i = facet-orbit (p .inner) f (fo
 
 -- ---- figures
 
-module _ (rules : Rules) (plane : Subspace) (points : List Vec) (rows : List Row) (a : Answer) (given : Given points rows) (c : AnsweredCall 0 rules plane points rows a) where
-  abbrev p : Prepared
-  p = c .before
-
-  abbrev kept : List Kept
-  kept = map keptOf (p .inner)
-
-  images-kept : (l : List Facet) → Mem l (c .found .lists) → (f : Facet) → Mem f l → edgeImages p f ≡ keptEdgeImages (p .rows) kept f
-  unfolding edgeImages keptEdgeImages flatMap keptOf
-  images-kept l m f i =
-      let r = found-first rules plane points rows a c l m f i in
-      let own = innerAt (p .inner) (f .0) in
-      let e = edgeOf (own .orbit) in
-      let edges : keptOf own .edges ≡ (e ∷ []) ∷ [] = ap (map edgePairs) (one-edge rules plane points rows p (c .prepared) own (inner-at-member (p .inner) (f .0) (r .0))) ∙ ap (λ (x : List Pair). x ∷ []) (edge-alone e) in
-      let at : keptAt (λ (k : Kept). k .edges) kept f ≡ e ∷ [] =
-      kept-at (λ (k : Kept). k .edges) (p .inner) f (r .0) ∙ ap (λ (x : List (List Pair)). getD x (f .1) []) edges ∙ ap (λ (n : ℕ). getD ((e ∷ []) ∷ []) n []) (r .1) in
-      sym (append-nil (map (pairImage e) (p .rows))) ∙ ap (flatMap (λ (d : Pair). map (pairImage d) (p .rows))) (sym at)
-
-  three-figure : (l : List Facet) → Mem l (c .found .lists) → entryOf p l .figure ≡ keptFigure 0 (length points) rows kept (split p l)
-  unfolding edgesOfList keptFigure
-  three-figure l m =
-      rank-three-figure rules plane points rows a given c l m
-      ∙ ap (λ (es : List Pair). polygon (p .points) (edgesInOrder es)) (flatMap-same (edgeImages p) (keptEdgeImages (p .rows) kept) l (images-kept l m))
-      ∙ (λ t. polygon (c .prepared .points-are t) (edgesInOrder (flatMap (keptEdgeImages (c .prepared .rows-are t) kept) l)))
-      ∙ ap (λ (parts : List Facet). polygon (length points) (edgesInOrder (flatMap (keptEdgeImages rows kept) parts))) (sym (found-unsplit rules plane points rows a c l m))
+three-figure : (rules : Rules) (plane : Subspace) (points : List Vec) (rows : List Row) (p : Prepared) → Given points rows → (made : Preparation 0 rules (faceting 0 rules) plane points rows p)
+    → (found : Found) → searchFrom rules p ≡ answered found → (l : List Facet) → Mem l (found .lists) → entryOf p l .figure ≡ keptFigure 0 (length points) rows (map keptOf (p .inner)) (split p l)
+unfolding keptFigure nestedFacets nestedImages keptEdgeImages moveNested pairImage edgeVia flatMap entryPoints
+three-figure rules plane points rows p given made found is-found l m =
+    let kept = map keptOf (p .inner) in
+    let parts = split p l in
+    let inside = found-split-in-call 0 rules plane points rows p given made found is-found l m in
+    let alone : (f : Facet) → Mem f parts → facetElement 0 p f ∷ [] ≡ keptAt (λ (k : Kept). k .edges) kept f = λ f i.
+    sym (kept-edges p f ∙ ap edgePairs (facet-nested 0 rules plane points rows p given made f (inside f i) .0 ∙ edge-nested (facetElement 0 p f)) ∙ edge-alone (facetElement 0 p f)) in
+    let images : (f : Facet) → Mem f parts → nestedImages 0 p f ≡ keptEdgeImages (p .rows) kept f = λ f i.
+    sym (append-nil (map (pairImage (facetElement 0 p f)) (p .rows))) ∙ ap (flatMap (λ (e : Pair). map (pairImage e) (p .rows))) (alone f i) in
+    list-nested 0 rules plane points rows p given made found is-found l m .0
+    ∙ polygon-nested (p .points) (nestedFacets 0 p parts)
+    ∙ ap (λ (es : List Pair). polygon (p .points) (edgesInOrder es)) (flatMap-same (nestedImages 0 p) (keptEdgeImages (p .rows) kept) parts images)
+    ∙ (λ t. polygon (made .points-are t) (edgesInOrder (flatMap (keptEdgeImages (made .rows-are t) kept) parts)))
 
 -- all row images of a facet's edges are the edges of all row images of its edge set
 same-edges : (rows : List Row) (kept : List Kept) (parts : List Facet) → SameItems (flatMap (λ (s : List Pair). s) (flatMap (keptPolygons rows kept) parts)) (flatMap (keptEdgeImages rows kept) parts)
@@ -151,14 +143,17 @@ four-figure rules plane points rows p given made found is-found l m =
 
 -- ---- possible facets
 
-three-possible : (rules : Rules) (plane : Subspace) (points : List Vec) (rows : List Row) (p : Prepared) → Preparation 0 rules (faceting 0 rules) plane points rows p → (i : Inner) → Mem i (p .inner)
-    → possibleFacets i ≡ keptPossible 0 (keptOf i)
-unfolding keptPossible keptOf
-three-possible rules plane points rows p made i m =
-    let e = edgeOf (i .orbit) in
-    let one = one-edge rules plane points rows p made i m in
+three-possible : (rules : Rules) (plane : Subspace) (points : List Vec) (rows : List Row) (p : Prepared) → Given points rows → Preparation 0 rules (faceting 0 rules) plane points rows p
+    → (i : Inner) → Mem i (p .inner) → possibleFacets i ≡ keptPossible 0 (keptOf i)
+unfolding keptPossible keptOf entryPoints
+three-possible rules plane points rows p given made i m =
     let first : List Pair → Figure = λ edges. edgeFigure (getD edges 0 (0, 0)) in
-    one ∙ sym (ap (λ (fs : List Figure). map first (map edgePairs fs)) one ∙ ap (λ (edges : List Pair). first edges ∷ []) (edge-alone e))
+    sym (map-map first edgePairs (possibleFacets i)
+    ∙ map-self (λ (f : Figure). first (edgePairs f)) (possibleFacets i)
+    (λ f k.
+    let r = possible-nested 0 rules plane points rows p given made i m f k in
+    let is : f ≡ edgeFigure (r .0) = r .1 ∙ edge-nested (r .0) in
+    ap (λ (g : Figure). first (edgePairs g)) is ∙ ap first (edge-alone (r .0)) ∙ sym is))
 
 four-possible : (rules : Rules) (plane : Subspace) (points : List Vec) (rows : List Row) (p : Prepared) → Given points rows → Preparation 1 rules (faceting 1 rules) plane points rows p
     → (i : Inner) → Mem i (p .inner) → possibleFacets i ≡ keptPossible 1 (keptOf i)
@@ -183,7 +178,7 @@ module _ (more : ℕ) (rules : Rules) (plane : Subspace) (points : List Vec) (ro
       (λ t. record { list = split p l; figure = figure t }) ∙ (λ t. record { list = parts t; figure = keptFigure more (length points) rows kept (parts t) })
     where
       at-rank : (more : ℕ) → more ≤ 1 → Preparation more rules (faceting more rules) plane points rows p → entryOf p l .figure ≡ keptFigure more (length points) rows (map keptOf (p .inner)) (split p l)
-      at-rank zero few made = three-figure rules plane points rows (finish p found) given (record { before = p; prepared = made; found = found; is-found = is-found; is = refl }) l m
+      at-rank zero few made = three-figure rules plane points rows p given made found is-found l m
       at-rank (suc zero) few made = four-figure rules plane points rows p given made found is-found l m
       at-rank (suc (suc more)) few made = absurd (omega arith)
 
@@ -191,7 +186,7 @@ module _ (more : ℕ) (rules : Rules) (plane : Subspace) (points : List Vec) (ro
   kept-possible p made i m = at-rank more few made
     where
       at-rank : (more : ℕ) → more ≤ 1 → Preparation more rules (faceting more rules) plane points rows p → possibleFacets i ≡ keptPossible more (keptOf i)
-      at-rank zero few made = three-possible rules plane points rows p made i m
+      at-rank zero few made = three-possible rules plane points rows p given made i m
       at-rank (suc zero) few made = four-possible rules plane points rows p given made i m
       at-rank (suc (suc more)) few made = absurd (omega arith)
 

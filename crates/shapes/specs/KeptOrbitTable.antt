@@ -10,18 +10,18 @@ use Rattle.definitions.specs.Vectors.{Vec}
 use Rattle.definitions.specs.Subspace.{Subspace}
 use Rattle.definitions.specs.Orbits.{Row}
 use Rattle.definitions.specs.Figures.{Figure, dyad}
-use Rattle.definitions.specs.Search.{Facet, Share, Table}
+use Rattle.definitions.specs.Search.{Share, Table}
 use Rattle.definitions.specs.Recursion.{Rules, Entry, Answer, Inner, vertexRidge, shareOf, facetShares}
-use Rattle.definitions.specs.Faceting.{Prepared, possibleFacets, tableFor, split, entryOf, finish, faceting}
-use Rattle.laws.specs.Lists.{Mem, here, there, of-map, of-count, map-at, count-at, count-length}
+use Rattle.definitions.specs.Faceting.{Prepared, possibleFacets, tableFor, entryOf, finish, faceting}
+use Rattle.laws.specs.Lists.{Mem, here, there, of-map, of-count, map-at, count-length}
 use Rattle.laws.specs.Places.{map-same}
 use Rattle.shapes.specs.Answered.{facetNumber, Preparation, AnsweredCall, answered-call}
 use Rattle.shapes.specs.Emitted.{map-with-length, found-facet, entry-of-list}
 use Rattle.shapes.specs.LowRanks.{RankTwo, rank-two}
 use Rattle.shapes.specs.Calls.{Given}
 use Rattle.shapes.specs.SplitCalls.{SplitAnswer, split-answer, split-in-call}
-use Rattle.shapes.specs.Ridges.{KnownKeys, noKeys, numberKey, numberKeys, keyNumbers, ridgeNumbers, numbersTable, table-of-numbers}
-use Rattle.shapes.specs.NestedCalls.{Ridge, readRidge, facets-many}
+use Rattle.shapes.specs.Ridges.{KnownKeys, noKeys, numberKey, numberKeys, keyNumbers, numbersTable, table-of-numbers}
+use Rattle.shapes.specs.NestedCalls.{readRidge, facets-many}
 use Rattle.shapes.specs.RidgeKeys.{compareRidge, sendRidge, ridgesRead, ridges-by-keys}
 use Rattle.shapes.specs.KeptOrbits.{KeptOrbit, numberOver, countsOver, together, keepBy, keepOrbit, numberRidgeKey, orbitNumbers, orbitShare, orbitShares, orbitTable}
 

@@ -2,19 +2,18 @@
 -- elsewhere and sorted, items that stand for others in the same order, and that the ranks tell the item. Leans on Levels and Gathered.
 use mathlib.Core.Path.{_≡_, refl, sym, ap, _∙_, subst}
 use mathlib.Core.List.{List, [], _∷_, _++_, map, flatMap, map-map}
-use Prim.Native.Nat.{ℕ, zero, suc, _≤_, _<_, compare, Ordering, Ordering·lt}
-use native.Mathlib.Omega.{arith}
+use Prim.Native.Nat.{ℕ, zero, suc, _<_, compare, Ordering, Ordering·lt}
 use lib.ListN.{length, getD, length-map}
-use Rattle.definitions.specs.Lists.{compareList, compareNats, sortBy, sortNats, countFrom}
-use Rattle.definitions.specs.Figures.{Elements, numberIn, renumber, sortRanks, lowestRanks, withoutLowest}
-use Rattle.laws.specs.Lists.{Mem, here, there, in-map, of-map, in-flatMap, of-flatMap, member-at, map-at}
+use Rattle.definitions.specs.Lists.{compareNats, sortNats, countFrom}
+use Rattle.definitions.specs.Figures.{Elements, numberIn, lowestRanks, withoutLowest}
+use Rattle.laws.specs.Lists.{Mem, of-map, in-flatMap, of-flatMap, map-at}
 use Rattle.laws.specs.Orders.{Linear, nats, nat-lists, lt-compare}
-use Rattle.laws.specs.Ascending.{Ascends, Distinct, ascends-distinct, sort-ascending, same-ascending, inOrder, in-order-ascends, in-in-order, of-in-order, in-order-same}
-use Rattle.laws.specs.Places.{placeIn, place-below, at-place, place-ascends, place-map, keeps-compare, compare-map, ascends-map, in-order-map, sort-distinct, distinct-map, map-same, map-flatMap, flatMap-map}
+use Rattle.laws.specs.Ascending.{Ascends, ascends-distinct, sort-ascending, same-ascending, inOrder, in-order-ascends, in-in-order, of-in-order}
+use Rattle.laws.specs.Places.{placeIn, place-below, at-place, place-ascends, place-map, keeps-compare, compare-map, ascends-map, in-order-map, map-same}
 use Rattle.shapes.specs.Shape.{Element, Rank, Stack}
 use Rattle.shapes.specs.Assemble.{lowestOf, lowestAll, lowestBy}
-use Rattle.shapes.specs.Gathered.{elementsOf, gathered, sortAll}
-use Rattle.shapes.specs.Levels.{Levels, Sets, over, overSets, itemsInOrder, AllGood, under, lowest, lowestIn, placesIn, upperRanks, bodyOf, ranksOn, ranksOf, lowest-items, lowest-ascends, lowest-good, lowest-in-ascends, lowest-in-good, lowest-in-over, ranks-over, ranks-of-over, ranks-of-sent}
+use Rattle.shapes.specs.Gathered.{elementsOf, gathered}
+use Rattle.shapes.specs.Levels.{Levels, Sets, over, overSets, itemsInOrder, AllGood, lowest, lowestIn, placesIn, upperRanks, bodyOf, ranksOn, ranksOf, lowest-items, lowest-ascends, lowest-in-ascends, lowest-in-good, lowest-in-over, ranks-over, ranks-of-over, ranks-of-sent}
 
 -- ---- items written as elements
 

@@ -2,14 +2,14 @@
 -- item sent. Sent in order: the ranks are the same, so that numbers which order as the items do may stand for them. And the ranks of an item tell it. Leans on LevelFigures.
 use mathlib.Core.Path.{_≡_, refl, sym, ap, _∙_, subst}
 use mathlib.Core.List.{List, [], _∷_, map, flatMap, map-map}
-use Prim.Native.Nat.{ℕ, zero, suc, compare, Ordering, Ordering·lt}
+use Prim.Native.Nat.{ℕ, zero, suc, compare, Ordering}
 use native.Mathlib.Omega.{arith}
 use lib.ListN.{length, getD, drop, length-map}
 use Rattle.definitions.specs.Lists.{compareNats, sortBy, sortNats, insertBy, fresh, anyOf}
 use Rattle.definitions.specs.Figures.{Elements, numberIn, sortRanks}
 use Rattle.laws.specs.Lists.{Mem, here, there, in-map, of-map, in-flatMap, of-flatMap, flatMap-same}
 use Rattle.laws.specs.Orders.{Linear, nats, nat-lists, lt-compare}
-use Rattle.laws.specs.Ascending.{Ascends, Distinct, ascends-distinct, inOrder, in-order-ascends, in-in-order, of-in-order, in-order-same}
+use Rattle.laws.specs.Ascending.{Ascends, Distinct, ascends-distinct, inOrder, in-in-order, of-in-order, in-order-same}
 use Rattle.laws.specs.Places.{placeIn, at-place, place-apart, place-ascends, place-map, in-order-map, sort-distinct, distinct-map, map-same, map-self, map-flatMap, flatMap-map}
 use Rattle.shapes.specs.Assemble.{lowestBy}
 use Rattle.shapes.specs.Gathered.{sortAll}

@@ -3,7 +3,7 @@
 -- order as the sets do may be another. Here the reading, and what it does when the lowest level is taken off. Leans on the laws.
 use mathlib.Core.Path.{_≡_, refl, sym, ap, _∙_, subst}
 use mathlib.Core.List.{List, [], _∷_, map, flatMap, List·Memᴰ, map-map}
-use Prim.Native.Nat.{ℕ, zero, suc, _<_, Ordering}
+use Prim.Native.Nat.{ℕ, zero, suc, Ordering}
 use native.Mathlib.Omega.{arith}
 use lib.ListN.{length, getD}
 use Rattle.definitions.specs.Lists.{compareList, sortNats, countFrom}

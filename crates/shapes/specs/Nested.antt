@@ -2,17 +2,17 @@
 -- every rank, or as it comes where the map rises. Maps act on them one after the other, and send no two to one where they send no two points to one. Leans on LevelMoves and Polygons.
 use mathlib.Core.Path.{_≡_, refl, sym, ap, _∙_, subst}
 use mathlib.Core.Logic.{_⊎_, inl, inr}
-use mathlib.Core.List.{List, [], _∷_, map, flatMap, map-map}
-use Prim.Native.Nat.{ℕ, zero, suc, _≤_, _<_, min, max, compare, Ordering, Ordering·lt}
+use mathlib.Core.List.{List, map, map-map}
+use Prim.Native.Nat.{ℕ, zero, suc, _≤_, _<_, min, max, compare, Ordering}
 use native.Mathlib.Omega.{arith}
-use Rattle.definitions.specs.Lists.{Pair, thenBy, compareList, comparePair, compareNats}
-use Rattle.laws.specs.Lists.{Mem, here, there, in-map, of-map}
+use Rattle.definitions.specs.Lists.{Pair, thenBy, compareList, comparePair}
+use Rattle.laws.specs.Lists.{Mem, in-map, of-map}
 use Rattle.laws.specs.Orders.{Linear, nats, pairs, lists, lt-compare, compare-lt}
 use Rattle.laws.specs.Segments.{le-or-lt}
-use Rattle.laws.specs.Ascending.{Ascends, SameItems, ascends-distinct, sort-ascending, same-ascending, inOrder, in-order-ascends, in-in-order, of-in-order, in-order-same}
-use Rattle.laws.specs.Places.{keeps-compare, compare-map, ascends-map, in-order-map, sort-distinct, map-same, map-self}
+use Rattle.laws.specs.Ascending.{Ascends, ascends-distinct, sort-ascending, same-ascending, inOrder, in-order-ascends, in-in-order, of-in-order, in-order-same}
+use Rattle.laws.specs.Places.{keeps-compare, compare-map, ascends-map, sort-distinct, map-same, map-self}
 use Rattle.laws.specs.Ranges.{same-map}
-use Rattle.shapes.specs.Move.{Into, Rising, raised-into}
+use Rattle.shapes.specs.Move.{Into, Rising}
 use Rattle.shapes.specs.EdgeSets.{Proper, ends, compare-ends, ends-element}
 use Rattle.shapes.specs.Polygons.{edgeVia, endsVia, via-proper}
 use Rattle.shapes.specs.Levels.{Levels, Sets, lowestIn}

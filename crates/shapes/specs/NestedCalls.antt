@@ -5,8 +5,8 @@ use mathlib.Core.Logic.{_⊎_, inl, inr}
 use mathlib.Core.List.{List, [], _∷_, map, flatMap, List·Memᴰ, map-map}
 use Prim.Native.Nat.{ℕ, zero, suc, _≤_, _<_}
 use native.Mathlib.Omega.{arith}
-use lib.ListN.{length, getD, replicate, length-map}
-use Rattle.definitions.specs.Lists.{Pair, countFrom}
+use lib.ListN.{length, getD, length-map}
+use Rattle.definitions.specs.Lists.{countFrom}
 use Rattle.definitions.specs.Outcome.{answered}
 use Rattle.definitions.specs.Vectors.{Vec}
 use Rattle.definitions.specs.Subspace.{Subspace}
@@ -23,7 +23,7 @@ use Rattle.shapes.specs.LowRanks.{RankTwo, rank-two, innerAt, inner-at-m
 use Rattle.shapes.specs.Sets.{set-rising, row-into}
 use Rattle.shapes.specs.Calls.{Given, innerPoints, inner-size, inner-given, call-set, call-row}
 use Rattle.shapes.specs.SplitCalls.{InCall, SplitAnswer, split-answer, split-in-call}
-use Rattle.shapes.specs.EdgeSets.{Proper, ends}
+use Rattle.shapes.specs.EdgeSets.{ends}
 use Rattle.shapes.specs.Levels.{ranksOf}
 use Rattle.shapes.specs.Nested.{Nested, nestedInOrder, NestedSet, moveNested, raiseNested, in-order-set, moved-set, raised-set}
 use Rattle.shapes.specs.NestedFigures.{nestedFigure, Pointed, pointedFigure, figure-of-nested, nested-moved, nested-raised, readNested, nested-read, nested-points}
@@ -252,6 +252,11 @@ pub nested-answer : (more : ℕ) (rules : Rules) (plane : Subspace) (points : Li
     → faceting more rules plane points rows budget ≡ answered a → NestedAnswer (length points) more a
 nested-answer zero rules plane points rows budget a given e = two-nested (length points) budget a (given .two) (rank-two rules plane points rows budget a e)
 nested-answer (suc more) rules plane points rows budget a given e = step more rules plane points rows a given (answered-call more rules plane points rows budget a e) (nested-answer more rules)
+
+-- every answered call above rank 2
+pub answered-nested : (more : ℕ) (rules : Rules) (plane : Subspace) (points : List Vec) (rows : List Row) (a : Answer) → Given points rows → AnsweredCall more rules plane points rows a
+    → NestedAnswer (length points) (suc more) a
+answered-nested more rules plane points rows a given c = step more rules plane points rows a given c (nested-answer more rules)
 
 -- ---- what a call above rank 2 has before its search
 

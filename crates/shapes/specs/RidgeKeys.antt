@@ -1,14 +1,14 @@
 -- The ridges of a call as keys, at every rank from 3: at rank 3 a vertex, above an element with the points that stand in its figure. Rows carry them as they carry figures, so that a call
 -- numbers its ridges by such keys. Leans on Ridges and NestedCalls.
-use mathlib.Core.Path.{_≡_, refl, sym, ap, _∙_, subst}
-use mathlib.Core.List.{List, [], _∷_, map, map-map}
+use mathlib.Core.Path.{_≡_, sym, ap, _∙_, subst}
+use mathlib.Core.List.{List, map, map-map}
 use Prim.Native.Nat.{ℕ, zero, suc, compare, Ordering}
 use lib.ListN.{length, getD}
 use Rattle.definitions.specs.Vectors.{Vec}
 use Rattle.definitions.specs.Subspace.{Subspace}
-use Rattle.definitions.specs.Orbits.{Row, image}
+use Rattle.definitions.specs.Orbits.{Row}
 use Rattle.definitions.specs.Figures.{Figure, compareFigures}
-use Rattle.definitions.specs.Recursion.{Rules, Inner, vertexRidge, moveSorted}
+use Rattle.definitions.specs.Recursion.{Rules, Inner, moveSorted}
 use Rattle.definitions.specs.Faceting.{Prepared, faceting}
 use Rattle.laws.specs.Lists.{Mem, of-map}
 use Rattle.laws.specs.Orders.{Linear, nats, compareBoth, both}
@@ -19,8 +19,8 @@ use Rattle.shapes.specs.Move.{Into, raised-into}
 use Rattle.shapes.specs.Sets.{set-rising, row-into}
 use Rattle.shapes.specs.Calls.{Given, call-set, call-row}
 use Rattle.shapes.specs.Ridges.{Carried, KeysOf, keyNumbers, ridgeNumbers, numbers-by-keys}
-use Rattle.shapes.specs.Nested.{Nested, compareNested, nested-order, moveNested, moved-set}
-use Rattle.shapes.specs.NestedFigures.{nestedFigure, Pointed, nested-moved}
+use Rattle.shapes.specs.Nested.{compareNested, nested-order, moveNested, moved-set}
+use Rattle.shapes.specs.NestedFigures.{nested-moved}
 use Rattle.shapes.specs.NestedCalls.{Ridge, ridgeFigure, RidgeOn, readRidge, ridge-read, inner-nested}
 
 -- by the points, then by the element
