@@ -1,16 +1,21 @@
--- The answer's numbers of figures of rank 2, 3 and 4, from their edges and polygons: what a writer writes that stores edge sets and no figures. Leans on EdgeSets and Edges.
+-- The answer's numbers of figures from their elements, at every rank: what a writer writes that stores nested sets and no figures. And of rank 2, 3 and 4 from edges and polygons. Leans on
+-- NestedFigures.
 use mathlib.Core.Path.{_≡_, refl, ap, _∙_}
 use mathlib.Core.List.{List, [], _∷_, _++_, map, flatMap, append-nil}
-use Prim.Native.Nat.{ℕ, zero, suc, _-_}
-use lib.ListN.{length, replicate, length-map, length-replicate}
+use Prim.Native.Nat.{ℕ, zero, suc, _+_, _-_}
+use native.Mathlib.Omega.{arith}
+use lib.ListN.{length, getD, replicate, length-map, length-replicate}
 use Rattle.definitions.specs.Lists.{Pair, countFrom}
 use Rattle.definitions.specs.Figures.{Elements, Figure, rankOf}
 use Rattle.definitions.specs.Recursion.{Entry, vertexRidge}
 use Rattle.definitions.specs.Job.{counted, figureWords, summaryWords}
 use Rattle.laws.specs.Lists.{count-length, flatMap-same}
-use Rattle.laws.specs.Places.{flat-singles, flatMap-map}
+use Rattle.laws.specs.Places.{placeIn, flat-singles, flatMap-map}
 use Rattle.shapes.specs.Edges.{edgeFigure}
 use Rattle.shapes.specs.EdgeSets.{ends, edgeNumber, polygon, polyhedron}
+use Rattle.shapes.specs.Levels.{Levels, under, lowest, placesIn, upperRanks, bodyOf, ranksOn, ranksOf}
+use Rattle.shapes.specs.Nested.{Nested, nested}
+use Rattle.shapes.specs.NestedFigures.{nestedFigure}
 
 -- ---- elements and ranks
 
@@ -119,3 +124,77 @@ polyhedron-summary e n edges polygons q =
     let many = length-map edges ends in
     let facets = length-map polygons (map (edgeNumber edges)) in
     ap (λ (f : Figure). length (rankOf 1 f) ∷ length (rankOf 2 f) ∷ length (rankOf (length f - 2) f) ∷ []) q ∙ (λ t. points t ∷ many t ∷ facets t ∷ [])
+
+-- ---- at every rank from 3
+
+module _ (T : Levels) where
+  -- items as the places of their subs: how many, and for each how many and which
+  unfoldable pub itemWords : (k : ℕ) → List (T .Item k) → List (T .Item (suc k)) → List ℕ
+  itemWords k all xs = length xs ∷ flatMap (λ (x : T .Item (suc k)). length (T .subs k x) ∷ placesIn T k all x) xs
+
+  -- the ranks above the lowest, the last ones given
+  unfoldable pub upperWords : (k : ℕ) → List (T .Item k) → List ℕ → List ℕ
+  upperWords zero xs last = last
+  upperWords (suc k) xs last = let all = under T k xs in upperWords k all (itemWords k all xs ++ last)
+
+  items-rank : (k : ℕ) (all : List (T .Item k)) (xs : List (T .Item (suc k))) → rankWords (map (placesIn T k all) xs) ≡ itemWords k all xs
+  unfolding rankWords itemWords
+  items-rank k all xs =
+      let places : T .Item (suc k) → List ℕ = placesIn T k all in
+      let each : flatMap (λ (e : List ℕ). length e ∷ e) (map places xs) ≡ flatMap (λ (x : T .Item (suc k)). length (T .subs k x) ∷ places x) xs =
+      flatMap-map (λ (e : List ℕ). length e ∷ e) places xs
+      ∙ flatMap-same (λ (x : T .Item (suc k)). length (places x) ∷ places x) (λ (x : T .Item (suc k)). length (T .subs k x) ∷ places x) xs
+      (λ x m. ap (λ (n : ℕ). n ∷ places x) (length-map (T .subs k x) (placeIn (T .order k) (T .linear k) all))) in
+      λ t. length-map xs places t ∷ each t
+
+  upper-words : (k : ℕ) (xs : List (T .Item k)) (last : List Elements) → flatMap rankWords (upperRanks T k xs last) ≡ upperWords k xs (flatMap rankWords last)
+  unfolding upperRanks upperWords flatMap
+  upper-words zero xs last = refl
+  upper-words (suc k) xs last =
+      let all = under T k xs in
+      upper-words k all (map (placesIn T k all) xs ∷ last) ∙ ap (λ (l : List ℕ). upperWords k all (l ++ flatMap rankWords last)) (items-rank k all xs)
+
+  upper-length : (k : ℕ) (xs : List (T .Item k)) (last : List Elements) → length (upperRanks T k xs last) ≡ k + length last
+  unfolding upperRanks
+  upper-length zero xs last = omega arith
+  upper-length (suc k) xs last = let r = upper-length k (under T k xs) (map (placesIn T k (under T k xs)) xs ∷ last) in omega arith
+
+  -- what is given stands last
+  upper-at : (k : ℕ) (xs : List (T .Item k)) (last : List Elements) (i : ℕ) → getD (upperRanks T k xs last) (k + i) [] ≡ getD last i []
+  unfolding upperRanks
+  upper-at zero xs last i = ap (λ (n : ℕ). getD last n []) (omega arith)
+  upper-at (suc k) xs last i =
+      let all = under T k xs in
+      let place : suc k + i ≡ k + suc i = omega arith in
+      ap (λ (n : ℕ). getD (upperRanks T k all (map (placesIn T k all) xs ∷ last)) n []) place ∙ upper-at k all (map (placesIn T k all) xs ∷ last) (suc i)
+
+-- the figure with these facets on so many points: its edges, then each rank in order
+pub nested-words : (n k : ℕ) (xs : Nested (suc k))
+    → figureWords (nestedFigure n (suc k) xs)
+    ≡ (4 + k) ∷ 1 ∷ 0 ∷ n ∷ pointWords n ++ (length (lowest nested k xs) ∷ edgeWords (lowest nested k xs) ++ upperWords nested k xs (bodyWords (length xs)))
+unfolding nestedFigure ranksOf ranksOn flatMap rankWords bodyOf
+nested-words n k xs =
+    let many : suc (suc (suc (length (upperRanks nested k xs (bodyOf (length xs)))))) ≡ 4 + k = (let r = upper-length nested k xs (bodyOf (length xs)) in omega arith) in
+    let a = points-rank n in
+    let b = edges-rank (lowest nested k xs) in
+    let c = upper-words nested k xs (bodyOf (length xs)) ∙ ap (upperWords nested k xs) (append-nil (rankWords (countFrom 0 (length xs) ∷ [])) ∙ body-rank (length xs)) in
+    figure-words (nestedFigure n (suc k) xs) ∙ (λ t. many t ∷ 1 ∷ 0 ∷ a t ++ (b t ++ c t))
+
+-- "points, edges, facets"
+pub nested-summary : (e : Entry) (n k : ℕ) (xs : Nested (suc k)) → e .figure ≡ nestedFigure n (suc k) xs → summaryWords e ≡ n ∷ length (lowest nested k xs) ∷ length xs ∷ []
+unfolding summaryWords rankOf nestedFigure ranksOf ranksOn upperRanks bodyOf lowest
+nested-summary e n k xs q =
+    let f = nestedFigure n (suc k) xs in
+    let points = length-replicate {A = List ℕ} n (0 ∷ []) in
+    let edges = length-map (lowest nested k xs) ends in
+    ap (λ (g : Figure). length (rankOf 1 g) ∷ length (rankOf 2 g) ∷ length (rankOf (length g - 2) g) ∷ []) q ∙ (λ t. points t ∷ edges t ∷ facets k xs t ∷ [])
+  where
+    facets : (k : ℕ) (xs : Nested (suc k)) → length (getD (nestedFigure n (suc k) xs) (length (nestedFigure n (suc k) xs) - 2) []) ≡ length xs
+    facets zero xs = length-map xs ends
+    facets (suc k) xs =
+        let all = under nested k xs in
+        let last = map (placesIn nested k all) xs ∷ bodyOf (length xs) in
+        let r = upper-length nested k all last in
+        let s = upper-at nested k all last 0 in
+        let place : length (nestedFigure n (suc (suc k)) xs) - 2 ≡ suc (suc (suc (k + 0))) = omega arith in
+        ap (λ (i : ℕ). length (getD (nestedFigure n (suc (suc k)) xs) i [])) place ∙ ap length s ∙ length-map xs (placesIn nested k all)

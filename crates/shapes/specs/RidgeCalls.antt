@@ -9,8 +9,7 @@ use Rattle.definitions.specs.Vectors.{Vec}
 use Rattle.definitions.specs.Subspace.{Subspace}
 use Rattle.definitions.specs.Orbits.{Row, Orbit}
 use Rattle.definitions.specs.Figures.{Figure, rankOf}
-use Rattle.definitions.specs.Recursion.{Rules, Entry, Inner, vertexRidge, rowsWithin, shareOf, facetShares}
-use Rattle.definitions.specs.Search.{Share}
+use Rattle.definitions.specs.Recursion.{Rules, Inner, vertexRidge, rowsWithin}
 use Rattle.definitions.specs.Faceting.{Prepared, faceting}
 use Rattle.laws.specs.Lists.{Mem}
 use Rattle.shapes.specs.Answered.{Preparation, answered-call}
@@ -57,18 +56,6 @@ module _ (rules : Rules) (plane : Subspace) (points : List Vec) (rows : List Row
   -- numbered by pairs of ends
   pub rank-three-ends : ridgeNumbers (p .rows) (p .inner) ≡ keyNumbers comparePair edgeVia (p .rows) endKeys (p .inner)
   rank-three-ends = rank-three-vertices ∙ sym (numbers-carried compare (λ to v. to v) comparePair edgeVia twice AnyKey AnyMap vertices-twice 0 (p .rows) vertexKeys endKeys (p .inner) vertices-as-ends (any-keys 0 (p .rows) vertexKeys (p .inner)))
-
-  -- the shares of an orbit's one facet: those of its ridge rows, one place each
-  pub rank-three-shares : (ridgeCounts : List ℕ) (numbers : List (List ℕ)) (i : Inner) → Mem i (p .inner)
-      → facetShares ridgeCounts i numbers ≡ map (λ (v : ℕ). shareOf ridgeCounts i numbers (v, 0)) (countFrom 0 (length (i .answer .counts))) ∷ []
-  unfolding facetShares
-  rank-three-shares ridgeCounts numbers i m =
-      let r = inner-rank-two rules plane points rows p made i m .1 in
-      let n : length (i .answer .counts) ≡ r .ends = ap length (r .counts) ∙ length-replicate (r .ends) (2 / r .ends) in
-      let shares : List Pair → List Share = map (shareOf ridgeCounts i numbers) in
-      ap (map (λ (e : Entry). shares (e .list))) (r .entries)
-      ∙ ap (λ (l : List Share). l ∷ []) (map-map (shareOf ridgeCounts i numbers) (λ (v : ℕ). (v, 0)) (countFrom 0 (r .ends)))
-      ∙ ap (λ (k : ℕ). map (λ (v : ℕ). shareOf ridgeCounts i numbers (v, 0)) (countFrom 0 k) ∷ []) (sym n)
 
 -- ---- rank 4
 
