@@ -1,7 +1,7 @@
 -- The table that a call searches is made of what it keeps of its inner calls, at every rank from 3. From what the call has before its search alone. Leans on KeptOrbits and RidgeKeys.
 use mathlib.Core.Path.{_≡_, refl, sym, ap, _∙_, subst}
 use mathlib.Core.List.{List, [], _∷_, _++_, map, flatMap, zipWith, List·Memᴰ, map-map}
-use Prim.Native.Nat.{ℕ, zero, suc, _+_, _*_, _/_, _≤_, _<_, Ordering}
+use Prim.Native.Nat.{ℕ, zero, suc, _+_, _*_, _/_, _<_, Ordering}
 use native.Mathlib.Omega.{arith}
 use lib.ListN.{length, getD, drop, replicate, length-map, length-replicate, List·getD-append}
 use Rattle.definitions.specs.Lists.{Pair, mapWith, countFrom}
@@ -13,7 +13,7 @@ use Rattle.definitions.specs.Figures.{Figure, dyad}
 use Rattle.definitions.specs.Search.{Share, Table}
 use Rattle.definitions.specs.Recursion.{Rules, Entry, Answer, Inner, vertexRidge, shareOf, facetShares}
 use Rattle.definitions.specs.Faceting.{Prepared, possibleFacets, tableFor, entryOf, finish, faceting}
-use Rattle.laws.specs.Lists.{Mem, here, there, of-map, of-count, map-at, count-length}
+use Rattle.laws.specs.Lists.{Mem, here, there, of-map, of-flatMap, of-count, map-at, count-length}
 use Rattle.laws.specs.Places.{map-same}
 use Rattle.shapes.specs.Answered.{facetNumber, Preparation, AnsweredCall, answered-call}
 use Rattle.shapes.specs.Emitted.{map-with-length, found-facet, entry-of-list}
@@ -75,6 +75,15 @@ places-in (suc more) rules plane points rows budget a e = more-places more rules
 
 -- ---- one number for a place
 
+pub length-at : {A : Type 0} (lists : List (List A)) (a : ℕ) → length (getD lists a []) ≡ getD (map length lists) a 0
+length-at [] a = refl
+length-at (l ∷ lists) zero = refl
+length-at (l ∷ lists) (suc a) = length-at lists a
+
+pub of-together : {A : Type 0} (x : A) (lists : List (List A)) → Mem x (together lists) → (l : List A) × Mem l lists × Mem x l
+unfolding together
+of-together {A} x lists m = of-flatMap (λ (l : List A). l) x lists m
+
 append-at : {A : Type 0} (l m : List A) (i : ℕ) (d : A) → getD (l ++ m) (length l + i) d ≡ getD m i d
 append-at [] m i d = ap (λ (n : ℕ). getD m n d) (omega arith)
 append-at {A} (x ∷ l) m i d = ap (λ (n : ℕ). getD (x ∷ (l ++ m)) n d) step ∙ append-at l m i d
@@ -105,13 +114,6 @@ count-over (c ∷ counts) (l ∷ lists) (suc a) b h =
     ap (λ (n : ℕ). getD (replicate (length l) c ++ countsOver counts (map length lists)) (n + place) 0) (sym (length-replicate (length l) c))
     ∙ append-at (replicate (length l) c) (countsOver counts (map length lists)) place 0
     ∙ count-over counts lists a b h
-
--- where every list has one item, it is the list's own number
-pub alone-over : {A : Type 0} (lists : List (List A)) → ((l : List A) → Mem l lists → length l ≡ 1) → (a : ℕ) → numberOver (map length lists) a 0 ≤ a
-unfolding numberOver
-alone-over [] h a = omega arith
-alone-over (l ∷ lists) h zero = omega arith
-alone-over (l ∷ lists) h (suc a) = let e = h l (here refl) in let k = alone-over lists (λ m i. h m (there i)) a in omega arith
 
 -- ---- numbers together
 
@@ -172,7 +174,7 @@ module _ {K F : Type 0} (c : K → K → Ordering) (send : (ℕ → ℕ) → K �
   orbit-together known i =
       map-with-map (numberRidgeKey c send rows) (send (λ (v : ℕ). getD (i .orbit .vertices) v 0)) known (together (keys i)) ∙ map-with-together (numberKey c send rows (i .orbit .vertices)) known (keys i)
 
-  numbers-together : (inner : List Inner) → orbitNumbers c send rows (map kept inner) ≡ (map together (numberKeys c send rows keys (noKeys K) inner .0), numberKeys c send rows keys (noKeys K) inner .1)
+  pub numbers-together : (inner : List Inner) → orbitNumbers c send rows (map kept inner) ≡ (map together (numberKeys c send rows keys (noKeys K) inner .0), numberKeys c send rows keys (noKeys K) inner .1)
   unfolding orbitNumbers numberKeys
   numbers-together inner =
       ap (mapWith (mapWith (numberRidgeKey c send rows)) (noKeys K)) (map-map (λ (k : KeptOrbit K F). k .ridges) kept inner)
@@ -196,11 +198,6 @@ module _ {K F : Type 0} (c : K → K → Ordering) (send : (ℕ → ℕ) → K �
       let count : getD (i .answer .counts) a 0 ≡ getD (countsOver (i .answer .counts) (map length (keys i))) (numberOver (map length (keys i)) a b) 0 =
       sym (count-over (i .answer .counts) numbers a b inside) ∙ ap (λ (lengths : List ℕ). getD (countsOver (i .answer .counts) lengths) (numberOver lengths a b) 0) same in
       λ t. (ridge t, i .orbit .count * count t / getD ridgeCounts (ridge t) 0)
-
-  length-at : {A : Type 0} (lists : List (List A)) (a : ℕ) → length (getD lists a []) ≡ getD (map length lists) a 0
-  length-at [] a = refl
-  length-at (l ∷ lists) zero = refl
-  length-at (l ∷ lists) (suc a) = length-at lists a
 
   shares-over : (ridgeCounts : List ℕ) (i : Inner) → PlacesIn (i .answer) → map length (keys i) ≡ map length (i .answer .possible) → (numbers : List (List ℕ)) → map length numbers ≡ map length (keys i)
       → facetShares ridgeCounts i numbers ≡ orbitShares ridgeCounts (kept i) (together numbers)
@@ -232,7 +229,7 @@ module _ {K F : Type 0} (c : K → K → Ordering) (send : (ℕ → ℕ) → K �
 
 -- ---- every rank from 3
 
-ridges-as-many : (more : ℕ) (i : Inner) → map length (ridgesRead more i) ≡ map length (i .answer .possible)
+pub ridges-as-many : (more : ℕ) (i : Inner) → map length (ridgesRead more i) ≡ map length (i .answer .possible)
 unfolding ridgesRead
 ridges-as-many more i =
     map-map length (map (readRidge more)) (i .answer .possible) ∙ map-same (λ (fs : List Figure). length (map (readRidge more) fs)) length (i .answer .possible) (λ fs m. length-map fs (readRidge more))

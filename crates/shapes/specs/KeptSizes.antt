@@ -2,54 +2,44 @@
 -- FewOrbits.
 use mathlib.Core.Path.{_≡_, refl, sym, ap, _∙_, subst}
 use mathlib.Core.Logic.{_⊎_, inl, inr}
-use mathlib.Core.Bool.{Bool, true, false, cond}
 use mathlib.Core.List.{List, [], _∷_, map, List·Memᴰ, map-map}
-use Prim.Native.Nat.{ℕ, zero, suc, _+_, _*_, _/_, _≤_, _<_, compare}
+use Prim.Native.Nat.{ℕ, zero, suc, _+_, _*_, _≤_, _<_, compare}
 use native.Mathlib.Omega.{arith}
-use lib.Dec.{T, eqb, eqb→eq}
-use lib.ListN.{length, getD, length-map, length-replicate}
-use Rattle.definitions.specs.Lists.{Pair, anyOf, keep, countFrom}
+use lib.ListN.{length, getD, length-map}
+use Rattle.definitions.specs.Lists.{Pair, countFrom}
 use Rattle.definitions.specs.Outcome.{answered}
 use Rattle.definitions.specs.Vectors.{Vec}
-use Rattle.definitions.specs.Subspace.{Subspace, flatten}
-use Rattle.definitions.specs.Orbits.{Row, Orbit, image}
+use Rattle.definitions.specs.Subspace.{Subspace}
+use Rattle.definitions.specs.Orbits.{Row, Orbit}
 use Rattle.definitions.specs.Figures.{Figure, Compound, rankOf, dyad}
-use Rattle.definitions.specs.Recursion.{Rules, Entry, Answer, Inner, vertexRidge, swappedEnds, separateEnds, edgeCall, keepsSet, rowWithin, rowsWithin}
+use Rattle.definitions.specs.Recursion.{Rules, Entry, Answer, Inner, vertexRidge, rowsWithin}
 use Rattle.definitions.specs.Faceting.{Prepared, orbitsOf, possibleFacets, finish, faceting}
-use Rattle.laws.specs.Bools.{true→holds}
-use Rattle.laws.specs.Lists.{Mem, in-map, of-map, in-count, of-count, count-at, count-length, member-at, any-witness}
+use Rattle.laws.specs.Lists.{Mem, in-map, of-map, in-count, of-count, count-length, member-at}
 use Rattle.laws.specs.Orders.{nats}
 use Rattle.laws.specs.Pairs.{pairs-map}
 use Rattle.laws.specs.Ascending.{Differ, Distinct, ascends-distinct}
 use Rattle.laws.specs.Places.{map-self}
 use Rattle.laws.specs.Ranges.{distinct-below}
-use Rattle.shapes.specs.Answered.{facetSum, answers-equal, Preparation, AnsweredCall, answered-call}
+use Rattle.shapes.specs.Answered.{facetSum, Preparation, AnsweredCall, answered-call}
 use Rattle.shapes.specs.Edges.{edgeFigure}
+use Rattle.shapes.specs.AnswerSizes.{call-counted, two-counted, two-counts, within-few}
 use Rattle.shapes.specs.LowRanks.{RankTwo, rank-two, edgeOf, inner-rank-two, one-edge, possible-edges, entry-list, entry-places}
 use Rattle.shapes.specs.Move.{raised-into}
-use Rattle.shapes.specs.Sets.{VertexSet, Rows, set-rising}
+use Rattle.shapes.specs.Sets.{VertexSet, set-rising}
 use Rattle.shapes.specs.Calls.{Given, innerPoints, inner-set, inner-size, inner-enough, inner-given}
 use Rattle.shapes.specs.EdgeSets.{Proper, EdgeSet}
 use Rattle.shapes.specs.AllPairs.{allPairs, in-all-pairs, of-all-pairs}
 use Rattle.shapes.specs.Polygons.{edgeVia, via-proper, edgePairs, polygon-edges}
 use Rattle.shapes.specs.SplitCalls.{listsOf}
 use Rattle.shapes.specs.Sizes.{edges-few, found-length, Counted}
-use Rattle.shapes.specs.CallOrbits.{call-orbit-counted, call-orbits-few}
-use Rattle.shapes.specs.FewOrbits.{keep-few, pairs-few}
+use Rattle.shapes.specs.CallOrbits.{call-orbits-few}
+use Rattle.shapes.specs.FewOrbits.{pairs-few}
 use Rattle.shapes.specs.EntryFigures.{facets-many, call-split, edge-proper, possible-polygon}
 use Rattle.shapes.specs.Ridges.{twice, twice-moved}
 use Rattle.shapes.specs.Kept.{Kept, endsOf, keptOf}
 use Rattle.shapes.specs.KeptTable.{inner-one-ridge}
 
 -- ---- orbits
-
-module _ (more : ℕ) (rules : Rules) (plane : Subspace) (points : List Vec) (rows : List Row) (p : Prepared) (made : Preparation more rules (faceting more rules) plane points rows p) where
-  call-orbit : (i : Inner) → Mem i (p .inner) → Mem (i .orbit) (orbitsOf more rules plane points rows)
-  call-orbit i m = subst (λ (os : List Orbit). Mem (i .orbit) os) (made .inner .of-orbits) (in-map (λ (j : Inner). j .orbit) i (p .inner) m)
-
-  -- every orbit of a call has a set, and no more than rows
-  pub call-counted : Given points rows → (i : Inner) → Mem i (p .inner) → Counted rows (i .orbit .count)
-  call-counted given i m = call-orbit-counted more rules plane points rows (given .rows-good) (i .orbit) (call-orbit i m)
 
 -- the orbits of a call of rank 3 are no more than its pairs of points
 pub rank-three-orbits : (rules : Rules) (plane : Subspace) (points : List Vec) (rows : List Row) (p : Prepared) → Preparation 0 rules (faceting 0 rules) plane points rows p
@@ -67,47 +57,6 @@ pub record AnswerSized (rows : List Row) (a : Answer) : Type 0 where
   pub counted : (c : ℕ) → Mem c (a .counts) → Counted rows c
   pub below : (e : Entry) → Mem e (a .entries) → (place : Pair) → Mem place (e .list) → place .0 < length (a .counts)
   pub few : (e : Entry) → Mem e (a .entries) → length (e .list) ≤ length (a .counts)
-
--- a row that sends 0 to 1 is not the first
-swapped-rows : (n : ℕ) (rows : List Row) → 2 ≤ n → Rows n rows → T (anyOf (λ (row : Row). eqb 1 (image row 0)) rows) → 2 ≤ length rows
-unfolding image
-swapped-rows n rows two good t =
-    let r = any-witness (λ (row : Row). eqb 1 (getD row 0 0)) rows t in
-    let many = ap length (good .identity) in
-    let more = other (r .0) (eqb→eq 1 (getD (r .0) 0 0) (r .2)) (good .others) (subst (λ (l : List Row). Mem (r .0) l) (good .identity) (r .1)) in
-    omega arith
-  where
-    other : (row : Row) → 1 ≡ getD row 0 0 → (others : List Row) → Mem row (countFrom 0 n ∷ others) → 1 ≤ length others
-    other row e others (List·Memᴰ.List·Memᴰ·head q) = let a = ap (λ (l : Row). getD l 0 0) q in let b = count-at 0 n 0 0 (omega arith) in absurd (omega arith)
-    other row e [] (List·Memᴰ.List·Memᴰ·tail m) = elim m [ ]
-    other row e (x ∷ others) (List·Memᴰ.List·Memᴰ·tail m) = omega arith
-
-some-rows : (n : ℕ) (rows : List Row) → Rows n rows → 1 ≤ length rows
-some-rows n rows good = let e = ap length (good .identity) in omega arith
-
-two-counted : (rules : Rules) (plane : Subspace) (points : List Vec) (rows : List Row) (budget : ℕ) (a : Answer) → Given points rows → faceting 0 rules plane points rows budget ≡ answered a
-    → (c : ℕ) → Mem c (a .counts) → Counted rows c
-unfolding faceting edgeCall swappedEnds separateEnds
-two-counted rules plane points rows budget a given e =
-    subst (λ (x : Answer). (c : ℕ) → Mem c (x .counts) → Counted rows c) (answers-equal (cond swaps (swappedEnds budget) (separateEnds budget)) a e) (go swaps refl)
-  where
-    swaps : Bool
-    swaps = anyOf (λ (row : Row). eqb 1 (image row 0)) rows
-
-    one : Counted rows 1
-    one = record { some-set = omega arith; few = some-rows (length points) rows (given .rows-good) }
-
-    go : (b : Bool) → swaps ≡ b → (c : ℕ) → Mem c ((cond b (swappedEnds budget) (separateEnds budget)) .counts) → Counted rows c
-    go true q c (List·Memᴰ.List·Memᴰ·head s) =
-        subst (Counted rows) (sym s) (record { some-set = omega arith; few = swapped-rows (length points) rows (given .two) (given .rows-good) (true→holds q) })
-    go true q c (List·Memᴰ.List·Memᴰ·tail m) = elim m [ ]
-    go false q c (List·Memᴰ.List·Memᴰ·head s) = subst (Counted rows) (sym s) one
-    go false q c (List·Memᴰ.List·Memᴰ·tail (List·Memᴰ.List·Memᴰ·head s)) = subst (Counted rows) (sym s) one
-    go false q c (List·Memᴰ.List·Memᴰ·tail (List·Memᴰ.List·Memᴰ·tail m)) = elim m [ ]
-
--- a rank 2 answer has as many counts as ends
-two-counts : (budget : ℕ) (a : Answer) (r : RankTwo budget a) → length (a .counts) ≡ r .ends
-two-counts budget a r = ap length (r .counts) ∙ length-replicate (r .ends) (2 / r .ends)
 
 pub two-few : (budget : ℕ) (a : Answer) → RankTwo budget a → (1 ≤ length (a .counts)) × (length (a .counts) ≤ 2)
 two-few budget a r = go (r .one-or-two)
@@ -225,13 +174,6 @@ pub record KeptEdge (k : Kept) : Type 0 where
   pub places : k .places ≡ countFrom 0 (length (k .counts)) ∷ []
   pub edges : k .edges ≡ (edgeOf (k .orbit) ∷ []) ∷ []
   pub compounds : k .compounds ≡ []
-
-within-few : (vertices : List ℕ) (rows : List Row) → length (rowsWithin vertices rows) ≤ length rows
-unfolding rowsWithin
-within-few vertices rows =
-    let e = length-map (keep (keepsSet vertices) rows) (rowWithin vertices) in
-    let k = keep-few (keepsSet vertices) rows in
-    omega arith
 
 -- an edge's figure has it alone
 pub edge-alone : (e : Pair) → edgePairs (edgeFigure e) ≡ e ∷ []
