@@ -203,6 +203,11 @@ module _ {A : Type 0} (c : A → A → Ordering) (order : Linear c) where
   pub of-in-order : (x : A) (l : List A) → Mem x (inOrder l) → Mem x l
   of-in-order x l i = of-fresh [] l x (of-sorted c x (fresh c [] l) i) .0
 
+  -- one item is in order
+  pub alone-in-order : (x : A) → inOrder (x ∷ []) ≡ x ∷ []
+  unfolding fresh anyOf sortBy insertBy
+  alone-in-order x = refl
+
   -- lists with the same items have the same ascending list
   pub in-order-same : (l m : List A) → SameItems l m → inOrder l ≡ inOrder m
   in-order-same l m s = same-ascending (inOrder l) (inOrder m) (in-order-ascends l) (in-order-ascends m) (record {

@@ -14,6 +14,7 @@ pub mod Floats
 pub mod LowerBounds
 pub mod Parts
 pub mod Squares
+pub mod Subsets
 pub mod Tests
 pub mod Sets
 pub mod Outcomes

@@ -264,3 +264,16 @@ pub of-count : (a n x : ℕ) → Mem x (countFrom a n) → (a ≤ x) × (x < a +
 unfolding countFrom
 of-count a (suc n) x (List·Memᴰ.List·Memᴰ·head e) = (omega arith, omega arith)
 of-count a (suc n) x (List·Memᴰ.List·Memᴰ·tail h) = let r = of-count (suc a) n x h in let k = r .0 in let m = r .1 in (omega arith, omega arith)
+
+-- ---- an item behind the first of two lists, and of equal items
+pub append-at : {A : Type 0} (l m : List A) (i : ℕ) (d : A) → getD (l ++ m) (length l + i) d ≡ getD m i d
+append-at [] m i d = ap (λ (n : ℕ). getD m n d) (omega arith)
+append-at {A} (x ∷ l) m i d = ap (λ (n : ℕ). getD (x ∷ (l ++ m)) n d) step ∙ append-at l m i d
+  where
+    step : suc (length l) + i ≡ suc (length l + i)
+    step = omega arith
+
+pub replicate-at : {A : Type 0} (n : ℕ) (x : A) (i : ℕ) (d : A) → i < n → getD (replicate n x) i d ≡ x
+replicate-at zero x i d h = absurd (omega arith)
+replicate-at (suc n) x zero d h = refl
+replicate-at (suc n) x (suc i) d h = replicate-at n x i d (omega arith)

@@ -7,7 +7,7 @@ use mathlib.Core.List.{List, [], _∷_, _++_, map, flatMap, map-append, List·Me
 use Prim.Native.Nat.{ℕ, zero, suc, _≤_, _<_, Ordering, Ordering·lt, Ordering·eq, Ordering·gt}
 use native.Mathlib.Omega.{arith}
 use lib.Dec.{T, T-not, isEq}
-use lib.ListN.{length, getD}
+use lib.ListN.{length, getD, drop}
 use Rattle.definitions.specs.Lists.{compareList, sortBy, anyOf, placeOf, fresh, thenBy}
 use Rattle.laws.specs.Bools.{true→holds, same-test, either, left-of, right-of, decide}
 use Rattle.laws.specs.Lists.{Mem, here, there, in-map, of-map, member-at, place-hit, in-append, in-left, in-right}
@@ -128,6 +128,16 @@ module _ {A B C : Type 0} where
   flatMap-map g f (x ∷ l) = ap (λ (r : List C). g (f x) ++ r) (flatMap-map g f l)
 
 -- ---- maps that keep items apart
+
+-- lists with the same image are the same
+pub map-apart : {A B : Type 0} (f : A → B) (P : A → Type 0) → ((x y : A) → P x → P y → f x ≡ f y → x ≡ y) → (l m : List A) → ((x : A) → Mem x l → P x) → ((x : A) → Mem x m → P x) → map f l ≡ map f m → l ≡ m
+map-apart f P apart [] [] h k e = refl
+map-apart f P apart [] (y ∷ m) h k e = let z : 0 ≡ suc (length (map f m)) = ap length e in absurd (omega arith)
+map-apart f P apart (x ∷ l) [] h k e = let z : suc (length (map f l)) ≡ 0 = ap length e in absurd (omega arith)
+map-apart {A} {B} f P apart (x ∷ l) (y ∷ m) h k e =
+    let first = apart x y (h x (here refl)) (k y (here refl)) (ap (λ (s : List B). getD s 0 (f x)) e) in
+    let rest = map-apart f P apart l m (λ z i. h z (there i)) (λ z i. k z (there i)) (ap (drop 1) e) in
+    λ t. first t ∷ rest t
 
 module _ {A B : Type 0} (c : A → A → Ordering) (order : Linear c) (c′ : B → B → Ordering) (order′ : Linear c′) (f : A → B) where
   pub same-equal-test : (x y : A) → (f x ≡ f y → x ≡ y) → isEq (c′ (f x) (f y)) ≡ isEq (c x y)

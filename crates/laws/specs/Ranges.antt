@@ -13,7 +13,7 @@ use Rattle.laws.specs.Pairs.{Pairs, count-ascends, pairs-keep}
 use Rattle.laws.specs.Orders.{Linear, nats, compare-lt, lt-compare}
 use Rattle.laws.specs.Sorting.{pairs-perm, sort-perm, in-sorted, of-sorted}
 use Rattle.laws.specs.Ascending.{Differ, Distinct, Ascends, SameItems, ascends-distinct, sorted-ascends, sorted-length, same-ascending, inOrder, in-order-ascends, in-in-order, of-in-order, seenAmong, seen-member, member-seen}
-use Rattle.laws.specs.Places.{placeIn, place-at}
+use Rattle.laws.specs.Places.{placeIn, place-at, map-self}
 
 -- ---- the same items
 
@@ -85,6 +85,16 @@ module _ {A B : Type 0} where
   map-places g d (x ∷ l) = ap (λ (r : List B). g x ∷ r) (shifted (λ (i : ℕ). g (getD (x ∷ l) i d)) 0 (length l) ∙ map-places g d l)
 
 -- ---- permutations
+
+-- the places of an ascending list's own items
+pub own-places : {A : Type 0} (c : A → A → Ordering) (order : Linear c) (l : List A) → Ascends c l → map (placeIn c order l) l ≡ countFrom 0 (length l)
+unfolding countFrom
+own-places c order [] h = refl
+own-places c order (x ∷ l) h =
+    let own = x ∷ l in
+    sym (map-places (placeIn c order own) x own)
+    ∙ map-self (λ (i : ℕ). placeIn c order own (getD own i x)) (countFrom 0 (length own))
+    (λ i m. let b = of-count 0 (length own) i m .1 in place-at c order x own (ascends-distinct c order own h) i (omega arith))
 
 -- two places of a list without repeats
 pub places-apart : (l : List ℕ) → Distinct l → (i j d : ℕ) → i < length l → j < length l → getD l i d ≡ getD l j d → i ≡ j

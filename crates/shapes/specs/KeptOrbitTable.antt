@@ -13,7 +13,7 @@ use Rattle.definitions.specs.Figures.{Figure, dyad}
 use Rattle.definitions.specs.Search.{Share, Table}
 use Rattle.definitions.specs.Recursion.{Rules, Entry, Answer, Inner, vertexRidge, shareOf, facetShares}
 use Rattle.definitions.specs.Faceting.{Prepared, possibleFacets, tableFor, entryOf, finish, faceting}
-use Rattle.laws.specs.Lists.{Mem, here, there, of-map, of-flatMap, of-count, map-at, count-length}
+use Rattle.laws.specs.Lists.{Mem, here, there, append-at, replicate-at, of-map, of-flatMap, of-count, map-at, count-length}
 use Rattle.laws.specs.Places.{map-same}
 use Rattle.shapes.specs.Answered.{facetNumber, Preparation, AnsweredCall, answered-call}
 use Rattle.shapes.specs.Emitted.{map-with-length, found-facet, entry-of-list}
@@ -84,23 +84,11 @@ pub of-together : {A : Type 0} (x : A) (lists : List (List A)) → Mem x (togeth
 unfolding together
 of-together {A} x lists m = of-flatMap (λ (l : List A). l) x lists m
 
-append-at : {A : Type 0} (l m : List A) (i : ℕ) (d : A) → getD (l ++ m) (length l + i) d ≡ getD m i d
-append-at [] m i d = ap (λ (n : ℕ). getD m n d) (omega arith)
-append-at {A} (x ∷ l) m i d = ap (λ (n : ℕ). getD (x ∷ (l ++ m)) n d) step ∙ append-at l m i d
-  where
-    step : suc (length l) + i ≡ suc (length l + i)
-    step = omega arith
-
 pub item-over : {A : Type 0} (lists : List (List A)) (a b : ℕ) (d : A) → b < length (getD lists a []) → getD (together lists) (numberOver (map length lists) a b) d ≡ getD (getD lists a []) b d
 unfolding together flatMap numberOver
 item-over [] a b d h = absurd (omega arith)
 item-over (l ∷ lists) zero b d h = List·getD-append l (together lists) d b h
 item-over (l ∷ lists) (suc a) b d h = append-at l (together lists) (numberOver (map length lists) a b) d ∙ item-over lists a b d h
-
-replicate-at : (n c i d : ℕ) → i < n → getD (replicate n c) i d ≡ c
-replicate-at zero c i d h = absurd (omega arith)
-replicate-at (suc n) c zero d h = refl
-replicate-at (suc n) c (suc i) d h = replicate-at n c i d (omega arith)
 
 count-over : {A : Type 0} (counts : List ℕ) (lists : List (List A)) (a b : ℕ) → b < length (getD lists a []) → getD (countsOver counts (map length lists)) (numberOver (map length lists) a b) 0 ≡ getD counts a 0
 unfolding countsOver numberOver

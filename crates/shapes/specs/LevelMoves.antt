@@ -9,8 +9,8 @@ use Rattle.definitions.specs.Lists.{compareNats, sortBy, sortNats, insertBy, fr
 use Rattle.definitions.specs.Figures.{Elements, numberIn, sortRanks}
 use Rattle.laws.specs.Lists.{Mem, here, there, in-map, of-map, in-flatMap, of-flatMap, flatMap-same}
 use Rattle.laws.specs.Orders.{Linear, nats, nat-lists, lt-compare}
-use Rattle.laws.specs.Ascending.{Ascends, Distinct, ascends-distinct, inOrder, in-in-order, of-in-order, in-order-same}
-use Rattle.laws.specs.Places.{placeIn, at-place, place-apart, place-ascends, place-map, in-order-map, sort-distinct, distinct-map, map-same, map-self, map-flatMap, flatMap-map}
+use Rattle.laws.specs.Ascending.{Ascends, Distinct, ascends-distinct, alone-in-order, inOrder, in-in-order, of-in-order, in-order-same}
+use Rattle.laws.specs.Places.{map-apart, placeIn, at-place, place-apart, place-ascends, place-map, in-order-map, sort-distinct, distinct-map, map-same, map-self, map-flatMap, flatMap-map}
 use Rattle.shapes.specs.Assemble.{lowestBy}
 use Rattle.shapes.specs.Gathered.{sortAll}
 use Rattle.shapes.specs.Levels.{Levels, Sets, over, overSets, itemsInOrder, AllGood, under, lowest, lowestIn, placesIn, upperRanks, bodyOf, ranksOn, ranksOf, under-good, lowest-in-over, lowest-in-ascends, lowest-in-good, ranks-of-over, ranks-of-sent}
@@ -27,11 +27,6 @@ pub record Sending (T : Levels) (G : Sets T) (U : Levels) (H : Sets U) : Type 0 
 
 abbrev pub overSending : (T : Levels) (G : Sets T) (U : Levels) (H : Sets U) → Sending T G U H → Sending (over T) (overSets T G) (over U) (overSets U H)
 overSending T G U H h = record { to = λ k. h .to (suc k); subs = λ k. h .subs (suc k); good = λ k. h .good (suc k); apart = λ k. h .apart (suc k) }
-
--- one item in order
-alone-in-order : {A : Type 0} (c : A → A → Ordering) (order : Linear c) (x : A) → inOrder c order (x ∷ []) ≡ x ∷ []
-unfolding fresh anyOf sortBy insertBy
-alone-in-order c order x = refl
 
 module _ (T : Levels) (G : Sets T) (U : Levels) (H : Sets U) (h : Sending T G U H) where
   under-sent : (k : ℕ) (xs : List (T .Item (suc k))) → AllGood T G (suc k) xs → itemsInOrder U k (map (h .to k) (under T k xs)) ≡ under U k (itemsInOrder U (suc k) (map (h .to (suc k)) xs))
@@ -208,15 +203,6 @@ module _ (T : Levels) (G : Sets T) (U : Levels) (h : Keeping T G U) where
   ranks-kept write (suc k) x g = ap (ranksOn U write k) (h .subs k x g) ∙ ranks-on-kept write k (T .subs k x) (G .good k x g)
 
 -- ---- the ranks tell the item
-
-map-apart : {A B : Type 0} (f : A → B) (P : A → Type 0) → ((x y : A) → P x → P y → f x ≡ f y → x ≡ y) → (l m : List A) → ((x : A) → Mem x l → P x) → ((x : A) → Mem x m → P x) → map f l ≡ map f m → l ≡ m
-map-apart f P apart [] [] h k e = refl
-map-apart f P apart [] (y ∷ m) h k e = let z : 0 ≡ suc (length (map f m)) = ap length e in absurd (omega arith)
-map-apart f P apart (x ∷ l) [] h k e = let z : suc (length (map f l)) ≡ 0 = ap length e in absurd (omega arith)
-map-apart {A} {B} f P apart (x ∷ l) (y ∷ m) h k e =
-    let first = apart x y (h x (here refl)) (k y (here refl)) (ap (λ (s : List B). getD s 0 (f x)) e) in
-    let rest = map-apart f P apart l m (λ z i. h z (there i)) (λ z i. k z (there i)) (ap (drop 1) e) in
-    λ t. first t ∷ rest t
 
 pub ranks-apart : (k : ℕ) (T : Levels) (G : Sets T) (bound : ℕ) (P : T .Item zero → Type 0) (write : T .Item zero → List ℕ) → Written T bound P write → (x y : T .Item k) → G .Good k x → G .Good k y
     → ((z : T .Item zero) → Mem z (lowestIn T k x) → P z) → ((z : T .Item zero) → Mem z (lowestIn T k y) → P z) → ranksOf T write k x ≡ ranksOf T write k y → x ≡ y

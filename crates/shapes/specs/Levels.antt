@@ -12,7 +12,7 @@ use Rattle.laws.specs.Lists.{Mem, here, in-flatMap, of-flatMap, of-count}
 use Rattle.laws.specs.Orders.{Linear}
 use Rattle.laws.specs.Ascending.{Ascends, ascends-distinct, inOrder, in-order-ascends, in-in-order, of-in-order}
 use Rattle.laws.specs.Places.{placeIn, place-at, map-same}
-use Rattle.laws.specs.Ranges.{map-places}
+use Rattle.laws.specs.Ranges.{own-places}
 use Rattle.shapes.specs.Assemble.{lowestBy}
 
 -- ---- levels
@@ -167,23 +167,6 @@ pub ranks-over : (T : Levels) (write : T .Item zero → List ℕ) (k : ℕ) (xs 
     → ranksOn T write (suc k) xs ≡ map write (lowest T (suc k) xs) ∷ ranksOn (over T) (placesIn T zero (lowest T (suc k) xs)) k xs
 unfolding ranksOn
 ranks-over T write k xs = ap (λ (r : List Elements). map write (lowest T (suc k) xs) ∷ r) (upper-over T k xs (bodyOf (length xs)))
-
--- an ascending list's own places
-own-places : {A : Type 0} (c : A → A → Ordering) (order : Linear c) (l : List A) → Ascends c l → map (placeIn c order l) l ≡ countFrom 0 (length l)
-unfolding countFrom
-own-places c order [] h = refl
-own-places {A} c order (x ∷ l) h =
-    let own = x ∷ l in
-    sym (map-places (placeIn c order own) x own)
-    ∙ map-self-on (λ (i : ℕ). placeIn c order own (getD own i x)) (countFrom 0 (length own))
-    (λ i m. let b = of-count 0 (length own) i m .1 in place-at c order x own (ascends-distinct c order own h) i (omega arith))
-  where
-    map-self-on : (f : ℕ → ℕ) (m : List ℕ) → ((i : ℕ) → Mem i m → f i ≡ i) → map f m ≡ m
-    map-self-on f m same = map-same f (λ (i : ℕ). i) m same ∙ all-self m
-      where
-        all-self : (m : List ℕ) → map (λ (i : ℕ). i) m ≡ m
-        all-self [] = refl
-        all-self (i ∷ m) = ap (λ (r : List ℕ). i ∷ r) (all-self m)
 
 pub ranks-of-over : (T : Levels) (G : Sets T) (write : T .Item zero → List ℕ) (k : ℕ) (x : T .Item (suc k)) → G .Good (suc k) x
     → ranksOf T write (suc k) x ≡ map write (lowestIn T (suc k) x) ∷ ranksOf (over T) (placesIn T zero (lowestIn T (suc k) x)) k x

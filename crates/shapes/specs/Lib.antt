@@ -41,6 +41,7 @@ pub mod Example
 pub mod SortedEntries
 pub mod KeyMarks
 pub mod AllPairs
+pub mod NestedNumbers
 pub mod Kept
 pub mod KeptTable
 pub mod FewOrbits
