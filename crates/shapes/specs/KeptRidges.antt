@@ -1,26 +1,24 @@
--- The ridge orbits that a call of rank 3 or 4 numbers: each number is one of a ridge orbit, each count is from 1 to the number of rows, and there are no more ridge orbits than keys. And the
--- sizes of the table that is made of them. From what the call has before its search alone. Leans on KeptSizes, KeyMarks and RidgeCounts.
+-- The ridge orbits that a call of rank 3 or 4 numbers: each number is one of a ridge orbit, each count is from 1 to the number of rows, and there are no more ridge orbits than keys. From what
+-- the call has before its search alone. Leans on KeptSizes, KeyMarks and RidgeCounts.
 use mathlib.Core.Path.{_≡_, refl, sym, ap, _∙_, subst}
 use mathlib.Core.Logic.{_⊎_, inl, inr}
 use mathlib.Core.Option.{Option, some, none}
-use mathlib.Core.List.{List, [], _∷_, _++_, map, flatMap, zipWith, List·Memᴰ, map-map, map-append}
+use mathlib.Core.List.{List, [], _∷_, _++_, map, map-map, map-append}
 use Prim.Native.Nat.{ℕ, zero, suc, _+_, _*_, _≤_, _<_, min, max, Ordering}
 use native.Mathlib.Omega.{arith}
-use lib.ListN.{length, getD, drop, length-map, length-append}
-use Rattle.definitions.specs.Lists.{Pair, comparePair, countFrom, fresh, mapAt, mapWith}
+use lib.ListN.{length, getD, length-map, length-append}
+use Rattle.definitions.specs.Lists.{Pair, comparePair, countFrom, fresh, mapWith}
 use Rattle.definitions.specs.Vectors.{Vec}
 use Rattle.definitions.specs.Subspace.{Subspace}
 use Rattle.definitions.specs.Orbits.{Row, image}
-use Rattle.definitions.specs.Search.{Share, Facet, Table, allFacets}
 use Rattle.definitions.specs.Recursion.{Rules}
 use Rattle.definitions.specs.Faceting.{Prepared, faceting}
-use Rattle.laws.specs.Lists.{Mem, here, there, in-append, in-map, of-map, in-count, of-count, count-at, count-length, member-at}
+use Rattle.laws.specs.Lists.{Mem, here, in-append, in-map, of-map, in-count, of-count, count-at, count-length}
 use Rattle.laws.specs.Orders.{Linear, pairs}
 use Rattle.laws.specs.Ascending.{Distinct, of-fresh, in-fresh}
 use Rattle.laws.specs.Places.{map-self}
 use Rattle.laws.specs.Ranges.{Permutes, distinct-within}
 use Rattle.shapes.specs.Answered.{Preparation}
-use Rattle.shapes.specs.Emitted.{map-with-length}
 use Rattle.shapes.specs.Sets.{Rows, row-into}
 use Rattle.shapes.specs.Calls.{Given}
 use Rattle.shapes.specs.AllPairs.{allPairs, in-all-pairs, of-all-pairs, all-pairs-ascend}
@@ -30,9 +28,9 @@ use Rattle.shapes.specs.FewOrbits.{pairs-few}
 use Rattle.shapes.specs.Ridges.{KnownKeys, noKeys, map-with-good, keyHeldBy, openKeyOrbit, numberOrOpenKey, ridgeNumbers, twice, twice-moved}
 use Rattle.shapes.specs.RidgeCounts.{call-ridges}
 use Rattle.shapes.specs.KeyMarks.{held-marked, held-once}
-use Rattle.shapes.specs.Kept.{Kept, keptOf, numberEnds, numbersKept, keptShare, keptShares, keptTable}
+use Rattle.shapes.specs.Kept.{Kept, keptOf, numberEnds, numbersKept}
 use Rattle.shapes.specs.KeptTable.{alone, kept-ridges}
-use Rattle.shapes.specs.KeptSizes.{ridgeKeys, keys-below, kept-sized, facetsKept, few-facets-kept}
+use Rattle.shapes.specs.KeptSizes.{ridgeKeys, keys-below, kept-sized}
 
 -- ---- no more ridge orbits than keys
 
@@ -155,20 +153,6 @@ ridges-few more n rows kept good keys =
 
 -- ---- the numbers of a call
 
-numbers-lengths : (rows : List Row) (known : KnownKeys Pair) (l : List (List Pair)) → map length (mapWith (mapWith (numberEnds rows)) known l .0) ≡ map length l
-unfolding mapWith
-numbers-lengths rows known [] = refl
-numbers-lengths rows known (ends ∷ l) =
-    let step = mapWith (numberEnds rows) known ends in
-    let first = map-with-length (numberEnds rows) known ends in
-    let rest = numbers-lengths rows (step .1) l in
-    λ t. first t ∷ rest t
-
--- each orbit has a number for each of its inner orbits
-pub numbers-many : (rows : List Row) (kept : List Kept) → map length (numbersKept rows kept .0) ≡ map (λ (k : Kept). length (k .ends)) kept
-unfolding numbersKept
-numbers-many rows kept = numbers-lengths rows (noKeys Pair) (map (λ (k : Kept). k .ends) kept) ∙ map-map length (λ (k : Kept). k .ends) kept
-
 -- of a call of rank 3 + more on n points
 pub record RidgesKept (more n : ℕ) (rows : List Row) (kept : List Kept) : Type 0 where
   pub below : (l : List ℕ) → Mem l (numbersKept rows kept .0) → (number : ℕ) → Mem number l → number < length (numbersKept rows kept .1 .counts)
@@ -210,99 +194,3 @@ module _ (more : ℕ) (rules : Rules) (plane : Subspace) (points : List Vec) (ro
 -- at rank 3 no more than vertices
 pub rank-three-ridges : (n : ℕ) (rows : List Row) (kept : List Kept) → RidgesKept 0 n rows kept → length (numbersKept rows kept .1 .counts) ≤ n
 rank-three-ridges n rows kept h = let a = h .few-keys in let b = keys-vertices n in omega arith
-
--- ---- the table
-
-sumOf : List ℕ → ℕ
-sumOf [] = 0
-sumOf (x ∷ l) = x + sumOf l
-
-facets-number : (orbit : ℕ) (shares : List (List (List Share)))
-    → length (flatMap (λ (fs : List Facet). fs) (mapAt (λ orbit (facets : List (List Share)). map (λ (f : ℕ). (orbit, f)) (countFrom 0 (length facets))) orbit shares)) ≡ sumOf (map length shares)
-unfolding flatMap mapAt sumOf
-facets-number orbit [] = refl
-facets-number orbit (facets ∷ shares) =
-    let own : List Facet = map (λ (f : ℕ). (orbit, f)) (countFrom 0 (length facets)) in
-    let facetsOf : ℕ → List (List Share) → List Facet = λ orbit facets. map (λ (f : ℕ). (orbit, f)) (countFrom 0 (length facets)) in
-    let later = mapAt facetsOf (suc orbit) shares in
-    let a = length-append own (flatMap (λ (fs : List Facet). fs) later) in
-    let b = length-map {B = Facet} (countFrom 0 (length facets)) (λ (f : ℕ). (orbit, f)) in
-    let c = count-length 0 (length facets) in
-    let d = facets-number (suc orbit) shares in
-    omega arith
-
-zip-map : {A B C D : Type 0} (f : A → B → C) (h : C → D) (g : A → D) (xs : List A) (ys : List B) → ((x : A) (y : B) → h (f x y) ≡ g x) → length ys ≡ length xs → map h (zipWith f xs ys) ≡ map g xs
-unfolding zipWith
-zip-map f h g [] ys same e = refl
-zip-map f h g (x ∷ xs) [] same e = absurd (omega arith)
-zip-map f h g (x ∷ xs) (y ∷ ys) same e = let first = same x y in let rest = zip-map f h g xs ys same (omega arith) in λ t. first t ∷ rest t
-
--- as many orbits as are kept, and as many facets to each
-pub table-lengths : (rows : List Row) (kept : List Kept) → map length (keptTable rows kept .shares) ≡ map (λ (k : Kept). length (k .places)) kept
-unfolding keptTable keptShares
-table-lengths rows kept =
-    let numbered = numbersKept rows kept in
-    let a = length-map (numbered .0) length in
-    let b = length-map kept (λ (k : Kept). length (k .ends)) in
-    let c = ap length (numbers-many rows kept) in
-    zip-map (keptShares (numbered .1 .counts)) length (λ (k : Kept). length (k .places)) kept (numbered .0) (λ k numbers. length-map (k .places) (map (keptShare (numbered .1 .counts) k numbers))) (omega arith)
-
-pub table-orbits : (rows : List Row) (kept : List Kept) → length (keptTable rows kept .shares) ≡ length kept
-table-orbits rows kept = sym (length-map (keptTable rows kept .shares) length) ∙ ap length (table-lengths rows kept) ∙ length-map kept (λ (k : Kept). length (k .places))
-
-sum-kept : (kept : List Kept) → sumOf (map (λ (k : Kept). length (k .places)) kept) ≡ facetsKept kept
-unfolding sumOf facetsKept
-sum-kept [] = refl
-sum-kept (k ∷ kept) = ap (λ (n : ℕ). length (k .places) + n) (sum-kept kept)
-
--- as many facets as are kept
-pub table-facets : (rows : List Row) (kept : List Kept) → length (allFacets (keptTable rows kept)) ≡ facetsKept kept
-unfolding allFacets
-table-facets rows kept = facets-number 0 (keptTable rows kept .shares) ∙ ap sumOf (table-lengths rows kept) ∙ sum-kept kept
-
-shares-below : (ridgeCounts : List ℕ) (bound : ℕ) (kept : List Kept) (numbers : List (List ℕ)) → map length numbers ≡ map (λ (k : Kept). length (k .ends)) kept
-    → ((k : Kept) → Mem k kept → (l : List ℕ) → Mem l (k .places) → (a : ℕ) → Mem a l → a < length (k .ends)) → ((l : List ℕ) → Mem l numbers → (number : ℕ) → Mem number l → number < bound)
-    → (fs : List (List Share)) → Mem fs (zipWith (keptShares ridgeCounts) kept numbers) → (l : List Share) → Mem l fs → (s : Share) → Mem s l → s .0 < bound
-unfolding zipWith keptShares keptShare
-shares-below ridgeCounts bound [] numbers e places below fs m l j s i = elim m [ ]
-shares-below ridgeCounts bound (k ∷ kept) [] e places below fs m l j s i = elim m [ ]
-shares-below ridgeCounts bound (k ∷ kept) (ns ∷ numbers) e places below fs (List·Memᴰ.List·Memᴰ·head q) l j s i =
-    orbit-below k ns (ap (λ (x : List ℕ). getD x 0 0) e) (places k (here refl)) (below ns (here refl)) l (subst (λ (x : List (List Share)). Mem l x) q j) s i
-  where
-    orbit-below : (k : Kept) (ns : List ℕ) → length ns ≡ length (k .ends) → ((l : List ℕ) → Mem l (k .places) → (a : ℕ) → Mem a l → a < length (k .ends)) → ((number : ℕ) → Mem number ns → number < bound)
-        → (l : List Share) → Mem l (keptShares ridgeCounts k ns) → (s : Share) → Mem s l → s .0 < bound
-    orbit-below k ns many places below l j s i =
-        let share = keptShare ridgeCounts k ns in
-        let r = of-map (map share) l (k .places) j in
-        let q = of-map share s (r .0) (subst (λ (x : List Share). Mem s x) (r .2) i) in
-        let a = places (r .0) (r .1) (q .0) (q .1) in
-        let b = below (getD ns (q .0) 0) (member-at ns (q .0) 0 (omega arith)) in
-        subst (λ (x : Share). x .0 < bound) (sym (q .2)) b
-shares-below ridgeCounts bound (k ∷ kept) (ns ∷ numbers) e places below fs (List·Memᴰ.List·Memᴰ·tail m) l j s i =
-    shares-below ridgeCounts bound kept numbers (ap (drop 1) e) (λ c h. places c (there h)) (λ x h. below x (there h)) fs m l j s i
-
--- the table of a call of rank 3 or 4: every share is at a ridge orbit, and orbits, facets and ridge orbits are few
-pub record TableSized (n facets : ℕ) (kept : List Kept) (t : Table) : Type 0 where
-  pub orbits : length (t .shares) ≡ length kept
-  pub lengths : map length (t .shares) ≡ map (λ (k : Kept). length (k .places)) kept
-  pub few-facets : length (allFacets t) ≤ facets
-  pub few-ridges : n ≤ 20 → t .ridges ≤ 190
-  pub within : (fs : List (List Share)) → Mem fs (t .shares) → (l : List Share) → Mem l fs → (s : Share) → Mem s l → s .0 < t .ridges
-
-pub table-sized : (more : ℕ) (rules : Rules) (plane : Subspace) (points : List Vec) (rows : List Row) (p : Prepared) → more ≤ 1 → Given points rows
-    → Preparation more rules (faceting more rules) plane points rows p → TableSized (length points) (rules .bounds .facets) (map keptOf (p .inner)) (keptTable rows (map keptOf (p .inner)))
-unfolding keptTable
-table-sized more rules plane points rows p few given made =
-    let kept = map keptOf (p .inner) in
-    let numbered = numbersKept rows kept in
-    let ridges = ridges-kept more rules plane points rows p few given made in
-    let facets = table-facets rows kept in
-    let bounded = few-facets-kept more rules plane points rows p made in
-    record {
-      orbits = table-orbits rows kept;
-      lengths = table-lengths rows kept;
-      few-facets = omega arith;
-      few-ridges = ridges .few;
-      within =
-          shares-below (numbered .1 .counts) (length (numbered .1 .counts)) kept (numbered .0) (numbers-many rows kept) (λ k m. kept-sized more rules plane points rows p few given made k m .places-below) (ridges .below);
-    }
