@@ -9,11 +9,12 @@ use Rattle.definitions.specs.Lists.{Pair, countFrom}
 use Rattle.definitions.specs.Figures.{Elements, Figure, rankOf}
 use Rattle.definitions.specs.Recursion.{Entry, vertexRidge}
 use Rattle.definitions.specs.Job.{counted, figureWords, summaryWords}
-use Rattle.laws.specs.Lists.{count-length, flatMap-same}
+use Rattle.laws.specs.Lists.{Mem, count-length, flatMap-same}
 use Rattle.laws.specs.Places.{placeIn, flat-singles, flatMap-map}
 use Rattle.shapes.specs.Edges.{edgeFigure}
 use Rattle.shapes.specs.EdgeSets.{ends, edgeNumber, polygon, polyhedron}
-use Rattle.shapes.specs.Levels.{Levels, under, lowest, placesIn, upperRanks, bodyOf, ranksOn, ranksOf}
+use Rattle.shapes.specs.Levels.{Levels, Sets, AllGood, under, under-good, lowest, placesIn, upperRanks, bodyOf, ranksOn, ranksOf}
+use Rattle.shapes.specs.LevelMoves.{Keeping, under-kept, places-kept}
 use Rattle.shapes.specs.Nested.{Nested, nested}
 use Rattle.shapes.specs.NestedFigures.{nestedFigure}
 
@@ -167,6 +168,30 @@ module _ (T : Levels) where
       let all = under T k xs in
       let place : suc k + i ≡ k + suc i = omega arith in
       ap (λ (n : ℕ). getD (upperRanks T k all (map (placesIn T k all) xs ∷ last)) n []) place ∙ upper-at k all (map (placesIn T k all) xs ∷ last) (suc i)
+
+-- the words are the same, from items that stand for others in the same order
+module _ (T : Levels) (G : Sets T) (U : Levels) (h : Keeping T G U) where
+  items-kept : (k : ℕ) (all : List (T .Item k)) → AllGood T G k all → (xs : List (T .Item (suc k))) → AllGood T G (suc k) xs → itemWords U k (map (h .to k) all) (map (h .to (suc k)) xs) ≡ itemWords T k all xs
+  unfolding itemWords
+  items-kept k all g xs j =
+      let one : (x : T .Item (suc k)) → Mem x xs → length (U .subs k (h .to (suc k) x)) ∷ placesIn U k (map (h .to k) all) (h .to (suc k) x) ≡ length (T .subs k x) ∷ placesIn T k all x = λ x m.
+      let many = ap length (h .subs k x (j x m)) ∙ length-map (T .subs k x) (h .to k) in
+      let places = places-kept T G U h k all g x (j x m) in
+      λ t. many t ∷ places t in
+      let each =
+      flatMap-map (λ (y : U .Item (suc k)). length (U .subs k y) ∷ placesIn U k (map (h .to k) all) y) (h .to (suc k)) xs
+      ∙ flatMap-same (λ (x : T .Item (suc k)). length (U .subs k (h .to (suc k) x)) ∷ placesIn U k (map (h .to k) all) (h .to (suc k) x)) (λ (x : T .Item (suc k)). length (T .subs k x) ∷ placesIn T k all x) xs one in
+      λ t. length-map xs (h .to (suc k)) t ∷ each t
+
+  pub words-kept : (k : ℕ) (xs : List (T .Item k)) → AllGood T G k xs → (last : List ℕ) → upperWords U k (map (h .to k) xs) last ≡ upperWords T k xs last
+  unfolding upperWords
+  words-kept zero xs g last = refl
+  words-kept (suc k) xs g last =
+      let all = under T k xs in
+      let good = under-good T G k xs g in
+      ap (λ (l : List (U .Item k)). upperWords U k l (itemWords U k l (map (h .to (suc k)) xs) ++ last)) (under-kept T G U h k xs g)
+      ∙ ap (λ (w : List ℕ). upperWords U k (map (h .to k) all) (w ++ last)) (items-kept k all good xs g)
+      ∙ words-kept k all good (itemWords T k all xs ++ last)
 
 -- the figure with these facets on so many points: its edges, then each rank in order
 pub nested-words : (n k : ℕ) (xs : Nested (suc k))

@@ -5,7 +5,7 @@ use mathlib.Core.List.{List, [], _∷_, map, flatMap, map-map}
 use Prim.Native.Nat.{ℕ, zero, suc, _<_}
 use native.Mathlib.Omega.{arith}
 use lib.ListN.{length, getD, length-map}
-use Rattle.definitions.specs.Lists.{Pair, sortBy}
+use Rattle.definitions.specs.Lists.{Pair, sortBy, keep}
 use Rattle.definitions.specs.Outcome.{answered}
 use Rattle.definitions.specs.Vectors.{Vec}
 use Rattle.definitions.specs.Subspace.{Subspace}
@@ -14,14 +14,16 @@ use Rattle.definitions.specs.Figures.{Figure, partsOf, labelIrc}
 use Rattle.definitions.specs.Search.{Facet, Found}
 use Rattle.definitions.specs.Recursion.{Rules, Entry, Answer, Inner}
 use Rattle.definitions.specs.Faceting.{Prepared, possibleFacets, splitIn, atOrbit, split, entryOf, entriesOf, compareEntries, searchFrom, finish, faceting}
-use Rattle.laws.specs.Lists.{Mem, map-at, flatMap-same}
+use Rattle.laws.specs.Lists.{Mem, map-at, in-flatMap, of-flatMap, flatMap-same}
+use Rattle.laws.specs.Ascending.{in-order-ascends, in-in-order, seenAmong}
+use Rattle.laws.specs.Ranges.{in-order-kept}
 use Rattle.laws.specs.Places.{map-same, map-self}
 use Rattle.shapes.specs.Answered.{Preparation, AnsweredCall}
 use Rattle.shapes.specs.Emitted.{found-facet}
 use Rattle.shapes.specs.LowRanks.{innerAt, at-orbit, facet-orbit}
 use Rattle.shapes.specs.Calls.{Given}
 use Rattle.shapes.specs.SplitCalls.{InCall}
-use Rattle.shapes.specs.Nested.{Nested, nestedInOrder, moveNested}
+use Rattle.shapes.specs.Nested.{Nested, compareNested, nested-order, nestedInOrder, moveNested}
 use Rattle.shapes.specs.NestedFigures.{nestedFigure, noElement, readNested, nested-read}
 use Rattle.shapes.specs.NestedCalls.{entryPoints, facetFigure, facetElement, nestedImages, nestedFacets, facets-many, found-split-in-call, possible-nested, list-nested}
 use Rattle.shapes.specs.KeptOrbits.{KeptOrbit, numberOver, keepBy, orbitParts, orbitFacet, orbitImages, orbitFacets, orbitEntry, orbitPossible, orbitAnswer}
@@ -75,7 +77,8 @@ module _ {K : Type 0} (send : (ℕ → ℕ) → K → K) (keys : Inner → List 
     abbrev kept : List (KeptOrbit K (Nested more))
     kept = map keepElements (p .inner)
 
-    facets-kept : (parts : List Facet) → ((f : Facet) → Mem f parts → InCall p f) → nestedFacets more p parts ≡ orbitFacets more rows kept parts
+    -- the facets of a split list's figure
+    pub facets-kept : (parts : List Facet) → ((f : Facet) → Mem f parts → InCall p f) → nestedFacets more p parts ≡ orbitFacets more rows kept parts
     unfolding nestedFacets orbitFacets nestedImages orbitImages
     facets-kept parts inside =
         ap (nestedInOrder more)
@@ -118,3 +121,15 @@ module _ {K : Type 0} (send : (ℕ → ℕ) → K → K) (keys : Inner → List 
   pub orbit-answer : (rules : Rules) (plane : Subspace) (points : List Vec) (rows : List Row) → Given points rows → (a : Answer) (c : AnsweredCall more rules plane points rows a)
       → a ≡ orbitAnswer more (length points) rows (map keepElements (c .before .inner)) (c .found)
   orbit-answer rules plane points rows given a c = c .is ∙ orbit-finish rules plane points rows given (c .before) (c .prepared) (c .found) (c .is-found)
+
+-- the facets of a list among those of more: the images that the list has, in their order
+pub facets-among : {K : Type 0} (more : ℕ) (rows : List Row) (kept : List (KeptOrbit K (Nested more))) (parts all : List Facet) → ((f : Facet) → Mem f parts → Mem f all)
+    → orbitFacets more rows kept parts ≡ keep (λ (x : Nested more). seenAmong (compareNested more) (nested-order more) x (flatMap (orbitImages more rows kept) parts)) (orbitFacets more rows kept all)
+unfolding orbitFacets
+facets-among more rows kept parts all within =
+    let images = flatMap (orbitImages more rows kept) parts in
+    let more-images = flatMap (orbitImages more rows kept) all in
+    in-order-kept (compareNested more) (nested-order more) images (nestedInOrder more more-images) (in-order-ascends (compareNested more) (nested-order more) more-images)
+    (λ x m.
+    let r = of-flatMap (orbitImages more rows kept) x parts m in
+    in-in-order (compareNested more) (nested-order more) x more-images (in-flatMap (orbitImages more rows kept) x (r .0) all (within (r .0) (r .1)) (r .2)))

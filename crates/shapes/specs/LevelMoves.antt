@@ -152,7 +152,7 @@ module _ (T : Levels) (G : Sets T) (U : Levels) (h : Keeping T G U) where
   pub order-kept : (k : ℕ) (l : List (T .Item k)) → AllGood T G k l → itemsInOrder U k (map (h .to k) l) ≡ map (h .to k) (itemsInOrder T k l)
   order-kept k l g = in-order-map (T .order k) (T .linear k) (U .order k) (U .linear k) (h .to k) (G .Good k) (λ x y i j e. h .keeps k x y i j ∙ e) l g
 
-  under-kept : (k : ℕ) (xs : List (T .Item (suc k))) → AllGood T G (suc k) xs → under U k (map (h .to (suc k)) xs) ≡ map (h .to k) (under T k xs)
+  pub under-kept : (k : ℕ) (xs : List (T .Item (suc k))) → AllGood T G (suc k) xs → under U k (map (h .to (suc k)) xs) ≡ map (h .to k) (under T k xs)
   unfolding under
   under-kept k xs g =
       ap (itemsInOrder U k)
@@ -166,7 +166,7 @@ module _ (T : Levels) (G : Sets T) (U : Levels) (h : Keeping T G U) where
   lowest-kept zero xs g = refl
   lowest-kept (suc k) xs g = ap (lowest U k) (under-kept k xs g) ∙ lowest-kept k (under T k xs) (under-good T G k xs g)
 
-  places-kept : (k : ℕ) (all : List (T .Item k)) → AllGood T G k all → (x : T .Item (suc k)) → G .Good (suc k) x → placesIn U k (map (h .to k) all) (h .to (suc k) x) ≡ placesIn T k all x
+  pub places-kept : (k : ℕ) (all : List (T .Item k)) → AllGood T G k all → (x : T .Item (suc k)) → G .Good (suc k) x → placesIn U k (map (h .to k) all) (h .to (suc k) x) ≡ placesIn T k all x
   places-kept k all g x j =
       let place : U .Item k → ℕ = placeIn (U .order k) (U .linear k) (map (h .to k) all) in
       ap (map place) (h .subs k x j)
