@@ -32,6 +32,7 @@ pub mod KeptOrbitTable
 pub mod KeptOrbitAnswer
 pub mod KeptOrbitSizes
 pub mod KeptOrbitInner
+pub mod KeptOrbitCodes
 pub mod RidgeCalls
 pub mod Ends
 pub mod Sizes

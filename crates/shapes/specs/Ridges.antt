@@ -158,7 +158,7 @@ module _ {K L : Type 0} (c : K → K → Ordering) (send : (ℕ → ℕ) → K �
 
   module _ (n : ℕ) (rows : List Row) (rows-move : (row : Row) → Mem row rows → Moves n n (image row)) where
     -- every key held is one on n points
-    abbrev HeldOn : KnownKeys K → Type 0
+    abbrev pub HeldOn : KnownKeys K → Type 0
     HeldOn known = (h : K × ℕ) → Mem h (known .held) → Key n (h .0)
 
     -- a key in a set's positions
@@ -220,28 +220,40 @@ module _ {K L : Type 0} (c : K → K → Ordering) (send : (ℕ → ℕ) → K �
             (images-on k is-key (r .0) (of-fresh c (carried .order) (map (λ (x : K × ℕ). x .0) (known .held)) (map (λ (row : Row). send (image row) k) rows) (r .0) (r .1) .0))
         go (inr i) = good h i
 
-    key-held : (vertices : List ℕ) (known : KnownKeys K) (k : K) → HeldOn known → InSet vertices k → HeldOn (numberKey c send rows vertices known k .1)
-    unfolding numberKey numberOrOpenKey
-    key-held vertices known inner good fits = go (keyHeldBy c send (send (λ (v : ℕ). getD vertices v 0) inner) (known .held))
+    -- a key on n points
+    pub number-held : (known : KnownKeys K) (k : K) → HeldOn known → Key n k → HeldOn (numberOrOpenKey c send rows known k (keyHeldBy c send k (known .held)) .1)
+    unfolding numberOrOpenKey
+    number-held known k good is-key = go (keyHeldBy c send k (known .held))
       where
-        go : (o : Option ℕ) → HeldOn (numberOrOpenKey c send rows known (send (λ (v : ℕ). getD vertices v 0) inner) o .1)
+        go : (o : Option ℕ) → HeldOn (numberOrOpenKey c send rows known k o .1)
         go (some number) = good
-        go none = open-held known good (send (λ (v : ℕ). getD vertices v 0) inner) (carried .sent (length vertices) n (λ (v : ℕ). getD vertices v 0) (fits .0) inner (fits .1))
+        go none = open-held known good k is-key
+
+    pub number-carried : (known : KnownKeys K) (k : K) → HeldOn known → Key n k
+        → numberOrOpenKey d move rows (carryKnown known) (write k) (keyHeldBy d move (write k) (carryKnown known .held))
+        ≡ (numberOrOpenKey c send rows known k (keyHeldBy c send k (known .held)) .0, carryKnown (numberOrOpenKey c send rows known k (keyHeldBy c send k (known .held)) .1))
+    unfolding numberOrOpenKey carryKnown
+    number-carried known k good is-key =
+        ap (numberOrOpenKey d move rows (carryKnown known) (write k)) (held-carried k is-key (known .held) good) ∙ either (keyHeldBy c send k (known .held))
+      where
+        either : (o : Option ℕ) → numberOrOpenKey d move rows (carryKnown known) (write k) o ≡ (numberOrOpenKey c send rows known k o .0, carryKnown (numberOrOpenKey c send rows known k o .1))
+        either (some number) = refl
+        either none = ap (λ (r : KnownKeys L). (length (known .counts), r)) (open-carried known good k is-key)
+
+    -- and one in a set's positions
+    key-held : (vertices : List ℕ) (known : KnownKeys K) (k : K) → HeldOn known → InSet vertices k → HeldOn (numberKey c send rows vertices known k .1)
+    unfolding numberKey
+    key-held vertices known inner good fits =
+        let to : ℕ → ℕ = λ v. getD vertices v 0 in
+        number-held known (send to inner) good (carried .sent (length vertices) n to (fits .0) inner (fits .1))
 
     key-carried : (vertices : List ℕ) (known : KnownKeys K) (k : K) → HeldOn known → InSet vertices k
         → numberKey d move rows vertices (carryKnown known) (write k) ≡ (numberKey c send rows vertices known k .0, carryKnown (numberKey c send rows vertices known k .1))
-    unfolding numberKey numberOrOpenKey carryKnown
+    unfolding numberKey
     key-carried vertices known inner good fits =
         let to : ℕ → ℕ = λ v. getD vertices v 0 in
-        let k = send to inner in
-        let is-key = carried .sent (length vertices) n to (fits .0) inner (fits .1) in
-        ap (λ (r : L). numberOrOpenKey d move rows (carryKnown known) r (keyHeldBy d move r (map carryHeld (known .held)))) (carried .moved (length vertices) n to (fits .0) inner (fits .1))
-        ∙ ap (numberOrOpenKey d move rows (carryKnown known) (write k)) (held-carried k is-key (known .held) good)
-        ∙ either (keyHeldBy c send k (known .held)) k is-key
-      where
-        either : (o : Option ℕ) (k : K) → Key n k → numberOrOpenKey d move rows (carryKnown known) (write k) o ≡ (numberOrOpenKey c send rows known k o .0, carryKnown (numberOrOpenKey c send rows known k o .1))
-        either (some number) k is-key = refl
-        either none k is-key = ap (λ (r : KnownKeys L). (length (known .counts), r)) (open-carried known good k is-key)
+        ap (λ (r : L). numberOrOpenKey d move rows (carryKnown known) r (keyHeldBy d move r (carryKnown known .held))) (carried .moved (length vertices) n to (fits .0) inner (fits .1))
+        ∙ number-carried known (send to inner) good (carried .sent (length vertices) n to (fits .0) inner (fits .1))
 
   -- the numbers and the counts of a call's ridges are those of the keys that stand for them
   pub keys-carried : (n : ℕ) (rows : List Row) (keys : Inner → List (List K)) (written : Inner → List (List L)) (inner : List Inner) → ((i : Inner) → Mem i inner → written i ≡ map (map write) (keys i))
