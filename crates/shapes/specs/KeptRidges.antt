@@ -1,23 +1,19 @@
 -- The ridge orbits that a call of rank 3 or 4 numbers: each number is one of a ridge orbit, each count is from 1 to the number of rows, and there are no more ridge orbits than keys. From what
 -- the call has before its search alone. Leans on KeptSizes, KeyMarks and RidgeCounts.
 use mathlib.Core.Path.{_≡_, refl, sym, ap, _∙_, subst}
-use mathlib.Core.Logic.{_⊎_, inl, inr}
-use mathlib.Core.Option.{Option, some, none}
-use mathlib.Core.List.{List, [], _∷_, _++_, map, map-map, map-append}
-use Prim.Native.Nat.{ℕ, zero, suc, _+_, _*_, _≤_, _<_, min, max, Ordering}
+use mathlib.Core.List.{List, map}
+use Prim.Native.Nat.{ℕ, zero, suc, _+_, _*_, _≤_, _<_, min, max}
 use native.Mathlib.Omega.{arith}
-use lib.ListN.{length, getD, length-map, length-append}
-use Rattle.definitions.specs.Lists.{Pair, comparePair, countFrom, fresh, mapWith}
+use lib.ListN.{length, getD, length-map}
+use Rattle.definitions.specs.Lists.{Pair, comparePair, countFrom, mapWith}
 use Rattle.definitions.specs.Vectors.{Vec}
 use Rattle.definitions.specs.Subspace.{Subspace}
 use Rattle.definitions.specs.Orbits.{Row, image}
 use Rattle.definitions.specs.Recursion.{Rules}
 use Rattle.definitions.specs.Faceting.{Prepared, faceting}
-use Rattle.laws.specs.Lists.{Mem, here, in-append, in-map, of-map, in-count, of-count, count-at, count-length}
-use Rattle.laws.specs.Orders.{Linear, pairs}
-use Rattle.laws.specs.Ascending.{Distinct, of-fresh, in-fresh}
-use Rattle.laws.specs.Places.{map-self}
-use Rattle.laws.specs.Ranges.{Permutes, distinct-within}
+use Rattle.laws.specs.Lists.{Mem, here, in-map, of-map, in-count, of-count, count-at, count-length}
+use Rattle.laws.specs.Orders.{pairs}
+use Rattle.laws.specs.Ranges.{Permutes}
 use Rattle.shapes.specs.Answered.{Preparation}
 use Rattle.shapes.specs.Sets.{Rows, row-into}
 use Rattle.shapes.specs.Calls.{Given}
@@ -25,81 +21,12 @@ use Rattle.shapes.specs.AllPairs.{allPairs, in-all-pairs, of-all-pairs, 
 use Rattle.shapes.specs.Polygons.{edgeVia, via-proper}
 use Rattle.shapes.specs.Sizes.{edges-few, Counted}
 use Rattle.shapes.specs.FewOrbits.{pairs-few}
-use Rattle.shapes.specs.Ridges.{KnownKeys, noKeys, map-with-good, keyHeldBy, openKeyOrbit, numberOrOpenKey, ridgeNumbers, twice, twice-moved}
+use Rattle.shapes.specs.Ridges.{noKeys, map-with-good, ridgeNumbers, twice, twice-moved}
 use Rattle.shapes.specs.RidgeCounts.{call-ridges}
-use Rattle.shapes.specs.KeyMarks.{held-marked, held-once}
+use Rattle.shapes.specs.KeyCounts.{KeysGood, keys-few, no-keys-good, number-good}
 use Rattle.shapes.specs.Kept.{Kept, keptOf, numberEnds, numbersKept}
 use Rattle.shapes.specs.KeptTable.{alone, kept-ridges}
 use Rattle.shapes.specs.KeptSizes.{ridgeKeys, keys-below, kept-sized}
-
--- ---- no more ridge orbits than keys
-
-module _ {K : Type 0} (c : K → K → Ordering) (order : Linear c) (send : (ℕ → ℕ) → K → K) (rows : List Row) (all : List K) where
-  abbrev keysIn : KnownKeys K → List K
-  keysIn known = map (λ (h : K × ℕ). h .0) (known .held)
-
-  -- no key is held twice, only such keys are, and each ridge orbit holds one at least
-  pub record KeysGood (known : KnownKeys K) : Type 0 where
-    pub once : Distinct (keysIn known)
-    pub inside : (x : K) → Mem x (keysIn known) → Mem x all
-    pub many : length (known .counts) ≤ length (known .held)
-
-  pub keys-few : (known : KnownKeys K) → KeysGood known → length (known .counts) ≤ length all
-  keys-few known good =
-      let a = good .many in
-      let b = length-map (known .held) (λ (h : K × ℕ). h .0) in
-      let d = distinct-within (keysIn known) all (good .once) (good .inside) in
-      omega arith
-
-  no-keys-good : KeysGood (noKeys K)
-  unfolding noKeys
-  no-keys-good = record { once = tt; inside = λ x m. elim m [ ]; many = omega arith }
-
-  -- rows send such keys to such keys, and one of them leaves each as it is
-  module _ (closed : (row : Row) → Mem row rows → (k : K) → Mem k all → Mem (send (image row) k) all) (identity : Row) (is-row : Mem identity rows)
-      (stays : (k : K) → Mem k all → send (image identity) k ≡ k) where
-    open-good : (known : KnownKeys K) (k : K) → KeysGood known → Mem k all → keyHeldBy c send k (known .held) ≡ none → KeysGood (openKeyOrbit c send rows known k)
-    unfolding openKeyOrbit
-    open-good known k good is-key new =
-        let seen = keysIn known in
-        let images = map (λ (row : Row). send (image row) k) rows in
-        let joining = fresh c seen images in
-        let number = length (known .counts) in
-        let hold : K → K × ℕ = λ x. (x, number) in
-        let front : map (λ (h : K × ℕ). h .0) (map hold joining) ≡ joining = map-map (λ (h : K × ℕ). h .0) hold joining ∙ map-self (λ (x : K). x) joining (λ x m. refl) in
-        let whole : map (λ (h : K × ℕ). h .0) (map hold joining ++ known .held) ≡ joining ++ seen =
-        map-append (λ (h : K × ℕ). h .0) (map hold joining) (known .held) ∙ ap (λ (l : List K). l ++ seen) front in
-        let own : Mem k images = subst (λ (x : K). Mem x images) (stays k is-key) (in-map (λ (row : Row). send (image row) k) identity rows is-row) in
-        let joins : Mem k joining = in-fresh c order seen images k own (held-marked c order send k (known .held) new) in
-        let one = some-of joining k joins in
-        let a = length-append (map hold joining) (known .held) in
-        let b = length-map joining hold in
-        let d = length-append (known .counts) (length joining ∷ []) in
-        let e = good .many in
-        record {
-          once = held-once c order send rows known k (good .once);
-          inside = λ x m. either x joining (λ y j. image-inside y (of-map (λ (row : Row). send (image row) k) y rows (of-fresh c order seen images y j .0))) (in-append x joining seen (subst (λ (l : List K). Mem x l) whole m));
-          many = omega arith;
-        }
-      where
-        some-of : (l : List K) (x : K) → Mem x l → 1 ≤ length l
-        some-of [] x m = elim m [ ]
-        some-of (y ∷ l) x m = omega arith
-
-        image-inside : (y : K) → (row : Row) × Mem row rows × (y ≡ send (image row) k) → Mem y all
-        image-inside y r = subst (λ (x : K). Mem x all) (sym (r .2)) (closed (r .0) (r .1) k is-key)
-
-        either : (x : K) (joining : List K) → ((y : K) → Mem y joining → Mem y all) → Mem x joining ⊎ Mem x (keysIn known) → Mem x all
-        either x joining h (inl m) = h x m
-        either x joining h (inr m) = good .inside x m
-
-    pub number-good : (known : KnownKeys K) (k : K) → KeysGood known → Mem k all → KeysGood (numberOrOpenKey c send rows known k (keyHeldBy c send k (known .held)) .1)
-    unfolding numberOrOpenKey
-    number-good known k good is-key = go (keyHeldBy c send k (known .held)) refl
-      where
-        go : (o : Option ℕ) → keyHeldBy c send k (known .held) ≡ o → KeysGood (numberOrOpenKey c send rows known k o .1)
-        go (some number) e = good
-        go none e = open-good known k good is-key e
 
 -- ---- the keys of a call
 

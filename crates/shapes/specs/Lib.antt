@@ -31,6 +31,7 @@ pub mod KeptOrbits
 pub mod KeptOrbitTable
 pub mod KeptOrbitAnswer
 pub mod KeptOrbitSizes
+pub mod KeyCounts
 pub mod KeptOrbitInner
 pub mod KeptOrbitCodes
 pub mod RidgeCalls
