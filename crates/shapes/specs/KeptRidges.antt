@@ -25,7 +25,9 @@ use Rattle.shapes.specs.Ridges.{noKeys, map-with-good, ridgeNumbers, twi
 use Rattle.shapes.specs.RidgeCounts.{call-ridges}
 use Rattle.shapes.specs.KeyCounts.{KeysGood, keys-few, no-keys-good, number-good}
 use Rattle.shapes.specs.Kept.{Kept, keptOf, numberEnds, numbersKept}
-use Rattle.shapes.specs.KeptTable.{alone, kept-ridges}
+use Rattle.shapes.specs.KeptOrbits.{together}
+use Rattle.shapes.specs.KeptOrbitTable.{of-together}
+use Rattle.shapes.specs.KeptTable.{kept-ridges, kept-counts}
 use Rattle.shapes.specs.KeptSizes.{ridgeKeys, keys-below, kept-sized}
 
 -- ---- the keys of a call
@@ -94,22 +96,20 @@ module _ (more : ℕ) (rules : Rules) (plane : Subspace) (points : List Vec) (ro
   ridges-kept =
       let kept = map keptOf (p .inner) in
       let n = length points in
-      let same = kept-ridges more rules plane points rows p few made in
+      let numbers = kept-ridges more rules plane points rows p few made in
+      let counts = kept-counts more rules plane points rows p few made in
       let all = call-ridges more rules plane points rows p given made in
       let few-keys = ridges-few more n rows kept (given .rows-good) (λ k m. kept-sized more rules plane points rows p few given made k m .ends-keys) in
       record {
         below = λ l m number j.
+            let own = subst (λ (rs : List Row). Mem l (numbersKept rs kept .0)) (sym (made .rows-are)) m in
+            let r = of-map together l (ridgeNumbers (p .rows) (p .inner) .0) (subst (λ (ls : List (List ℕ)). Mem l ls) numbers own) in
+            let q = of-together number (r .0) (subst (λ (x : List ℕ). Mem number x) (r .2) j) in
             subst (λ (rs : List Row). number < length (numbersKept rs kept .1 .counts)) (made .rows-are)
-            (subst (λ (cs : List ℕ). number < length cs) (ap (λ (x : List (List (List ℕ)) × List ℕ). x .1) same)
-            (all .numbers (map alone l)
-            (subst (λ (ns : List (List (List ℕ))). Mem (map alone l) ns) (sym (ap (λ (x : List (List (List ℕ)) × List ℕ). x .0) same))
-            (in-map (map alone) l (numbersKept (p .rows) kept .0) (subst (λ (rs : List Row). Mem l (numbersKept rs kept .0)) (sym (made .rows-are)) m)))
-            (alone number) (in-map alone number l j) number (here refl)));
+            (subst (λ (cs : List ℕ). number < length cs) (sym counts) (all .numbers (r .0) (r .1) (q .0) (q .1) number (q .2)));
         counted = λ c m.
             subst (λ (rs : List Row). Counted rs c) (made .rows-are)
-            (all .counts c
-            (subst (λ (cs : List ℕ). Mem c cs) (sym (ap (λ (x : List (List (List ℕ)) × List ℕ). x .1) same))
-            (subst (λ (rs : List Row). Mem c (numbersKept rs kept .1 .counts)) (sym (made .rows-are)) m)));
+            (all .counts c (subst (λ (cs : List ℕ). Mem c cs) counts (subst (λ (rs : List Row). Mem c (numbersKept rs kept .1 .counts)) (sym (made .rows-are)) m)));
         few-keys = few-keys;
         few = λ small. at-rank more few (length (numbersKept rows kept .1 .counts)) few-keys small;
       }

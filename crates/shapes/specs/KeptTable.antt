@@ -1,9 +1,11 @@
--- The table that a call of rank 3 or 4 searches is made of what it keeps of its inner calls. From what the call has before its search alone. Leans on RidgeCalls.
+-- The table that a call of rank 3 or 4 searches is made of what it keeps of its inner calls: each inner orbit has one ridge, so what is kept by the number of the inner facet is kept by the inner
+-- orbit. An instance of KeptOrbitTable. From what the call has before its search alone. Leans on RidgeCalls and KeptOrbitTable.
 use mathlib.Core.Path.{_≡_, refl, sym, ap, _∙_, subst}
-use mathlib.Core.List.{List, [], _∷_, map, zipWith, List·Memᴰ, map-map}
-use Prim.Native.Nat.{ℕ, zero, suc, _*_, _/_, _≤_}
+use mathlib.Core.Logic.{_⊎_, inl, inr}
+use mathlib.Core.List.{List, [], _∷_, _++_, map, flatMap, zipWith, List·Memᴰ, map-map}
+use Prim.Native.Nat.{ℕ, zero, suc, _/_, _≤_, _<_}
 use native.Mathlib.Omega.{arith}
-use lib.ListN.{length, getD}
+use lib.ListN.{length, getD, replicate, length-map, length-replicate, List·getD-eq-default}
 use Rattle.definitions.specs.Lists.{Pair, comparePair, mapWith, countFrom}
 use Rattle.definitions.specs.Outcome.{answered}
 use Rattle.definitions.specs.Vectors.{Vec}
@@ -11,16 +13,19 @@ use Rattle.definitions.specs.Subspace.{Subspace}
 use Rattle.definitions.specs.Orbits.{Row, Orbit}
 use Rattle.definitions.specs.Figures.{Figure, dyad}
 use Rattle.definitions.specs.Search.{Share, Table}
-use Rattle.definitions.specs.Recursion.{Rules, Entry, Answer, Inner, vertexRidge, shareOf, facetShares}
-use Rattle.definitions.specs.Faceting.{Prepared, tableFor, faceting}
-use Rattle.laws.specs.Lists.{Mem, here, there, of-map}
+use Rattle.definitions.specs.Recursion.{Rules, Entry, Answer, Inner, vertexRidge}
+use Rattle.definitions.specs.Faceting.{Prepared, possibleFacets, tableFor, finish, faceting}
+use Rattle.laws.specs.Lists.{Mem, here, there, of-map, count-length}
+use Rattle.laws.specs.Segments.{le-or-lt}
 use Rattle.laws.specs.Places.{map-same}
 use Rattle.shapes.specs.Answered.{Preparation, answered-call}
 use Rattle.shapes.specs.Edges.{edgeFigure}
 use Rattle.shapes.specs.LowRanks.{RankTwo, rank-two, edgeOf, possible-edges, entry-places}
-use Rattle.shapes.specs.Polygons.{edgeVia}
-use Rattle.shapes.specs.Ridges.{KnownKeys, noKeys, numberKey, numberKeys, keyNumbers, ridgeNumbers, numbersTable, table-of-numbers, map-with-items}
+use Rattle.shapes.specs.Polygons.{edgeVia, edgePairs}
+use Rattle.shapes.specs.Ridges.{KnownKeys, noKeys, keyNumbers, ridgeNumbers, numbersTable, table-of-numbers}
 use Rattle.shapes.specs.RidgeCalls.{endKeys, ridge-ends}
+use Rattle.shapes.specs.KeptOrbits.{KeptOrbit, numberOver, countsOver, together, keepBy, numberRidgeKey, orbitNumbers, orbitShare, orbitShares, orbitTable}
+use Rattle.shapes.specs.KeptOrbitTable.{PlacesIn, places-in, numbers-together, table-together}
 use Rattle.shapes.specs.Kept.{Kept, endsOf, keptOf, numberEnds, numbersKept, keptShare, keptShares, keptTable}
 
 -- ---- one ridge to an inner orbit
@@ -29,6 +34,7 @@ use Rattle.shapes.specs.Kept.{Kept, endsOf, keptOf, numberEnds, numbersK
 pub record OneRidge (a : Answer) : Type 0 where
   pub single : (ridges : List Figure) → Mem ridges (a .possible) → ridges ≡ getD ridges 0 [] ∷ []
   pub first : (e : Entry) → Mem e (a .entries) → (place : Pair) → Mem place (e .list) → place .1 ≡ 0
+  pub many : length (a .possible) ≡ length (a .counts)
 
 two-one-ridge : (budget : ℕ) (a : Answer) → RankTwo budget a → OneRidge a
 two-one-ridge budget a r = record {
@@ -36,6 +42,9 @@ two-one-ridge budget a r = record {
       let q = of-map (λ (v : ℕ). vertexRidge v ∷ []) ridges (countFrom 0 (r .ends)) (subst (λ (l : List (List Figure)). Mem ridges l) (r .possible) m) in
       q .2 ∙ sym (ap (λ (l : List Figure). getD l 0 [] ∷ []) (q .2));
   first = λ e m place i. only e (subst (λ (l : List Entry). Mem e l) (r .entries) m) place i;
+  many =
+      ap length (r .possible) ∙ length-map {B = List Figure} (countFrom 0 (r .ends)) (λ (v : ℕ). vertexRidge v ∷ []) ∙ count-length 0 (r .ends)
+      ∙ sym (ap length (r .counts) ∙ length-replicate (r .ends) (2 / r .ends));
 }
   where
     places : List Pair
@@ -49,6 +58,7 @@ two-one-ridge budget a r = record {
     only e (List·Memᴰ.List·Memᴰ·tail m) place i = elim m [ ]
 
 pub one-ridge : (more : ℕ) (rules : Rules) (plane : Subspace) (points : List Vec) (rows : List Row) (budget : ℕ) (a : Answer) → more ≤ 1 → faceting more rules plane points rows budget ≡ answered a → OneRidge a
+unfolding finish
 one-ridge zero rules plane points rows budget a few e = two-one-ridge budget a (rank-two rules plane points rows budget a e)
 one-ridge (suc zero) rules plane points rows budget a few e =
     let c = answered-call 0 rules plane points rows budget a e in
@@ -57,99 +67,123 @@ one-ridge (suc zero) rules plane points rows budget a few e =
           let q = of-map (λ (o : Orbit). edgeFigure (edgeOf o) ∷ []) ridges (map (λ (i : Inner). i .orbit) (c .before .inner)) (subst (λ (l : List (List Figure)). Mem ridges l) (possible-edges rules plane points rows a c) m) in
           q .2 ∙ sym (ap (λ (l : List Figure). getD l 0 [] ∷ []) (q .2));
       first = λ x m place i. entry-places rules plane points rows a c x m place i .1;
+      many =
+          ap (λ (x : Answer). length (x .possible)) (c .is) ∙ length-map (c .before .inner) possibleFacets
+          ∙ sym (ap (λ (x : Answer). length (x .counts)) (c .is) ∙ length-map (c .before .inner) (λ (i : Inner). i .orbit .count));
     }
 one-ridge (suc (suc more)) rules plane points rows budget a few e = absurd (omega arith)
 
--- ---- numbers
+-- ---- kept by the inner orbit
 
--- items and results that stand for others
-module _ {A A′ B B′ S : Type 0} (f : S → A → B × S) (g : S → A′ → B′ × S) (item : A → A′) (result : B′ → B) where
-  map-with-results : (s : S) (l : List A) → ((s : S) (x : A) → Mem x l → f s x ≡ (result (g s (item x) .0), g s (item x) .1))
-      → mapWith f s l ≡ (map result (mapWith g s (map item l) .0), mapWith g s (map item l) .1)
-  unfolding mapWith
-  map-with-results s [] one = refl
-  map-with-results s (x ∷ l) one =
-      ap (λ (r : B × S). (r .0 ∷ mapWith f (r .1) l .0, mapWith f (r .1) l .1)) (one s x (here refl))
-      ∙ ap (λ (r : List B × S). (result (g s (item x) .0) ∷ r .0, r .1)) (map-with-results (g s (item x) .1) l (λ t y m. one t y (there m)))
+-- facets by their edges
+abbrev pub facetEdges : Inner → List (List Pair)
+facetEdges i = map edgePairs (possibleFacets i)
 
--- a ridge orbit's number, where one ridge has it
-abbrev pub alone : ℕ → List ℕ
-alone number = number ∷ []
+abbrev pub keepEnds : Inner → KeptOrbit Pair (List Pair)
+keepEnds = keepBy edgeVia endKeys facetEdges
 
--- the ends of an inner orbit's one ridge, in this call's vertices
-abbrev firstEnds : Inner → List Figure → Pair
-firstEnds i ridges = edgeVia (λ (v : ℕ). getD (i .orbit .vertices) v 0) (endsOf (getD ridges 0 []))
+-- the fields by their names at ranks 3 and 4
+abbrev pub asKept : KeptOrbit Pair (List Pair) → Kept
+asKept k = record { orbit = k .orbit; ends = k .ridges; counts = k .counts; places = k .places; edges = k .facets; compounds = k .compounds }
 
-orbit-numbers : (rows : List Row) (known : KnownKeys Pair) (i : Inner) → OneRidge (i .answer)
-    → mapWith (mapWith (numberKey comparePair edgeVia rows (i .orbit .vertices))) known (endKeys i)
-    ≡ (map alone (mapWith (numberEnds rows) known (keptOf i .ends) .0), mapWith (numberEnds rows) known (keptOf i .ends) .1)
-unfolding endKeys keptOf numberEnds numberKey mapWith
-orbit-numbers rows known i h =
-    let number = numberKey comparePair edgeVia rows (i .orbit .vertices) in
-    map-with-items (mapWith number) (λ s (fs : List Figure). mapWith number s (map endsOf fs)) (λ s. s) (map endsOf) (λ s. Unit {0}) (λ fs. Unit {0}) (λ s fs g h. tt) (λ s fs g h. refl) known (i .answer .possible) tt (λ fs m. tt)
-    ∙ map-with-results (λ s (fs : List Figure). mapWith number s (map endsOf fs)) (numberEnds rows) (firstEnds i) alone known (i .answer .possible)
-    (λ s fs m. ap (λ (l : List Figure). mapWith number s (map endsOf l)) (h .single fs m))
+firsts : {A B : Type 0} (f : A → B) (d : A) (lists : List (List A)) → ((l : List A) → Mem l lists → l ≡ getD l 0 d ∷ []) → together (map (map f) lists) ≡ map (λ (l : List A). f (getD l 0 d)) lists
+unfolding together flatMap
+firsts f d [] h = refl
+firsts {A} {B} f d (l ∷ lists) h =
+    ap (λ (x : List A). map f x ++ together (map (map f) lists)) (h l (here refl)) ∙ ap (λ (r : List B). f (getD l 0 d) ∷ r) (firsts f d lists (λ m i. h m (there i)))
 
-kept-numbers : (rows : List Row) (inner : List Inner) → ((i : Inner) → Mem i inner → OneRidge (i .answer))
-    → keyNumbers comparePair edgeVia rows endKeys inner ≡ (map (map alone) (numbersKept rows (map keptOf inner) .0), numbersKept rows (map keptOf inner) .1 .counts)
-unfolding keyNumbers numberKeys numbersKept
-kept-numbers rows inner h =
-    let shown : List (List ℕ) × KnownKeys Pair → List (List (List ℕ)) × List ℕ = λ r. (map (map alone) (r .0), r .1 .counts) in
-    ap (λ (r : List (List (List ℕ)) × KnownKeys Pair). (r .0, r .1 .counts))
-    (map-with-results (λ known (i : Inner). mapWith (mapWith (numberKey comparePair edgeVia rows (i .orbit .vertices))) known (endKeys i)) (mapWith (numberEnds rows)) (λ (i : Inner). keptOf i .ends) (map alone)
-    (noKeys Pair) inner (λ s i m. orbit-numbers rows s i (h i m)))
-    ∙ ap (λ (l : List (List Pair)). shown (mapWith (mapWith (numberEnds rows)) (noKeys Pair) l)) (sym (map-map (λ (k : Kept). k .ends) keptOf inner))
+counts-alone : {A : Type 0} (counts : List ℕ) (lists : List (List A)) → ((l : List A) → Mem l lists → length l ≡ 1) → length lists ≡ length counts → countsOver counts (map length lists) ≡ counts
+unfolding countsOver
+counts-alone [] lists h e = refl
+counts-alone (c ∷ counts) [] h e = absurd (omega arith)
+counts-alone (c ∷ counts) (l ∷ lists) h e =
+    ap (λ (n : ℕ). replicate n c ++ countsOver counts (map length lists)) (h l (here refl)) ∙ ap (λ (r : List ℕ). c ∷ r) (counts-alone counts lists (λ m i. h m (there i)) (omega arith))
 
--- ---- shares
+number-alone : {A : Type 0} (lists : List (List A)) → ((l : List A) → Mem l lists → length l ≡ 1) → (a : ℕ) → a < length lists → numberOver (map length lists) a 0 ≡ a
+unfolding numberOver
+number-alone [] h a k = absurd (omega arith)
+number-alone (l ∷ lists) h zero k = refl
+number-alone (l ∷ lists) h (suc a) k = let e = h l (here refl) in let r = number-alone lists (λ m i. h m (there i)) a (omega arith) in omega arith
 
-number-at : (numbers : List ℕ) (a b : ℕ) → b ≡ 0 → getD (getD (map alone numbers) a []) b 0 ≡ getD numbers a 0
-number-at numbers a b e = ap (λ (n : ℕ). getD (getD (map alone numbers) a []) n 0) e ∙ at numbers a
+-- a list that has an item is there
+list-there : {A : Type 0} (lists : List (List A)) (a b : ℕ) → b < length (getD lists a []) → a < length lists
+list-there {A} lists a b h = go (le-or-lt (length lists) a)
   where
-    at : (l : List ℕ) (a : ℕ) → getD (getD (map alone l) a []) 0 0 ≡ getD l a 0
-    at [] a = refl
-    at (x ∷ l) zero = refl
-    at (x ∷ l) (suc a) = at l a
+    go : (length lists ≤ a) ⊎ (a < length lists) → a < length lists
+    go (inl k) = let e = ap length (List·getD-eq-default lists [] k) in absurd (omega arith)
+    go (inr k) = k
 
-share-kept : (ridgeCounts : List ℕ) (i : Inner) (numbers : List ℕ) (place : Pair) → place .1 ≡ 0 → shareOf ridgeCounts i (map alone numbers) place ≡ keptShare ridgeCounts (keptOf i) numbers (place .0)
-unfolding shareOf keptShare keptOf
-share-kept ridgeCounts i numbers place e =
-    ap {B = Share} (λ (ridge : ℕ). (ridge, i .orbit .count * getD (i .answer .counts) (place .0) 0 / getD ridgeCounts ridge 0)) (number-at numbers (place .0) (place .1) e)
+keys-alone : (i : Inner) → OneRidge (i .answer) → (l : List Pair) → Mem l (endKeys i) → length l ≡ 1
+unfolding endKeys
+keys-alone i h l m =
+    let r = of-map (map endsOf) l (i .answer .possible) m in
+    ap length (r .2) ∙ length-map (r .0) endsOf ∙ ap length (h .single (r .0) (r .1))
 
-shares-kept : (ridgeCounts : List ℕ) (i : Inner) (numbers : List ℕ) → OneRidge (i .answer) → facetShares ridgeCounts i (map alone numbers) ≡ keptShares ridgeCounts (keptOf i) numbers
-unfolding facetShares keptShares keptOf
-shares-kept ridgeCounts i numbers h =
-    let share = keptShare ridgeCounts (keptOf i) numbers in
-    map-same (λ (e : Entry). map (shareOf ridgeCounts i (map alone numbers)) (e .list)) (λ (e : Entry). map share (map (λ (place : Pair). place .0) (e .list))) (i .answer .entries)
-    (λ e m.
-    map-same (shareOf ridgeCounts i (map alone numbers)) (λ (place : Pair). share (place .0)) (e .list) (λ place j. share-kept ridgeCounts i numbers place (h .first e m place j))
-    ∙ sym (map-map share (λ (place : Pair). place .0) (e .list)))
-    ∙ sym (map-map (map share) (λ (e : Entry). map (λ (place : Pair). place .0) (e .list)) (i .answer .entries))
+keys-many : (i : Inner) → map length (endKeys i) ≡ map length (i .answer .possible)
+unfolding endKeys
+keys-many i = map-map length (map endsOf) (i .answer .possible) ∙ map-same (λ (fs : List Figure). length (map endsOf fs)) length (i .answer .possible) (λ fs m. length-map fs endsOf)
 
-zip-same : {A A′ B B′ C : Type 0} (f : A → B → C) (g : A′ → B′ → C) (h : A → A′) (k : B′ → B) (xs : List A) (ys : List B′) → ((x : A) → Mem x xs → (y : B′) → f x (k y) ≡ g (h x) y)
-    → zipWith f xs (map k ys) ≡ zipWith g (map h xs) ys
-unfolding zipWith
-zip-same f g h k [] ys same = refl
-zip-same f g h k (x ∷ xs) [] same = refl
-zip-same f g h k (x ∷ xs) (y ∷ ys) same = let first = same x (here refl) y in let rest = zip-same f g h k xs ys (λ z m. same z (there m)) in λ t. first t ∷ rest t
+pub kept-as : (i : Inner) → OneRidge (i .answer) → PlacesIn (i .answer) → keptOf i ≡ asKept (keepEnds i)
+unfolding keptOf keepBy endKeys
+kept-as i h places =
+    let possible = i .answer .possible in
+    let to : ℕ → ℕ = λ v. getD (i .orbit .vertices) v 0 in
+    let keys = map (map endsOf) possible in
+    let long : length keys ≡ length possible = length-map possible (map endsOf) in
+    let ends : map (λ (ridges : List Figure). edgeVia to (endsOf (getD ridges 0 []))) possible ≡ map (edgeVia to) (together keys) =
+    sym (ap (map (edgeVia to)) (firsts endsOf [] possible (h .single)) ∙ map-map (edgeVia to) (λ (ridges : List Figure). endsOf (getD ridges 0 [])) possible) in
+    let counts : i .answer .counts ≡ countsOver (i .answer .counts) (map length keys) = sym (counts-alone (i .answer .counts) keys (keys-alone i h) (long ∙ h .many)) in
+    let number : Pair → ℕ = λ place. numberOver (map length keys) (place .0) (place .1) in
+    let one : (e : Entry) → Mem e (i .answer .entries) → (place : Pair) → Mem place (e .list) → place .0 ≡ number place = λ e m place j.
+    let k = list-there possible (place .0) (place .1) (places .below e m place j) in
+    sym (ap (numberOver (map length keys) (place .0)) (h .first e m place j) ∙ number-alone keys (keys-alone i h) (place .0) (omega arith)) in
+    let all : map (λ (e : Entry). map (λ (place : Pair). place .0) (e .list)) (i .answer .entries) ≡ map (λ (e : Entry). map number (e .list)) (i .answer .entries) =
+    map-same (λ (e : Entry). map (λ (place : Pair). place .0) (e .list)) (λ (e : Entry). map number (e .list)) (i .answer .entries) (λ e m. map-same (λ (place : Pair). place .0) number (e .list) (one e m)) in
+    λ t. record { orbit = i .orbit; ends = ends t; counts = counts t; places = all t; edges = map edgePairs (possibleFacets i); compounds = i .answer .compounds }
 
--- ---- the table
+-- ---- numbers and table
 
-table-kept : (rows : List Row) (inner : List Inner) → ((i : Inner) → Mem i inner → OneRidge (i .answer)) → numbersTable inner (keyNumbers comparePair edgeVia rows endKeys inner) ≡ keptTable rows (map keptOf inner)
-unfolding numbersTable keptTable
-table-kept rows inner h =
-    let numbered = numbersKept rows (map keptOf inner) in
-    let ridgeCounts = numbered .1 .counts in
-    ap (numbersTable inner) (kept-numbers rows inner h)
-    ∙ ap {B = Table} (λ (s : List (List (List Share))). record { shares = s; ridges = length ridgeCounts })
-    (zip-same (facetShares ridgeCounts) (keptShares ridgeCounts) keptOf (map alone) inner (numbered .0) (λ i m numbers. shares-kept ridgeCounts i numbers (h i m)))
+numbers-as : (rows : List Row) (kept : List (KeptOrbit Pair (List Pair))) → numbersKept rows (map asKept kept) ≡ orbitNumbers comparePair edgeVia rows kept
+unfolding numbersKept numberEnds orbitNumbers numberRidgeKey
+numbers-as rows kept = ap (mapWith (mapWith (numberEnds rows)) (noKeys Pair)) (map-map (λ (k : Kept). k .ends) asKept kept)
+
+table-as : (rows : List Row) (kept : List (KeptOrbit Pair (List Pair))) → keptTable rows (map asKept kept) ≡ orbitTable comparePair edgeVia rows kept
+unfolding keptTable orbitTable keptShares orbitShares keptShare orbitShare zipWith
+table-as rows kept =
+    ap {B = Table} (λ (x : List (List ℕ) × KnownKeys Pair). record { shares = zipWith (keptShares (x .1 .counts)) (map asKept kept) (x .0); ridges = length (x .1 .counts) }) (numbers-as rows kept)
+    ∙ ap {B = Table} (λ (s : List (List (List Share))). record { shares = s; ridges = length (orbitNumbers comparePair edgeVia rows kept .1 .counts) })
+    (same (orbitNumbers comparePair edgeVia rows kept .1 .counts) kept (orbitNumbers comparePair edgeVia rows kept .0))
+  where
+    same : (ridgeCounts : List ℕ) (ks : List (KeptOrbit Pair (List Pair))) (ns : List (List ℕ)) → zipWith (keptShares ridgeCounts) (map asKept ks) ns ≡ zipWith (orbitShares ridgeCounts) ks ns
+    same ridgeCounts [] ns = refl
+    same ridgeCounts (k ∷ ks) [] = refl
+    same ridgeCounts (k ∷ ks) (x ∷ ns) = ap (λ (r : List (List (List Share))). orbitShares ridgeCounts k x ∷ r) (same ridgeCounts ks ns)
 
 module _ (more : ℕ) (rules : Rules) (plane : Subspace) (points : List Vec) (rows : List Row) (p : Prepared) (few : more ≤ 1) (made : Preparation more rules (faceting more rules) plane points rows p) where
   pub inner-one-ridge : (i : Inner) → Mem i (p .inner) → OneRidge (i .answer)
   inner-one-ridge i m = let inner = made .inner .each i m in one-ridge more rules _ _ _ (inner .budget) (i .answer) few (inner .is)
 
-  -- the numbers of a call's ridges, and the ridge orbits' counts, from what it keeps
-  pub kept-ridges : ridgeNumbers (p .rows) (p .inner) ≡ (map (map alone) (numbersKept (p .rows) (map keptOf (p .inner)) .0), numbersKept (p .rows) (map keptOf (p .inner)) .1 .counts)
-  kept-ridges = ridge-ends more rules plane points rows p few made ∙ kept-numbers (p .rows) (p .inner) inner-one-ridge
+  inner-places : (i : Inner) → Mem i (p .inner) → PlacesIn (i .answer)
+  inner-places i m = let inner = made .inner .each i m in places-in more rules _ _ _ (inner .budget) (i .answer) (inner .is)
+
+  -- what is kept by the inner orbit is what is kept by the inner facet
+  pub all-kept : map keptOf (p .inner) ≡ map asKept (map keepEnds (p .inner))
+  all-kept = map-same keptOf (λ (i : Inner). asKept (keepEnds i)) (p .inner) (λ i m. kept-as i (inner-one-ridge i m) (inner-places i m)) ∙ sym (map-map asKept keepEnds (p .inner))
+
+  -- the numbers that a call keeps are those of its ridges, list by list
+  pub kept-ridges : numbersKept (p .rows) (map keptOf (p .inner)) .0 ≡ map together (ridgeNumbers (p .rows) (p .inner) .0)
+  unfolding keyNumbers
+  kept-ridges =
+      ap (λ (ks : List Kept). numbersKept (p .rows) ks .0) all-kept
+      ∙ ap (λ (x : List (List ℕ) × KnownKeys Pair). x .0) (numbers-as (p .rows) (map keepEnds (p .inner)) ∙ numbers-together comparePair edgeVia endKeys facetEdges (p .rows) (p .inner))
+      ∙ ap (λ (x : List (List (List ℕ)) × List ℕ). map together (x .0)) (sym (ridge-ends more rules plane points rows p few made))
+
+  pub kept-counts : numbersKept (p .rows) (map keptOf (p .inner)) .1 .counts ≡ ridgeNumbers (p .rows) (p .inner) .1
+  unfolding keyNumbers
+  kept-counts =
+      ap (λ (ks : List Kept). numbersKept (p .rows) ks .1 .counts) all-kept
+      ∙ ap (λ (x : List (List ℕ) × KnownKeys Pair). x .1 .counts) (numbers-as (p .rows) (map keepEnds (p .inner)) ∙ numbers-together comparePair edgeVia endKeys facetEdges (p .rows) (p .inner))
+      ∙ ap (λ (x : List (List (List ℕ)) × List ℕ). x .1) (sym (ridge-ends more rules plane points rows p few made))
 
   -- the table of a call of rank 3 or 4, from what it keeps
   pub kept-table : tableFor p ≡ keptTable rows (map keptOf (p .inner))
@@ -157,5 +191,6 @@ module _ (more : ℕ) (rules : Rules) (plane : Subspace) (points : List Vec) (ro
   kept-table =
       table-of-numbers (p .rows) (p .inner)
       ∙ ap (numbersTable (p .inner)) (ridge-ends more rules plane points rows p few made)
-      ∙ table-kept (p .rows) (p .inner) inner-one-ridge
-      ∙ ap (λ (l : List Row). keptTable l (map keptOf (p .inner))) (made .rows-are)
+      ∙ table-together comparePair edgeVia endKeys facetEdges (p .rows) (p .inner) inner-places (λ i m. keys-many i)
+      ∙ sym (table-as (p .rows) (map keepEnds (p .inner)))
+      ∙ (λ t. keptTable (made .rows-are t) (sym all-kept t))
