@@ -2,7 +2,7 @@
 pub mod Answer
 pub mod Scaled
 pub mod Powers
-pub mod Table
+pub mod Start
 pub mod Newton
 pub mod Cell
 pub mod Pattern

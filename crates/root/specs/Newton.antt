@@ -1,52 +1,45 @@
--- The steps from a start in the table to the whole root, on plain numbers. Assumes nothing.
+-- The steps from a start to the whole root, on plain numbers. Leans on Start. Assumes nothing.
 use mathlib.Core.Path.{_≡_, sym, subst}
 use Prim.Native.Nat.{ℕ, suc, _+_, _-_, _*_, _/_, _%_, _^_, _≤_, _<_}
 use native.Mathlib.Nat.{mul-le-mul, mul-le-mul-right, div-add-mod', mod-lt, div-mul-le-self, div-lt-iff-lt-mul}
 use native.Mathlib.Omega.{arith}
 use Rattle.laws.specs.Squares.{WholeRoot, le-by, root-lt, step-above, step-near}
+use Rattle.root.specs.Start.{Start}
 
 -- y is the whole root of m or above it, and its square passes m by little: of an m from 2^60 on, y has 17 binary digits of the root
 pub record Close (m y : ℕ) : Type 0 where
   pub above : m < suc y * suc y
   pub near : y * y ≤ m + 2 ^ 44
 
--- ---- the first step, from the whole root s of i × 2^22, where i stands for the leading digits of n
-module _ (n i s c : ℕ) (starts : 256 ≤ i) (lo : i * 2 ^ 44 ≤ n) (hi : n < suc i * 2 ^ 44) (rule : WholeRoot (i * 2 ^ 22) s) (under : c * s * 128 ≤ n) (over : n < suc c * s * 128) where
-  start-large : 2 ^ 15 ≤ s
-  start-large = let a = root-lt (2 ^ 15) (suc s) (omega (arith, rule .high)) in omega arith
-
-  not-below : s * 2 ^ 15 ≤ c
-  not-below =
-      le-by (s * 2 ^ 15) c
-      (λ (l : c < s * 2 ^ 15).
+-- ---- the first step, from a start s of i to z, where i stands for the leading digits of n: s × 2^15 and the quotient c are at most 2^23 apart
+module _ (n i s c z : ℕ) (lo : i * 2 ^ 44 ≤ n) (hi : n < suc i * 2 ^ 44) (rule : Start i s) (under : c * s * 128 ≤ n) (over : n < suc c * s * 128) (half : 2 * z ≤ s * 2 ^ 15 + c) (half' : s * 2 ^ 15 + c ≤ 2 * z + 1) where
+  start-high : s * 2 ^ 15 ≤ c + 2 ^ 23
+  start-high =
+      le-by (s * 2 ^ 15) (c + 2 ^ 23)
+      (λ (l : c + 2 ^ 23 < s * 2 ^ 15).
       let a = mul-le-mul-right s l in
       omega (arith, rule .low))
 
-  not-far : c ≤ s * 2 ^ 15 + 2 ^ 23
-  not-far =
+  start-low : c ≤ s * 2 ^ 15 + 2 ^ 23
+  start-low =
       le-by c (s * 2 ^ 15 + 2 ^ 23)
       (λ (l : s * 2 ^ 15 + 2 ^ 23 < c).
       let a = mul-le-mul-right s l in
-      let b = start-large in
       omega (arith, rule .high))
 
-  pub first-close : Close (n * 2 ^ 8) ((s * 2 ^ 15 + c) / 2)
+  pub first-close : Close (n * 2 ^ 8) z
   first-close = record {
-    above = step-above (n * 2 ^ 8) (s * 2 ^ 15) c ((s * 2 ^ 15 + c) / 2) (omega arith) (omega arith);
-    near =
-        let a = not-below in
-        let b = not-far in
-        let k = step-near (n * 2 ^ 8) (s * 2 ^ 15) c ((s * 2 ^ 15 + c) / 2) (2 ^ 23) (omega arith) (omega arith) (omega arith) (omega arith) in
-        omega arith;
+    above = step-above (n * 2 ^ 8) (s * 2 ^ 15) c z (omega arith) half';
+    near = let a = step-near (n * 2 ^ 8) (s * 2 ^ 15) c z (2 ^ 23) (omega arith) half start-high start-low in omega arith;
   }
 
 -- as the program has it
-module _ (n s : ℕ) (large : 2 ^ 52 ≤ n) (small : n < 2 ^ 54) (rule : WholeRoot (n / 17592186044416 * 2 ^ 22) s) where
-  pub start-range : (2 ^ 15 ≤ s) × (s < 2 ^ 16)
-  start-range =
-      let a = root-lt (2 ^ 15) (suc s) (omega (arith, rule .high)) in
-      let b = root-lt s (2 ^ 16) (omega (arith, rule .low)) in
-      (omega arith, b)
+module _ (n s : ℕ) (large : 2 ^ 52 ≤ n) (small : n < 2 ^ 54) (rule : Start (n / 17592186044416) s) where
+  pub start-range : (2 ^ 14 ≤ s) × (s < 2 ^ 17)
+  start-range = (
+    le-by (2 ^ 14) s (λ (l : s < 2 ^ 14). let a = mul-le-mul l l in omega (arith, rule .high)),
+    le-by (suc s) (2 ^ 17) (λ (l : 2 ^ 17 < suc s). let k : 2 ^ 17 ≤ s = omega arith in let a = mul-le-mul-right s k in omega (arith, rule .low)),
+  )
 
   pub quotient-small : n / 128 / s < 2 ^ 33
   quotient-small =
@@ -54,13 +47,13 @@ module _ (n s : ℕ) (large : 2 ^ 52 ≤ n) (small : n < 2 ^ 54) (rule : WholeRo
       let p : 0 < s = omega arith in
       div-lt-iff-lt-mul p .1 (omega arith)
 
-  pub first-step : Close (n * 2 ^ 8) ((s * 32768 + n / 128 / s) / 2)
-  first-step =
+  pub first-step : (z : ℕ) → 2 * z ≤ s * 32768 + n / 128 / s → s * 32768 + n / 128 / s ≤ 2 * z + 1 → Close (n * 2 ^ 8) z
+  first-step z half half' =
       let r = start-range in
       let d = div-add-mod' (n / 128) s in
       let p : 0 < s = omega arith in
       let l = mod-lt (n / 128) p in
-      first-close n (n / 17592186044416) s (n / 128 / s) (omega arith) (omega arith) (omega arith) rule (omega arith) (omega arith)
+      first-close n (n / 17592186044416) s (n / 128 / s) z (omega arith) (omega arith) rule (omega arith) (omega arith) half half'
 
 -- ---- the second step
 module _ (m y c z : ℕ) (large : 2 ^ 60 ≤ m) (close : Close m y) (under : c * y ≤ m) (over : m < suc c * y) (half : 2 * z ≤ y + c) (half' : y + c ≤ 2 * z + 1) where

@@ -1,6 +1,6 @@
 // The square root [3.2]: of every finite double not below zero, the nearest double to its root, ties to even.
 // The argument is q × 2^w / 2^1126 with 2^52 ≤ q < 2^53. Its root is that of a whole number of 107 or 108 binary digits, times a power of two, and the whole root of that number decides the rounding:
-// from a start in a table, two of Newton's steps lead to its upper half, and one more division to all of it. Only whole numbers below 2^64 occur.
+// from the value of a polynomial, two of Newton's steps lead to its upper half, and one more division to all of it. Only whole numbers below 2^64 occur.
 ghost use mathlib.Core.Path.{_≡_};
 ghost use mathlib.Core.Option.{some};
 ghost use Prim.Native.Nat.{_+_, _*_, _/_, _%_, _^_, _≤_, _<_};
@@ -9,10 +9,10 @@ ghost use Rattle.definitions.specs.Vectors.{squareRoot, valueOf};
 ghost use Rattle.laws.specs.Squares.{WholeRoot};
 ghost use Rattle.root.specs.Answer.{rootMeaning};
 ghost use Rattle.root.specs.Scaled.{ScaledBy};
+ghost use Rattle.root.specs.Start.{Start};
 ghost use Rattle.root.specs.Newton.{Close};
 
 pub mod answer;
-mod starts;
 
 use answer::Root;
 
@@ -55,12 +55,20 @@ fn scale(bits: u64) -> Scaled
     }
 }
 
-// The first of Newton's steps towards the root of n × 2^8, from the table's start.
+// The start of i, a whole number near the root of i × 2^22. A polynomial of the second degree does not come near enough; this one, of the third, begins with the coefficient 1, and so takes two multiplications.
+fn start(i: u64) -> u64
+    requires { ⌜ (256 ≤ i) × (i < 1024) ⌝ }
+    ensures { λ r. ⌜ Start i r ⌝ }
+{
+    (958_000_000 + i * (5_400_000 - i * (3115 - i))) / 65536
+}
+
+// The first of Newton's steps towards the root of n × 2^8, from the start of its leading digits.
 fn first_step(n: u64) -> u64
     requires { ⌜ (2 ^ 52 ≤ n) × (n < 2 ^ 54) ⌝ }
     ensures { λ r. ⌜ Close (n * 2 ^ 8) r ⌝ }
 {
-    let s = starts::start(n / 0x1000_0000_0000) as u64;
+    let s = start(n / 0x1000_0000_0000);
     (s * 32768 + n / 128 / s) / 2
 }
 

@@ -8,9 +8,6 @@ use Rattle.root.proofs.first_step.Tie as tie
 start-requires : tie.Need-start-requires
 start-requires c κs = search needs
 
-cast-s : tie.Need-cast-s
-cast-s c = search needs
-
 mul-result : tie.Need-mul-result
 mul-result c = omega (arith, start-range (c .before .args .n) (c .start .result) (c .before .pre .0) (c .before .pre .1) (c .start .ensures))
 
@@ -21,7 +18,7 @@ add-result : tie.Need-add-result
 add-result c = omega (arith, start-range (c .before .args .n) (c .start .result) (c .before .pre .0) (c .before .pre .1) (c .start .ensures), quotient-small (c .before .args .n) (c .start .result) (c .before .pre .0) (c .before .pre .1) (c .start .ensures))
 
 returns : tie.Need-returns
-returns c = first-step (c .before .args .n) (c .start .result) (c .before .pre .0) (c .before .pre .1) (c .start .ensures)
+returns c = first-step (c .before .args .n) (c .start .result) (c .before .pre .0) (c .before .pre .1) (c .start .ensures) _ (omega arith) (omega arith)
 
 pub first-step-spec : {M : Type 1} → statement M
-first-step-spec = tie.close (tie.spec start-requires cast-s mul-result div-result add-result returns)
+first-step-spec = tie.close (tie.spec start-requires mul-result div-result add-result returns)
