@@ -1,6 +1,6 @@
 -- Where the square alone tells whether a root lies below a tolerance. What exceeds a tolerance of at most 1 has no root below it: `exceeds-tolerance`.
--- What is below 2^-50 has a root of at most 2^-25, which lies below every tolerance from 2^-24 on: `far-below-tolerance`.
--- Both are read off from what IEEE 754 says of the root (`NearestRoot`), where the tolerance, or 2^-25, is the other double. Leans on Ieee and Doubles. Assumes nothing.
+-- What is below 2^-62 has a root of at most 2^-31, which lies below every tolerance from 2^-30 on: `far-below-tolerance`.
+-- Both are read off from what IEEE 754 says of the root (`NearestRoot`), where the tolerance, or 2^-31, is the other double. Leans on Ieee and Doubles. Assumes nothing.
 use mathlib.Core.Path.{_≡_, refl, sym, ap, _∙_, subst}
 use mathlib.Core.Bool.{Bool, true, false, not}
 use mathlib.Core.Option.{some}
@@ -147,27 +147,32 @@ root-not-below (fin false (suc m) e) (inf true) f g low h = ap (λ (y : Float). 
 root-not-below (fin false (suc m) e) (fin true n d) f g low h = ap (λ (y : Float). lt y (fin true n d)) (root-above m e f .is)
 root-not-below (fin false (suc m) e) (fin false n d) f g low h = not-below m e f n d g low h
 
--- ---- what is below 2^-50, against a tolerance of at least 2^-24
+-- ---- what is below 2^-62, against a tolerance of at least 2^-30
 abbrev pub least : Float
-least = ofBits binary64 0x3e70000000000000
+least = ofBits binary64 0x3e10000000000000
 
 abbrev pub tiny : Float
-tiny = ofBits binary64 0x3cd0000000000000
+tiny = ofBits binary64 0x3c10000000000000
 
--- 2^-25: half of the least tolerance, and the root of 2^-50
+-- no tolerance from 0.000000001 on is below the least
+billionth-covered : T (le least (ofBits binary64 0x3e112e0be826d695))
+unfolding le ofBits
+billionth-covered = tt
+
+-- 2^-31: half of the least tolerance, and the root of 2^-62
 abbrev half : Float
-half = fin false 1 (negsuc 24)
+half = fin false 1 (negsuc 30)
 
-least-units : unitsIn least ≡ 2 ^ 1050
+least-units : unitsIn least ≡ 2 ^ 1044
 unfolding ofBits
-least-units = units-of (fin false 1 (negsuc 23)) false (2 ^ 1050) (refl, refl)
+least-units = units-of (fin false 1 (negsuc 29)) false (2 ^ 1044) (refl, refl)
 
-tiny-units : unitsIn tiny ≡ 2 ^ 1024
+tiny-units : unitsIn tiny ≡ 2 ^ 1012
 unfolding ofBits
-tiny-units = units-of (fin false 1 (negsuc 49)) false (2 ^ 1024) (refl, refl)
+tiny-units = units-of (fin false 1 (negsuc 61)) false (2 ^ 1012) (refl, refl)
 
-half-units : unitsIn half ≡ 2 ^ 1049
-half-units = units-of half false (2 ^ 1049) (refl, refl)
+half-units : unitsIn half ≡ 2 ^ 1043
+half-units = units-of half false (2 ^ 1043) (refl, refl)
 
 least-double : T (isDouble least)
 unfolding ofBits isDouble fits
@@ -184,11 +189,11 @@ half-double = tt
 twice-half : unitsIn least ≡ unitsIn half + unitsIn half
 twice-half = least-units ∙ sym (ap (λ (z : ℕ). z + z) half-units)
 
-half-squared : 2 ^ 1024 * 2 ^ 1074 ≡ unitsIn half * unitsIn half
-half-squared = sym (ap (λ (z : ℕ). z * z) half-units ∙ sym (pow-add 2 1049 1049) ∙ pow-add 2 1024 1074)
+half-squared : 2 ^ 1012 * 2 ^ 1074 ≡ unitsIn half * unitsIn half
+half-squared = sym (ap (λ (z : ℕ). z * z) half-units ∙ sym (pow-add 2 1043 1043) ∙ pow-add 2 1012 1074)
 
 some-half : 0 < unitsIn half
-some-half = subst (λ (z : ℕ). 0 < z) (sym half-units) (pow-pos 1049)
+some-half = subst (λ (z : ℕ). 0 < z) (sym half-units) (pow-pos 1043)
 
 above-half : (u r : ℕ) → 0 < u → u + u ≤ r → u < r
 above-half u r a b = omega arith
@@ -216,17 +221,17 @@ module _ (m : ℕ) (e : ℤ) (double : T (isDouble (fin false (suc m) e))) (n : 
       go a b near true g = refl
       go a b near false g =
           let root = unitsIn (fin false a b) in
-          let over = le-trans (not-more 1 (negsuc 23) least-double n d other low) (not-less n d other a b (near .double) g) in
+          let over = le-trans (not-more 1 (negsuc 29) least-double n d other low) (not-less n d other a b (near .double) g) in
           let twice : unitsIn half + unitsIn half ≤ root = subst (λ (z : ℕ). z ≤ root) twice-half over in
-          let under : unitsIn square′ < 2 ^ 1024 = subst (λ (z : ℕ). unitsIn square′ < z) tiny-units (less (suc m) e double 1 (negsuc 49) tiny-double h) in
+          let under : unitsIn square′ < 2 ^ 1012 = subst (λ (z : ℕ). unitsIn square′ < z) tiny-units (less (suc m) e double 1 (negsuc 61) tiny-double h) in
           absurd
-          (middle-too-high root (unitsIn half) (unitsIn square′) (2 ^ 1024) (2 ^ 1074) (pow-pos 1074) half-squared under twice
+          (middle-too-high root (unitsIn half) (unitsIn square′) (2 ^ 1012) (2 ^ 1074) (pow-pos 1074) half-squared under twice
           (near .none-below half half-double refl (above-half (unitsIn half) root some-half twice)))
 
 -- a tolerance has the sign +, if it is the least one or more
 least-has-plus : (n : ℕ) (d : ℤ) → T (le least (fin true n d)) → ⊥
 unfolding le ofBits
-least-has-plus n d h = none (down d) (down-pos d) (eqb→eq (1 * 1 * down d) 0 (and-r (eqb (1 * 1 * down d) (n * up d * 2 ^ 24)) (eqb (1 * 1 * down d) 0) h))
+least-has-plus n d h = none (down d) (down-pos d) (eqb→eq (1 * 1 * down d) 0 (and-r (eqb (1 * 1 * down d) (n * up d * 2 ^ 30)) (eqb (1 * 1 * down d) 0) h))
   where
     none : (y : ℕ) → 0 < y → 1 * 1 * y ≡ 0 → ⊥
     none y p e = omega arith
@@ -235,7 +240,7 @@ least-has-plus n d h = none (down d) (down-pos d) (eqb→eq (1 * 1 * down d) 0 (
 least-above-zero : (d : ℤ) → T (isDouble (fin false zero d)) → T (le least (fin false zero d)) → ⊥
 unfolding ofBits
 least-above-zero d g low =
-    none (unitsIn least) (unitsIn (fin false zero d)) (not-more 1 (negsuc 23) least-double zero d g low) (subst (λ (z : ℕ). 0 < z) (sym least-units) (pow-pos 1050)) (nothing-in false d)
+    none (unitsIn least) (unitsIn (fin false zero d)) (not-more 1 (negsuc 29) least-double zero d g low) (subst (λ (z : ℕ). 0 < z) (sym least-units) (pow-pos 1044)) (nothing-in false d)
   where
     none : (y z : ℕ) → y ≤ z → 0 < y → z ≡ 0 → ⊥
     none y z l p i = omega arith

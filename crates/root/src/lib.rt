@@ -23,10 +23,10 @@ const SIGN: u64 = 0x8000_0000_0000_0000;
 
 const INFINITY: u64 = 0x7ff0_0000_0000_0000;
 
-// 2^-24 and 2^-50. What is below the second has a root of at most 2^-25, the half of the first.
-const LEAST: f64 = 0.000000059604644775390625;
+// 2^-30 and 2^-62. What is below the second has a root of at most 2^-31, the half of the first; and the first is below every tolerance from 0.000000001 on.
+const LEAST: f64 = 0.000000000931322574615478515625;
 
-const TINY: f64 = 0.00000000000000088817841970012523233890533447265625;
+const TINY: f64 = 0.00000000000000000021684043449710088680149056017398834228515625;
 
 // A double above zero, as q × 2^w / 2^1126.
 struct Scaled {
@@ -144,7 +144,7 @@ pub extern "C" fn root_or_nan(x: f64) -> f64
 }
 
 // Whether the root lies below a tolerance. Mostly the square alone tells, and no root is worked out: the root of what exceeds a tolerance of at most 1 does not lie below it,
-// and that of what is below 2^-50 lies below every tolerance from 2^-24 on.
+// and that of what is below 2^-62 lies below every tolerance from 2^-30 on.
 pub fn root_below(x: f64, tolerance: f64) -> bool
     ensures { λ r. ⌜ r ≡ lt (valueOf (squareRoot x)) tolerance ⌝ }
 {
