@@ -4,6 +4,7 @@
 
 pub mod format;
 pub mod json;
+pub mod object;
 pub mod place;
 pub mod ways;
 
