@@ -10,7 +10,7 @@ const PAGE: &str = include_str!("../../docs/SPECIFICATION.md");
 
 /// The files that render the specification. The others of their folder are tables
 /// that are evaluated against them.
-const RENDERING: [&str; 11] = [
+const RENDERING: [&str; 12] = [
     "Lists",
     "Outcome",
     "Vectors",
@@ -22,6 +22,7 @@ const RENDERING: [&str; 11] = [
     "Faceting",
     "Job",
     "Demands",
+    "Symmetry",
 ];
 
 /// What a definition begins with.

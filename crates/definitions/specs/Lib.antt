@@ -11,6 +11,7 @@ pub mod Figures
 pub mod Faceting
 pub mod Job
 pub mod Demands
+pub mod Symmetry
 pub mod Open
 pub mod Examples
 pub mod Roots
@@ -18,3 +19,4 @@ pub mod KnownJobs
 pub mod Refusals
 pub mod PortersErrors
 pub mod RuledOut
+pub mod Carried
