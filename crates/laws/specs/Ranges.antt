@@ -1,6 +1,7 @@
 -- Ascending numbers in a range, and permutations of 0, .., n − 1: what the test by sorting says, and how it is met. And lists with the same items through the words that build lists.
 -- Leans on Places.
 use mathlib.Core.Path.{_≡_, refl, sym, ap, _∙_, subst}
+use mathlib.Core.Logic.{_⊎_, inl, inr}
 use mathlib.Core.Bool.{Bool, true, false, cond}
 use mathlib.Core.List.{List, [], _∷_, map, flatMap, List·Memᴰ}
 use Prim.Native.Nat.{ℕ, zero, suc, _+_, _≤_, _<_, compare, Ordering, Ordering·lt}
@@ -165,6 +166,29 @@ module _ {A : Type 0} where
       let e = dropped-length x m i in
       let r = distinct-within l (dropped x m i) (h .1) (λ z j. in-dropped x m i z (k z (there j)) (h .0 z j)) in
       omega arith
+
+  this-or-dropped : (x : A) (m : List A) (i : Mem x m) (z : A) → Mem z m → (z ≡ x) ⊎ Mem z (dropped x m i)
+  unfolding dropped
+  this-or-dropped x (y ∷ m) (List·Memᴰ.List·Memᴰ·head e) z (List·Memᴰ.List·Memᴰ·head q) = inl (q ∙ sym e)
+  this-or-dropped x (y ∷ m) (List·Memᴰ.List·Memᴰ·head e) z (List·Memᴰ.List·Memᴰ·tail j) = inr j
+  this-or-dropped x (y ∷ m) (List·Memᴰ.List·Memᴰ·tail i) z (List·Memᴰ.List·Memᴰ·head q) = inr (here q)
+  this-or-dropped x (y ∷ m) (List·Memᴰ.List·Memᴰ·tail i) z (List·Memᴰ.List·Memᴰ·tail j) = later (this-or-dropped x m i z j)
+    where
+      later : (z ≡ x) ⊎ Mem z (dropped x m i) → (z ≡ x) ⊎ Mem z (y ∷ dropped x m i)
+      later (inl e) = inl e
+      later (inr k) = inr (there k)
+
+  -- and where it is no shorter, it has all the other's items
+  pub distinct-full : (l m : List A) → Distinct l → ((x : A) → Mem x l → Mem x m) → length m ≤ length l → (x : A) → Mem x m → Mem x l
+  distinct-full [] (y ∷ m) h k short x j = absurd (omega arith)
+  distinct-full (y ∷ l) m h k short x j =
+      let i = k y (here refl) in
+      let e = dropped-length y m i in
+      go (this-or-dropped y m i x j) (distinct-full l (dropped y m i) (h .1) (λ z n. in-dropped y m i z (k z (there n)) (h .0 z n)) (omega arith) x)
+    where
+      go : {R : Type 0} → (x ≡ y) ⊎ R → (R → Mem x l) → Mem x (y ∷ l)
+      go (inl e) later = here e
+      go (inr d) later = there (later d)
 
 -- different numbers below n are no more than n
 pub distinct-below : (n : ℕ) (l : List ℕ) → Distinct l → ((x : ℕ) → Mem x l → x < n) → length l ≤ n

@@ -11,9 +11,13 @@ pub mod FigureOf
 pub mod Levels
 pub mod LevelFigures
 pub mod LevelMoves
+pub mod MovedTwice
+pub mod MovedFigures
 pub mod Sets
 pub mod Calls
 pub mod Jobs
+pub mod ClosedRows
+pub mod Symmetry
 pub mod EdgeSets
 pub mod Polygons
 pub mod Nested
