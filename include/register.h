@@ -85,6 +85,10 @@ enum register_refusal {
  *     Closed is a matter of these sums [1.3]. Whether each ridge of a figure lies
  *     in just two of its facets is another question: [1.4] to [1.6].
  *   - Entries stand in ascending order of their lists.
+ *   - At ranks 3 and 4, if the rows are closed under composition (any row after
+ *     any row is a row), every row carries each entry's figure to itself: the
+ *     images of its edges, of its polygons and of its facets are its edges, its
+ *     polygons and its facets [13.12].
  *   - Nothing outside the three slices is read or written, but for the stack, the
  *     job is not written, and no memory is asked for. Nothing is kept between
  *     calls, so calls may run at the same time, each on slices of its own.

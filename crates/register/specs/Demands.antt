@@ -1,5 +1,5 @@
--- The three demands [13.1], [13.2], [13.8], of the exported function's return code and answer buffer. They follow from its two equations: demands 1 and 2 for every job, demand 3 of the entries read back from the
--- buffer, for every job that is answered at rank 3 or 4. Leans on Reading and on what is proved of the definitions.
+-- The three demands [13.1], [13.2], [13.8] and the promised symmetry [13.12], of the exported function's return code and answer buffer. They follow from its two equations: demands 1 and 2 for
+-- every job, demand 3 and the symmetry of the entries read back from the buffer, for every job that is answered at rank 3 or 4. Leans on Reading and on what is proved of the definitions.
 use mathlib.Core.Path.{_≡_, sym, ap, _∙_, subst}
 use mathlib.Core.List.{_++_}
 use Prim.Native.Nat.{ℕ, _-_}
@@ -11,12 +11,14 @@ use Rattle.definitions.specs.Outcome.{Outcome, answered, andThen}
 use Rattle.definitions.specs.Recursion.{Answer}
 use Rattle.definitions.specs.Job.{Bytes, readJob, jobTests, workspaceTests, tests, between, bounds1, callOf, answerBytes, answerWords, fitting, outcomeWithin, outcome, codeOf, bufferOf}
 use Rattle.definitions.specs.Demands.{Demand1, Demand2, Demand3, CallComplete}
+use Rattle.definitions.specs.Symmetry.{Symmetric}
 use Rattle.laws.specs.Outcomes.{answered-before, not-refused-if}
 use Rattle.laws.specs.Refusals.{answered-passed, front-passed}
 use Rattle.completeness.specs.Jobs.{demand-1, demand-2, demand-3}
 use Rattle.completeness.specs.Refusals.{CodeSays, code-says}
 use Rattle.shapes.specs.Answered.{answers-equal}
 use Rattle.shapes.specs.Jobs.{RowsPassed, rows-passed}
+use Rattle.shapes.specs.Symmetry.{job-symmetric}
 use Rattle.shapes.specs.JobWords.{AreBytes, rank-passed, job-words, budget-below}
 use Rattle.register.specs.Reading.{wordsRead, entriesRead, answer-back, entries-read}
 
@@ -64,7 +66,7 @@ entries-in bytes answer tail c =
     ap (λ (l : Bytes). entriesRead (l ++ tail)) (c .bytes-are)
     ∙ entries-read (readJob bytes .budget) (c .given) tail (job-words bytes (c .passed) (c .ranked) (c .given) (c .is-given) 0 (omega arith))
 
--- ---- the three demands
+-- ---- the three demands, and the symmetry
 
 module _ (bytes : Bytes) (workspace room : ℕ) {code : ℤ} {buffer : Bytes} (code-is : code ≡ codeOf (outcome bytes workspace room)) (buffer-is : buffer ≡ bufferOf room (outcome bytes workspace room)) where
   pub meets-1 : Demand1 bytes workspace room code buffer
@@ -77,14 +79,20 @@ module _ (bytes : Bytes) (workspace room : ℕ) {code : ℤ} {buffer : Bytes} (c
   pub meets-2 : Demand2 bytes workspace room code buffer
   meets-2 = rw (code-is, buffer-is) (demand-2 bytes workspace room)
 
-  -- of the entries that stand in the buffer after an answer
-  pub meets-3 : (answer : Bytes) → outcome bytes workspace room ≡ answered answer → Demand3 bytes (entriesRead buffer)
+  -- the entries that stand in the buffer after an answer are its call's
+  entries-are : (answer : Bytes) (e : outcome bytes workspace room ≡ answered answer) → called bytes workspace room answer e .given .entries ≡ entriesRead buffer
   unfolding bufferOf
-  meets-3 answer e =
-      let c = called bytes workspace room answer e in
+  entries-are answer e =
       let tail : Bytes = replicate (room - length answer) 0 in
       let whole : buffer ≡ answer ++ tail = buffer-is ∙ ap (bufferOf room) e in
-      record {
-        holds = λ accepted rank.
-            subst (CallComplete (readJob bytes)) (sym (ap entriesRead whole ∙ entries-in bytes answer tail c)) (demand-3 bytes (c .given) (c .is-given) .holds accepted rank);
-      }
+      sym (ap entriesRead whole ∙ entries-in bytes answer tail (called bytes workspace room answer e))
+
+  pub meets-3 : (answer : Bytes) → outcome bytes workspace room ≡ answered answer → Demand3 bytes (entriesRead buffer)
+  meets-3 answer e =
+      let c = called bytes workspace room answer e in
+      record { holds = λ accepted rank. subst (CallComplete (readJob bytes)) (entries-are answer e) (demand-3 bytes (c .given) (c .is-given) .holds accepted rank) }
+
+  pub meets-symmetry : (answer : Bytes) → outcome bytes workspace room ≡ answered answer → Symmetric bytes (entriesRead buffer)
+  meets-symmetry answer e =
+      let c = called bytes workspace room answer e in
+      subst (Symmetric bytes) (entries-are answer e) (job-symmetric bounds1 bytes (c .passed) (c .given) (c .is-given))

@@ -19,6 +19,7 @@ ghost use Rattle.definitions.specs.Recursion.{Answer};
 ghost use Rattle.definitions.specs.Faceting.{faceting};
 ghost use Rattle.definitions.specs.Job.{Bytes, answerWords, answerBytes, fitting, outcome, codeOf, bufferOf};
 ghost use Rattle.definitions.specs.Demands.{Demand1, Demand2, Demand3};
+ghost use Rattle.definitions.specs.Symmetry.{Symmetric};
 ghost use Rattle.words.specs.Writer.{encoded};
 ghost use Rattle.openers.specs.Rows.{rowsIn};
 ghost use Rattle.shapes.specs.Kept.{Kept};
@@ -219,7 +220,8 @@ fn answer_job(job: &[u8], fields: Fields, ws: &mut [u8], answer: &mut [u8]) -> i
 }
 
 // The answer of a job: its length in bytes, or minus the number of its refusal. The answer stands at the front of the buffer, which is zero behind it, and zero throughout after a refusal. Code
-// and buffer are the definition's, whatever the three slices are; the three demands follow [13.1] [13.2] [13.8], the third of the entries read back from the buffer.
+// and buffer are the definition's, whatever the three slices are; the three demands follow [13.1] [13.2] [13.8], the third of the entries read back from the buffer, and so does
+// the symmetry that is promised of these [13.12].
 #[no_mangle]
 pub extern "C" fn register_answer(job: &[u8], workspace: &mut [u8], answer: &mut [u8]) -> i64
     ensures code { λ r. ⌜ r ≡ codeOf (outcome (now (job .entry)) (length (now (workspace .entry))) (length (now (answer .entry)))) ⌝ }
@@ -227,6 +229,7 @@ pub extern "C" fn register_answer(job: &[u8], workspace: &mut [u8], answer: &mut
     ensures first { λ r. ⌜ Demand1 (now (job .entry)) (length (now (workspace .entry))) (length (now (answer .entry))) r (now (answer .exit)) ⌝ }
     ensures second { λ r. ⌜ Demand2 (now (job .entry)) (length (now (workspace .entry))) (length (now (answer .entry))) r (now (answer .exit)) ⌝ }
     ensures third { λ _. ⌜ ((bytes : Bytes) → outcome (now (job .entry)) (length (now (workspace .entry))) (length (now (answer .entry))) ≡ answered bytes → Demand3 (now (job .entry)) (entriesRead (now (answer .exit)))) ⌝ }
+    ensures symmetry { λ _. ⌜ ((bytes : Bytes) → outcome (now (job .entry)) (length (now (workspace .entry))) (length (now (answer .entry))) ≡ answered bytes → Symmetric (now (job .entry)) (entriesRead (now (answer .exit)))) ⌝ }
 {
     words::clear(answer);
     match job::check(job, workspace.len()) {

@@ -8,7 +8,7 @@ use mir.Syntax.{w64}
 use mir.Val.{SFits}
 use Rattle.definitions.specs.Job.{outcome, codeOf, bufferOf}
 use Rattle.register.specs.Loaded.{refused-outcome}
-use Rattle.register.specs.Demands.{meets-1, meets-2, meets-3}
+use Rattle.register.specs.Demands.{meets-1, meets-2, meets-3, meets-symmetry}
 use Rattle.register.proofs.register_answer.Statement.{statement}
 use Rattle.register.proofs.register_answer.Tie as tie
 
@@ -46,7 +46,7 @@ returns c =
     let o = refused-outcome job size room _ (sym (c .before .before .number .given .1) ∙ c .before .before .before .before .check .ensures) in
     let code = toZ-ofZ fits ∙ (c .refusal .ensures ∙ sym (ap codeOf o)) in
     let buffer = c .before .before .before .before .before .before .before .clear .ensures ∙ sym (ap (bufferOf room) o) in
-    (code, (buffer, (meets-1 job size room code buffer, (meets-2 job size room code buffer, meets-3 job size room code buffer))))
+    (code, (buffer, (meets-1 job size room code buffer, (meets-2 job size room code buffer, (meets-3 job size room code buffer, meets-symmetry job size room code buffer)))))
 
 same-length-2 : tie.Need-same-length-2
 same-length-2 c = search needs
@@ -65,7 +65,7 @@ returns-2 c =
     let code = toZ-ofZ fits ∙ (k .ensures .0 ∙ ap (λ (room : ℕ). codeOf (outcome job size room)) same) in
     let buffer = k .ensures .1 ∙ ap (λ (room : ℕ). bufferOf room (outcome job size room)) same in
     let room = length (s .args .answer .now) in
-    (code, (buffer, (meets-1 job size room code buffer, (meets-2 job size room code buffer, meets-3 job size room code buffer))))
+    (code, (buffer, (meets-1 job size room code buffer, (meets-2 job size room code buffer, (meets-3 job size room code buffer, meets-symmetry job size room code buffer)))))
 
 pub register-answer-spec : {M : Type 1} → statement M
 register-answer-spec =
