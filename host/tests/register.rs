@@ -80,6 +80,8 @@ fn the_register_answers_generated_cases_as_the_original() {
     for number in 0..=17 {
         assert!(trials.tally.result(number) > 0, "result {number}");
     }
+    let [open, closed] = &trials.figures;
+    assert!(open.moved > 0 && closed.all > 0 && closed.moved == 0);
 }
 
 /// A call as the register's contract has it, with slices again.

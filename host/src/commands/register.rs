@@ -8,7 +8,7 @@ use facetings_host::cases::generator::{case, kind_named, Kind};
 use facetings_host::cases::known_jobs::KNOWN_JOBS;
 use facetings_host::cases::record::record;
 use facetings_host::cases::{Case, Room};
-use facetings_host::compare::trials::Trials;
+use facetings_host::compare::trials::{Figures, Trials};
 use facetings_host::engines::guard::Guard;
 
 use super::streams::chosen_kind;
@@ -29,6 +29,8 @@ generated, with the workspace of the rank's length and one byte less, with the
 answer buffer exactly full and one byte short, with the job one byte shorter and
 longer, and as a copy with one altered byte. Buffers are poisoned, the workspace is
 as the call before left it, and marked bytes around all three slices are looked at.
+Where a job's rows are closed under composition, every row has to carry every figure
+of its answer to itself; where they are not, it is counted how many it does not.
 Prints the first difference of each call, until D cases have one (default: 10), how
 often each result and rare event was reached, and the rate. Exit status 1 if any
 call differs. The register is linked where 'rt staticlib register' has left it
@@ -152,6 +154,13 @@ fn told(trials: &Trials, cases: usize, seconds: f64) -> String {
             "{:>8}  calls: {name}, {} answered\n",
             calls.all, calls.answered
         );
+    }
+    for (rows, figures) in ["rows not closed", "rows closed"]
+        .iter()
+        .zip(&trials.figures)
+    {
+        let Figures { all, moved } = figures;
+        text += &format!("{all:>8}  figures, {rows}: {moved} carried elsewhere by some row\n");
     }
     text + &format!(
         "{cases} cases, {} calls in {seconds:.1} s, {:.0} cases a second; the Rust took {:.2} s, the register {:.2} s\n",

@@ -1,13 +1,14 @@
 //! A job is judged once by the original, which takes the time, and put to another
 //! engine in many ways: with buffers exactly full and a byte too short, with lengths
 //! around every bound, and as a damaged copy. Every byte and every refusal must be
-//! what the original's verdict says.
+//! what the original's verdict says. The figures of each answer are looked at too:
+//! rows that are closed under composition carry them to themselves.
 
 use std::collections::BTreeMap;
 use std::time::{Duration, Instant};
 
 use faceting_register::bounds::{self, workspace_length};
-use faceting_register::{job, Job, Refusal, Stop};
+use faceting_register::{job, Answer, Job, Refusal, Stop};
 
 use crate::cases::generator::rng::{mix, Rng};
 use crate::cases::tally::Tally;
@@ -17,9 +18,13 @@ use crate::engines::fence::Fence;
 use crate::engines::judgement::{Events, Judgement};
 use crate::engines::oracle::{Oracle, BROKEN};
 use crate::engines::Probe;
+use crate::symmetry::Carried;
 
 /// What a buffer holds beforehand: an engine must leave none of it.
 const POISONS: [u8; 3] = [0xa5, 0xff, 0x01];
+
+/// The call whose answer is looked at beside the comparison.
+const EXACTLY_FULL: &str = "buffer exactly full";
 
 /// A damaged budget may ask for more time than a trial should take.
 const DAMAGED_BUDGET: u32 = 2_000;
@@ -101,7 +106,7 @@ fn trials(case: &Case, verdict: &Verdict) -> Vec<Trial> {
     match length {
         0 => list.push(trial("refused, exact workspace", asked, case.number % 9)),
         _ => {
-            list.push(trial("buffer exactly full", asked, length));
+            list.push(trial(EXACTLY_FULL, asked, length));
             list.push(trial("buffer one byte short", asked, length - 1));
         }
     }
@@ -156,6 +161,15 @@ pub struct Calls {
     pub answered: usize,
 }
 
+/// How many figures were looked at, and how many of them some row carries elsewhere.
+#[derive(Default)]
+pub struct Figures {
+    /// All figures.
+    pub all: usize,
+    /// Those that are carried elsewhere.
+    pub moved: usize,
+}
+
 /// The engine that is tried, with the memory that it is lent.
 pub struct Trials<'a> {
     oracle: &'a Oracle,
@@ -166,6 +180,9 @@ pub struct Trials<'a> {
     pub tally: Tally,
     /// The calls, by what is particular about them.
     pub calls: BTreeMap<&'static str, Calls>,
+    /// The figures of the answers: of jobs whose rows are not closed under
+    /// composition, and of jobs whose rows are.
+    pub figures: [Figures; 2],
     /// The time that each side took.
     pub original_time: Duration,
     /// The time that the engine took.
@@ -182,6 +199,7 @@ impl<'a> Trials<'a> {
             answer: Fence::default(),
             tally: Tally::default(),
             calls: BTreeMap::new(),
+            figures: Default::default(),
             original_time: Duration::ZERO,
             engine_time: Duration::ZERO,
         }
@@ -236,7 +254,9 @@ impl<'a> Trials<'a> {
         let calls = self.calls.entry(trial.name).or_default();
         calls.all += 1;
         calls.answered += usize::from(code >= 0);
-        let words = self.wrong(trial, code, verdict.expected(trial))?;
+        let words = self
+            .wrong(trial, code, verdict.expected(trial))
+            .or_else(|| self.moved(trial, code))?;
         let Case { number, kind, .. } = case;
         Some(format!("case {number} ({kind}), {}: {words}", trial.name))
     }
@@ -266,6 +286,19 @@ impl<'a> Trials<'a> {
         };
         let given = side(code, self.answer.slice().to_vec());
         difference(&side(right, zeroed), &given)
+    }
+
+    /// A figure that a row carries elsewhere, though it should not.
+    fn moved(&mut self, trial: &Trial, code: i64) -> Option<String> {
+        if trial.name != EXACTLY_FULL || code < 0 {
+            return None;
+        }
+        let (answer, _) = Answer::read(self.answer.slice()).ok()?;
+        let carried = Carried::of(&Job::read(&trial.job)?, &answer)?;
+        let figures = &mut self.figures[usize::from(carried.closed)];
+        figures.all += carried.elsewhere.len();
+        figures.moved += carried.moved();
+        carried.broken()
     }
 
     /// How many calls were made.

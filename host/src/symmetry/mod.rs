@@ -6,6 +6,7 @@
 //! planes; where the job has min or max, also those of the points as given, which
 //! these limits speak of.
 
+mod carried;
 mod chain;
 mod comparison;
 mod distances;
