@@ -120,6 +120,7 @@ Possible facets: 2 orbits of lines
 Figures: 1 entry, closes in itself
   entry  points  edges  facets  parts (orbit.facet)
       0       4      4       4  0.0
+  carried to itself by all rows
 
 Compounds: no entries
 
@@ -264,6 +265,7 @@ fn entry(value: &Value) -> Entry {
 fn answer(value: &Value) -> Answer {
     let names = [
         "about",
+        "carried",
         "closing",
         "code",
         "compounds",

@@ -9,7 +9,7 @@ use super::look::Look;
 use super::margin::{Distance, Margin};
 use super::notes::Note;
 use super::{advice, Rejection, Report, Source, VERSION};
-use crate::symmetry::Kind;
+use crate::symmetry::{Carried, Kind};
 
 /// Just what is written.
 pub enum Json {
@@ -91,6 +91,7 @@ pub fn answered(report: &Report) -> Json {
         ("label", Json::Text(report.label())),
         ("cut", Json::Truth(report.count.cut)),
         ("closing", Json::Number(report.count.closing as i64)),
+        ("carried", or_null(&report.carried, carried)),
         ("points", list(&job.points, |point| floats(point))),
         (
             "rows",
@@ -149,6 +150,17 @@ fn source(source: &Source) -> [(&'static str, Json); 3] {
 /// Which symmetries the host took for the rows.
 fn symmetry(kind: &Kind) -> Json {
     Json::Text(kind.word().into())
+}
+
+/// Whether the rows are closed under composition, and for each entry the first row
+/// that carries its figure elsewhere, or null.
+fn carried(carried: &Carried) -> Json {
+    let row = |row: &Option<usize>| or_null(row, |&row| Json::Number(row as i64));
+    Json::Object(vec![
+        ("closed", Json::Truth(carried.closed)),
+        ("all", Json::Truth(carried.moved() == 0)),
+        ("elsewhere", list(&carried.elsewhere, row)),
+    ])
 }
 
 /// Null where the job has no such limit.

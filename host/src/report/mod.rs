@@ -18,6 +18,7 @@ use faceting_register::answer::Damage;
 use faceting_register::{Answer, Job, Refusal};
 
 use crate::format::culprit::Culprit;
+use crate::symmetry::Carried;
 use label::{left_out, Count};
 use look::{looks, Look};
 use notes::Notes;
@@ -71,6 +72,8 @@ pub struct Report {
     pub length: usize,
     /// The host's own look at each entry.
     pub looks: Vec<Look>,
+    /// What the host saw of the promised symmetry, from rank 3 on.
+    pub carried: Option<Carried>,
     /// The host's own look at the job.
     pub notes: Notes,
     /// What the label counts.
@@ -92,6 +95,7 @@ impl Report {
             source,
             notes: Notes::of(&job),
             count: Count::of(&job, &read, &looks),
+            carried: Carried::of(&job, &read),
             job,
             answer: read,
             length,

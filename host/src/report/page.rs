@@ -11,7 +11,7 @@ use super::look::Look;
 use super::margin::Margin;
 use super::notes::{short, Note};
 use super::{Report, Source, VERSION};
-use crate::symmetry::Kind;
+use crate::symmetry::{Carried, Kind};
 
 /// What a page is about: a name, what its writer says of it, and the job's rank.
 #[derive(Clone, Debug)]
@@ -29,10 +29,13 @@ pub struct Subject {
 /// What the words on a page mean, and which of them the host is responsible for.
 const WORDS: &str = "\
 The host's own look, which is not proved: the notes, the margin, what closes in itself,
-pieces and equal figures. All else stands in the answer. A figure closes in itself where
-each of its ridges (at rank 3 a point, at rank 4 an edge) lies in exactly two of its
-facets. It is in pieces where its facets fall apart into groups without a common ridge.
-It is a compound where its parts are those of two other entries together.
+pieces and equal figures. That rows which are closed under composition carry each figure
+to itself is proved, and looked at again. All else stands in the answer. A figure closes
+in itself where each of its ridges (at rank 3 a point, at rank 4 an edge) lies in exactly
+two of its facets. It is in pieces where its facets fall apart into groups without a
+common ridge. It is a compound where its parts are those of two other entries together.
+A row carries a figure to itself where the images of its edges are its edges, of its
+polygons its polygons, and so up to its facets.
 ";
 
 /// The whole page, each line ended.
@@ -183,12 +186,38 @@ fn put_entries(text: &mut String, report: &Report) {
             "  {e:>5}  {points:>6}  {edges:>5}  {facets:>6}  {parts}"
         );
     }
+    let several = report.job.rows.len() > 1;
+    if let Some(carried) = report.carried.as_ref().filter(|_| several) {
+        let _ = writeln!(text, "  {}", carried_words(carried));
+    }
     for (e, look) in report.looks.iter().enumerate() {
         let seen = seen(look);
         if !seen.is_empty() {
             let _ = writeln!(text, "  entry {e}: {}", seen.join("; "));
         }
     }
+}
+
+/// What the rows do to the figures: promised where they are closed under composition,
+/// and looked at in any case.
+fn carried_words(carried: &Carried) -> String {
+    if let Some(broken) = carried.broken() {
+        return format!("{broken}: this breaks a promise that is proved");
+    }
+    let figures = carried.elsewhere.len();
+    let which = match (figures, figures - carried.moved()) {
+        (1, 1) => "carried to itself".into(),
+        (1, _) => "not carried to itself".into(),
+        (_, 0) => "none of them is carried to itself".into(),
+        (all, some) if all == some => "each of them is carried to itself".into(),
+        (_, 1) => "1 of them is carried to itself".into(),
+        (_, some) => format!("{some} of them are carried to themselves"),
+    };
+    let rows = match carried.closed {
+        true => "",
+        false => ", which are not closed under composition",
+    };
+    format!("{which} by all rows{rows}")
 }
 
 /// What there is to tell of an entry.
