@@ -1,5 +1,5 @@
 -- Every figure of every call has its shape: entries and possible facets, at every rank, by induction on the rank. What a job guarantees of the outermost call (two points at least, rows that
--- are permutations with the identity first) holds of the inner calls too. Leans on MovedFigures, Sets and Answered.
+-- are permutations with the identity first) holds of the inner calls too. Leans on FigureOf, Sets and Answered.
 use mathlib.Core.Path.{_≡_, refl, sym, subst}
 use mathlib.Core.Logic.{_⊎_, inl, inr}
 use mathlib.Core.List.{List, [], _∷_, map, flatMap, List·Memᴰ}
@@ -11,7 +11,7 @@ use Rattle.definitions.specs.Outcome.{answered}
 use Rattle.definitions.specs.Vectors.{Vec}
 use Rattle.definitions.specs.Subspace.{Subspace, flatten}
 use Rattle.definitions.specs.Orbits.{Row, Orbit, image, pointAt}
-use Rattle.definitions.specs.Figures.{Figure, Elements, dyad, moveEnds}
+use Rattle.definitions.specs.Figures.{Figure, Elements, dyad, moveEnds, sortStrong}
 use Rattle.definitions.specs.Search.{Facet, Found}
 use Rattle.definitions.specs.Recursion.{Rules, Entry, Answer, Call, Inner, vertexRidge, moveSorted, rowsWithin}
 use Rattle.definitions.specs.Faceting.{Prepared, possibleFacets, atOrbit, split, facetImages, entryOf, entriesOf, compareEntries, finish, faceting}
@@ -23,11 +23,10 @@ use Rattle.laws.specs.Ranges.{Permutes, same-flatMap}
 use Rattle.shapes.specs.Answered.{Preparation, AnsweredCall, answered-call}
 use Rattle.shapes.specs.LowRanks.{RankTwo, rank-two}
 use Rattle.shapes.specs.Shape.{Element, Stack, Shaped, shaped-drop}
-use Rattle.shapes.specs.Move.{raised-shaped}
+use Rattle.shapes.specs.Move.{moved-shaped, raised-shaped}
 use Rattle.shapes.specs.FigureOf.{Stacked, figure-shaped, figure-same}
 use Rattle.shapes.specs.Sets.{VertexSet, Rows, set-rising, row-into, rows-within, points-of-refit}
 use Rattle.shapes.specs.CallOrbits.{call-orbit-set}
-use Rattle.shapes.specs.MovedFigures.{moved-stack}
 
 -- ---- inner calls inherit
 
@@ -174,13 +173,12 @@ module _ (n more : ℕ) (inner : List Inner) (sets : (i : Inner) → Mem i inner
       let r = of-map possibleFacets fs inner m in
       inr (possible-shaped (r .0) (r .1) g (subst (λ (l : List Figure). Mem g l) (r .2) k))))
 
-  -- its ranks from the edges up stand over the call's points
-  pub facet-stack : (f : Facet) → Stack n (drop 2 (getD (atOrbit possibleFacets inner (f .0)) (f .1) []))
-  facet-stack f = go (getD (atOrbit possibleFacets inner (f .0)) (f .1) []) (some-facet f)
-    where
-      go : (g : Figure) → ShapedOrNone g → Stack n (drop 2 g)
-      go g (inl e) = subst (λ (h : Figure). Stack n (drop 2 h)) (sym e) tt
-      go g (inr s) = subst (Stack n) (sym (shaped-drop n (2 + more) g s)) (s .tower .stack)
+  moved-stack : (row : Row) → Permutes n row → (f : Figure) → ShapedOrNone f → Stack n (drop 2 (moveSorted (image row) f))
+  unfolding moveSorted moveEnds sortStrong
+  moved-stack row p f (inl e) = subst (λ (g : Figure). Stack n (drop 2 (moveSorted (image row) g))) (sym e) tt
+  moved-stack row p f (inr s) =
+      let r = moved-shaped n n (2 + more) (image row) (row-into n row p) f s in
+      subst (Stack n) (sym (shaped-drop n (2 + more) (moveSorted (image row) f) r)) (r .tower .stack)
 
 module _ (p : Prepared) (sets : (i : Inner) → Mem i (p .inner) → VertexSet (p .points) (i .orbit .vertices))
     (shaped : (i : Inner) → Mem i (p .inner) → ShapedAnswer (length (i .orbit .vertices)) (p .more) (i .answer)) (rows-good : (row : Row) → Mem row (p .rows) → Permutes (p .points) row) where
@@ -192,7 +190,7 @@ module _ (p : Prepared) (sets : (i : Inner) → Mem i (p .inner) → VertexSet (
       let figure = getD (atOrbit possibleFacets (p .inner) (r .0 .0)) (r .0 .1) [] in
       let q = of-map (λ (row : Row). moveSorted (image row) figure) g (p .rows) (r .2) in
       subst (λ (f : Figure). Stack (p .points) (drop 2 f)) (sym (q .2))
-      (moved-stack (p .points) (image (q .0)) (row-into (p .points) (q .0) (rows-good (q .0) (q .1))) figure (facet-stack (p .points) (p .more) (p .inner) sets shaped (r .0)))
+      (moved-stack (p .points) (p .more) (p .inner) sets shaped (q .0) (rows-good (q .0) (q .1)) figure (some-facet (p .points) (p .more) (p .inner) sets shaped (r .0)))
 
   pub entry-shaped : (list : List Facet) → Shaped (p .points) (3 + p .more) (entryOf p list .figure)
   unfolding entryOf

@@ -33,7 +33,7 @@ into-after a b d g f s t = record {
   apart = λ x y h k e. s .apart x y h k (t .apart (g x) (g y) (s .below x h) (s .below y k) e);
 }
 
-pub renumber-twice : (a b d : ℕ) (g f : ℕ → ℕ) → Into a b g → Into b d f → (e : List ℕ) → Element a e → sortNats (map f (sortNats (map g e))) ≡ sortNats (map (λ (i : ℕ). f (g i)) e)
+renumber-twice : (a b d : ℕ) (g f : ℕ → ℕ) → Into a b g → Into b d f → (e : List ℕ) → Element a e → sortNats (map f (sortNats (map g e))) ≡ sortNats (map (λ (i : ℕ). f (g i)) e)
 unfolding sortNats
 renumber-twice a b d g f s t e h =
     same-ascending compare nats (sortNats (map f (sortNats (map g e)))) (sortNats (map (λ (i : ℕ). f (g i)) e))

@@ -11,8 +11,6 @@ pub mod FigureOf
 pub mod Levels
 pub mod LevelFigures
 pub mod LevelMoves
-pub mod MovedTwice
-pub mod MovedFigures
 pub mod Sets
 pub mod Calls
 pub mod Jobs

@@ -92,16 +92,6 @@ unfolding sortRanks
 sort-ranks-length es [] = refl
 sort-ranks-length es (next ∷ more) = ap suc (sort-ranks-length (renumber (λ (i : ℕ). numberIn (sortBy compareNats es) (getD es i [])) next) more)
 
--- ranks that stand one upon the other still do
-pub sort-ranks-stack : (b : ℕ) (es : Elements) (more : List Elements) → Stack b (es ∷ more) → Stack b (sortRanks es more)
-unfolding sortRanks
-sort-ranks-stack b es [] s = s
-sort-ranks-stack b es (next ∷ more) s =
-    let sorted = sortBy compareNats es in
-    let number : ℕ → ℕ = λ i. numberIn sorted (getD es i []) in
-    let upper = stack-sent (length es) (length sorted) number (numbers-into es sorted (s .0 .distinct) (λ e i. in-sorted compareNats e es i)) next more (s .1) in
-    (rank-sorted b es (s .0), sort-ranks-stack (length sorted) (renumber number next) more upper)
-
 pub sort-ranks-tower : (b : ℕ) (es : Elements) (more : List Elements) → Stack b (es ∷ more) → Crowned (es ∷ more) → Tower b (sortRanks es more)
 unfolding sortRanks
 sort-ranks-tower b es [] s k = record { stack = (s .0, tt); sorted = (one-ascends es k, tt); crowned = k }
@@ -111,7 +101,7 @@ sort-ranks-tower b es (next ∷ more) s k =
     let upper = stack-sent (length es) (length sorted) number (numbers-into es sorted (s .0 .distinct) (λ e i. in-sorted compareNats e es i)) next more (s .1) in
     let rest = sort-ranks-tower (length sorted) (renumber number next) more upper (crowned-renumbered number next more k) in
     record {
-      stack = sort-ranks-stack b es (next ∷ more) s;
+      stack = (rank-sorted b es (s .0), rest .stack);
       sorted = (sorted-ascends compareNats nat-lists es (s .0 .distinct), rest .sorted);
       crowned = crowned-above sorted (sortRanks (renumber number next) more) (rest .crowned);
     }

@@ -75,10 +75,10 @@ module _ (more : ℕ) (rules : Rules) (plane : Subspace) (points : List Vec) (ro
       ∙ sym (is .0)
 
 -- every entry of an answered call
-pub call-carried : (more : ℕ) (rules : Rules) (plane : Subspace) (points : List Vec) (rows : List Row) (budget : ℕ) (a : Answer) → Given points rows → Composing (length points) rows
+pub rows-carry : (more : ℕ) (rules : Rules) (plane : Subspace) (points : List Vec) (rows : List Row) (budget : ℕ) (a : Answer) → Given points rows → Composing (length points) rows
     → faceting (suc more) rules plane points rows budget ≡ answered a → (e : Entry) → Mem e (a .entries) → (row : Row) → Mem row rows → moveSorted (image row) (e .figure) ≡ e .figure
 unfolding finish
-call-carried more rules plane points rows budget a given composing is e m row i =
+rows-carry more rules plane points rows budget a given composing is e m row i =
     let c = answered-call more rules plane points rows budget a is in
     let p = c .before in
     let made = c .prepared in
