@@ -79,7 +79,7 @@ fn a_figure_that_is_carried_elsewhere_breaks_the_promise() {
     let triangle = figure(4, &[&[&[0, 1], &[0, 2], &[1, 2]], &[&[0, 1, 2]]]);
     let job = read(&format!("{SQUARE}{SQUARE_GROUP}"));
     let look = |figures: &[Figure]| Carried::of(&job, &with(figures)).expect("rank 3 has one");
-    let good = look(&[square.clone()]);
+    let good = look(std::slice::from_ref(&square));
     assert!(good.closed && good.moved() == 0 && good.broken().is_none());
     let bad = look(&[square, triangle]);
     assert_eq!((bad.moved(), bad.elsewhere[0]), (1, None));
