@@ -9,7 +9,6 @@ pub mod Merging
 pub mod Segments
 pub mod Places
 pub mod Ranges
-pub mod Sorted
 pub mod Floats
 pub mod LowerBounds
 pub mod Parts

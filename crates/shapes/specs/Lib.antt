@@ -37,13 +37,11 @@ pub mod KeyCounts
 pub mod KeptOrbitInner
 pub mod KeptOrbitCodes
 pub mod RidgeCalls
-pub mod Ends
 pub mod Sizes
 pub mod AnswerSizes
 pub mod RidgeCounts
 pub mod FigureWords
 pub mod Example
-pub mod SortedEntries
 pub mod KeyMarks
 pub mod AllPairs
 pub mod NestedNumbers
