@@ -23,7 +23,7 @@ use Rattle.order.specs.Numbers.{AllBelow}
 use Rattle.frames.specs.Paths.{Emitted, emittedIn}
 use Rattle.search.specs.declared.Outcome.{Outcome}
 use Rattle.search.specs.declared.Outcome.the-variants as search
-use Rattle.search.specs.Outcomes.{entryLimitOf, entryLimitsOf, searchOutcome, countedLists}
+use Rattle.search.specs.Outcomes.{searchLimit, entryLimitsOf, searchOutcome, countedLists}
 use Rattle.shapes.specs.Answered.{Preparation}
 use Rattle.shapes.specs.Emitted.{found-apart}
 use Rattle.shapes.specs.Kept.{Kept, keptTable, keptAnswer}
@@ -175,7 +175,7 @@ module _ (k : Stock) (shelf : Shelf) (rank : ℕ) (rows : List ℕ) (m : ℕ) (r
   unfolding searchFrom entryLimits entryLimitsOf callRules
   search-is a bound =
       let same : a .bound ≡ rules .entries = bound ∙ sym (st .few-entries) in
-      λ i. def.search (sym table-is i) (record { limit = entryLimitOf (rules .limit); bound = same i }) (st .left-is i)
+      λ i. def.search (sym table-is i) (record { limit = searchLimit (rules .limit); bound = same i }) (st .left-is i)
 
   -- ---- what the search leaves
 

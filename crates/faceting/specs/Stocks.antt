@@ -14,7 +14,7 @@ use Rattle.laws.specs.Lists.{Mem}
 use Rattle.laws.specs.Parts.{length-rows}
 use Rattle.openers.specs.Rows.{rowsIn, RowsFit}
 use Rattle.space.specs.Meaning as space
-use Rattle.search.specs.Outcomes.{entryLimitOf}
+use Rattle.search.specs.Outcomes.{searchLimit}
 use Rattle.shapes.specs.Answered.{Preparation}
 use Rattle.shapes.specs.Calls.{Given}
 use Rattle.shapes.specs.Kept.{Kept, keptOf, numbersKept}
@@ -36,7 +36,7 @@ unfoldable pub callRules : Rules → def.Rules
 callRules rules = record {
   tolerance = rules .tolerance;
   lengths = space.limitsOf (rules .min) (rules .max);
-  entryLimit = entryLimitOf (rules .limit);
+  entryLimit = searchLimit (rules .limit);
   bounds = record { orbits = rules .orbits; facets = rules .facets; entries = rules .entries };
 }
 

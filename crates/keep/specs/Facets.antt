@@ -25,7 +25,7 @@ use Rattle.keep.specs.Storing.{Stored, ListRoom, beside-drop, beside-sel
 use Rattle.keep.specs.Stocked.{Stocked, ShelfWritten, within-both, edges-within, places-within, stocked-edges, stocked-places, stocked-facet, put-within}
 use Rattle.keep.specs.Rooms.{room-edges, room-places}
 use Rattle.keep.specs.Labels.{label-some}
-use Rattle.keep.specs.Marked.{codesMarked}
+use Rattle.keep.specs.Marked.{markedCodes}
 use Rattle.keep.specs.Polygons.{EdgesLeft}
 use Rattle.keep.specs.Reading.{movedCode, marksOf, marked-below, entry-below, count-append, lent-tail}
 
@@ -46,11 +46,11 @@ labelsLeft level at s = labelsIn (level .bytes + 2048) (level .count) (drop (lev
 
 -- an entry's edges, moved, as codes
 unfoldable pub codesOf : ℕ → ℕ → List ℕ → List Kept → List ℕ → List ℕ → List ℕ
-codesOf n m rows inner vertices numbers = map (movedCode vertices) (codesMarked (marksOf (rowsIn n m rows) inner numbers))
+codesOf n m rows inner vertices numbers = map (movedCode vertices) (markedCodes (marksOf (rowsIn n m rows) inner numbers))
 
-pub codes-many : (n m : ℕ) (rows : List ℕ) (inner : List Kept) (vertices numbers : List ℕ) → length (codesOf n m rows inner vertices numbers) ≡ length (codesMarked (marksOf (rowsIn n m rows) inner numbers))
+pub codes-many : (n m : ℕ) (rows : List ℕ) (inner : List Kept) (vertices numbers : List ℕ) → length (codesOf n m rows inner vertices numbers) ≡ length (markedCodes (marksOf (rowsIn n m rows) inner numbers))
 unfolding codesOf
-codes-many n m rows inner vertices numbers = length-map (codesMarked (marksOf (rowsIn n m rows) inner numbers)) (movedCode vertices)
+codes-many n m rows inner vertices numbers = length-map (markedCodes (marksOf (rowsIn n m rows) inner numbers)) (movedCode vertices)
 
 -- the answer lies behind the shelf, and stays as the shelf is written
 pub behind-same : (shelf : Shelf) (at : ℕ) {s t : List ℕ} → shelf .edges ≤ shelf .end → shelf .end ≤ at → ShelfWritten shelf s t → drop at t ≡ drop at s

@@ -23,8 +23,8 @@ use Rattle.openers.specs.Meaning.{pairCode, pairOf, pairCodes}
 use Rattle.shapes.specs.EdgeSets.{edgesInOrder}
 
 -- the codes that are marked
-unfoldable pub codesMarked : List Bool → List ℕ
-codesMarked marks = keep (λ (c : ℕ). getD marks c false) (countFrom 0 400)
+unfoldable pub markedCodes : List Bool → List ℕ
+markedCodes marks = keep (λ (c : ℕ). getD marks c false) (countFrom 0 400)
 
 -- ---- pairs and their codes
 
@@ -107,8 +107,8 @@ seen-code l h c = same-test (seenAmong comparePair pairs (pairOf c) l) (anyOf (e
         let e : pairOf c ≡ q .0 = ap pairOf (eqb→eq c (r .0) (r .2) ∙ q .2) ∙ pair-code (q .0) (h (q .0) (q .1) .1) in
         member-seen comparePair pairs (pairOf c) l (subst (λ (d : Pair). Mem d l) (sym e) (q .1))
 
-pub edges-marked : (l : List Pair) → ((e : Pair) → Mem e l → (e .0 < 20) × (e .1 < 20)) → edgesInOrder l ≡ map pairOf (codesMarked (marked (replicate 400 false) (map pairCode l)))
-unfolding codesMarked
+pub edges-marked : (l : List Pair) → ((e : Pair) → Mem e l → (e .0 < 20) × (e .1 < 20)) → edgesInOrder l ≡ map pairOf (markedCodes (marked (replicate 400 false) (map pairCode l)))
+unfolding markedCodes
 edges-marked l h =
     in-order-kept comparePair pairs l all all-ascend (λ e m. in-all e (h e m))
     ∙ (keep-map (λ (e : Pair). seenAmong comparePair pairs e l) pairOf (countFrom 0 400)

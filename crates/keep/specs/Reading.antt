@@ -30,7 +30,7 @@ use Rattle.shapes.specs.Kept.{Kept}
 use Rattle.shelf.specs.declared.Level.{Level}
 use Rattle.shelf.specs.Keeps.{Keeps, edgesOf}
 use Rattle.shelf.specs.Leaves.{listsLeft}
-use Rattle.keep.specs.Marked.{codesMarked, edges-marked, codes-wide}
+use Rattle.keep.specs.Marked.{markedCodes, edges-marked, codes-wide}
 use Rattle.keep.specs.Polygons.{edgeIn, edgeAt, imagesOf, entryEdges, OneEdge, EdgesLeft, edge-proper, edge-list, edges-listed, facets-many, noKept}
 
 -- a part lent to the end
@@ -109,8 +109,8 @@ module _ (vertices : List ℕ) (marks : List Bool) where
   unfolding movedBelow keep countFrom
   below-none = refl
 
-  pub below-all : movedBelow vertices marks 400 ≡ map (movedCode vertices) (codesMarked marks)
-  unfolding movedBelow codesMarked
+  pub below-all : movedBelow vertices marks 400 ≡ map (movedCode vertices) (markedCodes marks)
+  unfolding movedBelow markedCodes
   below-all = refl
 
   up-to : (c n : ℕ) → keep (Test marks) (countFrom 0 (c + n)) ≡ keep (Test marks) (countFrom 0 c) ++ keep (Test marks) (countFrom c n)
@@ -131,8 +131,8 @@ module _ (vertices : List ℕ) (marks : List Bool) where
       (up-to c 1 ∙ (ap (λ (l : List ℕ). keep (Test marks) (countFrom 0 c) ++ l) (one-left (Test marks) c 0 e ∙ none-kept (Test marks) (suc c)) ∙ append-nil (keep (Test marks) (countFrom 0 c))))
 
   -- a marked code is one of all
-  pub below-room : (c : ℕ) → c < 400 → getD marks c false ≡ true → length (movedBelow vertices marks c) < length (codesMarked marks)
-  unfolding movedBelow codesMarked
+  pub below-room : (c : ℕ) → c < 400 → getD marks c false ≡ true → length (movedBelow vertices marks c) < length (markedCodes marks)
+  unfolding movedBelow markedCodes
   below-room c h e =
       let z : c + suc (400 - suc c) ≡ 400 = omega arith in
       let a = ap (λ (k : ℕ). length (keep (Test marks) (countFrom 0 k))) z in
@@ -174,28 +174,28 @@ abbrev pub marksOf : List Row → List Kept → List ℕ → List Bool
 marksOf rows inner numbers = marked (replicate 400 false) (map pairCode (imagesOf rows inner numbers))
 
 module _ (n m : ℕ) (s : List ℕ) (inner : List Kept) (numbers : List ℕ) (fits : RowsFit n m s) (each : (k : Kept) → Mem k inner → OneEdge n k) (b : (x : ℕ) → Mem x numbers → x < length inner) where
-  in-order : edgesInOrder (imagesOf (rowsIn n m s) inner numbers) ≡ map pairOf (codesMarked (marksOf (rowsIn n m s) inner numbers))
+  in-order : edgesInOrder (imagesOf (rowsIn n m s) inner numbers) ≡ map pairOf (markedCodes (marksOf (rowsIn n m s) inner numbers))
   in-order =
       edges-marked (imagesOf (rowsIn n m s) inner numbers)
       (λ e i. let r = images-below n m s inner numbers fits each b e i in let v = r .0 in let w = r .1 in let f = fits .n-fits in (omega arith, omega arith))
 
   -- a marked code is that of two points
-  code-below : (c : ℕ) → Mem c (codesMarked (marksOf (rowsIn n m s) inner numbers)) → (c / 20 < n) × (c % 20 < n)
+  code-below : (c : ℕ) → Mem c (markedCodes (marksOf (rowsIn n m s) inner numbers)) → (c / 20 < n) × (c % 20 < n)
   unfolding pairOf
   code-below c i =
       let images = imagesOf (rowsIn n m s) inner numbers in
-      let among = subst (λ (l : List Pair). Mem (pairOf c) l) (sym in-order) (in-map pairOf c (codesMarked (marksOf (rowsIn n m s) inner numbers)) i) in
+      let among = subst (λ (l : List Pair). Mem (pairOf c) l) (sym in-order) (in-map pairOf c (markedCodes (marksOf (rowsIn n m s) inner numbers)) i) in
       images-below n m s inner numbers fits each b (pairOf c) (of-in-order comparePair pairs (pairOf c) images among)
 
   pub marked-below : (c : ℕ) → c < 400 → getD (marksOf (rowsIn n m s) inner numbers) c false ≡ true → (c / 20 < n) × (c % 20 < n)
-  unfolding codesMarked
+  unfolding markedCodes
   marked-below c h e = code-below c (in-keep (Test (marksOf (rowsIn n m s) inner numbers)) c (countFrom 0 400) (in-count 0 400 c (omega arith) (omega arith)) (true→holds e))
 
   pub entry-codes : (vertices : List ℕ) (to : ℕ → ℕ) → ((p : ℕ) → p < n → getD vertices p 0 ≡ to p)
-      → map pairCode (entryEdges to (rowsIn n m s) inner numbers) ≡ map (movedCode vertices) (codesMarked (marksOf (rowsIn n m s) inner numbers))
+      → map pairCode (entryEdges to (rowsIn n m s) inner numbers) ≡ map (movedCode vertices) (markedCodes (marksOf (rowsIn n m s) inner numbers))
   unfolding entryEdges pairCode endsVia pairOf
   entry-codes vertices to same =
-      let codes = codesMarked (marksOf (rowsIn n m s) inner numbers) in
+      let codes = markedCodes (marksOf (rowsIn n m s) inner numbers) in
       ap (λ (l : List Pair). map pairCode (map (endsVia to) l)) in-order
       ∙ (map-map pairCode (endsVia to) (map pairOf codes)
       ∙ (map-map (λ (e : Pair). pairCode (endsVia to e)) pairOf codes
@@ -212,8 +212,8 @@ few-kept p (x ∷ l) = go (p x) (few-kept p l)
     go true h = omega arith
     go false h = omega arith
 
-pub few-marked : (marks : List Bool) → length (codesMarked marks) ≤ 400
-unfolding codesMarked
+pub few-marked : (marks : List Bool) → length (markedCodes marks) ≤ 400
+unfolding markedCodes
 few-marked marks = let n = count-length 0 400 in omega (arith, few-kept (Test marks) (countFrom 0 400))
 
 pub entry-few : (n m : ℕ) (s : List ℕ) (inner : List Kept) (numbers : List ℕ) → RowsFit n m s → ((k : Kept) → Mem k inner → OneEdge n k) → ((x : ℕ) → Mem x numbers → x < length inner)
@@ -222,7 +222,7 @@ unfolding entryEdges
 entry-few n m s inner numbers fits each b to =
     let marks = marksOf (rowsIn n m s) inner numbers in
     let e = length-map (edgesInOrder (imagesOf (rowsIn n m s) inner numbers)) (endsVia to) in
-    let c = ap length (in-order n m s inner numbers fits each b) ∙ length-map (codesMarked marks) pairOf in
+    let c = ap length (in-order n m s inner numbers fits each b) ∙ length-map (markedCodes marks) pairOf in
     omega (arith, few-marked marks)
 
 -- ---- what a call of rank 3 has left, read

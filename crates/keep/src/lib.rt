@@ -31,7 +31,7 @@ ghost use Rattle.keep.specs.Adding.{withFacets, orbitAt};
 ghost use Rattle.keep.specs.Rooms.{RoomFor};
 ghost use Rattle.keep.specs.Short.{oneOrTwo};
 ghost use Rattle.keep.specs.Edges.{edgeAnswer, EndsStored};
-ghost use Rattle.keep.specs.Marked.{codesMarked};
+ghost use Rattle.keep.specs.Marked.{markedCodes};
 ghost use Rattle.keep.specs.Polygons.{edgeAt, imagesOf, EdgesLeft};
 ghost use Rattle.keep.specs.Reading.{movedCode, ridgesMoved};
 ghost use Rattle.keep.specs.Facets.{Source, FacetStored, FacetsStored, FacetsRoom, entryAt, labelsLeft, codesOf, allCodes, allLabels, allLists};
@@ -267,8 +267,8 @@ fn moved(code: usize, vertices: Vertices) -> usize
 
 // The marked edges, ascending, moved to the vertices, are one list more.
 fn store_edges(ws: &mut [u8], from: usize, to: usize, marks: &[bool; 400], vertices: Vertices)
-    requires { ⌜ (from ≤ to) × ListRoom 2 1024 from (to - from) (now ws) (length (codesMarked (now marks))) × ((c : ℕ) → c < 400 → getD (now marks) c false ≡ true → (getD (vertices .at) (c / 20) 0 < 20) × (getD (vertices .at) (c % 20) 0 < 20)) ⌝ }
-    ensures { λ _. ⌜ Stored 2 1024 from (to - from) (now (ws .entry)) (now (ws .exit)) (map (movedCode (vertices .at)) (codesMarked (now (marks .entry)))) ⌝ }
+    requires { ⌜ (from ≤ to) × ListRoom 2 1024 from (to - from) (now ws) (length (markedCodes (now marks))) × ((c : ℕ) → c < 400 → getD (now marks) c false ≡ true → (getD (vertices .at) (c / 20) 0 < 20) × (getD (vertices .at) (c % 20) 0 < 20)) ⌝ }
+    ensures { λ _. ⌜ Stored 2 1024 from (to - from) (now (ws .entry)) (now (ws .exit)) (map (movedCode (vertices .at)) (markedCodes (now (marks .entry)))) ⌝ }
 {
     let mut c = 0;
     while c < 400 {

@@ -28,7 +28,7 @@ ghost use Rattle.keep.specs.Edges.{edgeAnswer};
 ghost use Rattle.load.specs.Meaning.{limitNumber};
 ghost use Rattle.job.specs.Refusal.{checkedOf};
 ghost use Rattle.job.specs.declared.Checked.the-variants.{Passed};
-ghost use Rattle.search.specs.Outcomes.{entryLimitOf};
+ghost use Rattle.search.specs.Outcomes.{searchLimit};
 ghost use Rattle.faceting.specs.Stocks.{callRules};
 ghost use Rattle.writing.specs.Wrote.{Wrote};
 ghost use Rattle.register.specs.Writable.{Writable};
@@ -132,7 +132,7 @@ fn close(answer: &mut [u8], at: usize) -> i64
 
 // The entry limit as the search takes it.
 fn limit_of(entries: EntryLimit) -> Limit
-    ensures { λ r. ⌜ entryLimitOf r ≡ limitNumber entries ⌝ }
+    ensures { λ r. ⌜ searchLimit r ≡ limitNumber entries ⌝ }
 {
     match entries {
         EntryLimit::Unlimited => Limit::Absent,

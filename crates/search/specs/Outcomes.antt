@@ -15,12 +15,12 @@ use Rattle.search.specs.declared.Outcome.the-variants.{Found, Refused}
 use Rattle.facets.specs.Layout.{listsPart}
 use Rattle.frames.specs.Paths.{Emitted, emittedIn}
 
-unfoldable pub entryLimitOf : Limit → Option ℕ
-entryLimitOf Absent = none
-entryLimitOf (Entries m) = some m
+unfoldable pub searchLimit : Limit → Option ℕ
+searchLimit Absent = none
+searchLimit (Entries m) = some m
 
 unfoldable pub entryLimitsOf : Areas → Limit → def.EntryLimits
-entryLimitsOf a limit = record { limit = entryLimitOf limit; bound = a .bound }
+entryLimitsOf a limit = record { limit = searchLimit limit; bound = a .bound }
 
 -- the searchOutcome with the lists that the workspace holds
 unfoldable pub searchOutcome : Table → Areas → Outcome → List ℕ → result.Outcome def.Found

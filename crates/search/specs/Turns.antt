@@ -22,7 +22,7 @@ use Rattle.facets.specs.Sums.{judge-sums}
 use Rattle.facets.specs.Judged.{NotOver, judge-light, judge-inside}
 use Rattle.facets.specs.Layout.{verdict, Inputs, AreasFit, holds-kept, ridgeOf, totalsPart, framesPart, listsPart}
 use Rattle.frames.specs.Paths.{listTo, frameAt, framesTo, itemAt, PathStands, Emitted, emittedIn}
-use Rattle.search.specs.Outcomes.{entryLimitOf, entryLimitsOf}
+use Rattle.search.specs.Outcomes.{searchLimit, entryLimitsOf}
 use Rattle.frames.specs.Steps.{Light, Next, CandidateDue, Visited, Withdrawn, Entered, path-short, candidateOf}
 use Rattle.frames.specs.Emission.{Started, emitted-count}
 
@@ -128,18 +128,18 @@ module _ (t : Table) (a : Areas) (limit : Limit) (s : List ℕ) (d : ℕ) (j : J
   }
 
   module _ (h : count (listsPart a s) < a .bound) (s1 : List ℕ) (st : PathStands t a s1 d d) (fr : framesPart a s1 ≡ framesPart a s) (ls : emittedIn t a (listsPart a s1) ≡ emitted ++ (listTo t (framesPart a s) d ∷ [])) (tb : take (a .frames) s1 ≡ take (a .frames) s) (em : Emitted a (listsPart a s1)) where
-    pub follow-stop : limitReached (entryLimitOf limit) (count (listsPart a s) + 1) ≡ true → Stops t a limit s s1 d
+    pub follow-stop : limitReached (searchLimit limit) (count (listsPart a s) + 1) ≡ true → Stops t a limit s s1 d
     unfolding due itemAt entryLimitsOf
     follow-stop r = record {
       inputs = st .inputs;
       emitted = em;
       same = λ left.
           rw ls (examine-stop t limits left (itemAt t (framesPart a s) d) (pending t (framesTo t (framesPart a s) d)) emitted (judged-is t a s d closed j) (omega (arith, many))
-          (ap (limitReached (entryLimitOf limit)) (omega (arith, many)) ∙ r));
+          (ap (limitReached (searchLimit limit)) (omega (arith, many)) ∙ r));
       tables = tb;
     }
 
-    pub follow-closed : limitReached (entryLimitOf limit) (count (listsPart a s) + 1) ≡ false → (s' : List ℕ) → Entered t a s1 s' d 0 → Goes t a limit s s' d (d + 1)
+    pub follow-closed : limitReached (searchLimit limit) (count (listsPart a s) + 1) ≡ false → (s' : List ℕ) → Entered t a s1 s' d 0 → Goes t a limit s s' d (d + 1)
     unfolding due itemAt entryLimitsOf ridgeOf
     follow-closed r s' w =
         record {
@@ -147,7 +147,7 @@ module _ (t : Table) (a : Areas) (limit : Limit) (s : List ℕ) (d : ℕ) (j : J
           emitted = rw (w .lists) em;
           same = λ left.
               examine-closed t limits left (itemAt t (framesPart a s) d) (framesTo t (framesPart a s) d) emitted (judged-is t a s d closed j) (omega (arith, many))
-              (ap (limitReached (entryLimitOf limit)) (omega (arith, many)) ∙ r)
+              (ap (limitReached (searchLimit limit)) (omega (arith, many)) ∙ r)
               ∙ sym (rw (w .frames, w .lists, ls, fr) refl);
           tables = w .tables ∙ tb;
         }

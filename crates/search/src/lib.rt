@@ -6,7 +6,7 @@ ghost use lib.ListN.{length, take};
 ghost use Rattle.definitions.specs.Search.{Table, closed, limitReached, search as searchOf};
 ghost use Rattle.facets.specs.Layout.{AreasFit, Inputs, verdict, listsPart};
 ghost use Rattle.frames.specs.Paths.{PathStands};
-ghost use Rattle.search.specs.Outcomes.{entryLimitOf, entryLimitsOf, searchOutcome, countedLists};
+ghost use Rattle.search.specs.Outcomes.{searchLimit, entryLimitsOf, searchOutcome, countedLists};
 ghost use Rattle.search.specs.Turns.{Judged, Followed};
 ghost use Rattle.search.specs.declared.Outcome.the-variants.{Found};
 ghost use Rattle.pool.specs.Pool.{count};
@@ -36,7 +36,7 @@ pub enum Step {
 
 // [7.9] whether the entry limit ends the search, with so many lists emitted
 fn reached(limit: Limit, emitted: u32) -> bool
-    ensures { λ r. ⌜ r ≡ limitReached (entryLimitOf limit) emitted ⌝ }
+    ensures { λ r. ⌜ r ≡ limitReached (searchLimit limit) emitted ⌝ }
 {
     match limit {
         Limit::Absent => false,

@@ -8,7 +8,7 @@ use lib.ListN.{length, length-drop}
 use Rattle.shelf.specs.Keeps.{raised}
 use Rattle.keep.specs.Storing.{room-fewer, room-beside}
 use Rattle.keep.specs.Stocked.{within-both, edges-within, places-within, fits-after}
-use Rattle.keep.specs.Marked.{codesMarked}
+use Rattle.keep.specs.Marked.{markedCodes}
 use Rattle.keep.specs.Reading.{lent-tail}
 use Rattle.keep.specs.Facets.{entryAt, codesOf, codes-many, behind-same, within-lent, marked-small, label-read, label-room, label-small, facet-stored}
 use borrow.Author.Needs.{needs}
@@ -31,7 +31,7 @@ mark-entry-requires c κs = let s = c .before .before .before .before .before in
 store-edges-requires : tie.Need-store-edges-requires
 store-edges-requires c κs = let s = c .before .before .before .before .before .before .before .before in let f = s .pre .0 in let inner = s .pre .5 .1 in let src = s .pre .5 .2 in
     let marks-are = (rw (lent-tail (s .args .at) (s .args .ws .now)) at (c .before .before .mark-entry .ensures)) (s .pre .5 .0) inner (src .left) in
-    let few = ap (λ (r : List Bool). length (codesMarked r)) marks-are in
+    let few = ap (λ (r : List Bool). length (markedCodes r)) marks-are in
     let same = codes-many (s .pre .5 .0) (s .args .m) (s .args .rows .now) inner (s .args .vertices .at) (entryAt (s .args .level) (s .args .at) (s .args .ws .now) (s .args .k)) in
     (omega (arith, f .edgeRoom), room-fewer (s .pre .5 .3) _ (omega (arith, few, same)), λ x h t. marked-small src (s .args .k) (s .pre .4) x h _ marks-are t)
 

@@ -2,7 +2,7 @@
 use mathlib.Core.Path.{refl}
 use borrow.Author.Needs.{needs}
 use Rattle.load.specs.Meaning.{limitNumber}
-use Rattle.search.specs.Outcomes.{entryLimitOf}
+use Rattle.search.specs.Outcomes.{searchLimit}
 use Rattle.register.proofs.limit_of.Statement.{statement}
 use Rattle.register.proofs.limit_of.Tie as tie
 
@@ -13,11 +13,11 @@ enum-known-entries : tie.Need-enum-known-entries
 enum-known-entries c = search needs
 
 returns : tie.Need-returns
-unfolding entryLimitOf limitNumber
+unfolding searchLimit limitNumber
 returns c = rw (c .enum-told .given .1) refl
 
 returns-2 : tie.Need-returns-2
-unfolding entryLimitOf limitNumber
+unfolding searchLimit limitNumber
 returns-2 c = rw (c .before .entries .given .1) refl
 
 pub limit-of-spec : {M : Type 1} → statement M

@@ -9,7 +9,7 @@ use Rattle.definitions.specs.Search.{closed, limitReached}
 use Rattle.pool.specs.Pool.{count}
 use Rattle.facets.specs.Layout.{listsPart, framesPart}
 use Rattle.frames.specs.Paths.{PathStands, Emitted, listTo, emittedIn}
-use Rattle.search.specs.Outcomes.{entryLimitOf}
+use Rattle.search.specs.Outcomes.{searchLimit}
 use Rattle.facets.specs.Judged.{NotOver}
 use Rattle.frames.specs.Steps.{path-short}
 use Rattle.frames.specs.Emission.{emit-stands, emit-frames, emit-emitted, emit-lists, emit-tables}
@@ -56,7 +56,7 @@ returns-2 : tie.Need-returns-2
 unfolding Followed
 returns-2 c = λ t j. let s = c .before .before .before .before .before .before .before .before .before .before .before in let e = c .before .before .before .before .before .before .before .lists .ensures in
     let h : count (listsPart (s .args .a) (s .args .ws .now)) < s .args .a .bound = rw e at (c .before .before .before .before .before .before .if1 .left) in
-    let r : limitReached (entryLimitOf (s .args .limit)) (count (listsPart (s .args .a) (s .args .ws .now)) + 1) ≡ true = rw e at (sym (c .before .reached .ensures) ∙ c .if2 .taken) in
+    let r : limitReached (searchLimit (s .args .limit)) (count (listsPart (s .args .a) (s .args .ws .now)) + 1) ≡ true = rw e at (sym (c .before .reached .ensures) ∙ c .if2 .taken) in
     rw (c .before .before .before .before .emit .ensures)
     (follow-stop t (s .args .a) (s .args .limit) (s .args .ws .now) (s .args .depth) j h _ (emit-stands t (s .args .a) (s .args .ws .now) (s .args .depth) (j .stands) (j .emitted) h) (emit-frames t (s .args .a) (s .args .ws .now) (s .args .depth) (j .stands) (j .emitted) h) (emit-lists t (s .args .a) (s .args .ws .now) (s .args .depth) (j .stands) (j .emitted) h) (emit-tables t (s .args .a) (s .args .ws .now) (s .args .depth) (j .stands) (j .emitted) h) (emit-emitted t (s .args .a) (s .args .ws .now) (s .args .depth) (j .stands) (j .emitted) h) r)
 
@@ -87,7 +87,7 @@ returns-3 : tie.Need-returns-3
 unfolding Followed
 returns-3 c = λ t j. let s = c .before .before .before .before .before .before .before .before .before .before .before .before .before .before .before in let e = c .before .before .before .before .before .before .before .before .before .before .before .lists .ensures in
     let h : count (listsPart (s .args .a) (s .args .ws .now)) < s .args .a .bound = rw e at (c .before .before .before .before .before .before .before .before .before .before .if1 .left) in
-    let r : limitReached (entryLimitOf (s .args .limit)) (count (listsPart (s .args .a) (s .args .ws .now)) + 1) ≡ false = rw e at (sym (c .before .before .before .before .before .reached .ensures) ∙ c .before .before .before .before .if2 .left) in
+    let r : limitReached (searchLimit (s .args .limit)) (count (listsPart (s .args .a) (s .args .ws .now)) + 1) ≡ false = rw e at (sym (c .before .before .before .before .before .reached .ensures) ∙ c .before .before .before .before .if2 .left) in
     let st : PathStands t (s .args .a) (c .before .before .before .before .before .before .before .before .emit .last .0) (s .args .depth) (s .args .depth) = rw (c .before .before .before .before .before .before .before .before .emit .ensures) (emit-stands t (s .args .a) (s .args .ws .now) (s .args .depth) (j .stands) (j .emitted) h) in
     let fr : framesPart (s .args .a) (c .before .before .before .before .before .before .before .before .emit .last .0) ≡ framesPart (s .args .a) (s .args .ws .now) = rw (c .before .before .before .before .before .before .before .before .emit .ensures) (emit-frames t (s .args .a) (s .args .ws .now) (s .args .depth) (j .stands) (j .emitted) h) in
     let ls : emittedIn t (s .args .a) (listsPart (s .args .a) (c .before .before .before .before .before .before .before .before .emit .last .0)) ≡ emittedIn t (s .args .a) (listsPart (s .args .a) (s .args .ws .now)) ++ (listTo t (framesPart (s .args .a) (s .args .ws .now)) (s .args .depth) ∷ []) = rw (c .before .before .before .before .before .before .before .before .emit .ensures) (emit-lists t (s .args .a) (s .args .ws .now) (s .args .depth) (j .stands) (j .emitted) h) in
