@@ -1,19 +1,20 @@
--- The definitions once more, with the norm as a parameter: every definition of `definitions` that a norm enters, word for word, but for the name of the norm.
--- With the norm itself they are those definitions (`Covered` proves it, so that nothing has to be believed of this file); with another one they show which of its values count.
+-- What a norm enters, with the norm as a parameter: the geometry of a call word for word (chapters 4 and 5), and above
+-- it the definitions' own text, given the orbits and planes that come of it (`callOnSet`, `prepareFrom`, `answerFrom`).
+-- With the norm itself they are the definitions (`Covered` proves it, so that nothing has to be believed of this file);
+-- with another one they show which of its values count.
 use mathlib.Core.Bool.{Bool, cond, not, _&&_, _||_}
 use mathlib.Core.List.{List, [], _∷_, _++_, map, flatMap}
 use Prim.Native.Nat.{ℕ, zero, suc, _-_}
-use lib.Dec.{leb, ltb, eqb, isEq}
+use lib.Dec.{leb, isEq}
 use lib.ListN.{length}
 use lib.Ieee.{Float, binary64, div, lt}
 use Rattle.definitions.specs.Lists.{Pair, compareNats, anyOf, fresh, countFrom}
-use Rattle.definitions.specs.Outcome.{Outcome, answered, andThen, refuseIf}
+use Rattle.definitions.specs.Outcome.{Outcome, andThen}
 use Rattle.definitions.specs.Vectors.{Vec, minus}
 use Rattle.definitions.specs.Subspace.{Subspace, residual, isHyperplane, flatten}
 use Rattle.definitions.specs.Orbits.{Row, Limits, Orbit, pointAt, vertexOpeners, tooShort, tooLong, pairOpeners, pairsFrom, tuples, setImage}
-use Rattle.definitions.specs.Recursion.{Rules, Bounds, Answer, Call, Inner, InnerCalls, edgeCall, rowsWithin, innerCalls}
-use Rattle.definitions.specs.Search.{Found}
-use Rattle.definitions.specs.Faceting.{Prepared, searchFrom, finish}
+use Rattle.definitions.specs.Recursion.{Rules, Bounds, Answer, Call, Inner, edgeCall, callOnSet}
+use Rattle.definitions.specs.Faceting.{Prepared, prepareFrom, answerFrom}
 use Rattle.definitions.specs.Job.{Bytes, Job, readJob, tests, passAll, rulesOf, planeOf, answerBytes, fitting}
 
 module _ (norm : Vec → Float) where
@@ -75,25 +76,20 @@ module _ (norm : Vec → Float) where
   -- ---- Recursion and Faceting
 
   unfoldable pub innerCallBy : ℕ → Rules → Call → List Vec → List Row → Orbit → ℕ → Outcome Inner
-  innerCallBy wanted rules call flat rows orbit budget =
+  innerCallBy wanted rules call flat rows orbit =
       let points = map (pointAt flat) (orbit .vertices) in
-      let plane = fromPointsBy (rules .tolerance) points in
-      refuseIf (not (eqb (length (plane .basis)) wanted)) 14 (λ u.
-      andThen (call plane points (rowsWithin (orbit .vertices) rows) budget) (λ (a : Answer). answered (record { orbit = orbit; answer = a })))
+      callOnSet wanted call rows orbit (fromPointsBy (rules .tolerance) points) points
 
   unfoldable pub prepareBy : ℕ → Rules → Call → Subspace → List Vec → List Row → ℕ → Outcome Prepared
-  prepareBy more rules call plane points rows budget =
+  prepareBy more rules call plane points rows =
       let flat = map (flatten plane) points in
       let orbits = hyperplaneOrbitsBy (rules .tolerance) (rules .lengths) more points flat rows in
-      refuseIf (ltb (rules .bounds .orbits) (length orbits)) 13 (λ u.
-      andThen (innerCalls (innerCallBy (suc more) rules call flat rows) (rules .bounds .facets) orbits 0 budget) (λ (done : InnerCalls).
-      answered (record { more = more; points = length points; rows = rows; inner = done .calls; left = done .left })))
+      prepareFrom orbits (innerCallBy (suc more) rules call flat rows) more rules (length points) rows
 
   unfoldable pub facetingBy : ℕ → Rules → Call
   facetingBy zero rules = edgeCall
   facetingBy (suc more) rules = λ plane points rows budget.
-      andThen (prepareBy more rules (facetingBy more rules) plane points rows budget) (λ (p : Prepared).
-      andThen (searchFrom rules p) (λ (found : Found). answered (finish p found)))
+      answerFrom rules (prepareBy more rules (facetingBy more rules) plane points rows budget)
 
   -- ---- Job
 

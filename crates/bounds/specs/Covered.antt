@@ -4,7 +4,7 @@ use mathlib.Core.Path.{_≡_, refl, ap, _∙_, fun-ext}
 use mathlib.Core.Bool.{Bool, true, false, cond, not, _&&_, _||_}
 use mathlib.Core.List.{List, [], _∷_, _++_, map, flatMap}
 use Prim.Native.Nat.{ℕ, zero, suc}
-use lib.Dec.{T, leb, ltb, eqb, isEq, nleb→lt, eqb→eq}
+use lib.Dec.{T, leb, eqb, isEq, nleb→lt, eqb→eq}
 use lib.ListN.{length, getD}
 use lib.Ieee.{Float, binary64, div, lt}
 use Rattle.definitions.specs.Lists.{Pair, compareNats, anyOf, fresh, countFrom}
@@ -12,9 +12,8 @@ use Rattle.definitions.specs.Outcome.{Outcome, answered, andThen, refuseIf}
 use Rattle.definitions.specs.Vectors.{Vec, norm, normalised, minus}
 use Rattle.definitions.specs.Subspace.{Subspace, residual, distance, addPoint, addPoints, fromPoints, isHyperplane}
 use Rattle.definitions.specs.Orbits.{Row, Limits, Orbit, pointAt, vertexOpeners, tooShort, tooLong, breaksLimit, pairOpeners, pairsFrom, tuples, pointsNear, setImage, hyperplanes, hyperplaneOrbits}
-use Rattle.definitions.specs.Recursion.{Rules, Answer, Call, Inner, InnerCalls, innerCall, innerCalls, rowsWithin}
-use Rattle.definitions.specs.Search.{Found}
-use Rattle.definitions.specs.Faceting.{Prepared, orbitsOf, prepare, searchFrom, finish, faceting}
+use Rattle.definitions.specs.Recursion.{Rules, Answer, Call, Inner, callOnSet, innerCall, rowsWithin}
+use Rattle.definitions.specs.Faceting.{Prepared, orbitsOf, prepareFrom, prepare, answerFrom, faceting}
 use Rattle.bounds.specs.Sizes.{Each}
 use Rattle.bounds.specs.Fits.{AddTakes, at-first, behind, FitTakes, fitting}
 use Rattle.bounds.specs.Calls.{Takes, in-length, in-fit, in-distance, Occurs, inner, flattened, chosen, through}
@@ -124,16 +123,14 @@ module _ (other : Vec → Float) where
         → callBy (through (rules .tolerance) plane points vertices) (chosen plane points vertices) rows budget
         ≡ call (through (rules .tolerance) plane points vertices) (chosen plane points vertices) rows budget) → (rows : List Row) (orbit : Orbit) (budget : ℕ)
         → innerCallBy other (suc more) rules callBy (flattened plane points) rows orbit budget ≡ innerCall (suc more) rules call (flattened plane points) rows orbit budget
-    unfolding innerCallBy innerCall chosen through refuseIf
+    unfolding innerCallBy innerCall callOnSet chosen through refuseIf
     inner-same {more = more} {plane = plane} {points = points} c callBy call same rows orbit budget =
         let tolerance = rules .tolerance in
         let vertices = orbit .vertices in
         let s = through tolerance plane points vertices in
         let kept = rowsWithin vertices rows in
         let finished : Outcome Answer → Outcome Inner = λ o. andThen o (λ (a : Answer). answered (record { orbit = orbit; answer = a })) in
-        let at-plane : Subspace → Outcome Inner = λ z.
-        refuseIf (not (eqb (length (z .basis)) (suc more))) 14 (λ u. finished (callBy z (chosen plane points vertices) kept budget)) in
-        ap at-plane (through-same tolerance plane points (λ v k. agree .at c k) vertices)
+        ap (λ (z : Subspace). callOnSet (suc more) callBy rows orbit z (chosen plane points vertices) budget) (through-same tolerance plane points (λ v k. agree .at c k) vertices)
         ∙ go finished (callBy s (chosen plane points vertices) kept budget) (call s (chosen plane points vertices) kept budget) (eqb (length (s .basis)) (suc more))
         (λ t. same vertices kept budget (eqb→eq (length (s .basis)) (suc more) t))
       where
@@ -149,10 +146,7 @@ module _ (other : Vec → Float) where
     unfolding prepareBy prepare orbitsOf flattened
     prepare-same {more = more} {plane = plane} {points = points} c callBy call same rows budget =
         let flat = flattened plane points in
-        let prepared : List Orbit → (Orbit → ℕ → Outcome Inner) → Outcome Prepared = λ orbits one.
-        refuseIf (ltb (rules .bounds .orbits) (length orbits)) 13 (λ u.
-        andThen (innerCalls one (rules .bounds .facets) orbits 0 budget) (λ (done : InnerCalls).
-        answered (record { more = more; points = length points; rows = rows; inner = done .calls; left = done .left }))) in
+        let prepared : List Orbit → (Orbit → ℕ → Outcome Inner) → Outcome Prepared = λ orbits one. prepareFrom orbits one more rules (length points) rows budget in
         ap (λ (orbits : List Orbit). prepared orbits (innerCallBy other (suc more) rules callBy flat rows))
         (orbits-same (rules .tolerance) plane points (λ v k. agree .at c k) (rules .lengths) more rows)
         ∙ ap (prepared (hyperplaneOrbits (rules .tolerance) (rules .lengths) more points flat rows)) (fun-ext (λ orbit. fun-ext (λ left. inner-same c callBy call same rows orbit left)))
@@ -163,5 +157,5 @@ module _ (other : Vec → Float) where
     unfolding facetingBy faceting
     call-same zero c rows budget = refl
     call-same (suc more) c rows budget =
-        ap (λ (o : Outcome Prepared). andThen o (λ (p : Prepared). andThen (searchFrom rules p) (λ (found : Found). answered (finish p found))))
+        ap (answerFrom rules)
         (prepare-same c (facetingBy other more rules) (faceting more rules) (λ vertices kept left e. call-same more (inner c vertices e) kept left) rows budget)

@@ -12,8 +12,8 @@ use Rattle.definitions.specs.Vectors.{Vec}
 use Rattle.definitions.specs.Subspace.{Subspace, flatten, fromPoints}
 use Rattle.definitions.specs.Orbits.{Row, Orbit, pointAt}
 use Rattle.definitions.specs.Search.{Found}
-use Rattle.definitions.specs.Recursion.{Rules, Answer, Call, Inner, InnerCalls, innerCall, innerCalls, beforeThese, rowsWithin}
-use Rattle.definitions.specs.Faceting.{Prepared, orbitsOf, prepare, searchFrom, finish, faceting}
+use Rattle.definitions.specs.Recursion.{Rules, Answer, Call, Inner, InnerCalls, innerCall, innerCalls, beforeThese, rowsWithin, callOnSet}
+use Rattle.definitions.specs.Faceting.{Prepared, orbitsOf, prepare, searchFrom, finish, faceting, prepareFrom, answerFrom}
 use Rattle.shapes.specs.Answered.{facetNumber, facetSum}
 
 -- ---- tests
@@ -50,11 +50,11 @@ module _ (wanted : ℕ) (rules : Rules) (call : Call) (flat : List Vec) (rows : 
 
   -- refusal 14
   pub inner-refit : (eqb (length (plane .basis)) wanted ≡ false) → innerCall wanted rules call flat rows orbit budget ≡ refused 14
-  unfolding innerCall
+  unfolding callOnSet innerCall
   inner-refit e = refused-where (not (eqb (length (plane .basis)) wanted)) 14 _ (subst (λ (b : Bool). T (not b)) (sym e) tt)
 
   fitted : eqb (length (plane .basis)) wanted ≡ true → innerCall wanted rules call flat rows orbit budget ≡ andThen called (λ (a : Answer). answered (record { orbit = orbit; answer = a }))
-  unfolding innerCall
+  unfolding callOnSet innerCall
   fitted e = passed-where (not (eqb (length (plane .basis)) wanted)) 14 _ (subst (λ (b : Bool). T (not (not b))) (sym e) tt)
 
   -- a refusal of the call is one of the orbit
@@ -159,21 +159,21 @@ module _ (more : ℕ) (rules : Rules) (plane : Subspace) (points : List Vec) (ro
 
   -- refusal 13
   pub call-thirteen : rules .bounds .orbits < length orbits → faceting (suc more) rules plane points rows budget ≡ refused 13
-  unfolding faceting prepare andThen
+  unfolding answerFrom faceting prepareFrom prepare andThen
   call-thirteen h =
-      ap (λ (o : Outcome Prepared). andThen o (λ (p : Prepared). andThen (searchFrom rules p) (λ (found : Found). answered (finish p found))))
+      ap (answerFrom rules)
       (refused-where (ltb (rules .bounds .orbits) (length orbits)) 13 (λ u. andThen whole (λ (done : InnerCalls). answered (preparedBy done))) (lt→ltb (rules .bounds .orbits) (length orbits) h))
 
   module _ (few : length orbits ≤ rules .bounds .orbits) where
     to-inner : prepare more rules (faceting more rules) plane points rows budget ≡ andThen whole (λ (done : InnerCalls). answered (preparedBy done))
-    unfolding prepare
+    unfolding prepareFrom prepare
     to-inner = passed-where (ltb (rules .bounds .orbits) (length orbits)) 13 (λ u. andThen whole (λ (done : InnerCalls). answered (preparedBy done))) (not-above (rules .bounds .orbits) (length orbits) few)
 
     -- an inner call is refused
     pub call-inner-refused : (number : ℕ) → whole ≡ refused number → faceting (suc more) rules plane points rows budget ≡ refused number
-    unfolding faceting andThen
+    unfolding answerFrom faceting andThen
     call-inner-refused number e =
-        ap (λ (o : Outcome Prepared). andThen o (λ (p : Prepared). andThen (searchFrom rules p) (λ (found : Found). answered (finish p found))))
+        ap (answerFrom rules)
         (to-inner ∙ ap (λ (o : Outcome InnerCalls). andThen o (λ (done : InnerCalls). answered (preparedBy done))) e)
 
     -- all are made
@@ -184,5 +184,5 @@ module _ (more : ℕ) (rules : Rules) (plane : Subspace) (points : List Vec) (ro
   -- what the search says is what the call says
   pub call-searched : (p : Prepared) → prepare more rules (faceting more rules) plane points rows budget ≡ answered p
       → faceting (suc more) rules plane points rows budget ≡ andThen (searchFrom rules p) (λ (found : Found). answered (finish p found))
-  unfolding faceting andThen
-  call-searched p e = ap (λ (o : Outcome Prepared). andThen o (λ (q : Prepared). andThen (searchFrom rules q) (λ (found : Found). answered (finish q found)))) e
+  unfolding answerFrom faceting andThen
+  call-searched p e = ap (answerFrom rules) e

@@ -10,7 +10,7 @@ use lib.Seq.{take-append-seam, drop-append-seam}
 use Rattle.definitions.specs.Outcome.{Outcome, refused, answered, andThen}
 use Rattle.definitions.specs.Search.{Found}
 use Rattle.definitions.specs.Recursion.{Answer, Entry}
-use Rattle.definitions.specs.Faceting.{Prepared, faceting, searchFrom, finish}
+use Rattle.definitions.specs.Faceting.{Prepared, faceting, searchFrom, finish, answerFrom}
 use Rattle.definitions.specs.Job.{Bytes, Job, readJob, tests, bounds1, rulesOf, planeOf, callOf, between, fitting, answerBytes, outcomeWithin, outcome, codeOf, bufferOf}
 use Rattle.definitions.specs.Demands.{Demand1, Demand2, Demand3, Accepted, CallComplete, EntriesComplete, preparedOf}
 use Rattle.laws.specs.Bools.{first, false→fails}
@@ -84,7 +84,7 @@ module _ (bytes : Bytes) (workspace room : ℕ) where
 
 -- the entries of a call of any rank from 3, when it is answered
 pub call-complete : (job : Job) → 3 ≤ job .rank → (a : Answer) → callOf bounds1 job ≡ answered a → CallComplete job (a .entries)
-unfolding callOf faceting preparedOf finish rulesOf
+unfolding callOf answerFrom faceting preparedOf finish rulesOf
 call-complete job h a e =
     let rules = rulesOf bounds1 job in
     let k : job .rank - 2 ≡ suc (job .rank - 3) = omega arith in

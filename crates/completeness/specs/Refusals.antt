@@ -13,8 +13,8 @@ use Rattle.definitions.specs.Vectors.{Vec}
 use Rattle.definitions.specs.Subspace.{Subspace, fromPoints, flatten}
 use Rattle.definitions.specs.Orbits.{Row, Orbit, pointAt}
 use Rattle.definitions.specs.Search.{Facet, Table, Found, Item, Verdict, over, closed, openAt, EntryLimits, limitReached, emit, emitIf, examine, search, judge, totals, putIn, starts}
-use Rattle.definitions.specs.Recursion.{Rules, Call, Inner, edgeCall, innerCall, innerCalls, rowsWithin}
-use Rattle.definitions.specs.Faceting.{prepare, faceting, searchFrom, orbitsOf}
+use Rattle.definitions.specs.Recursion.{Rules, Call, Inner, edgeCall, innerCall, innerCalls, rowsWithin, callOnSet}
+use Rattle.definitions.specs.Faceting.{prepare, faceting, searchFrom, orbitsOf, prepareFrom, answerFrom}
 use Rattle.definitions.specs.Job.{Bytes, Test, tests, passAll, callOf, between, fitting, outcomeWithin, outcome, codeOf, headerTests, valueTests, jobTests, workspaceTests}
 use Rattle.laws.specs.Bools.{first, second}
 use Rattle.laws.specs.Lists.{Mem, here, there, all-of}
@@ -111,7 +111,7 @@ inner-within inner bound h (orbit ∷ orbits) facets left =
 
 refit-within : (wanted : ℕ) (rules : Rules) (call : Call) → ((plane : Subspace) (points : List Vec) (rows : List Row) (budget : ℕ) → RefusedWithin 13 16 (call plane points rows budget))
     → (flat : List Vec) (rows : List Row) (orbit : Orbit) (budget : ℕ) → RefusedWithin 13 16 (innerCall wanted rules call flat rows orbit budget)
-unfolding innerCall
+unfolding callOnSet innerCall
 refit-within wanted rules call h flat rows orbit budget =
     let points = map (pointAt flat) (orbit .vertices) in
     let plane = fromPoints (rules .tolerance) points in
@@ -119,7 +119,7 @@ refit-within wanted rules call h flat rows orbit budget =
     (by-then (call plane points (rowsWithin (orbit .vertices) rows) budget) _ (h plane points (rowsWithin (orbit .vertices) rows) budget) (λ a. by-answer))
 
 pub call-refusals : (more : ℕ) (rules : Rules) (plane : Subspace) (points : List Vec) (rows : List Row) (budget : ℕ) → RefusedWithin 13 16 (faceting more rules plane points rows budget)
-unfolding faceting edgeCall prepare searchFrom
+unfolding answerFrom faceting edgeCall prepareFrom prepare searchFrom
 call-refusals zero rules plane points rows budget = by-answer
 call-refusals (suc more) rules plane points rows budget =
     let flat = map (flatten plane) points in

@@ -1,25 +1,25 @@
 -- Every list that the search emits is an order of a closed choice: each facet was one that may be taken next. Over any table; a closed list may be extended or not.
 use mathlib.Core.Path.{_≡_, refl, sym, ap, _∙_, subst}
 use mathlib.Core.Logic.{_⊎_, inl, inr}
-use mathlib.Core.Bool.{Bool, true, false, cond, not, _&&_, _||_}
-use mathlib.Core.List.{List, [], _∷_, _++_, map, flatMap, reverseAux, append-assoc, append-nil, List·Memᴰ, List·Permᴰ, Permᴰ·symm, Pairwise}
+use mathlib.Core.Bool.{Bool, true, false, not, _&&_, _||_}
+use mathlib.Core.List.{List, [], _∷_, _++_, map, reverseAux, append-assoc, append-nil, List·Memᴰ, List·Permᴰ, Permᴰ·symm, Pairwise}
 use mathlib.Core.Option.{Option, some, none}
-use Prim.Native.Nat.{ℕ, zero, suc, _+_, _≤_, _<_, compare, Ordering, Ordering·lt, Ordering·eq, Ordering·gt}
+use Prim.Native.Nat.{ℕ, _+_, _≤_, _<_, compare, Ordering, Ordering·lt, Ordering·eq, Ordering·gt}
 use native.Mathlib.Omega.{arith}
-use lib.Dec.{T, T-not, leb, ltb, eqb, eqb-refl, isEq, ltb→lt, lt→ltb, le→leb}
+use lib.Dec.{T, leb, ltb, eqb, eqb-refl, isEq, lt→ltb, le→leb}
 use lib.ListN.{length}
-use Rattle.definitions.specs.Lists.{isGt, thenBy, comparePair, sortBy, insertBy, memberPair, anyOf, allOf, keep, countFrom}
-use Rattle.definitions.specs.Search.{Table, Facet, Item, Verdict, over, closed, openAt, total, totals, judge, allFacets, starts, usesOrbit, joined, onesAt}
+use Rattle.definitions.specs.Lists.{isGt, thenBy, comparePair, sortBy, memberPair, allOf, countFrom}
+use Rattle.definitions.specs.Search.{Table, Facet, Item, Verdict, over, closed, openAt, total, totals, judge, allFacets, starts, joined, onesAt}
 use Rattle.definitions.specs.Demands.{isPossible, orbitsAscend, isChoice, choiceOf, isClosedChoice, lowestOpen, isNext, without, isOrderOf}
-use Rattle.laws.specs.Bools.{true→holds, false→fails, fails→false, both, first, second, left-of, right-of}
-use Rattle.laws.specs.Lists.{Mem, here, there, in-append, of-map, of-reversed, of-flatMap, any-of, all-by, keep-all, of-count}
-use Rattle.laws.specs.Orders.{Linear, nats, pairs, is-eq, compare-lt}
+use Rattle.laws.specs.Bools.{true→holds, fails→false, both, left-of, right-of, not-not}
+use Rattle.laws.specs.Lists.{Mem, here, in-append, of-map, of-reversed, of-flatMap, any-of, all-by, keep-all, of-count}
+use Rattle.laws.specs.Orders.{nats, pairs, is-eq, compare-lt}
 use Rattle.laws.specs.Pairs.{Pairs}
-use Rattle.laws.specs.Sorting.{perm-member, perm-length, pairs-perm, sort-perm, in-sorted, of-sorted, keep-insert, sort-ascends, pairwise-head}
-use Rattle.completeness.specs.Tree.{yield, yield-eq, induct}
-use Rattle.completeness.specs.Verdicts.{Means, is-over, is-open, is-closed, judge-means, ZeroOrTwo, total-perm, closed-judged}
+use Rattle.laws.specs.Sorting.{perm-member, perm-length, pairs-perm, sort-perm, of-sorted, keep-insert, sort-ascends}
+use Rattle.completeness.specs.Tree.{yield-eq, induct}
+use Rattle.completeness.specs.Verdicts.{Means, is-open, is-closed, judge-means, ZeroOrTwo, total-perm, closed-judged}
 use Rattle.completeness.specs.Facets.{facet-possible}
-use Rattle.completeness.specs.Walk.{Joins, childrenBy, children, verdictOf, own, ownBy, unused, falls, open-child, closed-child, any-child, unused-before, closedIn, closedAmong, closedLists}
+use Rattle.completeness.specs.Walk.{Joins, childrenBy, children, verdictOf, own, ownBy, unused, falls, open-child, closed-child, unused-before, closedIn, closedAmong, closedLists}
 
 -- ---- the choice of a list
 
@@ -40,15 +40,11 @@ same-pair f = subst (λ (o : Ordering). T (isEq o)) (sym (pairs .self f)) tt
 pub choice-without : (f : Facet) (rest : List Facet) → (Mem f rest → ⊥) → without f (choiceOf (f ∷ rest)) ≡ choiceOf rest
 unfolding without choiceOf sortBy
 choice-without f rest n =
-    keep-insert comparePair other f (sortBy comparePair rest) (fails→false (other f) (doubly (isEq (comparePair f f)) (same-pair f)))
+    keep-insert comparePair other f (sortBy comparePair rest) (fails→false (other f) (not-not (isEq (comparePair f f)) (same-pair f)))
     ∙ keep-all other (sortBy comparePair rest) (λ g h. differs g (of-sorted comparePair g rest h))
   where
     other : Facet → Bool
     other g = not (isEq (comparePair f g))
-
-    doubly : (b : Bool) → T b → T (not (not b))
-    doubly true t = tt
-    doubly false t = absurd t
 
     differs : (g : Facet) → Mem g rest → T (not (isEq (comparePair f g)))
     differs g h = go (isEq (comparePair f g)) refl
@@ -96,10 +92,6 @@ extends-self t item z = record {
 
 -- a list below a child: `next` is what makes the joined facet the one that may be taken next
 module _ (t : Table) (item : Item) (f : Facet) (mark : ℕ) (j : Joins t item f) (higher : item .mark ≤ mark) (e : List Facet) (x : Extends t (joined item mark f) e) where
-  unfold-list : joined item mark f .list ≡ item .list ++ (f ∷ [])
-  unfolding joined
-  unfold-list = refl
-
   -- an item of the rest joins the item too, and has another orbit than f
   later : (g : Facet) → Mem g (x .rest) → Joins t item g × (g .0 ≡ f .0 → ⊥)
   unfolding joined

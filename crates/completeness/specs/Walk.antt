@@ -2,8 +2,8 @@
 -- Leans on Tree, Facets and Verdicts; nothing here knows how many ranks there are.
 use mathlib.Core.Path.{_≡_, refl, sym, ap, _∙_, subst}
 use mathlib.Core.Logic.{_⊎_, inl, inr}
-use mathlib.Core.Bool.{Bool, true, false, cond, not, _&&_, _||_}
-use mathlib.Core.List.{List, [], _∷_, _++_, map, flatMap, reverseAux, append-assoc, append-nil, List·Memᴰ}
+use mathlib.Core.Bool.{Bool, true, false, not, _||_}
+use mathlib.Core.List.{List, [], _∷_, _++_, flatMap, reverseAux, append-assoc, append-nil, List·Memᴰ}
 use mathlib.Core.Option.{Option, some, none}
 use Prim.Native.Nat.{ℕ, zero, suc, _+_, _-_, _≤_, _<_, max}
 use native.Mathlib.Omega.{arith}
@@ -13,9 +13,9 @@ use lib.Seq.{take-nil}
 use Rattle.definitions.specs.Lists.{anyOf, keep, countFrom}
 use Rattle.definitions.specs.Outcome.{Outcome, refused, answered, refuseIf}
 use Rattle.definitions.specs.Search.{Table, Facet, Item, Verdict, over, closed, openAt, totals, judge, allFacets, starts, usesOrbit, mayJoin, joined, onesAt, openNext, closedNext, putIn, Found, EntryLimits, limitReached, emit, emitIf, examine, search}
-use Rattle.laws.specs.Bools.{true→holds, false→fails, both, first, second, either, neither, left-of, right-of, apart}
-use Rattle.laws.specs.Lists.{Mem, here, there, in-map, of-map, in-flatMap, of-flatMap, in-keep, kept, keep-less, in-count, in-replicate, replicate-some}
-use Rattle.completeness.specs.Tree.{yield, yields-cons, induct}
+use Rattle.laws.specs.Bools.{true→holds, false→fails, both, first, second, either, left-of, right-of, not-not}
+use Rattle.laws.specs.Lists.{Mem, of-map, of-flatMap, in-keep, kept, keep-less, in-count, in-replicate, replicate-some}
+use Rattle.completeness.specs.Tree.{yield, yields-cons}
 use Rattle.completeness.specs.Facets.{orbit-below}
 
 -- ---- the orbits that a list uses
@@ -157,11 +157,7 @@ joined-less t item f mark j =
     (λ o h. unused-before o (item .list) f h .0)
     (let k = orbit-below t f (j .0) in in-count 0 (length (t .shares)) (f .0) (omega arith) (omega arith))
     (j .2)
-    (holds-not (usesOrbit (f .0) (item .list ++ (f ∷ []))) (uses-last (item .list) f))
-  where
-    holds-not : (b : Bool) → T b → T (not (not b))
-    holds-not true t = tt
-    holds-not false t = absurd t
+    (not-not (usesOrbit (f .0) (item .list ++ (f ∷ []))) (uses-last (item .list) f))
 
 pub falls : (extended : Bool) (t : Table) (item j : Item) → Mem j (children extended t item) → unused t j < unused t item
 unfolding children

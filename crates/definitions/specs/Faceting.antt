@@ -1,18 +1,17 @@
 -- The call, by recursion on the rank: docs/SPECIFICATION.md, chapter 9. In the Rust it is `faceting_subdim`. It
 -- ties Orbits, Recursion, Search and Figures together.
-use mathlib.Core.Bool.{Bool, true, false}
-use mathlib.Core.List.{List, [], _∷_, map, flatMap}
+use mathlib.Core.List.{List, [], map, flatMap}
 use Prim.Native.Nat.{ℕ, zero, suc, Ordering}
 use lib.Dec.{ltb}
 use lib.ListN.{length, getD}
-use Rattle.definitions.specs.Lists.{comparePairs, sortBy}
-use Rattle.definitions.specs.Outcome.{Outcome, refused, answered, andThen, refuseIf}
+use Rattle.definitions.specs.Lists.{comparePair, comparePairs, sortBy}
+use Rattle.definitions.specs.Outcome.{Outcome, answered, andThen, refuseIf}
 use Rattle.definitions.specs.Vectors.{Vec}
 use Rattle.definitions.specs.Subspace.{Subspace, flatten}
 use Rattle.definitions.specs.Orbits.{Row, Orbit, image, hyperplaneOrbits}
 use Rattle.definitions.specs.Figures.{Figure, moveEnds, figureOf, partsOf, labelIrc}
 use Rattle.definitions.specs.Search.{Facet, Table, EntryLimits, Found, search}
-use Rattle.definitions.specs.Recursion.{Rules, Bounds, Entry, Answer, Call, Inner, InnerCalls, edgeCall, innerCall, innerCalls, moveSorted, tableOf}
+use Rattle.definitions.specs.Recursion.{Rules, Entry, Answer, Call, Inner, InnerCalls, edgeCall, innerCall, innerCalls, moveSorted, tableOf}
 
 -- [9.1] What a call above rank 2 has before its search: its rank − 3, its number of points and its rows, its inner
 -- calls, and what is left of the budget.
@@ -27,15 +26,18 @@ pub record Prepared : Type 0 where
 unfoldable pub orbitsOf : ℕ → Rules → Subspace → List Vec → List Row → List Orbit
 orbitsOf more rules plane points rows = hyperplaneOrbits (rules .tolerance) (rules .lengths) more points (map (flatten plane) points) rows
 
--- [9.1] A call up to its search: all orbits found, or 13, and the inner calls made. `call` is the call of the rank
--- below.
-unfoldable pub prepare : ℕ → Rules → Call → Subspace → List Vec → List Row → ℕ → Outcome Prepared
-prepare more rules call plane points rows budget =
-    let flat = map (flatten plane) points in
-    let orbits = orbitsOf more rules plane points rows in
+-- [9.1] From the orbits on: not more than the bound, or 13, and the inner calls made. `inner` makes one of them.
+unfoldable pub prepareFrom : List Orbit → (Orbit → ℕ → Outcome Inner) → ℕ → Rules → ℕ → List Row → ℕ → Outcome Prepared
+prepareFrom orbits inner more rules n rows budget =
     refuseIf (ltb (rules .bounds .orbits) (length orbits)) 13 (λ u.
-    andThen (innerCalls (innerCall (suc more) rules call flat rows) (rules .bounds .facets) orbits 0 budget) (λ (done : InnerCalls).
-    answered (record { more = more; points = length points; rows = rows; inner = done .calls; left = done .left })))
+    andThen (innerCalls inner (rules .bounds .facets) orbits 0 budget) (λ (done : InnerCalls).
+    answered (record { more = more; points = n; rows = rows; inner = done .calls; left = done .left })))
+
+-- [9.1] A call up to its search: its orbits are found and the inner calls made. `call` is the call of the rank below.
+unfoldable pub prepare : ℕ → Rules → Call → Subspace → List Vec → List Row → ℕ → Outcome Prepared
+prepare more rules call plane points rows =
+    let inner = innerCall (suc more) rules call (map (flatten plane) points) rows in
+    prepareFrom (orbitsOf more rules plane points rows) inner more rules (length points) rows
 
 -- [9.1] the table that the call searches
 unfoldable pub tableFor : Prepared → Table
@@ -95,7 +97,7 @@ finish p found =
       counts = map (λ (i : Inner). i .orbit .count) (p .inner);
       entries = entries;
       possible = map possibleFacets (p .inner);
-      compounds = labelIrc (map (λ (e : Entry). e .list) entries);
+      compounds = labelIrc comparePair (map (λ (e : Entry). e .list) entries);
       left = found .left;
     }
 
@@ -103,10 +105,14 @@ finish p found =
 unfoldable pub searchFrom : Rules → Prepared → Outcome Found
 searchFrom rules p = search (tableFor p) (entryLimits rules) (p .left)
 
+-- [9.1] from the inner calls on: the search and the answer
+unfoldable pub answerFrom : Rules → Outcome Prepared → Outcome Answer
+answerFrom rules prepared = andThen prepared (λ (p : Prepared).
+    andThen (searchFrom rules p) (λ (found : Found). answered (finish p found)))
+
 -- [9.1] [1.2] The call of rank 2 + n: rank 2 looks at its rows, and any other rank makes its inner calls one rank
 -- lower.
 unfoldable pub faceting : ℕ → Rules → Call
 faceting zero rules = edgeCall
 faceting (suc more) rules = λ plane points rows budget.
-    andThen (prepare more rules (faceting more rules) plane points rows budget) (λ (p : Prepared).
-    andThen (searchFrom rules p) (λ (found : Found). answered (finish p found)))
+    answerFrom rules (prepare more rules (faceting more rules) plane points rows budget)

@@ -1,13 +1,13 @@
 -- Figures and their order, the figure of facets, splitting, compounds: docs/SPECIFICATION.md, chapter 8. Leans on
 -- Lists alone.
 -- A figure is the list of its ranks, a rank the list of its elements, an element the list of its subs.
-use mathlib.Core.Bool.{Bool, true, false, cond, not, _&&_}
+use mathlib.Core.Bool.{Bool, false, cond, not, _&&_}
 use mathlib.Core.List.{List, [], _∷_, _++_, map, flatMap}
 use mathlib.Core.Option.{Option, some, none}
 use Prim.Native.Nat.{ℕ, zero, suc, _*_, Ordering, Ordering·lt, Ordering·eq, Ordering·gt}
 use lib.Dec.{ltb, eqb, isEq}
 use lib.ListN.{length, getD, drop, replicate}
-use Rattle.definitions.specs.Lists.{Pair, isGt, compareList, compareNats, comparePair, comparePairs, sortBy, sortNats, placeOf, fresh, mapAt, countFrom}
+use Rattle.definitions.specs.Lists.{Pair, isGt, compareList, compareNats, sortBy, sortNats, placeOf, fresh, countFrom}
 
 -- [8.1] a rank: a list of elements, each the list of its subs
 abbrev pub Elements : Type 0
@@ -111,54 +111,71 @@ splitQueue (suc steps) compounds (a ∷ queue) = elim (componentsOf compounds a)
 unfoldable pub partsOf : List Compound → ℕ → ℕ → List ℕ
 partsOf compounds items a = splitQueue (2 * items) compounds (a ∷ [])
 
--- ---- `label_irc`
+-- ---- the compound map
 
 -- [8.7] an item in front of the rest, where there is one
-unfoldable pub consIn : Pair → Option (List Pair) → Option (List Pair)
+unfoldable pub consIn : {A : Type 0} → A → Option (List A) → Option (List A)
 consIn x none = none
 consIn x (some xs) = some (x ∷ xs)
 
--- [8.7] The walk of the second list through the first: an item below the next one sought is kept over, an equal one
--- is used up with it, one above ends the walk. The value is the rest.
-unfoldable pub walk : List Pair → List Pair → Option (List Pair)
-walk [] [] = some []
-walk [] (y ∷ ys) = none
-walk (x ∷ xs) [] = some (x ∷ xs)
-walk (x ∷ xs) (y ∷ ys) = elim (comparePair x y) [
-  | Ordering·lt ↦ consIn x (walk xs (y ∷ ys))
-  | Ordering·eq ↦ walk xs ys
-  | Ordering·gt ↦ none
-]
+-- [8.8] b and c, where there is a c
+unfoldable pub withSecond : ℕ → Option ℕ → Option Pair
+withSecond b none = none
+withSecond b (some c) = some (b, c)
 
--- [8.7] b's first item is above a's
-unfoldable pub firstAbove : List Pair → List Pair → Bool
-firstAbove [] a = false
-firstAbove (y ∷ ys) [] = false
-firstAbove (y ∷ ys) (x ∷ xs) = isGt (comparePair y x)
+-- [8.8] the triple of entry a, where it has a label
+unfoldable pub compoundAt : ℕ → Option Pair → List Compound
+compoundAt a none = []
+compoundAt a (some p) = record { whole = a; first = p .0; second = p .1 } ∷ []
 
--- [8.7] the rest of a, where b is found inside it
-unfoldable pub foundInside : List Pair → List Pair → Option (List Pair)
-foundInside a b = cond (ltb (length b) (length a) && not (firstAbove b a)) (walk a b) none
+-- [8.8] the triples of the entries from a on, by their labels
+unfoldable pub compoundsFrom : ℕ → List (Option Pair) → List Compound
+compoundsFrom a [] = []
+compoundsFrom a (label ∷ labels) = compoundAt a label ++ compoundsFrom (suc a) labels
 
--- [8.8] the place of the first list that equals this one, counted from c
-unfoldable pub seek : List Pair → List (List Pair) → ℕ → Option ℕ
-seek items [] c = none
-seek items (l ∷ ls) c = let later = seek items ls (suc c) in cond (isEq (comparePairs items l)) (some c) later
+-- ---- `label_irc`: lists of items of any kind, in the order that `c` gives
 
--- [8.8] a triple, where there is a second component
-unfoldable pub compoundOf : ℕ → ℕ → Option ℕ → List Compound
-compoundOf a b none = []
-compoundOf a b (some c) = record { whole = a; first = b; second = c } ∷ []
+module _ {A : Type 0} (c : A → A → Ordering) where
+  -- [8.7] The walk of the second list through the first: an item below the next one sought is kept over, an equal one
+  -- is used up with it, one above ends the walk. The value is the rest.
+  unfoldable pub walk : List A → List A → Option (List A)
+  walk [] [] = some []
+  walk [] (y ∷ ys) = none
+  walk (x ∷ xs) [] = some (x ∷ xs)
+  walk (x ∷ xs) (y ∷ ys) = elim (c x y) [
+    | Ordering·lt ↦ consIn x (walk xs (y ∷ ys))
+    | Ordering·eq ↦ walk xs ys
+    | Ordering·gt ↦ none
+  ]
 
--- [8.8] The first list found inside a decides: with a second component behind it there is a triple, without one
--- there is none. The lists are those from place b on.
-unfoldable pub labelFrom : ℕ → List Pair → List (List Pair) → ℕ → List Compound
-labelFrom a items [] b = []
-labelFrom a items (l ∷ ls) b = elim (foundInside items l) [
-  | none ↦ labelFrom a items ls (suc b)
-  | some rest ↦ compoundOf a b (seek rest ls (suc b))
-]
+  -- [8.7] b's first item is above a's
+  unfoldable pub firstAbove : List A → List A → Bool
+  firstAbove [] a = false
+  firstAbove (y ∷ ys) [] = false
+  firstAbove (y ∷ ys) (x ∷ xs) = isGt (c y x)
 
--- [8.8] `label_irc`: the compounds among sorted lists, ascending
-unfoldable pub labelIrc : List (List Pair) → List Compound
-labelIrc lists = flatMap (λ (cs : List Compound). cs) (mapAt (λ a items. labelFrom a items lists 0) 0 lists)
+  -- [8.7] the rest of a, where b is found inside it
+  unfoldable pub foundInside : List A → List A → Option (List A)
+  foundInside a b = cond (ltb (length b) (length a) && not (firstAbove b a)) (walk a b) none
+
+  -- [8.8] the place of the first list that equals this one, counted from k
+  unfoldable pub seek : List A → List (List A) → ℕ → Option ℕ
+  seek items [] k = none
+  seek items (l ∷ ls) k = let later = seek items ls (suc k) in cond (isEq (compareList c items l)) (some k) later
+
+  -- [8.8] The first list found inside these items decides: with a second component behind it there is a label, without
+  -- one there is none. The lists are those from place b on.
+  unfoldable pub labelFrom : List A → List (List A) → ℕ → Option Pair
+  labelFrom items [] b = none
+  labelFrom items (l ∷ ls) b = elim (foundInside items l) [
+    | none ↦ labelFrom items ls (suc b)
+    | some rest ↦ withSecond b (seek rest ls (suc b))
+  ]
+
+  -- [8.8] for each list its label: the places of the two that it is made of
+  unfoldable pub labelsOf : List (List A) → List (Option Pair)
+  labelsOf lists = map (λ (items : List A). labelFrom items lists 0) lists
+
+  -- [8.8] `label_irc`: the compounds among sorted lists, ascending
+  unfoldable pub labelIrc : List (List A) → List Compound
+  labelIrc lists = compoundsFrom 0 (labelsOf lists)

@@ -13,6 +13,7 @@ pub mod Job
 pub mod Demands
 pub mod Symmetry
 pub mod Open
+pub mod Labels
 pub mod Examples
 pub mod Roots
 pub mod KnownJobs

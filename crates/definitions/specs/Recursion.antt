@@ -1,15 +1,15 @@
 -- The recursion on the rank: docs/SPECIFICATION.md, chapter 6. What a call takes and gives, rank 2, the inner
 -- calls, ridge orbits and shares. The call itself, which also searches and splits, is in Faceting.
 -- Leans on Orbits, Figures and Search.
-use mathlib.Core.Bool.{Bool, true, false, cond, not}
+use mathlib.Core.Bool.{Bool, cond, not}
 use mathlib.Core.List.{List, [], _∷_, _++_, map, zipWith}
 use mathlib.Core.Option.{Option, some, none}
-use Prim.Native.Nat.{ℕ, zero, suc, _+_, _*_, _/_}
+use Prim.Native.Nat.{ℕ, _+_, _*_, _/_}
 use lib.Dec.{ltb, eqb, isEq}
 use lib.ListN.{length, getD}
 use lib.Ieee.{Float}
 use Rattle.definitions.specs.Lists.{Pair, compareNats, anyOf, keep, fresh, placeOf, mapWith}
-use Rattle.definitions.specs.Outcome.{Outcome, refused, answered, andThen, refuseIf}
+use Rattle.definitions.specs.Outcome.{Outcome, answered, andThen, refuseIf}
 use Rattle.definitions.specs.Vectors.{Vec}
 use Rattle.definitions.specs.Subspace.{Subspace, fromPoints}
 use Rattle.definitions.specs.Orbits.{Row, Limits, Orbit, image, pointAt, setImage}
@@ -99,14 +99,18 @@ rowWithin vertices row = map (λ (v : ℕ). placeOf (eqb (image row v)) vertices
 unfoldable pub rowsWithin : List ℕ → List Row → List Row
 rowsWithin vertices rows = map (rowWithin vertices) (keep (keepsSet vertices) rows)
 
--- [6.4] The plane of an orbit's first set, or 14, and the call on that set. `wanted` is rank − 2, `call` the call
+-- [6.4] The call on an orbit's first set, with its plane and its points, or 14. `wanted` is rank − 2, `call` the call
 -- of rank − 1.
-unfoldable pub innerCall : ℕ → Rules → Call → List Vec → List Row → Orbit → ℕ → Outcome Inner
-innerCall wanted rules call flat rows orbit budget =
-    let points = map (pointAt flat) (orbit .vertices) in
-    let plane = fromPoints (rules .tolerance) points in
+unfoldable pub callOnSet : ℕ → Call → List Row → Orbit → Subspace → List Vec → ℕ → Outcome Inner
+callOnSet wanted call rows orbit plane points budget =
     refuseIf (not (eqb (length (plane .basis)) wanted)) 14 (λ u.
     andThen (call plane points (rowsWithin (orbit .vertices) rows) budget) (λ (a : Answer). answered (record { orbit = orbit; answer = a })))
+
+-- [6.4] the points of that set, and the plane through them
+unfoldable pub innerCall : ℕ → Rules → Call → List Vec → List Row → Orbit → ℕ → Outcome Inner
+innerCall wanted rules call flat rows orbit =
+    let points = map (pointAt flat) (orbit .vertices) in
+    callOnSet wanted call rows orbit (fromPoints (rules .tolerance) points) points
 
 -- [6.6] the inner calls and what they left of the budget
 pub record InnerCalls : Type 0 where

@@ -3,12 +3,12 @@
 use mathlib.Core.Path.{_≡_, refl, sym, ap, _∙_, subst}
 use mathlib.Core.List.{List, [], map, flatMap, map-map}
 use mathlib.Core.Option.{Option}
-use Prim.Native.Nat.{ℕ, _≤_}
+use Prim.Native.Nat.{ℕ, _≤_, _<_, compare}
 use native.Mathlib.Omega.{arith}
 use lib.ListN.{length}
-use Rattle.definitions.specs.Lists.{Pair, compareNats, sortBy}
+use Rattle.definitions.specs.Lists.{Pair, comparePair, comparePairs, compareNats, sortBy}
 use Rattle.definitions.specs.Orbits.{Row}
-use Rattle.definitions.specs.Figures.{labelIrc}
+use Rattle.definitions.specs.Figures.{labelIrc, labelsOf, compoundsFrom}
 use Rattle.definitions.specs.Search.{Facet, Found}
 use Rattle.definitions.specs.Recursion.{Entry}
 use Rattle.definitions.specs.Faceting.{compareEntries}
@@ -17,8 +17,9 @@ use Rattle.laws.specs.Pairs.{Pairs}
 use Rattle.laws.specs.Sorting.{byKey, sort-map, of-sorted}
 use Rattle.laws.specs.Merging.{sort-same}
 use Rattle.laws.specs.Places.{map-same, map-self}
+use Rattle.laws.specs.Walks.{compare-numbered, labels-numbered}
 use Rattle.completeness.specs.Taken.{OtherOrbit}
-use Rattle.order.specs.Numbers.{AllBelow, compare-numbered, labels-numbered, labelsOf, compoundsFrom}
+use Rattle.order.specs.Numbers.{AllBelow}
 use Rattle.splitting.specs.Splitting.{splitList}
 use Rattle.shapes.specs.Kept.{Kept, keptParts, keptFigure, keptPossible, keptEntry, keptAnswer}
 use Rattle.shelf.specs.declared.Shelf.{Shelf}
@@ -49,8 +50,8 @@ module _ (more n : ℕ) (rows : List Row) (kept : List Kept) (split : List ℕ �
   one-entry l m = ap (λ (parts : List Facet). record { list = parts; figure = keptFigure more n rows kept parts }) (sym (splits l m))
 
   same-order : (x : List ℕ) → Mem x (map split emitted) → (y : List ℕ) → Mem y (map split emitted) → byKey compareEntries entry x y ≡ compareNats x y
-  unfolding compareEntries entryLeft
-  same-order x i y j = compare-numbered to (facetCount kept) (ordered kept) x y (below x i) (below y j)
+  unfolding compareEntries comparePairs compareNats entryLeft
+  same-order x i y j = compare-numbered compare comparePair to (λ (n : ℕ). n < facetCount kept) (ordered kept) x y (below x i) (below y j)
 
   entries-are : sortBy compareEntries (map (keptEntry more n rows kept) (map (map to) emitted)) ≡ map entry lists
   entries-are =
@@ -65,10 +66,11 @@ module _ (more n : ℕ) (rows : List Row) (kept : List Kept) (split : List ℕ �
   unfolding entryLeft
   entry-lists = map-map (λ (e : Entry). e .list) entry lists
 
-  compounds-are : labelIrc (map (λ (e : Entry). e .list) (map entry lists)) ≡ compoundsFrom 0 (labelsOf lists)
+  compounds-are : labelIrc comparePair (map (λ (e : Entry). e .list) (map entry lists)) ≡ compoundsFrom 0 (labelsOf compare lists)
+  unfolding labelIrc
   compounds-are =
-      ap labelIrc entry-lists
-      ∙ labels-numbered to (facetCount kept) (ordered kept) lists (λ l m. below l (of-sorted compareNats l (map split emitted) m))
+      ap (labelIrc comparePair) entry-lists
+      ∙ labels-numbered compare comparePair to (λ (n : ℕ). n < facetCount kept) (ordered kept) lists (λ l m. below l (of-sorted compareNats l (map split emitted) m))
 
   pub left-answer : (found : Found) → found .lists ≡ map (map to) emitted → (shelf : Shelf) (from at bytes : ℕ) (s t : List ℕ) (level : Level)
       → Listed shelf from at bytes (map split emitted) s level t → answerLeft more n rows kept level t (found .left) ≡ keptAnswer more n rows kept found
@@ -76,8 +78,8 @@ module _ (more n : ℕ) (rows : List Row) (kept : List Kept) (split : List ℕ �
   left-answer found e shelf from at bytes s t level l =
       let entries : map entry (listsLeft level t) ≡ sortBy compareEntries (map (keptEntry more n rows kept) (found .lists)) =
       ap (map entry) (l .lists-are) ∙ (sym entries-are ∙ ap (λ (ls : List (List Facet)). sortBy compareEntries (map (keptEntry more n rows kept) ls)) (sym e)) in
-      let compounds : compoundsFrom 0 _ ≡ labelIrc (map (λ (x : Entry). x .list) (sortBy compareEntries (map (keptEntry more n rows kept) (found .lists)))) =
-      ap (compoundsFrom 0) (l .labels-are) ∙ (sym compounds-are ∙ ap (λ (es : List Entry). labelIrc (map (λ (x : Entry). x .list) es)) (ap (map entry) (sym (l .lists-are)) ∙ entries)) in
+      let compounds : compoundsFrom 0 _ ≡ labelIrc comparePair (map (λ (x : Entry). x .list) (sortBy compareEntries (map (keptEntry more n rows kept) (found .lists)))) =
+      ap (compoundsFrom 0) (l .labels-are) ∙ (sym compounds-are ∙ ap (λ (es : List Entry). labelIrc comparePair (map (λ (x : Entry). x .list) es)) (ap (map entry) (sym (l .lists-are)) ∙ entries)) in
       λ i. record {
         counts = map (λ (k : Kept). k .orbit .count) kept;
         entries = entries i;

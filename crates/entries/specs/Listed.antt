@@ -2,18 +2,19 @@
 -- front keeps what a call has of its inner calls, such an area is what the call leaves. Leans on the shelf, and on areas, their order and labels.
 use mathlib.Core.Path.{_≡_, refl, sym, ap, _∙_, subst}
 use mathlib.Core.List.{List}
-use Prim.Native.Nat.{ℕ, _+_, _*_, _≤_}
+use Prim.Native.Nat.{ℕ, _+_, _*_, _≤_, compare}
 use native.Mathlib.Omega.{arith}
 use lib.ListN.{length, take, drop, length-drop}
 use lib.Seq.{sets, length-sets, take-take}
 use Rattle.definitions.specs.Lists.{compareNats, sortBy}
 use Rattle.definitions.specs.Orbits.{Row}
+use Rattle.definitions.specs.Figures.{labelsOf}
 use Rattle.laws.specs.Lists.{Mem}
 use Rattle.laws.specs.Sorting.{of-sorted}
 use Rattle.laws.specs.Segments.{part, take-sets-le}
 use Rattle.pool.specs.Pool.{count, closedLists, closed-length, Sound}
 use Rattle.order.specs.Areas.{HoldsOrder, listsIn, lists-length, lists-kept, holds-kept}
-use Rattle.order.specs.Numbers.{AllBelow, AllAscending, labelsOf}
+use Rattle.order.specs.Numbers.{AllBelow, AllAscending}
 use Rattle.labels.specs.Labels.{labelBytes, labelsIn, labels-read}
 use Rattle.order.specs.Sorted.{ordered, ordered-length, ordered-holds, ordered-ascends, sorted-lists}
 use Rattle.shapes.specs.Kept.{Kept}
@@ -35,7 +36,7 @@ inOrder bytes s = ordered 1024 bytes s 0 (many bytes s)
 
 -- the labels of the lists in that order, and the area with them
 unfoldable pub labelRun : ℕ → List ℕ → List ℕ
-labelRun bytes s = labelBytes (labelsOf (listsIn 1024 bytes (many bytes s) (inOrder bytes s)))
+labelRun bytes s = labelBytes (labelsOf compare (listsIn 1024 bytes (many bytes s) (inOrder bytes s)))
 
 unfoldable pub labelled : ℕ → List ℕ → List ℕ
 labelled bytes s = sets (inOrder bytes s) (bytes + 2048) (labelRun bytes s)
@@ -85,16 +86,16 @@ module _ (bytes : ℕ) (s : List ℕ) (p : Pool bytes s) where
   pub labelled-lists : listsIn 1024 bytes n (labelled bytes s) ≡ sortBy compareNats (closedLists 2 1024 (take bytes s))
   labelled-lists = lists-kept 1024 bytes n (inOrder bytes s) (labelled bytes s) same-front (labelled-length ∙ sym order-length) ∙ order-lists
 
-  pub labelled-labels : labelsIn (bytes + 2048) n (labelled bytes s) ≡ labelsOf (sortBy compareNats (closedLists 2 1024 (take bytes s)))
+  pub labelled-labels : labelsIn (bytes + 2048) n (labelled bytes s) ≡ labelsOf compare (sortBy compareNats (closedLists 2 1024 (take bytes s)))
   unfolding labelled labelRun
   labelled-labels =
       let f = few in
       let ls = listsIn 1024 bytes n (inOrder bytes s) in
       let m : length ls ≡ n = lists-length 1024 bytes n (inOrder bytes s) in
       let l = order-length in
-      ap (λ (k : ℕ). labelsIn (bytes + 2048) k (sets (inOrder bytes s) (bytes + 2048) (labelBytes (labelsOf ls)))) (sym m)
+      ap (λ (k : ℕ). labelsIn (bytes + 2048) k (sets (inOrder bytes s) (bytes + 2048) (labelBytes (labelsOf compare ls)))) (sym m)
       ∙ (labels-read (inOrder bytes s) (bytes + 2048) ls (omega (arith, p .room)) (omega arith)
-      ∙ ap labelsOf order-lists)
+      ∙ ap (labelsOf compare) order-lists)
 
   -- what `label_irc` is asked behind `sort_lists`, and what it leaves
   pub label-asked : (t : List ℕ) (lists : ℕ) → t ≡ inOrder bytes s → lists ≡ n
@@ -104,7 +105,7 @@ module _ (bytes : ℕ) (s : List ℕ) (p : Pool bytes s) where
       let l = order-length in
       rw (e, q) (order-holds, order-ascends, omega arith, omega arith, omega (arith, p .room))
 
-  pub label-left : (t u : List ℕ) (lists : ℕ) → t ≡ inOrder bytes s → lists ≡ n → u ≡ sets t (bytes + 2048) (labelBytes (labelsOf (listsIn 1024 bytes lists t))) → u ≡ labelled bytes s
+  pub label-left : (t u : List ℕ) (lists : ℕ) → t ≡ inOrder bytes s → lists ≡ n → u ≡ sets t (bytes + 2048) (labelBytes (labelsOf compare (listsIn 1024 bytes lists t))) → u ≡ labelled bytes s
   unfolding labelled labelRun
   label-left t u lists e q r = rw (e, q) at r
 
@@ -125,7 +126,7 @@ pub record Listed (shelf : Shelf) (from at bytes : ℕ) (lists : List (List ℕ)
   pub bytes-are : level .bytes ≡ bytes
   pub many-are : level .count ≡ length lists
   pub lists-are : listsLeft level t ≡ sortBy compareNats lists
-  pub labels-are : labelsIn (level .bytes + 2048) (level .count) (drop (level .lists) t) ≡ labelsOf (sortBy compareNats lists)
+  pub labels-are : labelsIn (level .bytes + 2048) (level .count) (drop (level .lists) t) ≡ labelsOf compare (sortBy compareNats lists)
   pub front : take from t ≡ take from s
   pub long : length t ≡ length s
   pub leaves : (more n : ℕ) (rows : List Row) (kept : List Kept) → Keeps n shelf kept s → Leaves more n rows kept level t

@@ -11,6 +11,7 @@ use Rattle.definitions.specs.Lists.{Pair}
 use Rattle.definitions.specs.Figures.{Compound, componentsOf, splitQueue, partsOf}
 use Rattle.definitions.specs.Search.{Facet}
 use Rattle.definitions.specs.Recursion.{Entry, Inner}
+use Rattle.laws.specs.Options.{some-equal, none-is-not-some}
 use Rattle.laws.specs.Lists.{Mem, here, of-map, of-flatMap, flatMap-same, in-map, member-at, map-at}
 use Rattle.laws.specs.Segments.{le-or-lt}
 use Rattle.laws.specs.Pairs.{Pairs, pairs-map, pairs-flatMap}
@@ -21,7 +22,7 @@ use Rattle.completeness.specs.Taken.{OtherOrbit}
 use Rattle.order.specs.Numbers.{ItemsBelow, AllBelow}
 use Rattle.splitting.specs.Splitting.{splitNats, splitList}
 use Rattle.splitting.specs.Parts.{Of, Matches, within, queue-numbered, lists-numbered, splitNats-below}
-use Rattle.shapes.specs.Compounds.{Composed, components-of, some-equal, none-is-not-some}
+use Rattle.shapes.specs.Compounds.{Composed, components-of}
 use Rattle.shapes.specs.LowRanks.{nothing-to-split}
 use Rattle.shapes.specs.Splitting.{parts-stable, parts-distinct}
 use Rattle.shapes.specs.SplitCalls.{SplitAnswer, listsOf}

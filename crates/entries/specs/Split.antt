@@ -3,11 +3,12 @@
 use mathlib.Core.Path.{_≡_, refl, sym, ap, _∙_, subst}
 use mathlib.Core.List.{List, [], _∷_, _++_, map, flatMap}
 use mathlib.Core.Option.{Option}
-use Prim.Native.Nat.{ℕ, _+_, _-_, _*_, _≤_, _<_}
+use Prim.Native.Nat.{ℕ, _+_, _-_, _*_, _≤_, _<_, compare}
 use native.Mathlib.Omega.{arith}
 use lib.ListN.{length, take, drop, length-append, length-drop, length-map}
 use lib.Seq.{paste, length-paste, take-paste, take-at, drop-at, take-add, take-take, take-append-le, length-take-le, take-all}
 use Rattle.definitions.specs.Lists.{Pair, compareNats, sortBy}
+use Rattle.definitions.specs.Figures.{labelsOf}
 use Rattle.laws.specs.Lists.{Mem, here, there}
 use Rattle.laws.specs.Places.{flatMap-map}
 use Rattle.laws.specs.Segments.{part, placed, part-take, part-part, part-length, part-placed, take-placed, placed-length}
@@ -15,7 +16,7 @@ use Rattle.words.specs.Words.{words, words-take}
 use Rattle.pool.specs.Pool.{count, base, closedLists, emptied, Sound, closed-length, emptied-sound, emptied-closed, emptied-opened, emptied-used, emptied-length}
 use Rattle.splitting.specs.declared.Layout.{Layout}
 use Rattle.labels.specs.Labels.{labelOf, labelsIn}
-use Rattle.order.specs.Numbers.{AllBelow, labelsOf}
+use Rattle.order.specs.Numbers.{AllBelow}
 use Rattle.splitting.specs.Splitting.{splitList, fillAll, fillAll-filled, Filled, PoolRoom, facetLabels, poolOf, restOf, partsIn}
 use Rattle.splitting.specs.Splitting as compounds
 use Rattle.shelf.specs.declared.Shelf.{Shelf}
@@ -269,7 +270,7 @@ module _ (shelf : Shelf) (from bytes : ℕ) (s : List ℕ) (r : Splits shelf fro
         bytes-are = l .bytes-are;
         many-are = l .many-are ∙ ap length split-closed;
         lists-are = l .lists-are ∙ ap (sortBy compareNats) split-closed;
-        labels-are = l .labels-are ∙ ap (λ (ls : List (List ℕ)). labelsOf (sortBy compareNats ls)) split-closed;
+        labels-are = l .labels-are ∙ ap (λ (ls : List (List ℕ)). labelsOf compare (sortBy compareNats ls)) split-closed;
         front = sym (take-take at to t (omega arith)) ∙ (ap (take at) (l .front) ∙ (take-take at to s2 (omega arith) ∙ front2));
         long = l .long ∙ long2;
         leaves = λ more n rows kept k. l .leaves more n rows kept (keeps-front n shelf kept s s2 front2 long2 k);

@@ -35,9 +35,9 @@ use Rattle.shelf.specs.declared.Shelf.{Shelf}
 use Rattle.calls.specs.Layouts.{shelfFor}
 use Rattle.calls.specs.declared.Called.{Called}
 use Rattle.keep.specs.Adding.{orbitAt}
-use Rattle.faceting.specs.State as state
-use Rattle.faceting.specs.Spaces.{Laid}
-use Rattle.faceting.specs.Says.{Site, Fitting, Turn, Says, SiteState, siteOrbits, siteOrbit, sitePoints, sitePlane, siteRows}
+use Rattle.inner_answers.specs.State as state
+use Rattle.inner_answers.specs.Spaces.{Laid}
+use Rattle.inner_answers.specs.Says.{Site, Fitting, Turn, Says, SiteState, siteOrbits, siteOrbit, sitePoints, sitePlane, siteRows}
 
 -- the lowest n bits tell which of the first n vertices a set has
 low-bits : (v n x : ℕ) → verticesFrom v n (x % 2 ^ n) ≡ verticesFrom v n x

@@ -21,11 +21,11 @@ use Rattle.calls.specs.Steps.{Reached, reached-all, call-thirteen, call-inner-r
 use Rattle.calls.specs.declared.Rules.{Rules}
 use Rattle.calls.specs.declared.Called.{Called}
 use Rattle.calls.specs.declared.Called.the-variants.{Refused, Ends, Left}
-use Rattle.faceting.specs.Spaces.{Laid}
-use Rattle.faceting.specs.State as state
-use Rattle.faceting.specs.Stocks.{Stock, Stocked, callRules}
-use Rattle.faceting.specs.Answers.{Searched, searched-refused, searched-answered}
-use Rattle.faceting.specs.Says.{Site, Says, SiteState, siteOrbits, siteWhole}
+use Rattle.inner_answers.specs.Spaces.{Laid}
+use Rattle.inner_answers.specs.State as state
+use Rattle.call_search.specs.Stocks.{Stock, Stocked, callRules}
+use Rattle.call_search.specs.Answers.{Searched, searched-refused, searched-answered}
+use Rattle.inner_answers.specs.Says.{Site, Says, SiteState, siteOrbits, siteWhole}
 
 module _ (more : ℕ) (rules : Rules) (plane : Subspace) (points : List Vec) (rows : List Row) (budget : ℕ) where
   abbrev pub site : Site

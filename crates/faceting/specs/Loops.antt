@@ -39,18 +39,18 @@ use Rattle.calls.specs.Layouts.{shelfThree, shelfFour, shelfFor, three-fits, fo
 use Rattle.calls.specs.declared.Rules.{Rules}
 use Rattle.calls.specs.declared.Called.{Called}
 use Rattle.calls.specs.declared.Called.the-variants.{Refused, Ends}
-use Rattle.keep.specs.Edges.{edgeAnswer}
+use Rattle.kept_edges.specs.Edges.{edgeAnswer}
 use Rattle.faceting.specs.declared.Next.{Next}
-use Rattle.faceting.specs.declared.Stored.{Stored}
-use Rattle.faceting.specs.declared.Stored.the-variants.{Kept as KeptStored}
+use Rattle.inner_answers.specs.declared.Stored.{Stored}
+use Rattle.inner_answers.specs.declared.Stored.the-variants.{Kept as KeptStored}
 use Rattle.faceting.specs.Asked.{Asked}
-use Rattle.faceting.specs.Spaces.{Laid}
-use Rattle.faceting.specs.Stocks.{Stock, Stocked, callRules}
-use Rattle.faceting.specs.Answers.{Searched}
-use Rattle.faceting.specs.Says.{Site, SiteState, siteOrbits, siteWhole, siteOrbit, sitePoints, sitePlane, siteRows, Says, Turn, Fitting}
-use Rattle.faceting.specs.Turns as turns
+use Rattle.inner_answers.specs.Spaces.{Laid}
+use Rattle.call_search.specs.Stocks.{Stock, Stocked, callRules}
+use Rattle.call_search.specs.Answers.{Searched}
+use Rattle.inner_answers.specs.Says.{Site, SiteState, siteOrbits, siteWhole, siteOrbit, sitePoints, sitePlane, siteRows, Says, Turn, Fitting}
+use Rattle.inner_answers.specs.Turns as turns
 use Rattle.faceting.specs.Begins as begins
-use Rattle.faceting.specs.Stored.{OneMore}
+use Rattle.inner_answers.specs.Stored.{OneMore}
 use Rattle.faceting.specs.Starts.{found-too-many, found-few, found-count, loop-starts, shelf-empty}
 use Rattle.faceting.specs.Finishes as finishes
 use Rattle.faceting.specs.Finishes.{site}

@@ -24,8 +24,8 @@ use Rattle.shelf.specs.declared.Shelf.{Shelf}
 use Rattle.calls.specs.Layouts.{shelfThree, shelfFour, shelfFor}
 use Rattle.keep.specs.Storing.{beside-take}
 use Rattle.keep.specs.Stocked.{ShelfWritten}
-use Rattle.faceting.specs.State as state
-use Rattle.faceting.specs.Says.{Site, SiteState, siteOrbits}
+use Rattle.inner_answers.specs.State as state
+use Rattle.inner_answers.specs.Says.{Site, SiteState, siteOrbits}
 
 module _ (bound : ℕ) (orbits : List Orbit) (n : ℕ) (s : List ℕ) where
   -- refusal 13: there are more orbits than the bound

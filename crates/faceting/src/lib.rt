@@ -1,11 +1,11 @@
-// The call above rank 2 [9.1]: what an inner call answers is kept, and from what is kept comes the answer. All in the workspace.
+// The call above rank 2 [9.1]: what an inner call answers is kept, and from what is kept comes the answer. All in the
+// workspace.
 ghost use mathlib.Core.Path.{_≡_};
 ghost use Prim.Native.Nat.{ℕ, _*_, _-_, _^_, _≤_, _<_};
 ghost use lib.ListN.{length};
-ghost use Rattle.faceting.specs.Says.{Site, Turn, Says};
+ghost use Rattle.inner_answers.specs.Says.{Says};
 ghost use Rattle.faceting.specs.Asked.{Asked};
-ghost use Rattle.faceting.specs.Stored.{Storing};
-ghost use mathlib.Core.List.{List, [], map};
+ghost use mathlib.Core.List.{[], map};
 ghost use Rattle.definitions.specs.Subspace.{fromPoints};
 ghost use Rattle.definitions.specs.Orbits.{pointAt, hyperplaneOrbits};
 ghost use Rattle.definitions.specs.Recursion.{rowsWithin};
@@ -17,92 +17,15 @@ ghost use Rattle.shelf.specs.Keeps.{ShelfFits, Keeps, Ridges};
 ghost use Rattle.calls.specs.Layouts.{shelfFor};
 ghost use Rattle.sets.specs.Refitting.{Refitted};
 ghost use Rattle.stabilizers.specs.Permutations.{Permutations};
-ghost use Rattle.calls.specs.declared.Called.the-variants.{Ends, Left};
-ghost use Rattle.faceting.specs.Desks.{deskFor};
-ghost use Rattle.faceting.specs.Stocks.{Stock, Stocked, callRules};
-ghost use Rattle.faceting.specs.Answers.{Searched};
-ghost use Rattle.faceting.specs.Searched.{ListsReady, EntriesListed};
+ghost use Rattle.call_search.specs.Stocks.{callRules};
 use calls::Called;
 use calls::Rules;
-use facets::Areas;
+use inner_answers::Stored;
 use orbits::Answer;
-use ridges::Desk;
-use search::Outcome;
 use sets::Fit;
 use sets::SetPlane;
-use shelf::Level;
-use shelf::Shelf;
 use space::Points;
 use space::Subspace;
-
-// Where the tables and the search lie behind a shelf of rank 3, or of rank 4. At rank 3 an orbit has at most two ridges, and there are at most 20 ridge orbits and 190 orbits; at rank 4 at most
-// 190 ridges of an orbit, 190 ridge orbits and 256 orbits. The emitted lists have room for 1,024.
-fn desk_for(rank: usize) -> Desk
-    ensures { λ r. ⌜ r ≡ deskFor rank ⌝ }
-{
-    if rank == 3 {
-        return Desk {
-            numbers: 20236,
-            shares: 22296,
-            touched: 34596,
-            ones: 79664,
-            frames: 84532,
-            totals: 88644,
-            lists: 89090,
-            end: 482318,
-        };
-    }
-    Desk {
-        numbers: 990244,
-        shares: 1088560,
-        touched: 1870908,
-        ones: 2264136,
-        frames: 2654028,
-        totals: 2658140,
-        lists: 2658586,
-        end: 3186982,
-    }
-}
-
-// The call's entries from the lists that its search emitted. At rank 3 no facet is a compound, and the lists are only put in order.
-fn list_entries(ws: &mut [u8], shelf: Shelf, rank: usize, areas: Areas) -> Level
-    requires { ⌜ ListsReady shelf rank areas (now ws) ⌝ }
-    ensures { λ r. ⌜ EntriesListed shelf rank areas (now (ws .entry)) r (now (ws .exit)) ⌝ }
-{
-    let at = shelf.owners + areas.lists;
-    let bytes = areas.end - areas.lists;
-    if rank == 3 {
-        return entries::sort_entries(ws, shelf, at, bytes);
-    }
-    entries::split_entries(ws, shelf, at, bytes)
-}
-
-// The second half of a call: from what it keeps of its inner calls to its answer, or a refusal. The search is given the workspace from the owners on.
-fn search_call(
-    ws: &mut [u8],
-    shelf: Shelf,
-    rank: usize,
-    rows: &[u8],
-    m: usize,
-    rules: Rules,
-    left: u32,
-) -> Called
-    requires { ⌜ ((k : Stock) × Stocked k shelf rank (now rows) m rules left (now ws)) ⌝ }
-    ensures { λ r. ⌜ ((k : Stock) → Stocked k shelf rank (now (rows .entry)) m rules left (now (ws .entry)) → Searched k rules r (now (ws .exit))) ⌝ }
-{
-    let owners = shelf.owners;
-    let limit = rules.limit;
-    let desk = desk_for(rank);
-    let areas = ridges::lay_tables(rows, m, shelf, desk, ws);
-    let outcome = search::search(&mut ws[owners..], areas, limit, left);
-    match outcome {
-        Outcome::Refused(number) => Called::Refused(number),
-        Outcome::Found(_, rest) => {
-            let level = list_entries(ws, shelf, rank, areas);
-            Called::Left(level, rest)
-        }
-    }
-}
 
 // ---- the inner calls
 
@@ -174,76 +97,6 @@ fn next_call(
     }
 }
 
-// What became of an inner call: a refusal, or the shelf with one orbit more and what is left of the budget.
-pub enum Stored {
-    Refused(u8),
-    Kept(Shelf, u32),
-}
-
-// The edge of an inner call of rank 2 is kept, unless it is past the bound.
-fn keep_ends(
-    ws: &mut [u8],
-    shelf: Shelf,
-    n: usize,
-    swapped: bool,
-    rest: u32,
-    bound: usize,
-) -> Stored
-    requires { ⌜ ((g : Site) × (left : ℕ) × (rows : List ℕ) × (m : ℕ) × Turn g shelf left (shelf .orbits) (Ends swapped rest) rows m (now ws) × (n ≡ length (g .points)) × (bound ≡ g .rules .bounds .facets)) ⌝ }
-    ensures { λ r. ⌜ ((g : Site) (left : ℕ) (rows : List ℕ) (m : ℕ) → Turn g shelf left (shelf .orbits) (Ends swapped rest) rows m (now (ws .entry)) → n ≡ length (g .points) → bound ≡ g .rules .bounds .facets → Storing g shelf r (now (ws .exit))) ⌝ }
-{
-    let facets = shelf.facets;
-    if bound < facets + 1 {
-        return Stored::Refused(15);
-    }
-    let more = keep::keep_edge(ws, shelf, n, swapped);
-    Stored::Kept(more, rest)
-}
-
-// The entries of an inner call of rank 3, which stand behind the shelf, are kept, unless they are past the bound.
-fn keep_left(
-    ws: &mut [u8],
-    shelf: Shelf,
-    n: usize,
-    level: Level,
-    rest: u32,
-    rows: &[u8],
-    m: usize,
-    bound: usize,
-) -> Stored
-    requires { ⌜ ((g : Site) × (left : ℕ) × Turn g shelf left (shelf .orbits) (Left level rest) (now rows) m (now ws) × (n ≡ length (g .points)) × (bound ≡ g .rules .bounds .facets)) ⌝ }
-    ensures { λ r. ⌜ ((g : Site) (left : ℕ) → Turn g shelf left (shelf .orbits) (Left level rest) (now (rows .entry)) m (now (ws .entry)) → n ≡ length (g .points) → bound ≡ g .rules .bounds .facets → Storing g shelf r (now (ws .exit))) ⌝ }
-{
-    let facets = shelf.facets;
-    let count = level.count;
-    let end = shelf.end;
-    if bound < facets + count {
-        return Stored::Refused(15);
-    }
-    let more = keep::keep_polygons(ws, shelf, n, end, level, rows, m);
-    Stored::Kept(more, rest)
-}
-
-// What the inner call on the next orbit's set says: a refusal is passed on, and else its answer is kept.
-fn keep_inner(
-    ws: &mut [u8],
-    shelf: Shelf,
-    n: usize,
-    called: Called,
-    rows: &[u8],
-    m: usize,
-    bound: usize,
-) -> Stored
-    requires { ⌜ ((g : Site) × (left : ℕ) × Turn g shelf left (shelf .orbits) called (now rows) m (now ws) × (n ≡ length (g .points)) × (bound ≡ g .rules .bounds .facets)) ⌝ }
-    ensures { λ r. ⌜ ((g : Site) (left : ℕ) → Turn g shelf left (shelf .orbits) called (now (rows .entry)) m (now (ws .entry)) → n ≡ length (g .points) → bound ≡ g .rules .bounds .facets → Storing g shelf r (now (ws .exit))) ⌝ }
-{
-    match called {
-        Called::Refused(number) => Stored::Refused(number),
-        Called::Ends(swapped, rest) => keep_ends(ws, shelf, n, swapped, rest, bound),
-        Called::Left(level, rest) => keep_left(ws, shelf, n, level, rest, rows, m, bound),
-    }
-}
-
 // ---- the call
 
 // The call of every rank [9.1]. At rank 2 the rows alone answer. Above, the hyperplane orbits are found, each orbit's set is faceted in its own plane by the call itself at the rank below, behind the shelf,
@@ -291,7 +144,15 @@ pub fn faceting(
             left,
             &mut ws[behind..],
         );
-        let stored = keep_inner(ws, shelf, flat.n, called, &kept, next.m, rules.facets);
+        let stored = inner_answers::keep_inner(
+            ws,
+            shelf,
+            flat.n,
+            called,
+            &kept,
+            next.m,
+            rules.facets,
+        );
         match stored {
             Stored::Refused(number) => return Called::Refused(number),
             Stored::Kept(more, rest) => {
@@ -300,5 +161,5 @@ pub fn faceting(
             }
         }
     }
-    search_call(ws, shelf, rank, rows, m, rules, left)
+    call_search::search_call(ws, shelf, rank, rows, m, rules, left)
 }

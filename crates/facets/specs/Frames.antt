@@ -13,9 +13,9 @@ use Rattle.definitions.specs.Lists.{anyOf, keep, placeOf, mapAt, countFrom}
 use Rattle.definitions.specs.Outcome.{Outcome, refused, answered, refuseIf}
 use Rattle.definitions.specs.Search.{Table, Facet, Share, Item, Verdict, over, closed, openAt, totals, judge, allFacets, starts, usesOrbit, mayJoin, joined, onesAt, openNext, closedNext, putIn, Found, EntryLimits, limitReached, emit, emitIf, examine, search}
 use Rattle.laws.specs.Bools.{holds→true}
-use Rattle.laws.specs.Lists.{Mem, of-map, of-mapAt, in-replicate}
+use Rattle.laws.specs.Lists.{Mem, of-map, of-mapAt, in-replicate, keep-append}
 use Rattle.laws.specs.Pairs.{Pairs, pairs-flatMap, pairs-replicate}
-use Rattle.facets.specs.Kept.{reverse-last, keep-append, keep-one, keep-none, keep-and, keep-repeated, keep-above, stretch-last, stretch-none, map-last}
+use Rattle.facets.specs.Kept.{reverse-last, keep-one, keep-none, keep-and, keep-repeated, keep-above, stretch-last, stretch-none, map-last}
 
 -- the facets that a list may be joined by, whatever its mark and its orbits: those with a share 1 at a ridge orbit, once per such share, or all
 unfoldable pub candidates : Table → Option ℕ → List Facet

@@ -9,10 +9,10 @@ use lib.Dec.{T, T-not, not-T, nltb→le, ltb, eqb, lt→ltb, ltb→lt, eqb→eq}
 use lib.ListN.{length, getD}
 use Rattle.definitions.specs.Lists.{anyOf, placeOf}
 use Rattle.definitions.specs.Search.{Verdict, over, closed, openAt, judge}
+use Rattle.laws.specs.Merging.{place-is}
 use Rattle.laws.specs.Bools.{holds→true, true→holds, false→fails, fails→false}
 use Rattle.laws.specs.Lists.{any-of, any-witness, member-at, at-member}
 use Rattle.laws.specs.Segments.{le-or-lt}
-use Rattle.facets.specs.Kept.{place-is}
 
 -- ---- the scan for the lowest total of 1
 
@@ -37,12 +37,12 @@ module _ (l : List ℕ) (light : false ≡ anyOf (ltb 2) l) where
 
   pub judge-open : (i : ℕ) → i < length l → NoneOpen l i → getD l i 0 ≡ 1 → openAt i ≡ judge l
   judge-open i h before e =
-      judge-lowest i (place-is (eqb 1) 0 l i (omega arith) before (λ k. rw e tt)) true (holds→true (ltb i (length l)) (lt→ltb i (length l) h))
+      judge-lowest i (sym (place-is (eqb 1) 0 l i (omega arith) before (λ k. rw e tt))) true (holds→true (ltb i (length l)) (lt→ltb i (length l) h))
 
   pub judge-closed : (i : ℕ) → length l ≤ i → NoneOpen l i → closed ≡ judge l
   judge-closed i h before =
       let n = length l in
-      judge-lowest n (place-is (eqb 1) 0 l n (omega arith) (λ j k. before j (omega arith)) (λ k. absurd (omega arith))) false
+      judge-lowest n (sym (place-is (eqb 1) 0 l n (omega arith) (λ j k. before j (omega arith)) (λ k. absurd (omega arith)))) false
       (fails→false (ltb n n) (not-T (ltb n n) (λ z. let k = ltb→lt n n z in omega arith)))
 
 -- ---- what a verdict says of the totals

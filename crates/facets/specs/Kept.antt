@@ -9,22 +9,13 @@ use lib.ListN.{length, getD, take, drop, replicate}
 use lib.Seq.{take-suc, drop-append-le, length-take-le}
 use Rattle.definitions.specs.Lists.{keep, placeOf}
 use Rattle.laws.specs.Bools.{true→holds, holds→true, fails→false}
-use Rattle.laws.specs.Lists.{Mem, here, there}
+use Rattle.laws.specs.Lists.{Mem, keep-all, keep-append}
 use Rattle.laws.specs.Pairs.{Pairs}
 
 module _ {A : Type 0} where
   pub reverse-last : (l : List A) (x : A) (acc : List A) → reverseAux (l ++ (x ∷ [])) acc ≡ x ∷ reverseAux l acc
   reverse-last [] x acc = refl
   reverse-last (y ∷ l) x acc = reverse-last l x (y ∷ acc)
-
-  pub keep-append : (p : A → Bool) (l m : List A) → keep p (l ++ m) ≡ keep p l ++ keep p m
-  unfolding keep
-  keep-append p [] m = refl
-  keep-append p (x ∷ l) m = go (p x) (keep-append p l m)
-    where
-      go : (b : Bool) → keep p (l ++ m) ≡ keep p l ++ keep p m → cond b (x ∷ keep p (l ++ m)) (keep p (l ++ m)) ≡ cond b (x ∷ keep p l) (keep p l) ++ keep p m
-      go true e = ap (λ (r : List A). x ∷ r) e
-      go false e = e
 
   pub keep-one : (p : A → Bool) (x : A) → T (p x) → keep p (x ∷ []) ≡ x ∷ []
   unfolding keep
@@ -73,29 +64,6 @@ module _ {A : Type 0} where
       go false e = e
 
   -- a place is the first that passes
-  pub place-is : (p : A → Bool) (d : A) (l : List A) (i : ℕ) → i ≤ length l → ((j : ℕ) → j < i → T (not (p (getD l j d)))) → (i < length l → T (p (getD l i d))) → placeOf p l ≡ i
-  unfolding placeOf
-  place-is p d [] zero h before at = refl
-  place-is p d [] (suc i) h before at = absurd (omega arith)
-  place-is p d (x ∷ l) zero h before at = rw (holds→true (p x) (at (omega arith))) refl
-  place-is p d (x ∷ l) (suc i) h before at =
-      rw (fails→false (p x) (before 0 (omega arith)))
-      (ap suc (place-is p d l i (omega arith) (λ j k. before (suc j) (omega arith)) (λ k. at (omega arith))))
-
-  pub place-within : (p : A → Bool) (l : List A) → placeOf p l ≤ length l
-  unfolding placeOf
-  place-within p [] = omega arith
-  place-within p (x ∷ l) = go (p x) (place-within p l)
-    where
-      go : (b : Bool) → placeOf p l ≤ length l → cond b 0 (suc (placeOf p l)) ≤ suc (length l)
-      go true h = omega arith
-      go false h = omega arith
-
-  keep-whole : (p : A → Bool) (l : List A) → ((x : A) → Mem x l → T (p x)) → keep p l ≡ l
-  unfolding keep
-  keep-whole p [] f = refl
-  keep-whole p (x ∷ l) f = rw (holds→true (p x) (f x (here refl))) (ap (λ (r : List A). x ∷ r) (keep-whole p l (λ y h. f y (there h))))
-
   -- of items that ascend by a key, those above a mark are the ones from the first such on
   pub keep-above : (key : A → ℕ) (mark : ℕ) (l : List A) → Pairs (λ (x y : A). key x ≤ key y) l
       → keep (λ (x : A). ltb mark (key x)) l ≡ drop (placeOf (λ (x : A). ltb mark (key x)) l) l
@@ -108,7 +76,7 @@ module _ {A : Type 0} where
 
       go : (b : Bool) → ltb mark (key x) ≡ b → keep (λ (y : A). ltb mark (key y)) l ≡ drop (placeOf (λ (y : A). ltb mark (key y)) l) l
           → cond b (x ∷ keep (λ (y : A). ltb mark (key y)) l) (keep (λ (y : A). ltb mark (key y)) l) ≡ drop (cond b 0 (suc (placeOf (λ (y : A). ltb mark (key y)) l))) (x ∷ l)
-      go true e ih = ap (λ (r : List A). x ∷ r) (keep-whole (λ (y : A). ltb mark (key y)) l (above (true→holds e)))
+      go true e ih = ap (λ (r : List A). x ∷ r) (keep-all (λ (y : A). ltb mark (key y)) l (above (true→holds e)))
       go false e ih = ih
 
   -- ---- a stretch of a list, its last item taken off
@@ -136,7 +104,3 @@ module _ {A B : Type 0} where
   pub map-last : (f : A → B) (l : List A) (x : A) → map f (l ++ (x ∷ [])) ≡ map f l ++ (f x ∷ [])
   map-last f [] x = refl
   map-last f (y ∷ l) x = ap (λ (r : List B). f y ∷ r) (map-last f l x)
-
-  pub map-same : (f g : A → B) (l : List A) → ((x : A) → Mem x l → f x ≡ g x) → map f l ≡ map g l
-  map-same f g [] h = refl
-  map-same f g (x ∷ l) h = rw (h x (here refl)) (ap (λ (r : List B). g x ∷ r) (map-same f g l (λ y m. h y (there m))))

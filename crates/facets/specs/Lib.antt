@@ -5,5 +5,3 @@ pub mod Sums
 pub mod Layout
 pub mod Judged
 pub mod Numbers
-pub mod Latest
-pub mod Change

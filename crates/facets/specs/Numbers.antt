@@ -9,6 +9,7 @@ use Rattle.definitions.specs.Lists.{countFrom}
 use Rattle.definitions.specs.Job.{numberAt}
 use Rattle.definitions.specs.Search.{Table, Facet, allFacets, onesAt}
 use Rattle.laws.specs.Lists.{Mem, map-at, count-at, count-length, member-at, of-count, of-flatMap, in-replicate}
+use Rattle.completeness.specs.Facets.{orbit-below}
 use Rattle.words.specs.Words.{getD-words}
 use Rattle.pool.specs.Pool.{count, closedLists, lengthAt, placeAt, closed-length, list-length, list-item, item-inside}
 use Rattle.facets.specs.declared.Areas.{Areas}
@@ -122,6 +123,15 @@ module _ (t : Table) (a : Areas) (s : List ℕ) (h : Inputs t a s) where
       let e = h .holds .facets in
       sym (getD-words 2 s (a .facets) x k)
       ∙ (ap (λ (l : List ℕ). getD l x 0) (h .holds .orbitOf) ∙ map-at (λ (f : Facet). f .0) (allFacets t) x 0 (0, 0) (omega arith))
+
+-- and that orbit is one of the table
+pub facet-small : (t : Table) (a : Areas) (s : List ℕ) (x : ℕ) → Inputs t a s → x < a .facets → facetOf t x .0 < a .orbits
+unfolding facetOf
+facet-small t a s x h k =
+    let f = h .holds .facets in
+    let b = orbit-below t (facetOf t x) (member-at (allFacets t) x (0, 0) (omega arith)) in
+    let o = h .holds .orbits in
+    omega arith
 
 -- the bytes say how many candidates there are, whichever table they hold
 pub same-length : (t u : Table) (a : Areas) (s : List ℕ) → Inputs t a s → Inputs u a s → (kind : ℕ) → kind ≤ a .ridges → length (numbers t kind) ≡ length (numbers u kind)

@@ -3,4 +3,3 @@ pub mod Paths
 pub mod Stands
 pub mod Places
 pub mod Steps
-pub mod Emission

@@ -19,9 +19,8 @@ use Rattle.facets.specs.Frames.{unused}
 use Rattle.facets.specs.Sums.{sumAt, sum-joined}
 use Rattle.facets.specs.Layout.{Inputs, holds-kept, facetOf, amountIn, codes, touchedPart, totalsPart, usedPart, framesPart, withTotals, withUse, withFacet, withoutFacet, Uses, flag}
 use Rattle.frames.specs.Paths.{path, listTo, takenAt, PathStands}
-use Rattle.facets.specs.Numbers.{orbit-is}
-use Rattle.facets.specs.Latest.{facet-small}
-use Rattle.facets.specs.Change.{added-at, taken-at, change-length, change-tables, change-frames, change-totals, change-used}
+use Rattle.facets.specs.Numbers.{orbit-is, facet-small}
+use Rattle.totals.specs.Change.{added-at, taken-at, change-length, change-tables, change-frames, change-totals, change-used}
 
 -- the list of one facet more
 pub list-last : (t : Table) (p : List ℕ) (k : ℕ) → listTo t p (suc k) ≡ listTo t p k ++ (facetOf t (takenAt p k) ∷ [])

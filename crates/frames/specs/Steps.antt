@@ -12,8 +12,8 @@ use lib.ListN.{length, getD, take}
 use Rattle.definitions.specs.Lists.{anyOf, keep, countFrom}
 use Rattle.definitions.specs.Search as def
 use Rattle.definitions.specs.Search.{Table, Facet, usesOrbit, judge, totals}
-use Rattle.laws.specs.Bools.{true→holds, holds→true, false→fails}
-use Rattle.laws.specs.Lists.{keep-less, in-count, count-length}
+use Rattle.laws.specs.Bools.{true→holds, holds→true, false→fails, not-not}
+use Rattle.laws.specs.Lists.{keep-less, in-count, count-length, keep-few}
 use Rattle.laws.specs.Segments.{placed, part-length, placed-length, part-placed, take-placed, part-placed-off, le-or-lt}
 use Rattle.completeness.specs.Walk.{unused-before, uses-last}
 use Rattle.facets.specs.declared.Areas.{Areas}
@@ -22,10 +22,10 @@ use Rattle.facets.specs.Frames.{Frame, candidates, unused, waiting, markOf, chi
 use Rattle.facets.specs.Sums.{sumAt}
 use Rattle.facets.specs.Layout.{verdict, Inputs, AreasFit, holds-kept, facetOf, numbers, ridgeOf, codes, touchedPart, totalsPart, usedPart, framesPart, listsPart, lifted, withFacet, withoutFacet}
 use Rattle.frames.specs.Paths.{listTo, frameAt, framesTo, placeAt, lowAt, markAt, kindAt, takenAt, markAfter, itemAt, withPlace, withFrame, Path, PathStands}
-use Rattle.facets.specs.Numbers.{numbers-length, numbers-small, candidate-at, numbers-few}
-use Rattle.facets.specs.Latest.{Latest, latest-none, latest-found, latest-is, lastFree, not-below, facet-small}
+use Rattle.facets.specs.Numbers.{numbers-length, numbers-small, candidate-at, numbers-few, facet-small}
+use Rattle.candidates.specs.Latest.{Latest, latest-none, latest-found, latest-is, lastFree, not-below}
 use Rattle.facets.specs.Judged.{none-over}
-use Rattle.facets.specs.Change.{over-after, change-frames, change-tables, change-totals, change-lists}
+use Rattle.totals.specs.Change.{over-after, change-frames, change-tables, change-totals, change-lists}
 use Rattle.frames.specs.Stands.{list-last, last-inside, totals-light, stands-join, stands-leave}
 use Rattle.frames.specs.Places.{SameFrames, same-kind, same-places, same-taken, same-list, place-length, place-below, place-is, place-taken, place-kind, place-mark, place-frames, frame-length, frame-below, frame-place, frame-kind, frame-frames}
 
@@ -34,29 +34,16 @@ use Rattle.frames.specs.Places.{SameFrames, same-kind, same-places, same
 free : Table → List Facet → ℕ
 free t list = length (keep (λ (o : ℕ). not (usesOrbit o list)) (countFrom 0 (length (t .shares))))
 
-keep-short : {A : Type 0} (p : A → Bool) (l : List A) → length (keep p l) ≤ length l
-unfolding keep
-keep-short p [] = omega arith
-keep-short p (x ∷ l) = go (p x) (keep-short p l)
-  where
-    go : (b : Bool) → length (keep p l) ≤ length l → length (cond b (x ∷ keep p l) (keep p l)) ≤ suc (length l)
-    go true h = omega arith
-    go false h = omega arith
-
 free-less : (t : Table) (l : List Facet) (f : Facet) → f .0 < length (t .shares) → T (unused l f) → free t (l ++ (f ∷ [])) < free t l
 unfolding free unused
 free-less t l f h n =
     keep-less (λ (o : ℕ). not (usesOrbit o l)) (λ (o : ℕ). not (usesOrbit o (l ++ (f ∷ [])))) (f .0) (countFrom 0 (length (t .shares)))
-    (λ o q. unused-before o l f q .0) (in-count 0 (length (t .shares)) (f .0) (omega arith) (omega arith)) n (holds-not (usesOrbit (f .0) (l ++ (f ∷ []))) (uses-last l f))
-  where
-    holds-not : (b : Bool) → T b → T (not (not b))
-    holds-not true t = tt
-    holds-not false t = absurd t
+    (λ o q. unused-before o l f q .0) (in-count 0 (length (t .shares)) (f .0) (omega arith) (omega arith)) n (not-not (usesOrbit (f .0) (l ++ (f ∷ []))) (uses-last l f))
 
 module _ (t : Table) (a : Areas) (s : List ℕ) (h : Inputs t a s) (p : List ℕ) (d m : ℕ) (ok : Path t a p d m) where
   short-to : (k : ℕ) → k ≤ m → k + free t (listTo t p k) ≤ a .orbits
   unfolding free
-  short-to zero l = let e = h .holds .orbits in let c = count-length 0 (length (t .shares)) in let q = keep-short (λ (o : ℕ). not (usesOrbit o (listTo t p 0))) (countFrom 0 (length (t .shares))) in omega arith
+  short-to zero l = let e = h .holds .orbits in let c = count-length 0 (length (t .shares)) in let q = keep-few (λ (o : ℕ). not (usesOrbit o (listTo t p 0))) (countFrom 0 (length (t .shares))) in omega arith
   short-to (suc k) l =
       let e = h .holds .orbits in
       let n = short-to k (omega arith) in

@@ -6,11 +6,3 @@ pub mod Cleared
 pub mod Vertices
 pub mod Rooms
 pub mod Short
-pub mod Edges
-pub mod Marked
-pub mod Polygons
-pub mod Labels
-pub mod Reading
-pub mod Facets
-pub mod Whole
-pub mod Totals

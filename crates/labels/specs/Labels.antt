@@ -1,24 +1,26 @@
 -- A table of labels in bytes: for each list a u32 number, 0 for none, else b in its lower half and c in its upper half. As b < c, no pair has the number 0.
 -- Leans on Numbers and Words. Assumes nothing.
 use mathlib.Core.Path.{_≡_, refl, sym, ap, _∙_}
-use mathlib.Core.Bool.{Bool, true, false, cond}
+use mathlib.Core.Bool.{Bool, false, cond}
 use mathlib.Core.List.{List, [], _∷_, _++_, map, flatMap}
 use mathlib.Core.Option.{Option, some, none}
-use Prim.Native.Nat.{ℕ, suc, _+_, _*_, _/_, _%_, _^_, _≤_, _<_}
+use Prim.Native.Nat.{ℕ, _+_, _*_, _/_, _%_, _^_, _≤_, _<_, compare}
 use native.Mathlib.Omega.{arith}
 use borrow.Author.Tests.{ne-eqb}
 use lib.Dec.{eqb, isEq}
 use lib.ListN.{length, drop, length-map}
 use lib.Seq.{sets}
 use Rattle.definitions.specs.Lists.{Pair, compareNats}
+use Rattle.definitions.specs.Figures.{walk, labelFrom, labelsOf}
 use Rattle.laws.specs.Lists.{Mem, here, there, of-map}
+use Rattle.laws.specs.Orders.{nats}
+use Rattle.laws.specs.Walks.{labelled}
 use Rattle.words.specs.Words.{bytesOf, words}
-use Rattle.order.specs.Numbers.{walkNats, insideNats, seekNats, with, labelNats, labelsOf}
 use Rattle.words.specs.Runs.{run, words-sets}
 
 -- whether the walk of b through a passes over or leaves just these items
 unfoldable pub leaves : List ℕ → List ℕ → List ℕ → Bool
-leaves a b items = elim (walkNats a b) [
+leaves a b items = elim (walk compare a b) [
   | none ↦ false
   | some rest ↦ isEq (compareNats rest items)
 ]
@@ -60,63 +62,35 @@ codes-read [] f = refl
 codes-read (o ∷ os) f = rw (f o (here refl), codes-read os (λ q i. f q (there i))) refl
 
 -- c is behind b, and both are places of the lists
-seek-range : (items : List ℕ) (ls : List (List ℕ)) (c x : ℕ) → seekNats items ls c ≡ some x → (c ≤ x) × (x < c + length ls)
-unfolding seekNats
-seek-range items [] c x e = let z : _≡_ {A = ℕ} 0 1 = cc in absurd (omega arith)
-seek-range items (l ∷ ls) c x e = go (isEq (compareNats items l)) e (seek-range items ls (suc c) x)
-  where
-    go : (t : Bool) → cond t (some c) (seekNats items ls (suc c)) ≡ some x → (seekNats items ls (suc c) ≡ some x → (suc c ≤ x) × (x < suc c + length ls)) → (c ≤ x) × (x < c + suc (length ls))
-    go true q f = let z : c ≡ x = cc in (omega arith, omega arith)
-    go false q f = let r = f q in let l = r .0 in let u = r .1 in (omega arith, omega arith)
-
-with-range : (b n : ℕ) (o : Option ℕ) (p : Pair) → ((x : ℕ) → o ≡ some x → (suc b ≤ x) × (x < n)) → with b o ≡ some p → (p .0 < p .1) × (p .1 < n)
-unfolding with
-with-range b n none p f e = let z : _≡_ {A = ℕ} 0 1 = cc in absurd (omega arith)
-with-range b n (some c) p f e =
-    let r = f c refl in
-    let l = r .0 in
-    let u = r .1 in
-    let q : (b, c) ≡ p = cc in
-    let q0 : b ≡ p .0 = ap (λ (x : Pair). x .0) q in
-    let q1 : c ≡ p .1 = ap (λ (x : Pair). x .1) q in
-    (omega arith, omega arith)
-
-pub label-range : (items : List ℕ) (ls : List (List ℕ)) (b : ℕ) (p : Pair) → labelNats items ls b ≡ some p → (p .0 < p .1) × (p .1 < b + length ls)
-unfolding labelNats
-label-range items [] b p e = let z : _≡_ {A = ℕ} 0 1 = cc in absurd (omega arith)
-label-range items (l ∷ ls) b p e = go (insideNats items l) e (label-range items ls (suc b) p)
-  where
-    go : (o : Option (List ℕ)) → elim o [ none ↦ labelNats items ls (suc b) | some rest ↦ with b (seekNats rest ls (suc b)) ] ≡ some p
-        → (labelNats items ls (suc b) ≡ some p → (p .0 < p .1) × (p .1 < suc b + length ls)) → (p .0 < p .1) × (p .1 < b + suc (length ls))
-    go none q f = let r = f q in let u = r .1 in (r .0, omega arith)
-    go (some rest) q f =
-        with-range b (b + suc (length ls)) (seekNats rest ls (suc b)) p
-        (λ x h. let r = seek-range rest ls (suc b) x h in let u = r .1 in (r .0, omega arith)) q
+pub label-range : (items : List ℕ) (ls : List (List ℕ)) (b : ℕ) (p : Pair) → labelFrom compare items ls b ≡ some p → (p .0 < p .1) × (p .1 < b + length ls)
+label-range items ls b p e =
+    let l = labelled compare nats items ls b p e in
+    (omega (arith, l .behind, l .first-is, l .second-is), omega (arith, l .below, l .second-is))
 
 -- the table that `label_irc` leaves is read as the labels of the lists
-pub labels-read : (s : List ℕ) (at : ℕ) (ls : List (List ℕ)) → at + 4 * length ls ≤ length s → length ls ≤ 65536 → labelsIn at (length ls) (sets s at (labelBytes (labelsOf ls))) ≡ labelsOf ls
+pub labels-read : (s : List ℕ) (at : ℕ) (ls : List (List ℕ)) → at + 4 * length ls ≤ length s → length ls ≤ 65536 → labelsIn at (length ls) (sets s at (labelBytes (labelsOf compare ls))) ≡ labelsOf compare ls
 unfolding labelsIn labelsOf
 labels-read s at ls h few =
-    let n : length (labelsOf ls) ≡ length ls = labels-many in
-    let m : length (map labelCode (labelsOf ls)) ≡ length (labelsOf ls) = length-map (labelsOf ls) labelCode in
-    let w : words 4 (drop at (sets s at (labelBytes (labelsOf ls)))) (length ls) ≡ map labelCode (labelsOf ls) =
-    ap (λ (r : List ℕ). words 4 (drop at (sets s at r)) (length ls)) (bytes-run (labelsOf ls))
-    ∙ (ap (words 4 (drop at (sets s at (run 4 (map labelCode (labelsOf ls)))))) (sym (m ∙ n)) ∙ words-sets 4 s at (map labelCode (labelsOf ls)) (omega arith) small) in
-    ap (map labelOf) w ∙ codes-read (labelsOf ls) (λ o i. label-code o (fits o i) .0)
+    let n : length (labelsOf compare ls) ≡ length ls = labels-many in
+    let m : length (map labelCode (labelsOf compare ls)) ≡ length (labelsOf compare ls) = length-map (labelsOf compare ls) labelCode in
+    let w : words 4 (drop at (sets s at (labelBytes (labelsOf compare ls)))) (length ls) ≡ map labelCode (labelsOf compare ls) =
+    ap (λ (r : List ℕ). words 4 (drop at (sets s at r)) (length ls)) (bytes-run (labelsOf compare ls))
+    ∙ (ap (words 4 (drop at (sets s at (run 4 (map labelCode (labelsOf compare ls)))))) (sym (m ∙ n)) ∙ words-sets 4 s at (map labelCode (labelsOf compare ls)) (omega arith) small) in
+    ap (map labelOf) w ∙ codes-read (labelsOf compare ls) (λ o i. label-code o (fits o i) .0)
   where
-    labels-many : length (labelsOf ls) ≡ length ls
-    labels-many = length-map ls (λ (items : List ℕ). labelNats items ls 0)
+    labels-many : length (labelsOf compare ls) ≡ length ls
+    labels-many = length-map ls (λ (items : List ℕ). labelFrom compare items ls 0)
 
-    fits : (o : Option Pair) → Mem o (labelsOf ls) → (p : Pair) → o ≡ some p → (p .0 < p .1) × (p .1 < 65536)
+    fits : (o : Option Pair) → Mem o (labelsOf compare ls) → (p : Pair) → o ≡ some p → (p .0 < p .1) × (p .1 < 65536)
     fits o i p e =
-        let r = of-map (λ (items : List ℕ). labelNats items ls 0) o ls i in
+        let r = of-map (λ (items : List ℕ). labelFrom compare items ls 0) o ls i in
         let q = label-range (r .0) ls 0 p (sym (r .2) ∙ e) in
         let u = q .1 in
         (q .0, omega arith)
 
-    small : (n : ℕ) → Mem n (map labelCode (labelsOf ls)) → n < 256 ^ 4
+    small : (n : ℕ) → Mem n (map labelCode (labelsOf compare ls)) → n < 256 ^ 4
     small n i =
-        let r = of-map labelCode n (labelsOf ls) i in
+        let r = of-map labelCode n (labelsOf compare ls) i in
         let e = r .2 in
         let u = label-code (r .0) (fits (r .0) (r .1)) .1 in
         omega arith

@@ -1,12 +1,13 @@
 // `label_irc` on sorted lists of numbered facets: which entries are made of two others. Leans on the order of the lists.
 use order::Area;
 ghost use mathlib.Core.Path.{_≡_};
-ghost use Prim.Native.Nat.{_+_, _*_, _≤_, _<_};
+ghost use Prim.Native.Nat.{_+_, _*_, _≤_, _<_, compare};
 ghost use lib.ListN.{length, getD};
 ghost use Rattle.pool.specs.Pool.{count};
 ghost use lib.Seq.{sets};
 ghost use Rattle.order.specs.Areas.{listsOf, listOf, Holding};
-ghost use Rattle.order.specs.Numbers.{AllAscending, firstAboveNats, labelsOf};
+ghost use Rattle.definitions.specs.Figures.{firstAbove, labelsOf};
+ghost use Rattle.order.specs.Numbers.{AllAscending};
 ghost use Rattle.labels.specs.Labels.{leaves, labelBytes};
 
 // The item at place i of the list at place k, which has n items; behind its last item a number above every item.
@@ -25,7 +26,7 @@ fn next_at(s: &[u8], area: Area, k: usize, n: usize, i: usize) -> u32
 // Whether the first item of the list at place b is above that of the list at place a.
 fn starts_above(s: &[u8], area: Area, b: usize, a: usize) -> bool
     requires { ⌜ Holding area (now s) × (b < area .count) × (a < area .count) ⌝ }
-    ensures { λ r. ⌜ r ≡ firstAboveNats (listOf area (now (s .entry)) b) (listOf area (now (s .entry)) a) ⌝ }
+    ensures { λ r. ⌜ r ≡ firstAbove compare (listOf area (now (s .entry)) b) (listOf area (now (s .entry)) a) ⌝ }
 {
     if order::length_at(s, area, b) == 0 {
         return false;
@@ -71,7 +72,7 @@ fn is_left(s: &[u8], area: Area, a: usize, b: usize, c: usize) -> bool
 // The lists ascend: behind a shorter b that begins above a's first item every list begins above it, so that the search may stop there.
 pub fn label_irc(ws: &mut [u8], area: Area, at: usize)
     requires { ⌜ Holding area (now ws) × AllAscending (listsOf area (now ws)) × (area .count ≤ 65536) × (area .bytes + 2 * area .count ≤ at) × (at + 4 * area .count ≤ length (now ws)) ⌝ }
-    ensures { λ _. ⌜ now (ws .exit) ≡ sets (now (ws .entry)) at (labelBytes (labelsOf (listsOf area (now (ws .entry))))) ⌝ }
+    ensures { λ _. ⌜ now (ws .exit) ≡ sets (now (ws .entry)) at (labelBytes (labelsOf compare (listsOf area (now (ws .entry))))) ⌝ }
 {
     let lists = area.count;
     'a: for a in 0..lists {

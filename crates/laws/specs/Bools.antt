@@ -62,3 +62,14 @@ same-test false false f g = refl
 -- numbers that a test tells apart
 pub apart : (a x : ℕ) → eqb a x ≡ false → ¬ (a ≡ x)
 apart a x e z = T-not (eqb a x) (false→fails e) (subst (λ (y : ℕ). T (eqb a y)) z (eqb-refl a))
+
+-- a test that holds does not fail
+pub not-not : (b : Bool) → T b → T (not (not b))
+not-not true t = t
+not-not false t = t
+
+pub or-swap : (a b c : Bool) → (a || (b || c)) ≡ (b || (a || c))
+or-swap true true c = refl
+or-swap true false c = refl
+or-swap false true c = refl
+or-swap false false c = refl

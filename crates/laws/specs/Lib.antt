@@ -2,6 +2,7 @@
 pub mod Bools
 pub mod Lists
 pub mod Pairs
+pub mod Options
 pub mod Orders
 pub mod Sorting
 pub mod Ascending
@@ -18,3 +19,4 @@ pub mod Tests
 pub mod Sets
 pub mod Outcomes
 pub mod Refusals
+pub mod Walks

@@ -1,7 +1,7 @@
 -- Laws of the list words of the definitions, over membership. `Mem` is the library's membership with its place.
 use mathlib.Core.Path.{_≡_, refl, sym, ap, _∙_, subst}
 use mathlib.Core.Logic.{_⊎_, inl, inr}
-use mathlib.Core.Bool.{Bool, true, false, cond, not, _&&_, _||_}
+use mathlib.Core.Bool.{Bool, true, false, cond, not, _||_, or-assoc}
 use mathlib.Core.List.{List, [], _∷_, _++_, map, flatMap, reverseAux, append-assoc, List·Memᴰ, Memᴰ·append-left, Memᴰ·append-right}
 use Prim.Native.Nat.{ℕ, zero, suc, _+_, _-_, _≤_, _<_}
 use native.Mathlib.Omega.{arith}
@@ -79,6 +79,29 @@ module _ {A : Type 0} where
       go : (b : Bool) → T b → keep p ys ≡ ys → cond b (y ∷ keep p ys) (keep p ys) ≡ y ∷ ys
       go true t e = ap (λ (l : List A). y ∷ l) e
       go false t e = absurd t
+
+  pub keep-append : (p : A → Bool) (l m : List A) → keep p (l ++ m) ≡ keep p l ++ keep p m
+  unfolding keep
+  keep-append p [] m = refl
+  keep-append p (x ∷ l) m = go (p x) (keep-append p l m)
+    where
+      go : (b : Bool) → keep p (l ++ m) ≡ keep p l ++ keep p m → cond b (x ∷ keep p (l ++ m)) (keep p (l ++ m)) ≡ cond b (x ∷ keep p l) (keep p l) ++ keep p m
+      go true e = ap (λ (k : List A). x ∷ k) e
+      go false e = e
+
+  pub any-append : (p : A → Bool) (l m : List A) → anyOf p (l ++ m) ≡ (anyOf p l || anyOf p m)
+  unfolding anyOf
+  any-append p [] m = refl
+  any-append p (x ∷ l) m = ap (λ (b : Bool). p x || b) (any-append p l m) ∙ sym (or-assoc (p x) (anyOf p l) (anyOf p m))
+
+  pub keep-few : (p : A → Bool) (l : List A) → length (keep p l) ≤ length l
+  unfolding keep
+  keep-few p [] = omega arith
+  keep-few p (y ∷ l) = go (p y) (keep-few p l)
+    where
+      go : (b : Bool) → length (keep p l) ≤ length l → length (cond b (y ∷ keep p l) (keep p l)) ≤ suc (length l)
+      go true h = omega arith
+      go false h = omega arith
 
   -- a stronger test keeps no more, and less where something is lost
   pub keep-fewer : (p q : A → Bool) (l : List A) → ((x : A) → T (q x) → T (p x)) → length (keep q l) ≤ length (keep p l)
@@ -251,6 +274,15 @@ unfolding countFrom
 count-length a zero = refl
 count-length a (suc n) = ap suc (count-length (suc a) n)
 
+-- one number more
+pub count-more : (a n : ℕ) → countFrom a (n + 1) ≡ countFrom a n ++ ((a + n) ∷ [])
+unfolding countFrom
+count-more a zero = let e : a ≡ a + 0 = omega arith in ap (λ (k : ℕ). k ∷ []) e
+count-more a (suc n) =
+    let e : suc a + n ≡ a + suc n = omega arith in
+    let f : suc n + 1 ≡ suc (n + 1) = omega arith in
+    ap (countFrom a) f ∙ ap (λ (l : List ℕ). a ∷ l) (count-more (suc a) n ∙ ap (λ (k : ℕ). countFrom (suc a) n ++ (k ∷ [])) e)
+
 pub in-count : (a n x : ℕ) → a ≤ x → x < a + n → Mem x (countFrom a n)
 unfolding countFrom
 in-count a zero x h k = absurd (omega arith)
@@ -265,7 +297,15 @@ unfolding countFrom
 of-count a (suc n) x (List·Memᴰ.List·Memᴰ·head e) = (omega arith, omega arith)
 of-count a (suc n) x (List·Memᴰ.List·Memᴰ·tail h) = let r = of-count (suc a) n x h in let k = r .0 in let m = r .1 in (omega arith, omega arith)
 
--- ---- an item behind the first of two lists, and of equal items
+-- ---- items by their places
+
+-- inside a list it does not matter what stands for the end
+pub read-inside : {A : Type 0} (l : List A) (i : ℕ) (d e : A) → i < length l → getD l i d ≡ getD l i e
+read-inside [] i d e h = absurd (omega arith)
+read-inside (x ∷ l) zero d e h = refl
+read-inside (x ∷ l) (suc i) d e h = read-inside l i d e (omega arith)
+
+-- an item behind the first of two lists, and of equal items
 pub append-at : {A : Type 0} (l m : List A) (i : ℕ) (d : A) → getD (l ++ m) (length l + i) d ≡ getD m i d
 append-at [] m i d = ap (λ (n : ℕ). getD m n d) (omega arith)
 append-at {A} (x ∷ l) m i d = ap (λ (n : ℕ). getD (x ∷ (l ++ m)) n d) step ∙ append-at l m i d

@@ -80,12 +80,6 @@ upright-plus k (fin false m e) u w = tt
 pub round-plus : (f : Format) (a c k : ℕ) → AtMostPower k (round f false a c) → Plus (round f false a c)
 round-plus f a c k w = upright-plus k (round f false a c) (round-upright f a c) w
 
-pub at-least-plus : (f : Format) (i : ℕ) (x : Float) → AtLeast f i x → Plus x
-at-least-plus f i nan h = h
-at-least-plus f i (inf s) h = h
-at-least-plus f i (fin true m e) h = h
-at-least-plus f i (fin false m e) h = tt
-
 pub add-plus : (f : Format) (k : ℕ) (x y : Float) → Plus x → Plus y → AtMostPower k (add f x y) → Plus (add f x y)
 unfolding add sum
 add-plus f k nan y p q w = absurd p

@@ -1,12 +1,11 @@
 -- Linear orders given by a comparison: numbers, pairs, and lists item by item. One lemma on `thenBy` serves pairs and lists alike. Leans on Bools.
 use mathlib.Core.Path.{_≡_, refl, sym, ap, _∙_, subst}
-use mathlib.Core.Logic.{_⊎_, inl, inr}
 use mathlib.Core.Bool.{Bool, true, false, not}
 use mathlib.Core.List.{List, [], _∷_}
-use Prim.Native.Nat.{ℕ, zero, suc, _≤_, _<_, compare, Ordering, Ordering·lt, Ordering·eq, Ordering·gt, compare·zero-zero, compare·zero-suc, compare·suc-zero, compare·suc-suc}
+use Prim.Native.Nat.{ℕ, zero, suc, _<_, compare, Ordering, Ordering·lt, Ordering·eq, Ordering·gt, compare·zero-zero, compare·zero-suc, compare·suc-zero, compare·suc-suc}
 use native.Mathlib.Omega.{arith}
-use lib.Dec.{T, isEq, isLe}
-use Rattle.definitions.specs.Lists.{Pair, isGt, thenBy, compareList, comparePair, compareNats, comparePairs}
+use lib.Dec.{T, isEq}
+use Rattle.definitions.specs.Lists.{isGt, thenBy, compareList, comparePair, compareNats, comparePairs}
 
 -- the comparison the other way round
 abbrev pub turned : Ordering → Ordering
@@ -83,6 +82,12 @@ unfolding thenBy
 then-equal Ordering·lt b e = absurd (lt≢eq e)
 then-equal Ordering·eq b e = (refl, e)
 then-equal Ordering·gt b e = absurd (eq≢gt (sym e))
+
+pub then-alone : (o : Ordering) → thenBy o Ordering·eq ≡ o
+unfolding thenBy
+then-alone Ordering·lt = refl
+then-alone Ordering·eq = refl
+then-alone Ordering·gt = refl
 
 then-self : (a b : Ordering) → a ≡ Ordering·eq → b ≡ Ordering·eq → thenBy a b ≡ Ordering·eq
 unfolding thenBy

@@ -112,11 +112,6 @@ module _ {A : Type 0} where
 
   -- ---- rows of five
 
-  -- row i, read one by one
-  pub rows-read : (width n : ℕ) (flat : List A) (i : ℕ) (z : A) → width ≤ 5 → i < n → 5 * n ≤ length flat → take width (fiveAt flat (5 * i) z) ≡ getD (rows 5 width n flat) i []
-  rows-read width n flat i z h below fits =
-      rw (fiveAt-is flat (5 * i) z (omega arith)) (take-take width 5 (drop (5 * i) flat) h) ∙ sym (getD-rows 5 width n flat i below)
-
   -- row n, written one by one behind n rows
   pub rows-written : (width n : ℕ) (flat v : List A) (z : A) → width ≤ 5 → 5 * n + 5 ≤ length flat → length v ≡ 5 → rows 5 width (n + 1) (setFive flat (5 * n) v z) ≡ rows 5 width n flat ++ (take width v ∷ [])
   rows-written width n flat v z h fits e = rw (setFive-is flat (5 * n) v z fits e) (rows-put 5 width n flat v h fits e)

@@ -2,20 +2,20 @@
 -- Leans on Ascending.
 use mathlib.Core.Path.{_≡_, refl, sym, ap, _∙_, subst}
 use mathlib.Core.Logic.{_⊎_, inl, inr}
-use mathlib.Core.Bool.{Bool, true, false, cond, not, _||_}
+use mathlib.Core.Bool.{Bool, true, false, cond, _||_}
 use mathlib.Core.List.{List, [], _∷_, _++_, map, flatMap, map-append, List·Memᴰ}
 use Prim.Native.Nat.{ℕ, zero, suc, _≤_, _<_, Ordering, Ordering·lt, Ordering·eq, Ordering·gt}
 use native.Mathlib.Omega.{arith}
-use lib.Dec.{T, T-not, isEq}
+use lib.Dec.{T, isEq}
 use lib.ListN.{length, getD, drop}
 use Rattle.definitions.specs.Lists.{compareList, sortBy, anyOf, placeOf, fresh, thenBy}
-use Rattle.laws.specs.Bools.{true→holds, same-test, either, left-of, right-of, decide}
-use Rattle.laws.specs.Lists.{Mem, here, there, in-map, of-map, member-at, place-hit, in-append, in-left, in-right}
+use Rattle.laws.specs.Bools.{true→holds, same-test}
+use Rattle.laws.specs.Lists.{Mem, here, there, in-map, of-map, member-at, place-hit}
 use Rattle.laws.specs.Pairs.{pairs-map}
 use Rattle.laws.specs.Orders.{Linear, turned}
 use Rattle.laws.specs.Sorting.{in-sorted, of-sorted}
 use Rattle.laws.specs.Segments.{le-or-lt}
-use Rattle.laws.specs.Ascending.{Differ, Distinct, Ascends, equal-tested, tested-equal, below-differ, not-both, same-ascending, sorted-ascends, inOrder, in-order-ascends, in-in-order, of-in-order, of-fresh, in-fresh, seenAmong, seen-member, member-seen}
+use Rattle.laws.specs.Ascending.{Differ, Distinct, Ascends, equal-tested, tested-equal, below-differ, not-both, same-ascending, sorted-ascends, inOrder, in-order-ascends, in-in-order, of-in-order}
 
 module _ {A : Type 0} (c : A → A → Ordering) (order : Linear c) where
   -- the place of the first item that compares equal
@@ -82,23 +82,6 @@ module _ {A : Type 0} (c : A → A → Ordering) (order : Linear c) where
       go : (placeIn l y ≤ placeIn l x) ⊎ (placeIn l x < placeIn l y) → placeIn l x < placeIn l y
       go (inl k) = split (le-or-lt (placeIn l x) (placeIn l y)) k
       go (inr k) = k
-
-  -- ---- what has been seen
-
-  -- what is seen once the new items have joined: what was seen, and the items
-  pub seen-after : (x : A) (seen l : List A) → seenAmong c order x (fresh c seen l ++ seen) ≡ seenAmong c order x seen || seenAmong c order x l
-  seen-after x seen l =
-      same-test (seenAmong c order x (fresh c seen l ++ seen)) (seenAmong c order x seen || seenAmong c order x l) (λ t. into (in-append x (fresh c seen l) seen (seen-member c order x (fresh c seen l ++ seen) t)))
-      (λ t. back (either (seenAmong c order x seen) (seenAmong c order x l) t) (decide (seenAmong c order x seen)))
-    where
-      into : Mem x (fresh c seen l) ⊎ Mem x seen → T (seenAmong c order x seen || seenAmong c order x l)
-      into (inl i) = right-of (seenAmong c order x seen) (seenAmong c order x l) (member-seen c order x l (of-fresh c order seen l x i .0))
-      into (inr i) = left-of (seenAmong c order x seen) (seenAmong c order x l) (member-seen c order x seen i)
-
-      back : T (seenAmong c order x seen) ⊎ T (seenAmong c order x l) → T (seenAmong c order x seen) ⊎ T (not (seenAmong c order x seen)) → T (seenAmong c order x (fresh c seen l ++ seen))
-      back e (inl t) = member-seen c order x (fresh c seen l ++ seen) (in-right x (fresh c seen l) seen (seen-member c order x seen t))
-      back (inl t) (inr n) = absurd (T-not (seenAmong c order x seen) n t)
-      back (inr t) (inr n) = member-seen c order x (fresh c seen l ++ seen) (in-left x (fresh c seen l) seen (in-fresh c order seen l x (seen-member c order x l t) (λ i. T-not (seenAmong c order x seen) n (member-seen c order x seen i))))
 
 -- ---- maps alike on a list's items
 

@@ -18,13 +18,6 @@ use Rattle.laws.specs.Places.{placeIn, place-at, map-self}
 
 -- ---- the same items
 
-module _ {A : Type 0} where
-  pub same-self : (l : List A) → SameItems l l
-  same-self l = record { into = λ x i. i; back = λ x i. i }
-
-  pub same-turned : (l m : List A) → SameItems l m → SameItems m l
-  same-turned l m s = record { into = s .back; back = s .into }
-
 module _ {A B : Type 0} where
   pub same-map : (f : A → B) (l m : List A) → SameItems l m → SameItems (map f l) (map f m)
   same-map f l m s = record { into = half l m (s .into); back = half m l (s .back) }
@@ -120,10 +113,6 @@ module _ (n : ℕ) (row : List ℕ) where
     pub permutes-below : (x : ℕ) → Mem x row → x < n
     unfolding sortNats
     permutes-below x i = let r = of-count 0 n x (subst (λ (l : List ℕ). Mem x l) (p .sorted) (in-sorted compare x row i)) .1 in omega arith
-
-    pub permutes-has : (x : ℕ) → x < n → Mem x row
-    unfolding sortNats
-    permutes-has x h = of-sorted compare x row (subst (λ (l : List ℕ). Mem x l) (sym (p .sorted)) (in-count 0 n x (omega arith) (omega arith)))
 
     pub permutes-at : (v : ℕ) → v < n → getD row v 0 < n
     permutes-at v h = let e = permutes-length in permutes-below (getD row v 0) (member-at row v 0 (omega arith))

@@ -18,9 +18,6 @@ le-by x y f = go (leb x y) (leb→le x y) (nleb→lt x y)
 pub square-le : {x y : ℕ} → x ≤ y → x * x ≤ y * y
 square-le h = mul-le-mul h h
 
-pub root-le : (x y : ℕ) → x * x ≤ y * y → x ≤ y
-root-le x y h = le-by x y (λ (l : y < x). let a = mul-le-mul l l in omega arith)
-
 pub root-lt : (x y : ℕ) → x * x < y * y → x < y
 root-lt x y h = le-by (suc x) y (λ (l : y < suc x). let k : y ≤ x = omega arith in let a = mul-le-mul k k in omega arith)
 

@@ -1,19 +1,18 @@
 -- What the proofs of this crate share: a struct's count is the length of what it holds, and marks agree with the definition's list of what was seen. Leans on Marks.
 use mathlib.Core.Path.{_≡_, refl, sym, ap, _∙_}
-use mathlib.Core.Bool.{Bool, true, false, cond, _||_}
+use mathlib.Core.Bool.{Bool, true, false, cond, _||_, or-false}
 use mathlib.Core.List.{List, [], _∷_, _++_, map, append-nil}
-use Prim.Native.Nat.{ℕ, zero, suc, _+_, _*_, _≤_, _<_}
+use Prim.Native.Nat.{ℕ, _+_, _*_, _≤_, _<_}
 use native.Mathlib.Omega.{arith}
-use native.Mathlib.Numerals.{add-one}
 use lib.Dec.{eqb}
-use lib.ListN.{length, getD, take, drop, set, length-append, length-replicate, getD-replicate, replicate}
+use lib.ListN.{length, getD, length-replicate, getD-replicate, replicate}
 use lib.Seq.{length-take-le, getD-take}
 use Rattle.definitions.specs.Lists.{anyOf, memberNat, countFrom}
 use Rattle.definitions.specs.Orbits.{Row, image, vertexOpeners}
-use Rattle.laws.specs.Lists.{Mem, here, there, of-map, count-length, of-count}
-use Rattle.laws.specs.Parts.{rows, take-more-set, map-rows-more}
+use Rattle.laws.specs.Lists.{Mem, here, there, count-length, count-more, any-append}
+use Rattle.laws.specs.Parts.{rows, map-rows-more}
 use Rattle.openers.specs.Rows.{rowsIn, RowsFit, ImagesBelow, image-at, same-images}
-use Rattle.openers.specs.Marks.{marked, marked-more, marked-at, marked-length, passed, walked, marksAfter, walked-append, marks-append, walked-fewer, one-passed, one-opened}
+use Rattle.openers.specs.Marks.{marked, marked-at, marked-length, passed, walked, marksAfter, walked-append, marks-append, walked-fewer, one-passed, one-opened}
 use Rattle.openers.specs.Meaning.{verticesIn, HoldsVertices, vertexImages, noneSkipped}
 use Rattle.openers.specs.declared.Vertices.{Vertices}
 
@@ -28,14 +27,6 @@ holds-vertices r meaning fits long e = record {
 }
 
 -- ---- a walk, one item more
-
-pub count-more : (a n : ℕ) → countFrom a (n + 1) ≡ countFrom a n ++ ((a + n) ∷ [])
-unfolding countFrom
-count-more a n = ap (countFrom a) (add-one n) ∙ grow a n
-  where
-    grow : (a n : ℕ) → countFrom a (suc n) ≡ countFrom a n ++ ((a + n) ∷ [])
-    grow a zero = let e : a ≡ a + 0 = omega arith in ap (λ (k : ℕ). k ∷ []) e
-    grow a (suc n) = let e : suc a + n ≡ a + suc n = omega arith in ap (λ (l : List ℕ). a ∷ l) (grow (suc a) n ∙ ap (λ (k : ℕ). countFrom (suc a) n ++ (k ∷ [])) e)
 
 -- the images of v under one row more
 pub images-more : (m v : ℕ) (s : List ℕ) → v < 32 → vertexImages (rowsIn 32 (m + 1) s) v ≡ vertexImages (rowsIn 32 m s) v ++ (getD s (32 * m + v) 0 ∷ [])
@@ -59,13 +50,8 @@ unfolding memberNat anyOf
 agree-none = record { long = length-replicate 20 false; at = λ u h. getD-replicate 20 u false false h }
 
 member-append : (u : ℕ) (xs ys : List ℕ) → memberNat u (xs ++ ys) ≡ (memberNat u xs || memberNat u ys)
-unfolding memberNat anyOf
-member-append u [] ys = refl
-member-append u (x ∷ xs) ys = rw (member-append u xs ys) (assoc (eqb u x) (memberNat u xs) (memberNat u ys))
-  where
-    assoc : (a b c : Bool) → (a || (b || c)) ≡ ((a || b) || c)
-    assoc true b c = refl
-    assoc false b c = refl
+unfolding memberNat
+member-append u xs ys = any-append (eqb u) xs ys
 
 pub agree-more : (bound : ℕ) (marks : List Bool) (seen xs : List ℕ) → Agree bound marks seen → Agree bound (marked marks xs) (xs ++ seen)
 agree-more bound marks seen xs a = record {
@@ -74,10 +60,6 @@ agree-more bound marks seen xs a = record {
 }
 
 -- the walk with marks is the definition's
-or-false : (b : Bool) → (b || false) ≡ b
-or-false true = refl
-or-false false = refl
-
 pub same-cond : {A : Type 0} {a b : Bool} {x y z w : A} → a ≡ b → x ≡ z → y ≡ w → cond a x y ≡ cond b z w
 same-cond p q r = rw (p, q, r) refl
 

@@ -2,22 +2,21 @@
 use mathlib.Core.Path.{_≡_, refl, sym, ap, _∙_}
 use mathlib.Core.Bool.{Bool, true, false, cond, _||_}
 use mathlib.Core.List.{List, [], _∷_, _++_, map, flatMap, append-nil, map-append}
-use Prim.Native.Nat.{ℕ, zero, suc, _+_, _*_, _-_, _≤_, _<_, max}
+use Prim.Native.Nat.{ℕ, zero, suc, _+_, _*_, _-_, _≤_, _<_}
 use native.Mathlib.Omega.{arith}
 use lib.Dec.{isEq}
 use lib.ListN.{length, getD, take, set, length-append, length-take, length-map, length-replicate, getD-replicate, replicate}
 use lib.Seq.{length-take-le, take-suc}
 use Rattle.definitions.specs.Lists.{Pair, anyOf, memberNat, memberPair, comparePair, countFrom}
 use Rattle.definitions.specs.Orbits.{Row, image, pairImage, vertexOpeners, pairOpeners, pairsFrom, above}
-use Rattle.laws.specs.Lists.{Mem, here, there, of-map, of-flatMap, at-member, count-length, of-count, flatMap-append}
-use Rattle.laws.specs.Orders.{pairs}
+use Rattle.laws.specs.Lists.{Mem, here, there, of-map, of-flatMap, at-member, count-length, of-count, flatMap-append, count-more, any-append}
 use Rattle.laws.specs.Parts.{rows, take-more, take-more-set}
 use Rattle.openers.specs.Rows.{rowsIn, RowsFit}
 use Rattle.openers.specs.Marks.{marked, marked-at, marked-length, passed, walked, marksAfter, walked-append, marks-append, walked-fewer, one-passed, one-opened}
 use Rattle.openers.specs.Codes.{pair-of-code, code-small, member-codes, map-codes, codes-wide, image-small}
 use Rattle.openers.specs.Meaning.{pairCode, pairOf, pairsIn, HoldsPairs, pairCodes, pairsAbove}
 use Rattle.openers.specs.declared.Pairs.{Pairs}
-use Rattle.openers.proofs.Laws.{same-cond, count-more}
+use Rattle.openers.proofs.Laws.{same-cond}
 
 -- ---- structs
 
@@ -47,13 +46,8 @@ codes-none marks p s = refl
 -- ---- a pair is its code
 
 member-append : (p : Pair) (xs ys : List Pair) → memberPair p (xs ++ ys) ≡ (memberPair p xs || memberPair p ys)
-unfolding memberPair anyOf
-member-append p [] ys = refl
-member-append p (x ∷ xs) ys = rw (member-append p xs ys) (assoc (isEq (comparePair p x)) (memberPair p xs) (memberPair p ys))
-  where
-    assoc : (a b c : Bool) → (a || (b || c)) ≡ ((a || b) || c)
-    assoc true b c = refl
-    assoc false b c = refl
+unfolding memberPair
+member-append p xs ys = any-append (λ (q : Pair). isEq (comparePair p q)) xs ys
 
 -- ---- marks agree with what was marked
 

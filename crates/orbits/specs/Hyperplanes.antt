@@ -2,22 +2,23 @@
 use mathlib.Core.Path.{_≡_, refl, sym, ap, subst, _∙_}
 use mathlib.Core.Bool.{Bool, true, false, cond, not, _&&_, _||_}
 use mathlib.Core.List.{List, [], _∷_, _++_, map, List·Memᴰ}
-use Prim.Native.Nat.{ℕ, zero, suc, _+_, _-_, _≤_, _<_}
+use Prim.Native.Nat.{ℕ, suc, _+_, _-_, _<_}
 use native.Mathlib.Omega.{arith}
 use lib.Dec.{eqb, isEq}
 use lib.ListN.{length}
 use lib.Ieee.{Float}
-use Rattle.definitions.specs.Lists.{Pair, anyOf, memberNat, fresh, compareNats, sortNats}
+use Rattle.definitions.specs.Lists.{Pair, anyOf, memberNat, fresh, compareNats}
 use Rattle.definitions.specs.Vectors.{Vec}
-use Rattle.definitions.specs.Subspace.{Subspace, fromPoints, isHyperplane}
-use Rattle.definitions.specs.Orbits.{Row, Orbit, image, pointAt, pointsNear, setImage, hyperplanes}
+use Rattle.definitions.specs.Subspace.{fromPoints, isHyperplane}
+use Rattle.definitions.specs.Orbits.{Row, image, pointAt, pointsNear, setImage, hyperplanes}
+use Rattle.laws.specs.Bools.{or-swap}
 use Rattle.laws.specs.Segments.{cons-same}
-use Rattle.laws.specs.Lists.{Mem, here, there, of-map}
-use Rattle.laws.specs.Sets.{setNumber, verticesOf, SetFrom, compare-sets, image-set, vertices-number}
+use Rattle.laws.specs.Lists.{Mem, here, there, of-map, any-append}
+use Rattle.laws.specs.Sets.{setNumber, SetFrom, compare-sets, image-set, vertices-number}
 use Rattle.sets.specs.Steps.{near-set}
 use Rattle.sorted.specs.Ascending.{Ascending, insertNew, ascending-insert, member-insert, length-insert, insert-member}
 use Rattle.sorted.specs.Gathering.{added}
-use Rattle.orbits.specs.Numbers.{imageNumbers, orbitOf, nearNumber, opensOrbit, withImages, orbitsFrom, seenAfter}
+use Rattle.orbits.specs.Numbers.{imageNumbers, orbitOf, nearNumber, opensOrbit, withImages, orbitsFrom}
 
 -- a row sends vertices below n to such, no two to one
 pub record Permutes (n : ℕ) (row : Row) : Type 0 where
@@ -40,20 +41,9 @@ any-number n set (q ∷ seen) s h = rw (compare-sets s (h q (here refl)), any-nu
 
 -- ---- images join
 
-or-swap : (a b c : Bool) → (a || (b || c)) ≡ (b || (a || c))
-or-swap true true c = refl
-or-swap true false c = refl
-or-swap false true c = refl
-or-swap false false c = refl
-
 member-append : (x : ℕ) (l m : List ℕ) → memberNat x (l ++ m) ≡ (memberNat x l || memberNat x m)
-unfolding memberNat anyOf
-member-append x [] m = refl
-member-append x (y ∷ l) m = rw (member-append x l m) (assoc (eqb x y) (memberNat x l) (memberNat x m))
-  where
-    assoc : (a b c : Bool) → (a || (b || c)) ≡ ((a || b) || c)
-    assoc true b c = refl
-    assoc false b c = refl
+unfolding memberNat
+member-append x l m = any-append (eqb x) l m
 
 -- one set more
 seen-more : (n : ℕ) (seen : List (List ℕ)) (numbers : List ℕ) (q : List ℕ) → SeenAs n seen numbers → SetFrom 0 n q → SeenAs n (q ∷ seen) (insertNew (setNumber q) numbers)

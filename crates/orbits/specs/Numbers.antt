@@ -1,18 +1,16 @@
 -- Hyperplane orbits with sets as numbers and what was seen as an ascending list: what the code keeps. Leans on the sorted sets and on the sets of the laws.
-use mathlib.Core.Path.{_≡_, refl, sym, ap, _∙_}
+use mathlib.Core.Path.{_≡_, refl, ap}
 use mathlib.Core.Bool.{Bool, true, false, cond, not, _&&_}
 use mathlib.Core.List.{List, [], _∷_, _++_, map}
-use Prim.Native.Nat.{ℕ, zero, suc, _+_, _-_, _≤_}
-use native.Mathlib.Omega.{arith}
-use lib.ListN.{length, length-append}
+use Prim.Native.Nat.{ℕ, _+_, _-_}
+use lib.ListN.{length}
 use lib.Ieee.{Float}
 use Rattle.definitions.specs.Lists.{Pair, memberNat}
 use Rattle.definitions.specs.Vectors.{Vec}
-use Rattle.definitions.specs.Subspace.{Subspace, fromPoints, isHyperplane}
+use Rattle.definitions.specs.Subspace.{fromPoints, isHyperplane}
 use Rattle.definitions.specs.Orbits.{Row, Orbit, pointsNear, setImage}
 use Rattle.laws.specs.Sets.{setNumber, verticesOf}
-use Rattle.sorted.specs.Ascending.{Ascending}
-use Rattle.sorted.specs.Gathering.{added, ascending-added}
+use Rattle.sorted.specs.Gathering.{added}
 
 -- the numbers of a set's images under the rows
 unfoldable pub imageNumbers : ℕ → ℕ → List Row → List ℕ
@@ -79,15 +77,6 @@ module _ (tolerance : Float) (flat : List Vec) (rows : List Row) where
           → cond b (seenAfter (withImages seen t) (ts ++ us)) (seenAfter seen (ts ++ us)) ≡ seenAfter (cond b (seenAfter (withImages seen t) ts) (seenAfter seen ts)) us
       go true e f = f
       go false e f = e
-
-  pub ascending-after : (seen : List ℕ) (ts : List (List Vec)) → Ascending seen → Ascending (seenAfter seen ts)
-  unfolding seenAfter withImages
-  ascending-after seen [] a = a
-  ascending-after seen (t ∷ ts) a = go (opensOrbit seen t) (ascending-after seen ts a) (ascending-after (withImages seen t) ts (ascending-added seen _ a))
-    where
-      go : (b : Bool) → Ascending (seenAfter seen ts) → Ascending (seenAfter (withImages seen t) ts) → Ascending (cond b (seenAfter (withImages seen t) ts) (seenAfter seen ts))
-      go true x y = y
-      go false x y = x
 
   -- one tuple
   pub one-closed : (seen : List ℕ) (points : List Vec) → opensOrbit seen points ≡ false → (orbitsFrom seen (points ∷ []) ≡ []) × (seenAfter seen (points ∷ []) ≡ seen)

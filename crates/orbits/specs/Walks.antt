@@ -1,24 +1,24 @@
 -- A walk along tuples of points: what it leaves in the workspace, and which tuples extend one. Leans on Workspace and Numbers.
-use mathlib.Core.Path.{_≡_, refl, sym, ap, subst, _∙_}
-use mathlib.Core.Bool.{Bool, true, false, cond, not, _&&_}
+use mathlib.Core.Path.{_≡_, refl, sym, ap, _∙_}
+use mathlib.Core.Bool.{Bool, true, false, cond, not}
 use mathlib.Core.List.{List, [], _∷_, _++_, map, append-nil, append-assoc, map-append}
-use Prim.Native.Nat.{ℕ, zero, suc, _+_, _-_, _≤_, _<_}
+use Prim.Native.Nat.{ℕ, suc, _+_, _-_, _≤_, _<_}
 use native.Mathlib.Omega.{arith}
 use native.Mathlib.Numerals.{add-one}
-use lib.ListN.{length, length-append}
+use lib.ListN.{length}
 use lib.Ieee.{Float}
 use Rattle.definitions.specs.Lists.{Pair, keep, allOf, choose, countFrom}
 use Rattle.definitions.specs.Vectors.{Vec}
 use Rattle.definitions.specs.Orbits.{Row, Limits, pointAt, breaksLimit}
+use Rattle.laws.specs.Lists.{keep-append}
 use Rattle.laws.specs.Segments.{cons-same}
 use Rattle.space.specs.declared.Points.{Points}
 use Rattle.space.specs.Meaning.{PointsFit}
 use Rattle.stabilizers.specs.Permutations.{Permutations}
 use Rattle.orbits.specs.Numbers.{imageNumbers, nearNumber, opensOrbit, withImages, orbitsFrom, seenAfter, orbits-append, seen-append, one-closed, one-opened}
-use Rattle.orbits.specs.Workspace.{seenIn, OrbitsRoom, HoldsOrbits, Reached, ReachedBy, Opened}
+use Rattle.orbits.specs.Workspace.{seenIn, OrbitsRoom, Reached, Opened}
 use Rattle.orbits.specs.declared.Progress.{Progress}
-use Rattle.orbits.specs.declared.Walk.{Walk}
-use Rattle.orbits.specs.declared.Walk.the-variants.{Going, Refused}
+use Rattle.orbits.specs.declared.Walk.the-variants.{Going}
 
 abbrev pub going : ℕ → ℕ → Progress
 going known count = record { known = known; count = count; walk = Going }
@@ -61,14 +61,6 @@ module _ (tolerance : Float) (flat : List Vec) (rows : List Row) (bound : ℕ) w
         (b .reached (seenAfter tolerance flat rows seen ts) (orbits ++ orbitsFrom tolerance flat rows seen ts) (a .reached seen orbits h));
   }
 
-  -- behind a refusal there are only more orbits
-  pub walked-refused : (known count : ℕ) (ws : List ℕ) (ts : List (List Vec)) → OrbitsRoom bound known count ws
-      → Walked tolerance flat rows bound (record { known = known; count = count; walk = Refused }) ws ts (record { known = known; count = count; walk = Refused }) ws
-  walked-refused known count ws ts room = record {
-    room = room;
-    reached = λ seen orbits h. omega (arith, length-append orbits (orbitsFrom tolerance flat rows seen ts));
-  }
-
   -- a tuple that opens nothing
   pub walked-closed : (known count : ℕ) (ws : List ℕ) (points : List Vec) → OrbitsRoom bound known count ws → opensOrbit tolerance flat rows (seenIn known ws) points ≡ false
       → Walked tolerance flat rows bound (going known count) ws (points ∷ []) (going known count) ws
@@ -94,15 +86,6 @@ module _ (tolerance : Float) (flat : List Vec) (rows : List Row) (bound : ℕ) w
   }
 
 -- ---- tuples extended
-
-keep-append : {A : Type 0} (p : A → Bool) (l m : List A) → keep p (l ++ m) ≡ keep p l ++ keep p m
-unfolding keep
-keep-append p [] m = refl
-keep-append {A} p (x ∷ l) m = go (p x) (keep-append p l m)
-  where
-    go : (b : Bool) → keep p (l ++ m) ≡ keep p l ++ keep p m → cond b (x ∷ keep p (l ++ m)) (keep p (l ++ m)) ≡ cond b (x ∷ keep p l) (keep p l) ++ keep p m
-    go true e = ap (λ (k : List A). x ∷ k) e
-    go false e = e
 
 module _ (passes : ℕ → Bool) where
   keep-passing : (x : ℕ) (cs : List (List ℕ)) → passes x ≡ true → keep (allOf passes) (map (λ (c : List ℕ). x ∷ c) cs) ≡ map (λ (c : List ℕ). x ∷ c) (keep (allOf passes) cs)

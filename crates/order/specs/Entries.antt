@@ -1,8 +1,8 @@
 -- The entries of a call, from its pools: the order of the split lists is the order of the entries, and the labels of the lists are the compounds among them.
 -- Leans on the definitions, Numbers and Sorted. Assumes nothing.
-use mathlib.Core.Path.{_≡_, refl, sym, ap, _∙_, subst}
-use mathlib.Core.List.{List, [], _∷_, map, map-map}
-use Prim.Native.Nat.{ℕ, _+_, _≤_, _<_, compare, Ordering}
+use mathlib.Core.Path.{_≡_, sym, ap, _∙_, subst}
+use mathlib.Core.List.{List, [], map, map-map}
+use Prim.Native.Nat.{ℕ, _<_, compare}
 use native.Mathlib.Omega.{arith}
 use lib.ListN.{length, getD}
 use Rattle.definitions.specs.Lists.{Pair, comparePair, comparePairs, compareNats, sortBy, countFrom}
@@ -10,16 +10,14 @@ use Rattle.definitions.specs.Figures.{labelIrc}
 use Rattle.definitions.specs.Search.{Facet}
 use Rattle.definitions.specs.Recursion.{Entry}
 use Rattle.definitions.specs.Faceting.{Prepared, split, entryOf, compareEntries, entriesOf}
-use Rattle.laws.specs.Lists.{Mem, here, there, of-count, of-map}
+use Rattle.laws.specs.Lists.{Mem, of-count, of-map}
 use Rattle.laws.specs.Sorting.{byKey, sort-map, of-sorted}
 use Rattle.laws.specs.Merging.{sort-same, map-count}
-use Rattle.order.specs.Numbers.{ItemsBelow, AllBelow, labelsOf, compoundsFrom, compare-numbered, labels-numbered}
+use Rattle.laws.specs.Places.{map-same}
+use Rattle.laws.specs.Walks.{compare-numbered, labels-numbered}
+use Rattle.order.specs.Numbers.{ItemsBelow, AllBelow}
 use Rattle.order.specs.Areas.{listAt}
 use Rattle.order.specs.Sorted.{compareAt, orderFrom}
-
-map-same : {A B : Type 0} (f g : A → B) (l : List A) → ((x : A) → Mem x l → f x ≡ g x) → map f l ≡ map g l
-map-same f g [] h = refl
-map-same f g (x ∷ l) h = rw (h x (here refl), map-same f g l (λ y i. h y (there i))) refl
 
 -- list k of the pool, named by `to`, is the k-th emitted list split
 module _ (p : Prepared) (to : ℕ → Pair) (bound : ℕ) (ordered : (m n : ℕ) → m < bound → n < bound → comparePair (to m) (to n) ≡ compare m n)
@@ -34,11 +32,11 @@ module _ (p : Prepared) (to : ℕ → Pair) (bound : ℕ) (ordered : (m n : ℕ)
   inside k i = let r = of-count 0 (length emitted) k i .1 in omega arith
 
   same-order : (j : ℕ) → Mem j (countFrom 0 (length emitted)) → (k : ℕ) → Mem k (countFrom 0 (length emitted)) → byKey compareEntries entry j k ≡ compareAt most pool j k
-  unfolding compareEntries entryOf compareAt
+  unfolding compareEntries entryOf compareAt comparePairs compareNats
   same-order j h k i =
       ap (λ (l : List Pair). comparePairs l (split p (getD emitted k []))) (sym (splits j (inside j h)))
       ∙ (ap (comparePairs (map to (listAt most pool j))) (sym (splits k (inside k i)))
-      ∙ compare-numbered to bound ordered (listAt most pool j) (listAt most pool k) (below j (inside j h)) (below k (inside k i)))
+      ∙ compare-numbered compare comparePair to (λ (x : ℕ). x < bound) ordered (listAt most pool j) (listAt most pool k) (below j (inside j h)) (below k (inside k i)))
 
   -- [9.5] in the order of the pool's lists, equal ones as they were emitted
   pub entries-ordered : entriesOf p emitted ≡ map entry (orderFrom most pool 0 (length emitted))
@@ -63,10 +61,10 @@ module _ (p : Prepared) (to : ℕ → Pair) (bound : ℕ) (ordered : (m n : ℕ)
       ∙ sym (map-map (map to) (listAt most pool) (orderFrom most pool 0 (length emitted)))))
 
   -- [9.6] the compounds among the entries are the labels of the ordered lists
-  pub entry-compounds : labelIrc (map (λ (e : Entry). e .list) (entriesOf p emitted)) ≡ compoundsFrom 0 (labelsOf (map (listAt most pool) (orderFrom most pool 0 (length emitted))))
+  pub entry-compounds : labelIrc comparePair (map (λ (e : Entry). e .list) (entriesOf p emitted)) ≡ labelIrc compare (map (listAt most pool) (orderFrom most pool 0 (length emitted)))
   entry-compounds =
-      ap labelIrc entry-lists
-      ∙ labels-numbered to bound ordered (map (listAt most pool) (orderFrom most pool 0 (length emitted))) all
+      ap (labelIrc comparePair) entry-lists
+      ∙ labels-numbered compare comparePair to (λ (x : ℕ). x < bound) ordered (map (listAt most pool) (orderFrom most pool 0 (length emitted))) all
     where
       all : AllBelow bound (map (listAt most pool) (orderFrom most pool 0 (length emitted)))
       all l i x h =

@@ -5,11 +5,12 @@ use Prim.Native.Nat.{ℕ, _+_, _*_, _≤_}
 use native.Mathlib.Omega.{arith}
 use lib.ListN.{length, take, drop, length-drop}
 use Rattle.definitions.specs.Orbits.{Row}
+use Rattle.definitions.specs.Figures.{compoundsFrom}
 use Rattle.laws.specs.Segments.{part, part-take}
 use Rattle.words.specs.Words.{words, words-take}
 use Rattle.order.specs.Areas.{lists-kept, holds-kept}
 use Rattle.labels.specs.Labels.{labelsIn, labelOf}
-use Rattle.order.specs.Numbers.{AllBelow, compoundsFrom}
+use Rattle.order.specs.Numbers.{AllBelow}
 use Rattle.shapes.specs.Kept.{Kept, keptPossible}
 use Rattle.shelf.specs.Front.{keeps-front}
 use Rattle.shelf.specs.Leaves.{Leaves, listsLeft, entryLeft, answerLeft}

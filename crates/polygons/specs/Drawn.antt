@@ -23,15 +23,13 @@ use Rattle.order.specs.Areas.{listAt}
 use Rattle.pool.specs.Pool.{count}
 use Rattle.pool.specs.Holds.{holds-count}
 use Rattle.shapes.specs.Kept.{Kept}
-use Rattle.shapes.specs.Sizes.{edges-few}
-use Rattle.shapes.specs.FewOrbits.{pairs-few}
 use Rattle.shelf.specs.declared.Shelf.{Shelf}
 use Rattle.shelf.specs.Keeps.{Keeps, edgesOf, edgesPart}
-use Rattle.writing.specs.Facets.{many-edges}
+use Rattle.possible_facets.specs.Facets.{many-edges}
 use Rattle.writing.specs.Written.{EdgesKept, all-each, all-ends}
-use Rattle.shapes.specs.EdgeSets.{EdgeSet, edgesInOrder}
-use Rattle.writing.specs.Marks.{Ends, image-ends}
-use Rattle.writing.specs.SolidWritten.{imageEdges}
+use Rattle.edge_marks.specs.Marks.{Ends, image-ends}
+use Rattle.polyhedra.specs.SolidWritten.{imageEdges}
+use Rattle.shapes.specs.EdgeSets.{edgesInOrder}
 use Rattle.polygons.specs.Images.{imageCode, imageAt, EdgeLists, Named}
 
 -- ---- codes keep the order of pairs
@@ -113,9 +111,6 @@ module _ {n m : ℕ} {bytes : List ℕ} (fits : RowsFit n m bytes) where
 -- a facet has no more edges than 20 vertices have pairs
 pub record FewEdges (kept : List Kept) : Type 0 where
   pub few : (k : Kept) → Mem k kept → (l : List Pair) → Mem l (k .edges) → length l ≤ 190
-
-pub sets-few : (n : ℕ) (kept : List Kept) → n ≤ 20 → ((k : Kept) → Mem k kept → (l : List Pair) → Mem l (k .edges) → EdgeSet n l) → FewEdges kept
-sets-few n kept b h = record { few = λ k i l j. pairs-few n (length l) b (edges-few n l (h k i l j)) }
 
 module _ {n m : ℕ} {bytes : List ℕ} {kept : List Kept} {shelf : Shelf} {s : List ℕ} (fits : RowsFit n m bytes) (h : EdgesKept n kept) (keeps : Keeps n shelf kept s) (few-rows : m ≤ 120) where
   abbrev pool : List ℕ

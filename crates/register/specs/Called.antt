@@ -17,7 +17,7 @@ use Rattle.shapes.specs.Kept.{Kept}
 use Rattle.shelf.specs.declared.Level.{Level}
 use Rattle.shelf.specs.Leaves.{answerLeft}
 use Rattle.calls.specs.declared.Called.the-variants.{Left}
-use Rattle.faceting.specs.Says.{Says}
+use Rattle.inner_answers.specs.Says.{Says}
 use Rattle.register.specs.Writable.{Writable, keptBy, call-writable}
 use Rattle.register.specs.Said.{Said, rest}
 

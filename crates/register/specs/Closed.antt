@@ -10,7 +10,7 @@ use Rattle.definitions.specs.Outcome.{refused, answered, refuseIf}
 use Rattle.definitions.specs.Job.{fitting, bufferOf}
 use Rattle.laws.specs.Segments.{le-or-lt}
 use Rattle.words.specs.Writer.{encoded, full, written, cursorOf, encoded-length, written-none, cursor-none, written-fits, padded-answer, cursor-fits, cursor-full}
-use Rattle.writing.specs.Wrote.{Wrote}
+use Rattle.figure_words.specs.Wrote.{Wrote}
 
 -- these words stand in the buffer, as many as there is room for, and the cursor is behind them
 pub record WroteAll (words : List ℕ) (buffer : List ℕ) (at : ℕ) : Type 0 where

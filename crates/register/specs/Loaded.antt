@@ -26,10 +26,10 @@ use Rattle.job.specs.declared.Checked.the-variants.{Refused, Passed}
 use Rattle.job.specs.Refusal.{checkedOf}
 use Rattle.job.specs.Passed.{refused-means, passed-means, own-passed, passed-exact, passed-rows, passed-workspace, outcome-refused, outcome-passed}
 use Rattle.calls.specs.declared.Rules.{Rules}
-use Rattle.faceting.specs.Stocks.{callRules}
+use Rattle.call_search.specs.Stocks.{callRules}
 use Rattle.calls.specs.declared.Called.{Called}
 use Rattle.faceting.specs.Asked.{Asked}
-use Rattle.faceting.specs.Says.{Says}
+use Rattle.inner_answers.specs.Says.{Says}
 use Rattle.register.specs.Said.{Said, rest}
 
 -- the definition's rules, from the fields of a job: the tolerance and the bounds of version 1

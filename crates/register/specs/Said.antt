@@ -12,10 +12,10 @@ use Rattle.definitions.specs.Faceting.{faceting}
 use Rattle.definitions.specs.Job.{Bytes, answerBytes, fitting}
 use Rattle.openers.specs.Rows.{rowsIn, RowsFit}
 use Rattle.shapes.specs.Calls.{Given}
-use Rattle.keep.specs.Edges.{edgeAnswer}
+use Rattle.kept_edges.specs.Edges.{edgeAnswer}
 use Rattle.calls.specs.declared.Called.{Called}
 use Rattle.calls.specs.declared.Called.the-variants.{Refused, Ends}
-use Rattle.faceting.specs.Says.{Says}
+use Rattle.inner_answers.specs.Says.{Says}
 use Rattle.register.specs.Spent.{call-spends}
 
 -- what is left to do when the call has been made: its answer's bytes, where they fit

@@ -13,8 +13,8 @@ use Rattle.definitions.specs.Vectors.{Vec}
 use Rattle.definitions.specs.Subspace.{Subspace, flatten, fromPoints}
 use Rattle.definitions.specs.Orbits.{Row, Orbit, image, pointAt}
 use Rattle.definitions.specs.Search.{Facet, Table, Item, Verdict, over, closed, openAt, EntryLimits, Found, limitReached, emit, emitIf, judge, totals, putIn, examine, search, starts}
-use Rattle.definitions.specs.Recursion.{Rules, Answer, Inner, InnerCalls, innerCall, innerCalls, beforeThese, rowsWithin, edgeCall, swappedEnds, separateEnds}
-use Rattle.definitions.specs.Faceting.{Prepared, orbitsOf, prepare, searchFrom, tableFor, entryLimits, finish, faceting}
+use Rattle.definitions.specs.Recursion.{Rules, Answer, Inner, InnerCalls, innerCall, innerCalls, beforeThese, rowsWithin, edgeCall, swappedEnds, separateEnds, callOnSet}
+use Rattle.definitions.specs.Faceting.{Prepared, orbitsOf, prepare, searchFrom, tableFor, entryLimits, finish, faceting, prepareFrom, answerFrom}
 use Rattle.laws.specs.Outcomes.{answered-before, not-refused-if}
 use Rattle.shapes.specs.Answered.{answers-equal}
 
@@ -87,7 +87,7 @@ edge-spends plane points rows budget a e =
 one-spends : (more : ℕ) (rules : Rules) (flat : List Vec) (rows : List Row)
     → ((plane : Subspace) (points : List Vec) (rows : List Row) (budget : ℕ) (a : Answer) → faceting more rules plane points rows budget ≡ answered a → a .left ≤ budget)
     → Spends (innerCall (suc more) rules (faceting more rules) flat rows)
-unfolding innerCall
+unfolding callOnSet innerCall
 one-spends more rules flat rows spends orbit budget i e =
     let points = map (pointAt flat) (orbit .vertices) in
     let plane = fromPoints (rules .tolerance) points in
@@ -99,7 +99,7 @@ one-spends more rules flat rows spends orbit budget i e =
     omega arith
 
 pub call-spends : (n : ℕ) (rules : Rules) (plane : Subspace) (points : List Vec) (rows : List Row) (budget : ℕ) (a : Answer) → faceting n rules plane points rows budget ≡ answered a → a .left ≤ budget
-unfolding faceting prepare finish
+unfolding answerFrom faceting prepareFrom prepare finish
 call-spends zero rules plane points rows budget a e = edge-spends plane points rows budget a e
 call-spends (suc more) rules plane points rows budget a e =
     let flat = map (flatten plane) points in

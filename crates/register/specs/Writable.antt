@@ -22,17 +22,17 @@ use Rattle.shelf.specs.Leaves.{Leaves, answerLeft}
 use Rattle.shelf.specs.declared.Level.{Level}
 use Rattle.words.specs.Words.{words}
 use Rattle.words.specs.Lent.{lent-tail}
-use Rattle.writing.specs.Wrote.{Wrote}
+use Rattle.figure_words.specs.Wrote.{Wrote}
 use Rattle.writing.specs.Standing.{Standing}
 use Rattle.writing.specs.Written.{EdgesKept, standing, WroteAnswer}
-use Rattle.writing.specs.Solids.{ImagesStand}
-use Rattle.writing.specs.SolidWritten.{WroteSolidAnswer}
+use Rattle.polyhedra.specs.Solids.{ImagesStand}
+use Rattle.polyhedra.specs.SolidWritten.{WroteSolidAnswer}
 use Rattle.polygons.specs.Images.{EdgeLists}
 use Rattle.polygons.specs.Drawn.{FewEdges, many-facets}
 use Rattle.polygons.specs.Arranges.{images-room, order-asks, standing-after, images-after, answer-written}
 use Rattle.polygons.specs.Orders.{Ordered}
 use Rattle.polygons.specs.declared.Images.{Images}
-use Rattle.faceting.specs.Says.{AnswerStands}
+use Rattle.inner_answers.specs.Says.{AnswerStands}
 use Rattle.register.specs.Spent.{call-spends}
 
 pub record Writable (more n m : ℕ) (rows : List ℕ) (kept : List Kept) (level : Level) (budget rest : ℕ) (s : List ℕ) : Type 0 where

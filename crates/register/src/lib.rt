@@ -24,13 +24,13 @@ ghost use Rattle.words.specs.Writer.{encoded};
 ghost use Rattle.openers.specs.Rows.{rowsIn};
 ghost use Rattle.shapes.specs.Kept.{Kept};
 ghost use Rattle.shelf.specs.Leaves.{answerLeft};
-ghost use Rattle.keep.specs.Edges.{edgeAnswer};
+ghost use Rattle.kept_edges.specs.Edges.{edgeAnswer};
 ghost use Rattle.load.specs.Meaning.{limitNumber};
 ghost use Rattle.job.specs.Refusal.{checkedOf};
 ghost use Rattle.job.specs.declared.Checked.the-variants.{Passed};
 ghost use Rattle.search.specs.Outcomes.{searchLimit};
-ghost use Rattle.faceting.specs.Stocks.{callRules};
-ghost use Rattle.writing.specs.Wrote.{Wrote};
+ghost use Rattle.call_search.specs.Stocks.{callRules};
+ghost use Rattle.figure_words.specs.Wrote.{Wrote};
 ghost use Rattle.register.specs.Writable.{Writable};
 ghost use Rattle.register.specs.Closed.{WroteAll};
 ghost use Rattle.register.specs.Said.{Said};
@@ -71,7 +71,7 @@ fn write_polyhedra(
     let from = images.at;
     let many = images.count;
     let whole = &ws[..];
-    writing::write_solid_answer(
+    polyhedra::write_solid_answer(
         answer,
         0,
         whole,

@@ -9,8 +9,8 @@ use lib.Seq.{take-all}
 use Rattle.definitions.specs.Search.{lastShare}
 use Rattle.laws.specs.Parts.{take-more}
 use Rattle.laws.specs.Segments.{placed}
-use Rattle.pool.specs.Pool.{base, used, emptied, pushed, ended}
-use Rattle.ridges.specs.Areas.{area, flat, AreaRoom, AreaEmpty, Joined, AreaGrown, Space, Made, area-kept, flat-few, clear-kept, clear-ready, clear-holds, grown-none, grown-more, grown-ready, grown-all, listsTo, lists-more, lists-long, lists-at, joined-room, joined-more, joined-none, push-asks, joined-push, joined-end}
+use Rattle.pool.specs.Pool.{base, used, pushed, ended}
+use Rattle.shares.specs.Areas.{area, flat, AreaRoom, AreaEmpty, Joined, AreaGrown, flat-few, listsTo, lists-long, lists-at, joined-room, joined-more, joined-none, push-asks, joined-push, joined-end}
 use Rattle.ridges.specs.Codes.{touchedOf, onesIn, onesTo, ones-append, one-joins, one-stays, ones-left, ones-to-few, ones-more, sharesHere, amountOf, here-none, here-joins, here-stays, touchedTo, touchedCode, touched-more, code-some, code-none, touched-few, amount-small}
 
 -- ---- what a facet adds to one ridge orbit
@@ -96,31 +96,7 @@ module _ {from to most : ℕ} {ws₀ : List ℕ} {ridges : ℕ} (codes : List �
         touched-more ridge codes ∙ (ap (λ (l : List ℕ). touchedTo ridge codes ++ l) (ap (touchedCode ridge) (sym e) ∙ code-none ridge added (omega arith)) ∙ append-nil (touchedTo ridge codes)) in
         rw m j
 
--- ---- pools laid list by list
-
-module _ {from to w most : ℕ} (s : List ℕ) {items lists : ℕ} (space : Space from to w most (length s) items lists) (p : List ℕ) (e : p ≡ emptied (area from to s)) (at : ℕ → List ℕ) where
-  pub laid-start : AreaGrown from to w most (placed from (to - from) s p) (placed from (to - from) s p) (listsTo at 0)
-  unfolding listsTo
-  laid-start = grown-none (clear-ready s space p e)
-
-  module _ {ws : List ℕ} (n : ℕ) (g : AreaGrown from to w most (placed from (to - from) s p) ws (listsTo at n)) where
-    pub laid-more : {t : List ℕ} → AreaGrown from to w most ws t (at n ∷ []) → AreaGrown from to w most (placed from (to - from) s p) t (listsTo at (n + 1))
-    laid-more {t} k = rw (lists-more at n) (grown-more (clear-ready s space p e) g k)
-
-    pub laid-ready : (k : ℕ) → length (flat (listsTo at n)) + k ≤ items → n < lists → AreaEmpty from to w most ws k 1
-    laid-ready k h l = grown-ready (clear-ready s space p e) g k 1 h (omega (arith, lists-long at n))
-
-    pub laid-end : Made from to w most s ws (listsTo at n)
-    laid-end =
-        let k = clear-kept s space p e in
-        record { long = g .long ∙ k .0; front = g .front ∙ k .1; pool = grown-all (clear-holds s space p e) g }
-
-    -- an area before it
-    pub laid-area : (a b : ℕ) → a ≤ b → b ≤ from → area a b ws ≡ area a b s
-    laid-area a b o h = area-kept from a b s ws (g .front ∙ clear-kept s space p e .1) o h
-
-  pub clear-area : (a b : ℕ) → a ≤ b → b ≤ from → area a b (placed from (to - from) s p) ≡ area a b s
-  clear-area a b o h = area-kept from a b s (placed from (to - from) s p) (clear-kept s space p e .1) o h
+-- ---- what every facet adds
 
 -- room for what one facet more adds
 pub touched-room : (ridges : ℕ) (lists : List (List ℕ)) (x facets : ℕ) → x < facets → length (flat (listsTo (touchedOf ridges lists) x)) + ridges ≤ facets * ridges

@@ -8,15 +8,15 @@ use native.Mathlib.Omega.{arith}
 use lib.ListN.{length, getD, length-append, length-map}
 use Rattle.definitions.specs.Lists.{Pair, comparePair, mapWith, fresh}
 use Rattle.definitions.specs.Orbits.{Row, image}
+use Rattle.laws.specs.Options.{none-is-not-some}
 use Rattle.laws.specs.Lists.{Mem}
 use Rattle.laws.specs.Orders.{pairs}
 use Rattle.laws.specs.Ascending.{seenAmong}
-use Rattle.shapes.specs.Compounds.{none-is-not-some}
 use Rattle.shapes.specs.Polygons.{edgeVia}
 use Rattle.shapes.specs.Ridges.{KnownKeys, noKeys, keyHeldBy, openKeyOrbit, numberOrOpenKey}
 use Rattle.shapes.specs.KeyMarks.{orElse, marks-after}
 use Rattle.shapes.specs.Kept.{Kept, numberEnds, numbersKept}
-use Rattle.ridges.specs.Ends.{counts-up, number-up, with-length}
+use Rattle.shares.specs.Ends.{counts-up, number-up, with-length}
 
 record HeldNumbered (keys : KnownKeys Pair) : Type 0 where
   pub held : (p : Pair) (number : ℕ) → keyHeldBy comparePair edgeVia p (keys .held) ≡ some number → number < length (keys .counts)

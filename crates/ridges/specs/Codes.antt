@@ -14,14 +14,12 @@ use lib.ListN.{length, getD, take, drop, replicate, take-append-drop, length-app
 use lib.Seq.{take-suc}
 use Rattle.definitions.specs.Lists.{keep}
 use Rattle.definitions.specs.Search.{Share, sharesAt, lastShare}
-use Rattle.laws.specs.Lists.{flatMap-append}
+use Rattle.laws.specs.Lists.{flatMap-append, keep-append}
 use Rattle.laws.specs.Parts.{take-more}
 use Rattle.laws.specs.Segments.{le-or-lt}
 use Rattle.facets.specs.Layout.{amountIn}
-use Rattle.ridges.specs.Areas.{flat, listsTo, last-at}
-
-unfoldable pub shareCode : Share → ℕ
-shareCode s = s .0 + 65536 * s .1
+use Rattle.shares.specs.Areas.{flat, listsTo, last-at}
+use Rattle.shares.specs.Shares.{shareCode}
 
 unfoldable pub shareOf : ℕ → Share
 shareOf c = (c % 65536, c / 65536)
@@ -41,15 +39,6 @@ sharesHere ridge codes = sharesAt ridge (map shareOf codes)
 
 unfoldable pub amountOf : ℕ → List ℕ → ℕ
 amountOf ridge codes = min (lastShare 0 (sharesHere ridge codes) * length (sharesHere ridge codes)) 3
-
-keep-append : {A : Type 0} (p : A → Bool) (l k : List A) → keep p (l ++ k) ≡ keep p l ++ keep p k
-unfolding keep
-keep-append p [] k = refl
-keep-append p (x ∷ l) k = go (p x) (keep-append p l k)
-  where
-    go : (b : Bool) → keep p (l ++ k) ≡ keep p l ++ keep p k → cond b (x ∷ keep p (l ++ k)) (keep p (l ++ k)) ≡ cond b (x ∷ keep p l) (keep p l) ++ keep p k
-    go true e = ap (λ (r : List _). x ∷ r) e
-    go false e = e
 
 last-more : (before : ℕ) (l : List Share) (s : Share) → lastShare before (l ++ (s ∷ [])) ≡ s .1
 unfolding lastShare

@@ -26,12 +26,12 @@ use Rattle.shelf.specs.declared.Shelf.{Shelf}
 use Rattle.shelf.specs.Keeps.{Keeps, Ridges, facetsOf, ownersOf, placesOf, ridgeCode, ridgeCodes, ownersPart, ridgesPart, placesPart}
 use Rattle.facets.specs.Layout.{Inputs, facetOf}
 use Rattle.facets.specs.declared.Areas.{Areas}
-use Rattle.ridges.specs.declared.Desk.{Desk}
-use Rattle.ridges.specs.Areas.{area, flat, Space, Made, area-kept, take-kept, flat-few, listsTo, lists-long, lists-at, last-at, none-behind}
-use Rattle.ridges.specs.Numbering.{Sent}
-use Rattle.ridges.specs.Ends.{Reads, ridgesAt, allNumbered, AllNumbered}
-use Rattle.ridges.specs.Codes.{shareCode, touchedOf}
-use Rattle.ridges.specs.Shares.{sourcesOf, countOf, ownerOf, facetCodes, Orders, SourcesFit, codes-long}
+use Rattle.shares.specs.declared.Desk.{Desk}
+use Rattle.shares.specs.Areas.{area, flat, Space, Made, area-kept, take-kept, flat-few, listsTo, lists-long, lists-at, last-at, none-behind}
+use Rattle.numbering.specs.Numbering.{Sent}
+use Rattle.shares.specs.Ends.{Reads, ridgesAt, allNumbered, AllNumbered}
+use Rattle.ridges.specs.Codes.{touchedOf}
+use Rattle.shares.specs.Shares.{shareCode, sourcesOf, countOf, ownerOf, facetCodes, Orders, SourcesFit, codes-long}
 use Rattle.ridges.specs.Facets.{At, item-at, at-map, zip-at, zip-long}
 use Rattle.ridges.specs.Small.{Small, ends-of-code, numbers-are}
 use Rattle.ridges.specs.Shared.{Holding, facets-many, sources-fit, codes-are, shares-below, facets-same, orbits-same, ridges-same}

@@ -7,24 +7,21 @@ use lib.Dec.{eqb}
 use lib.ListN.{length, getD, replicate}
 use Rattle.definitions.specs.Lists.{countFrom, keep}
 use Rattle.definitions.specs.Search.{Table, Share, Facet, sharesOf, sharesAt, lastShare, adds, allFacets, onesAt}
-use Rattle.laws.specs.Lists.{Mem, flatMap-append, of-count}
+use native.Mathlib.Numerals.{add-one}
+use Rattle.laws.specs.Lists.{Mem, flatMap-append, of-count, count-more}
 use Rattle.laws.specs.Places.{map-self, map-same}
 use Rattle.pool.specs.Pool.{closedLists}
 use Rattle.pool.specs.Holds.{Holds, holds-count}
 use Rattle.facets.specs.Sums.{amount}
 use Rattle.facets.specs.Layout.{facetOf, onesOf, amountIn, Tables, codes}
 use Rattle.facets.specs.declared.Areas.{Areas}
-use Rattle.ridges.specs.Areas.{listsTo, lists-long, lists-at}
-use Rattle.ridges.specs.Codes.{shareCode, shareOf, share-back, sharesHere, amountOf, touchedOf, touchedTo, onesIn, onesTo, amounts-are, touched-within, ones-counted}
+use Rattle.shares.specs.Areas.{listsTo, lists-long, lists-at}
+use Rattle.shares.specs.Shares.{shareCode}
+use Rattle.ridges.specs.Codes.{shareOf, share-back, sharesHere, amountOf, touchedOf, touchedTo, onesIn, onesTo, amounts-are, touched-within, ones-counted}
 use Rattle.ridges.specs.Codes as made
 
-count-up : (a n : ℕ) → countFrom a (suc n) ≡ countFrom a n ++ ((a + n) ∷ [])
-unfolding countFrom
-count-up a zero = let e : a ≡ a + 0 = omega arith in ap (λ (k : ℕ). k ∷ []) e
-count-up a (suc n) = let e : suc a + n ≡ a + suc n = omega arith in ap (λ (l : List ℕ). a ∷ l) (count-up (suc a) n ∙ ap (λ (k : ℕ). countFrom (suc a) n ++ (k ∷ [])) e)
-
 numbers-up : (n : ℕ) → countFrom 0 (suc n) ≡ countFrom 0 n ++ (n ∷ [])
-numbers-up n = let e : 0 + n ≡ n = omega arith in count-up 0 n ∙ ap (λ (k : ℕ). countFrom 0 n ++ (k ∷ [])) e
+numbers-up n = let e : 0 + n ≡ n = omega arith in ap (countFrom 0) (sym (add-one n)) ∙ (count-more 0 n ∙ ap (λ (k : ℕ). countFrom 0 n ++ (k ∷ [])) e)
 
 lists-map : {A : Type 0} (at : ℕ → A) (n : ℕ) → listsTo at n ≡ map at (countFrom 0 n)
 unfolding listsTo countFrom

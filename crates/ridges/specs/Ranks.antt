@@ -2,7 +2,7 @@
 use Prim.Native.Nat.{ℕ, _≤_}
 use native.Mathlib.Omega.{arith}
 use Rattle.shelf.specs.declared.Shelf.{Shelf}
-use Rattle.ridges.specs.declared.Desk.{Desk}
+use Rattle.shares.specs.declared.Desk.{Desk}
 use Rattle.ridges.specs.Desks.{DeskFits}
 
 -- rank 4: 190 ridges of an orbit, places of a facet and ridge orbits

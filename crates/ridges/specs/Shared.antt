@@ -14,9 +14,8 @@ use Rattle.laws.specs.Segments.{le-or-lt}
 use Rattle.pool.specs.Pool.{count, closedLists, Sound, closed-length}
 use Rattle.shapes.specs.Kept.{Kept, numbersKept, keptShare, keptShares, keptTable}
 use Rattle.shelf.specs.Keeps.{facetsIn, facetsOf, ownersOf, placesOf, ridgeCode, ridgeCodes}
-use Rattle.ridges.specs.Areas.{none-behind}
-use Rattle.ridges.specs.Codes.{shareCode}
-use Rattle.ridges.specs.Shares.{Sources, countOf, ownerOf, ridgesIn, numbersIn, placesIn, codeAt, facetCodes, SourcesFit}
+use Rattle.shares.specs.Areas.{none-behind}
+use Rattle.shares.specs.Shares.{shareCode, Sources, countOf, ownerOf, ridgesIn, numbersIn, placesIn, codeAt, facetCodes, SourcesFit}
 use Rattle.ridges.specs.Facets.{At, item-at, at-map, zip-at, zip-long, facetsFrom, table-facets, kept-facets, facets-long, stand}
 use Rattle.ridges.specs.Small.{Small, count-of-code}
 use Rattle.ridges.specs.Below.{numbers-below, numbers-long, numbers-each}

@@ -16,7 +16,7 @@ use Rattle.shapes.specs.Polygons.{edgeVia}
 use Rattle.shapes.specs.Ridges.{KnownKeys, noKeys, keyHeldBy, openKeyOrbit, numberOrOpenKey}
 use Rattle.shapes.specs.Kept.{Kept, numberEnds, numbersKept}
 use Rattle.shelf.specs.Keeps.{ridgeCode, ridgeCodes}
-use Rattle.ridges.specs.Ends.{endsIn, numbered, allNumbered}
+use Rattle.shares.specs.Ends.{endsIn, numbered, allNumbered}
 
 -- n vertices, and at most so many inner orbits of an orbit and places of a facet
 pub record Small (n most : ℕ) (kept : List Kept) : Type 0 where

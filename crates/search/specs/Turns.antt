@@ -24,7 +24,7 @@ use Rattle.facets.specs.Layout.{verdict, Inputs, AreasFit, holds-kept, ridgeOf,
 use Rattle.frames.specs.Paths.{listTo, frameAt, framesTo, itemAt, PathStands, Emitted, emittedIn}
 use Rattle.search.specs.Outcomes.{searchLimit, entryLimitsOf}
 use Rattle.frames.specs.Steps.{Light, Next, CandidateDue, Visited, Withdrawn, Entered, path-short, candidateOf}
-use Rattle.frames.specs.Emission.{Started, emitted-count}
+use Rattle.emission.specs.Emission.{Started, emitted-count}
 
 -- the list that is examined, and the lists that are due behind it
 unfoldable pub due : Table → List ℕ → ℕ → List Item

@@ -13,7 +13,7 @@ ghost use Rattle.pool.specs.Pool.{count};
 ghost use Rattle.frames.specs.Steps.{Withdrawn};
 use facets::Areas;
 use facets::Verdict;
-use frames::State;
+use visits::State;
 
 // The limit on entries.
 pub enum Limit {
@@ -56,11 +56,11 @@ fn close(ws: &mut [u8], a: Areas, limit: Limit, depth: usize) -> Step
     if bound <= emitted as usize {
         return Step::Full;
     }
-    frames::emit(ws, a, depth);
+    emission::emit(ws, a, depth);
     if reached(limit, emitted + 1) {
         return Step::Stopped;
     }
-    frames::enter(ws, a, depth, 0);
+    depths::enter(ws, a, depth, 0);
     Step::On(depth + 1)
 }
 
@@ -73,11 +73,11 @@ fn follow(ws: &mut [u8], a: Areas, limit: Limit, s: State) -> Step
     let v = s.verdict;
     match v {
         Verdict::Over => {
-            frames::withdraw(ws, a, depth);
+            depths::withdraw(ws, a, depth);
             Step::On(depth)
         }
         Verdict::Open(ridge) => {
-            frames::enter(ws, a, depth, ridge as usize + 1);
+            depths::enter(ws, a, depth, ridge as usize + 1);
             Step::On(depth + 1)
         }
         Verdict::Closed => close(ws, a, limit, depth),
@@ -93,7 +93,7 @@ fn back(ws: &mut [u8], a: Areas, s: State) -> State
     let left = s.left;
     let v = s.verdict;
     if 0 < depth {
-        frames::withdraw(ws, a, depth);
+        depths::withdraw(ws, a, depth);
     }
     State {
         verdict: v,
@@ -132,7 +132,7 @@ pub fn search(ws: &mut [u8], a: Areas, limit: Limit, budget: u32) -> Outcome
     ensures many { λ r. ⌜ ((t : Table) → countedLists t a r (now (ws .exit))) ⌝ }
     ensures kept { λ _. ⌜ take (a .frames) (now (ws .exit)) ≡ take (a .frames) (now (ws .entry)) ⌝ }
 {
-    frames::start(ws, a);
+    emission::start(ws, a);
     let mut s = State {
         verdict: Verdict::Closed,
         depth: 1,
@@ -140,14 +140,14 @@ pub fn search(ws: &mut [u8], a: Areas, limit: Limit, budget: u32) -> Outcome
     };
     while 0 < s.depth {
         let depth = s.depth;
-        let place = frames::next(ws, a, depth);
+        let place = visits::next(ws, a, depth);
         if place == 0 {
             s = back(ws, a, s);
         } else {
             if s.left == 0 {
                 return Outcome::Refused(16);
             }
-            s = frames::visit(ws, a, s, place);
+            s = visits::visit(ws, a, s, place);
             let step = follow(ws, a, limit, s);
             match step {
                 Step::On(deep) => {

@@ -15,14 +15,13 @@ use Rattle.definitions.specs.Figures.{Figure}
 use Rattle.definitions.specs.Recursion.{Rules, Answer, Inner, vertexRidge, swappedEnds, separateEnds, edgeCall, keepsSet, rowWithin, rowsWithin}
 use Rattle.definitions.specs.Faceting.{orbitsOf, Prepared, possibleFacets, finish, faceting}
 use Rattle.laws.specs.Bools.{true→holds}
-use Rattle.laws.specs.Lists.{Mem, in-map, of-map, count-at, count-length, any-witness}
+use Rattle.laws.specs.Lists.{Mem, in-map, of-map, count-at, count-length, any-witness, keep-few}
 use Rattle.shapes.specs.Answered.{answers-equal, Preparation, answered-call}
 use Rattle.shapes.specs.LowRanks.{RankTwo, rank-two}
 use Rattle.shapes.specs.Sets.{Rows}
 use Rattle.shapes.specs.Calls.{Given}
 use Rattle.shapes.specs.Sizes.{Counted}
 use Rattle.shapes.specs.CallOrbits.{call-orbit-counted}
-use Rattle.shapes.specs.FewOrbits.{keep-few}
 
 -- ---- orbits
 

@@ -7,7 +7,7 @@ use mathlib.Core.List.{List, [], _∷_, map, flatMap, List·Memᴰ}
 use Prim.Native.Nat.{ℕ, zero, suc, _+_, _-_, _*_, _/_, _≤_, _<_, max}
 use native.Mathlib.Omega.{arith}
 use lib.ListN.{length, getD, take, length-map, length-replicate}
-use Rattle.definitions.specs.Lists.{Pair, countFrom}
+use Rattle.definitions.specs.Lists.{Pair, countFrom, comparePair}
 use Rattle.definitions.specs.Outcome.{answered}
 use Rattle.definitions.specs.Vectors.{Vec}
 use Rattle.definitions.specs.Subspace.{Subspace}
@@ -17,7 +17,8 @@ use Rattle.definitions.specs.Search.{Facet}
 use Rattle.definitions.specs.Recursion.{Rules, Bounds, Entry, Answer, Inner, vertexRidge, rowsWithin}
 use Rattle.definitions.specs.Faceting.{Prepared, possibleFacets, split, facetImages, entryOf, finish, faceting}
 use Rattle.definitions.specs.Job.{counted, figureWords, entryWords, compoundWords, summaryWords, answerWords}
-use Rattle.laws.specs.Lists.{Mem, in-map, of-map, of-count, count-length, in-replicate, there}
+use Rattle.shapes.specs.AnswerSizes.{within-few}
+use Rattle.laws.specs.Lists.{Mem, in-map, of-map, of-count, count-length, in-replicate}
 use Rattle.laws.specs.Ascending.{Differ, Distinct}
 use Rattle.laws.specs.Pairs.{pairs-map}
 use Rattle.laws.specs.Ranges.{distinct-below}
@@ -28,7 +29,7 @@ use Rattle.shapes.specs.Compounds.{composed, compounds-ascend}
 use Rattle.shapes.specs.Calls.{Given, innerPoints, inner-given, facetRank, ShapedAnswer, shaped-answer}
 use Rattle.shapes.specs.EntryFigures.{facets-many, call-split, found-split-in-call}
 use Rattle.shapes.specs.Sizes.{split-length}
-use Rattle.shapes.specs.FewElements.{sizes, Few, step-few, mostElements, few-elements, inner-points, inner-rows, possible-few}
+use Rattle.shapes.specs.FewElements.{sizes, Few, step-few, mostElements, few-elements, inner-points, possible-few}
 use Rattle.shapes.specs.CallOrbits.{call-orbit-counted}
 use Rattle.shapes.specs.FigureNumbers.{WordsBelow, none-below, more-below, joined-below, each-below, counted-below, OnGround, ground-wider, ground-moved, figure-ground, dyad-ground, ridge-ground, figure-below, summary-below}
 
@@ -109,12 +110,12 @@ sum-above (j ∷ inner) i (List·Memᴰ.List·Memᴰ·head q) = let k = ap facet
 sum-above (j ∷ inner) i (List·Memᴰ.List·Memᴰ·tail m) = let k = sum-above inner i m in omega arith
 
 -- compounds are no more than entries
-compounds-few : (lists : List (List Pair)) → length (labelIrc lists) ≤ length lists
+compounds-few : (lists : List (List Pair)) → length (labelIrc comparePair lists) ≤ length lists
 compounds-few lists =
-    let wholes = map (λ (c : Compound). c .whole) (labelIrc lists) in
-    let distinct : Distinct wholes = pairs-map (λ (c d : Compound). c .whole < d .whole) Differ (λ (c : Compound). c .whole) (labelIrc lists) (λ c i d j h e. omega arith) (compounds-ascend lists) in
-    let few = distinct-below (length lists) wholes distinct (λ n m. let r = of-map (λ (c : Compound). c .whole) n (labelIrc lists) m in let b = composed lists (r .0) (r .1) .whole-below in let q = r .2 in omega arith) in
-    let e = length-map (labelIrc lists) (λ (c : Compound). c .whole) in
+    let wholes = map (λ (c : Compound). c .whole) (labelIrc comparePair lists) in
+    let distinct : Distinct wholes = pairs-map (λ (c d : Compound). c .whole < d .whole) Differ (λ (c : Compound). c .whole) (labelIrc comparePair lists) (λ c i d j h e. omega arith) (compounds-ascend lists) in
+    let few = distinct-below (length lists) wholes distinct (λ n m. let r = of-map (λ (c : Compound). c .whole) n (labelIrc comparePair lists) m in let b = composed lists (r .0) (r .1) .whole-below in let q = r .2 in omega arith) in
+    let e = length-map (labelIrc comparePair lists) (λ (c : Compound). c .whole) in
     omega arith
 
 module _ (most more : ℕ) (rules : Rules) (plane : Subspace) (points : List Vec) (rows : List Row) (a : Answer) (given : Given points rows) (c : AnsweredCall more rules plane points rows a)
@@ -147,9 +148,9 @@ module _ (most more : ℕ) (rules : Rules) (plane : Subspace) (points : List Vec
   lists-below : length lists < most
   lists-below = let e = length-map (a .entries) (λ (x : Entry). x .list) in let k = few-entries more rules plane points rows a c in let b = under .entries in omega arith
 
-  are-compounds : a .compounds ≡ labelIrc lists
+  are-compounds : a .compounds ≡ labelIrc comparePair lists
   unfolding finish
-  are-compounds = ap (λ (y : Answer). y .compounds) (c .is) ∙ sym (ap (λ (y : Answer). labelIrc (map (λ (x : Entry). x .list) (y .entries))) (c .is))
+  are-compounds = ap (λ (y : Answer). y .compounds) (c .is) ∙ sym (ap (λ (y : Answer). labelIrc comparePair (map (λ (x : Entry). x .list) (y .entries))) (c .is))
 
   pub call-numbers : NumbersBelow most a
   unfolding finish entryOf compoundWords
@@ -352,7 +353,7 @@ module _ (most n r f : ℕ) (rules : Rules) (few-facets : rules .bounds .facets 
       (λ j m x i.
       let call = c .prepared .inner .each j m in
       let its = inner-points more rules plane points rows p (c .prepared) j m in
-      let rows-of = inner-rows (j .orbit .vertices) rows in
+      let rows-of = within-few (j .orbit .vertices) rows in
       few-more inner (max own inner) (x .figure) (omega arith)
       (few-elements rules n r f few-facets more _ (innerPoints plane points j) (rowsWithin (j .orbit .vertices) rows) (call .budget) (j .answer)
       (inner-given more rules (faceting more rules) plane points rows p (c .prepared) (given .rows-good) j m) (omega arith) (omega arith) (call .is) x i))

@@ -12,8 +12,8 @@ use Rattle.definitions.specs.Vectors.{Vec}
 use Rattle.definitions.specs.Subspace.{Subspace, flatten, fromPoints}
 use Rattle.definitions.specs.Orbits.{Row, Orbit, pointAt}
 use Rattle.definitions.specs.Search.{Facet, Table, Item, Verdict, over, closed, openAt, EntryLimits, Found, limitReached, emit, emitIf, judge, totals, putIn, examine, search, starts}
-use Rattle.definitions.specs.Recursion.{Rules, Answer, Call, Inner, InnerCalls, innerCall, innerCalls, beforeThese, rowsWithin}
-use Rattle.definitions.specs.Faceting.{Prepared, orbitsOf, prepare, searchFrom, finish, faceting}
+use Rattle.definitions.specs.Recursion.{Rules, Answer, Call, Inner, InnerCalls, innerCall, innerCalls, beforeThese, rowsWithin, callOnSet}
+use Rattle.definitions.specs.Faceting.{Prepared, orbitsOf, prepare, searchFrom, finish, faceting, prepareFrom, answerFrom}
 use Rattle.laws.specs.Bools.{false→fails}
 use Rattle.laws.specs.Lists.{Mem}
 use Rattle.laws.specs.Outcomes.{answered-before, not-refused-if}
@@ -47,7 +47,7 @@ module _ (wanted : ℕ) (rules : Rules) (call : Call) (flat : List Vec) (rows : 
   Good i = InnerAnswer wanted rules call flat rows i
 
   inner-answer : (orbit : Orbit) (budget : ℕ) (i : Inner) → innerCall wanted rules call flat rows orbit budget ≡ answered i → Good i × (i .orbit ≡ orbit)
-  unfolding innerCall
+  unfolding callOnSet innerCall
   inner-answer orbit budget i e =
       let points = map (pointAt flat) (orbit .vertices) in
       let plane = fromPoints (rules .tolerance) points in
@@ -114,7 +114,7 @@ pub record Preparation (more : ℕ) (rules : Rules) (call : Call) (plane : Subsp
 
 pub preparation : (more : ℕ) (rules : Rules) (call : Call) (plane : Subspace) (points : List Vec) (rows : List Row) (budget : ℕ) (p : Prepared)
     → prepare more rules call plane points rows budget ≡ answered p → Preparation more rules call plane points rows p
-unfolding prepare
+unfolding prepareFrom prepare
 preparation more rules call plane points rows budget p e =
     let flat = map (flatten plane) points in
     let orbits = orbitsOf more rules plane points rows in
@@ -141,7 +141,7 @@ pub record AnsweredCall (more : ℕ) (rules : Rules) (plane : Subspace) (points 
 
 pub answered-call : (more : ℕ) (rules : Rules) (plane : Subspace) (points : List Vec) (rows : List Row) (budget : ℕ) (a : Answer)
     → faceting (suc more) rules plane points rows budget ≡ answered a → AnsweredCall more rules plane points rows a
-unfolding faceting
+unfolding answerFrom faceting
 answered-call more rules plane points rows budget a e =
     let first = prepare more rules (faceting more rules) plane points rows budget in
     let p = answered-before first (λ (x : Prepared). andThen (searchFrom rules x) (λ (f : Found). answered (finish x f))) a e in

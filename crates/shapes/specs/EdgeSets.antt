@@ -1,14 +1,14 @@
 -- Edges as pairs of vertices, the smaller first, and figures of rank 3 and 4 written from edge sets alone: a rank 3 figure is its edges in the order of the pairs, a rank 4 figure its edges and
 -- its polygons, each the list of its edges' numbers, in the order of their lists of edges. EntryFigures shows that nested sets have these figures. Leans on FigureOf.
-use mathlib.Core.Path.{_≡_, refl, sym, ap, _∙_, subst}
+use mathlib.Core.Path.{_≡_, sym, ap, _∙_, subst}
 use mathlib.Core.List.{List, [], _∷_, map, List·Memᴰ}
-use Prim.Native.Nat.{ℕ, _<_, compare, Ordering, Ordering·lt, Ordering·eq, Ordering·gt}
+use Prim.Native.Nat.{ℕ, _<_, compare, Ordering·lt}
 use native.Mathlib.Omega.{arith}
 use lib.ListN.{length, drop, replicate, length-map}
 use Rattle.definitions.specs.Lists.{Pair, thenBy, compareList, comparePair, compareNats, comparePairs, countFrom}
 use Rattle.definitions.specs.Figures.{Figure}
 use Rattle.laws.specs.Lists.{Mem, of-map}
-use Rattle.laws.specs.Orders.{pairs, nat-lists, pair-lists, lt-compare}
+use Rattle.laws.specs.Orders.{pairs, nat-lists, pair-lists, lt-compare, then-alone}
 use Rattle.laws.specs.Ascending.{Ascends, ascends-distinct, inOrder}
 use Rattle.laws.specs.Places.{placeIn, ascends-map}
 use Rattle.shapes.specs.Shape.{Element, Rank, Stack}
@@ -27,12 +27,7 @@ ends e = e .0 ∷ e .1 ∷ []
 
 pub compare-ends : (d e : Pair) → compareNats (ends d) (ends e) ≡ comparePair d e
 unfolding ends compareNats compareList comparePair thenBy
-compare-ends d e = ap (thenBy (compare (d .0) (e .0))) (alone (compare (d .1) (e .1)))
-  where
-    alone : (o : Ordering) → thenBy o Ordering·eq ≡ o
-    alone Ordering·lt = refl
-    alone Ordering·eq = refl
-    alone Ordering·gt = refl
+compare-ends d e = ap (thenBy (compare (d .0) (e .0))) (then-alone (compare (d .1) (e .1)))
 
 pub ends-element : (n : ℕ) (e : Pair) → Proper n e → Element n (ends e)
 unfolding ends

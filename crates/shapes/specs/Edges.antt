@@ -1,17 +1,13 @@
 -- The figures of ranks 1 and 2: a vertex as a ridge, an edge with its ends. How they move, and that two are equal exactly when their vertices are. Leans on the definitions and laws.
 use mathlib.Core.Path.{_≡_, refl, ap, _∙_}
-use mathlib.Core.Logic.{_↔_}
 use mathlib.Core.Bool.{cond}
 use mathlib.Core.List.{List, [], _∷_}
 use Prim.Native.Nat.{ℕ, min, max, compare, Ordering, Ordering·lt, Ordering·eq, Ordering·gt}
 use native.Mathlib.Omega.{arith}
-use lib.Dec.{T, isEq}
-use lib.ListN.{getD}
 use Rattle.definitions.specs.Lists.{Pair, isGt, insertBy, sortBy, sortNats, compareNats, compareList}
-use Rattle.definitions.specs.Figures.{Figure, compareFigures, sortRanks, sortStrong, moveEnds, dyad}
+use Rattle.definitions.specs.Figures.{Figure, compareFigures, sortRanks, sortStrong, moveEnds}
 use Rattle.definitions.specs.Recursion.{vertexRidge, moveSorted}
 use Rattle.laws.specs.Orders.{Linear, turned, nats, nat-lists, lists, compare-lt}
-use Rattle.laws.specs.Ascending.{equal-tested, tested-equal}
 
 -- ---- figures compare as lists of lists do
 
@@ -40,41 +36,12 @@ pub vertex-moved : (to : ℕ → ℕ) (v : ℕ) → moveSorted to (vertexRidge v
 unfolding moveSorted sortStrong moveEnds vertexRidge sortRanks sortNats sortBy insertBy
 vertex-moved to v = refl
 
--- two are equal as figures exactly when the vertex is the same
-pub vertices-equal : (v w : ℕ) → T (isEq (compareFigures (vertexRidge v) (vertexRidge w))) ↔ (v ≡ w)
-unfolding vertexRidge
-vertices-equal v w = (
-  (λ t. ap (λ (f : Figure). getD (getD (getD f 2 []) 0 []) 0 0) (tested-equal compareFigures figures (vertexRidge v) (vertexRidge w) t)),
-  (λ e. equal-tested compareFigures figures (vertexRidge v) (vertexRidge w) (ap vertexRidge e)),
-)
-
 -- ---- an edge
 
 unfoldable pub edgeFigure : Pair → Figure
 edgeFigure e = ([] ∷ []) ∷ ((0 ∷ []) ∷ (0 ∷ []) ∷ []) ∷ ((e .0 ∷ e .1 ∷ []) ∷ []) ∷ []
 
-pub dyad-edge : dyad ≡ edgeFigure (0, 1)
-unfolding dyad edgeFigure
-dyad-edge = refl
-
--- its ends sent elsewhere, as they come
-pub edge-ends-moved : (to : ℕ → ℕ) (e : Pair) → moveEnds to (edgeFigure e) ≡ edgeFigure (to (e .0), to (e .1))
-unfolding moveEnds edgeFigure
-edge-ends-moved to e = refl
-
 -- moved and sorted, the smaller end first
 pub edge-moved : (to : ℕ → ℕ) (e : Pair) → moveSorted to (edgeFigure e) ≡ edgeFigure (min (to (e .0)) (to (e .1)), max (to (e .0)) (to (e .1)))
 unfolding moveSorted sortStrong moveEnds edgeFigure sortRanks
 edge-moved to e = ap (λ (ends : List ℕ). ([] ∷ []) ∷ ((0 ∷ []) ∷ (0 ∷ []) ∷ []) ∷ (ends ∷ []) ∷ []) (sort-two (to (e .0)) (to (e .1)))
-
--- two are equal as figures exactly when the pair of ends is the same
-pub edges-equal : (d e : Pair) → T (isEq (compareFigures (edgeFigure d) (edgeFigure e))) ↔ (d ≡ e)
-unfolding edgeFigure
-edges-equal d e = (
-  (λ t.
-      let q = tested-equal compareFigures figures (edgeFigure d) (edgeFigure e) t in
-      let first = ap (λ (f : Figure). getD (getD (getD f 2 []) 0 []) 0 0) q in
-      let second = ap (λ (f : Figure). getD (getD (getD f 2 []) 0 []) 1 0) q in
-      λ i. (first i, second i)),
-  (λ q. equal-tested compareFigures figures (edgeFigure d) (edgeFigure e) (ap edgeFigure q)),
-)

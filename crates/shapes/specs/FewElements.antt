@@ -7,15 +7,16 @@ use Prim.Native.Nat.{ℕ, zero, suc, _+_, _*_, _≤_, max, compare}
 use native.Mathlib.Omega.{arith}
 use native.Mathlib.Nat.{mul-le-mul}
 use lib.ListN.{length, getD, drop, replicate, length-append, length-map}
-use Rattle.definitions.specs.Lists.{Pair, sortNats, compareNats, keep}
+use Rattle.definitions.specs.Lists.{Pair, sortNats, compareNats}
 use Rattle.definitions.specs.Outcome.{answered}
 use Rattle.definitions.specs.Vectors.{Vec}
 use Rattle.definitions.specs.Subspace.{Subspace}
 use Rattle.definitions.specs.Orbits.{Row, image}
 use Rattle.definitions.specs.Figures.{Elements, Figure, renumber, sortRanks, sortStrong, moveEnds, dyad, lowestRanks, withoutLowest, assemble, figureOf}
 use Rattle.definitions.specs.Search.{Facet}
-use Rattle.definitions.specs.Recursion.{Rules, Entry, Answer, Inner, moveSorted, keepsSet, rowWithin, rowsWithin}
+use Rattle.definitions.specs.Recursion.{Rules, Entry, Answer, Inner, moveSorted, rowsWithin}
 use Rattle.definitions.specs.Faceting.{Prepared, possibleFacets, atOrbit, split, facetImages, entryOf, finish, faceting}
+use Rattle.shapes.specs.AnswerSizes.{within-few}
 use Rattle.laws.specs.Lists.{Mem, here, there, of-map, of-flatMap}
 use Rattle.laws.specs.Orders.{nats, nat-lists}
 use Rattle.laws.specs.Ascending.{ascends-distinct, sorted-length}
@@ -27,7 +28,6 @@ use Rattle.shapes.specs.Assemble.{lowestOf, lowestAll}
 use Rattle.shapes.specs.Calls.{Given, innerPoints, inner-set, inner-size, inner-given, at-or}
 use Rattle.shapes.specs.EdgeSets.{ends, polygon}
 use Rattle.shapes.specs.EntryFigures.{call-split, entry-polygon}
-use Rattle.shapes.specs.FewOrbits.{keep-few}
 use Rattle.shapes.specs.Sizes.{split-length, edges-few}
 
 -- ---- how many elements each rank has
@@ -219,10 +219,6 @@ inner-points more rules plane points rows p made i m =
     let b = inner-size more rules (faceting more rules) plane points rows p made i in
     omega arith
 
-pub inner-rows : (vertices : List ℕ) (rows : List Row) → length (rowsWithin vertices rows) ≤ length rows
-unfolding rowsWithin
-inner-rows vertices rows = let a = length-map (keep (keepsSet vertices) rows) (rowWithin vertices) in let b = keep-few (keepsSet vertices) rows in omega arith
-
 module _ (rules : Rules) (n r f : ℕ) (few-facets : rules .bounds .facets ≤ f) where
   -- the edge of rank 2
   two-few : (plane : Subspace) (points : List Vec) (rows : List Row) (budget : ℕ) (a : Answer) → faceting 0 rules plane points rows budget ≡ answered a → (x : Entry) → Mem x (a .entries) → Few 1 (x .figure)
@@ -261,7 +257,7 @@ module _ (rules : Rules) (n r f : ℕ) (few-facets : rules .bounds .facets ≤ f
       (λ j m.
       let inner = c .prepared .inner .each j m in
       let its = inner-points (suc more) rules plane points rows p (c .prepared) j m in
-      let own = inner-rows (j .orbit .vertices) rows in
+      let own = within-few (j .orbit .vertices) rows in
       few-elements (suc more) _ (innerPoints plane points j) (rowsWithin (j .orbit .vertices) rows) (inner .budget) (j .answer)
       (inner-given (suc more) rules (faceting (suc more) rules) plane points rows p (c .prepared) (given .rows-good) j m) (omega arith) (omega arith) (inner .is))
       x i

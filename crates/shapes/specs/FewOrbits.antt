@@ -13,15 +13,9 @@ use Rattle.definitions.specs.Lists.{Pair, compareNats, memberNat, memberPair, a
 use Rattle.definitions.specs.Vectors.{Vec}
 use Rattle.definitions.specs.Subspace.{fromPoints, isHyperplane}
 use Rattle.definitions.specs.Orbits.{Row, Limits, Orbit, image, pairImage, vertexOpeners, breaksLimit, pairOpeners, above, pairsFrom, tuples, pointAt, pointsNear, setImage, hyperplanes, hyperplaneOrbits}
-use Rattle.laws.specs.Lists.{all-of, keep-all, keep-fewer, flatMap-append, in-count}
+use Rattle.laws.specs.Lists.{all-of, flatMap-append, in-count, keep-few}
 use Rattle.shapes.specs.Sizes.{edges-few}
 use Rattle.shapes.specs.AllPairs.{allPairs, of-all-pairs, all-pairs-ascend}
-
-pub keep-few : {A : Type 0} (p : A → Bool) (l : List A) → length (keep p l) ≤ length l
-keep-few {A} p l =
-    let all = ap length (keep-all (λ (x : A). true) l (λ x m. tt)) in
-    let fewer = keep-fewer (λ (x : A). true) p l (λ x t. tt) in
-    omega arith
 
 -- ---- openers
 

@@ -1,6 +1,6 @@
 -- `figureOf` at every rank from 3: an equation with each rank in order; the shape of what it gives; and that it depends on the set of its facets alone. Leans on Gathered.
 use mathlib.Core.Path.{_≡_, refl, sym, ap, _∙_, subst}
-use mathlib.Core.List.{List, [], _∷_, map, List·Memᴰ, List·Permᴰ, Permᴰ·symm}
+use mathlib.Core.List.{List, [], _∷_, map, List·Memᴰ}
 use Prim.Native.Nat.{ℕ, zero, suc, _+_}
 use native.Mathlib.Omega.{arith}
 use lib.ListN.{length, drop, replicate}
@@ -8,7 +8,7 @@ use Rattle.definitions.specs.Lists.{sortBy, sortNats, compareNats, countFrom}
 use Rattle.definitions.specs.Figures.{Elements, Figure, sortRanks, sortStrong, lowestRanks, withoutLowest, assemble, figureOf}
 use Rattle.laws.specs.Lists.{Mem, of-map, of-count}
 use Rattle.laws.specs.Orders.{nat-lists}
-use Rattle.laws.specs.Sorting.{in-sorted, perm-member}
+use Rattle.laws.specs.Sorting.{in-sorted}
 use Rattle.laws.specs.Ascending.{SameItems, sorted-ascends, in-order-same}
 use Rattle.laws.specs.Places.{map-self}
 use Rattle.laws.specs.Ranges.{same-map, same-flatMap, count-ascending}
@@ -113,6 +113,3 @@ figure-same n more l m h s =
     figure-of n more l h
     ∙ ap (λ (ranks : List Elements). ([] ∷ []) ∷ replicate n (0 ∷ []) ∷ ranks) (gathered-same more (map (drop 2) l) (map (drop 2) m) (same-map (drop 2) l m s))
     ∙ sym (figure-of n more m (λ f i. h f (s .back f i)))
-
-pub figure-permuted : (n more : ℕ) (l m : List Figure) → Stacked n l → List·Permᴰ l m → figureOf more n l ≡ figureOf more n m
-figure-permuted n more l m h p = figure-same n more l m h (record { into = perm-member p; back = perm-member (Permᴰ·symm p) })

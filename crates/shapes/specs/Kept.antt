@@ -1,6 +1,6 @@
 -- What a call of rank 3 or 4 keeps of its orbits and their inner calls, and what it makes of that: the table that it searches, and its answer. Edges stand for figures: a ridge is its two
 -- ends (at rank 3 one vertex twice), a possible facet its edges. KeptTable and KeptAnswer show that nothing else is needed. Leans on Ridges, EdgeSets and Polygons.
-use mathlib.Core.List.{List, [], _∷_, map, flatMap, zipWith}
+use mathlib.Core.List.{List, [], map, flatMap, zipWith}
 use Prim.Native.Nat.{ℕ, zero, suc, _*_, _/_}
 use lib.ListN.{length, getD}
 use Rattle.definitions.specs.Lists.{Pair, comparePair, mapWith, sortBy}
@@ -106,6 +106,6 @@ keptAnswer more n rows kept found =
       counts = map (λ (k : Kept). k .orbit .count) kept;
       entries = entries;
       possible = map (keptPossible more) kept;
-      compounds = labelIrc (map (λ (e : Entry). e .list) entries);
+      compounds = labelIrc comparePair (map (λ (e : Entry). e .list) entries);
       left = found .left;
     }

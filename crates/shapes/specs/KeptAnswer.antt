@@ -200,7 +200,7 @@ module _ (more : ℕ) (rules : Rules) (plane : Subspace) (points : List Vec) (ro
       let possible = map-same possibleFacets (λ (i : Inner). keptPossible more (keptOf i)) (p .inner) (kept-possible p made) ∙ sym (map-map (keptPossible more) keptOf (p .inner)) in
       λ t.
       let sorted = sortBy compareEntries (entries t) in
-      record { counts = counts t; entries = sorted; possible = possible t; compounds = labelIrc (map (λ (e : Entry). e .list) sorted); left = found .left }
+      record { counts = counts t; entries = sorted; possible = possible t; compounds = labelIrc comparePair (map (λ (e : Entry). e .list) sorted); left = found .left }
 
   pub kept-answer : (a : Answer) (c : AnsweredCall more rules plane points rows a) → a ≡ keptAnswer more (length points) rows (map keptOf (c .before .inner)) (c .found)
   kept-answer a c = c .is ∙ kept-finish (c .before) (c .prepared) (c .found) (c .is-found)

@@ -5,7 +5,7 @@ use mathlib.Core.List.{List, [], _∷_, map, flatMap, map-map}
 use Prim.Native.Nat.{ℕ, zero, suc, _<_}
 use native.Mathlib.Omega.{arith}
 use lib.ListN.{length, getD, length-map}
-use Rattle.definitions.specs.Lists.{Pair, sortBy, keep}
+use Rattle.definitions.specs.Lists.{Pair, sortBy, keep, comparePair}
 use Rattle.definitions.specs.Outcome.{answered}
 use Rattle.definitions.specs.Vectors.{Vec}
 use Rattle.definitions.specs.Subspace.{Subspace}
@@ -116,7 +116,7 @@ module _ {K : Type 0} (send : (ℕ → ℕ) → K → K) (keys : Inner → List 
         let possible = map-same possibleFacets (λ (i : Inner). orbitPossible more (keepElements i)) (p .inner) orbit-possible ∙ sym (map-map (orbitPossible more) keepElements (p .inner)) in
         λ t.
         let sorted = sortBy compareEntries (entries t) in
-        record { counts = counts t; entries = sorted; possible = possible t; compounds = labelIrc (map (λ (e : Entry). e .list) sorted); left = found .left }
+        record { counts = counts t; entries = sorted; possible = possible t; compounds = labelIrc comparePair (map (λ (e : Entry). e .list) sorted); left = found .left }
 
   pub orbit-answer : (rules : Rules) (plane : Subspace) (points : List Vec) (rows : List Row) → Given points rows → (a : Answer) (c : AnsweredCall more rules plane points rows a)
       → a ≡ orbitAnswer more (length points) rows (map keepElements (c .before .inner)) (c .found)

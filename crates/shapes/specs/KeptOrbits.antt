@@ -4,7 +4,7 @@
 use mathlib.Core.List.{List, [], _∷_, _++_, map, flatMap, zipWith}
 use Prim.Native.Nat.{ℕ, zero, suc, _+_, _*_, _/_, Ordering}
 use lib.ListN.{length, getD, replicate}
-use Rattle.definitions.specs.Lists.{Pair, mapWith, sortBy}
+use Rattle.definitions.specs.Lists.{Pair, mapWith, sortBy, comparePair}
 use Rattle.definitions.specs.Orbits.{Row, Orbit, image}
 use Rattle.definitions.specs.Figures.{Figure, Compound, partsOf, labelIrc}
 use Rattle.definitions.specs.Search.{Facet, Share, Table, Found}
@@ -125,6 +125,6 @@ module _ {K : Type 0} (more : ℕ) where
         counts = map (λ (k : KeptOrbit K (Nested more)). k .orbit .count) kept;
         entries = entries;
         possible = map orbitPossible kept;
-        compounds = labelIrc (map (λ (e : Entry). e .list) entries);
+        compounds = labelIrc comparePair (map (λ (e : Entry). e .list) entries);
         left = found .left;
       }

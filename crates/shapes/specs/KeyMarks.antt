@@ -9,13 +9,13 @@ use lib.Dec.{T, isEq}
 use lib.ListN.{length}
 use Rattle.definitions.specs.Lists.{anyOf, fresh}
 use Rattle.definitions.specs.Orbits.{Row, image}
+use Rattle.laws.specs.Options.{none-is-not-some}
 use Rattle.laws.specs.Bools.{same-test}
 use Rattle.laws.specs.Lists.{Mem}
 use Rattle.laws.specs.Pairs.{pairs-append}
 use Rattle.laws.specs.Orders.{Linear}
 use Rattle.laws.specs.Ascending.{Differ, Distinct, seenAmong, seen-member, member-seen, of-fresh, in-fresh, fresh-distinct, equal-tested}
 use Rattle.laws.specs.Places.{map-self}
-use Rattle.shapes.specs.Compounds.{none-is-not-some}
 use Rattle.shapes.specs.Ridges.{KnownKeys, keyHeldBy, openKeyOrbit}
 
 -- the first mark, or else the second

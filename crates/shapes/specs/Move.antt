@@ -14,7 +14,7 @@ use Rattle.laws.specs.Orders.{nats, nat-lists, compare-lt, lt-compare}
 use Rattle.laws.specs.Sorting.{in-sorted, of-sorted}
 use Rattle.laws.specs.Ascending.{Distinct, Ascends, ascends-distinct, sorted-ascends, below-or}
 use Rattle.laws.specs.Places.{placeIn, place-below, place-at, place-apart, distinct-map, sorted-image-apart, keeps-compare, compare-map, ascends-map}
-use Rattle.shapes.specs.Shape.{Element, Rank, Stack, Crowned, Tower, Shaped, crowned-above, sort-same}
+use Rattle.shapes.specs.Shape.{Element, Rank, Stack, Crowned, Tower, Shaped, crowned-above}
 
 -- ---- maps that send no two numbers to one
 
@@ -180,11 +180,6 @@ raised-shaped n m rank to up f s = subst (λ (g : Figure). Shaped m rank (moveEn
             crowned = crown edges more (t .crowned);
           };
         }
-
--- sorting after such a move changes nothing
-pub raised-sorted : (n m rank : ℕ) (to : ℕ → ℕ) → Rising n m to → (f : Figure) → Shaped n rank f → moveSorted to f ≡ moveEnds to f
-unfolding moveSorted
-raised-sorted n m rank to up f s = sort-same m rank (moveEnds to f) (raised-shaped n m rank to up f s)
 
 -- a map that rises sends no two numbers to one
 pub raised-into : (n m : ℕ) (to : ℕ → ℕ) → Rising n m to → Into n m to

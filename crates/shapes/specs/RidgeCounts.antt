@@ -16,13 +16,13 @@ use Rattle.definitions.specs.Orbits.{Row, image}
 use Rattle.definitions.specs.Figures.{Figure, Elements, compareFigures, moveEnds, sortStrong}
 use Rattle.definitions.specs.Recursion.{Rules, Inner, Held, RidgeOrbits, noRidges, heldBy, moveSorted, openRidgeOrbit, numberOrOpen, numberRidge, numberRidges}
 use Rattle.definitions.specs.Faceting.{Prepared, faceting}
+use Rattle.laws.specs.Options.{some-equal, none-is-not-some}
 use Rattle.laws.specs.Lists.{Mem, here, there, in-append, in-map, of-map, count-at}
 use Rattle.laws.specs.Ascending.{equal-tested, in-fresh}
 use Rattle.laws.specs.Places.{map-self}
 use Rattle.laws.specs.Ranges.{fresh-few}
 use Rattle.shapes.specs.Answered.{Preparation}
 use Rattle.shapes.specs.Edges.{figures}
-use Rattle.shapes.specs.Compounds.{some-equal, none-is-not-some}
 use Rattle.shapes.specs.Shape.{Tower, Shaped, sort-same}
 use Rattle.shapes.specs.Move.{raised-into, moved-shaped}
 use Rattle.shapes.specs.Sets.{set-rising}

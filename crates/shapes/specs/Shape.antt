@@ -2,7 +2,7 @@
 -- strictly ascends and the last has one element. `element_sort_strong` leaves such a figure as it is. Leans on the definitions and laws.
 use mathlib.Core.Path.{_≡_, refl, sym, ap, _∙_}
 use mathlib.Core.List.{List, [], _∷_, map}
-use Prim.Native.Nat.{ℕ, zero, suc, _≤_, _<_, compare}
+use Prim.Native.Nat.{ℕ, zero, suc, _<_, compare}
 use native.Mathlib.Omega.{arith}
 use lib.ListN.{length, getD, drop}
 use Rattle.definitions.specs.Lists.{sortBy, sortNats, compareNats}
@@ -66,9 +66,6 @@ pub shaped-drop : (points rank : ℕ) (f : Figure) (s : Shaped points rank f) �
 shaped-drop points rank f s = ap (drop 2) (s .is)
 
 -- ---- what the records hold of smaller and larger
-
-pub element-wider : (b d : ℕ) (e : List ℕ) → b ≤ d → Element b e → Element d e
-element-wider b d e h k = record { ascends = k .ascends; below = λ x m. let j = k .below x m in omega arith }
 
 pub no-element : (b : ℕ) → Element b []
 no-element b = record { ascends = tt; below = λ x m. elim m [ ] }

@@ -3,8 +3,8 @@
 use mathlib.Core.Path.{_≡_, refl, sym, ap, _∙_, subst}
 use mathlib.Core.Logic.{_⊎_, inl, inr}
 use mathlib.Core.Option.{none}
-use mathlib.Core.List.{List, [], _∷_, map, flatMap, List·Memᴰ, List·Permᴰ}
-use Prim.Native.Nat.{ℕ, zero, suc, _*_, _≤_, _<_}
+use mathlib.Core.List.{List, [], _∷_, map, flatMap, List·Memᴰ}
+use Prim.Native.Nat.{ℕ, zero, suc, _<_}
 use native.Mathlib.Omega.{arith}
 use lib.ListN.{length, getD, length-map, length-append}
 use Rattle.definitions.specs.Lists.{Pair, countFrom}
@@ -12,20 +12,19 @@ use Rattle.definitions.specs.Outcome.{answered}
 use Rattle.definitions.specs.Vectors.{Vec}
 use Rattle.definitions.specs.Subspace.{Subspace}
 use Rattle.definitions.specs.Orbits.{Row}
-use Rattle.definitions.specs.Figures.{Compound, componentsOf, splitQueue, partsOf}
+use Rattle.definitions.specs.Figures.{Compound, componentsOf, partsOf}
 use Rattle.definitions.specs.Search.{Facet, Found}
 use Rattle.definitions.specs.Recursion.{Rules, Entry, Answer, Inner}
 use Rattle.definitions.specs.Faceting.{Prepared, splitIn, atOrbit, split, entryOf, entriesOf, searchFrom, finish, faceting}
 use Rattle.laws.specs.Lists.{Mem, here, of-map, of-flatMap, member-at, map-at, count-length}
 use Rattle.laws.specs.Pairs.{Pairs, pairs-map, pairs-flatMap, count-ascends}
 use Rattle.laws.specs.Ascending.{Differ, Distinct}
-use Rattle.laws.specs.Places.{flatMap-map}
 use Rattle.completeness.specs.Taken.{OtherOrbit}
 use Rattle.shapes.specs.Answered.{facetNumber, answered-call}
 use Rattle.shapes.specs.Emitted.{found-facet, found-apart, found-some, entry-of-list}
 use Rattle.shapes.specs.LowRanks.{RankTwo, rank-two, innerAt, inner-at-member, at-orbit, facet-orbit}
 use Rattle.shapes.specs.Compounds.{Composed, composed}
-use Rattle.shapes.specs.Splitting.{parts-range, parts-some, parts-distinct, parts-done, parts-items, parts-stable}
+use Rattle.shapes.specs.Splitting.{parts-range, parts-some, parts-distinct, parts-done}
 
 -- the entries' lists
 abbrev pub listsOf : Answer → List (List Pair)
@@ -101,18 +100,6 @@ module _ (i : Inner) (h : SplitAnswer (i .answer)) (f : Facet) (is-facet : f .1 
   split-in-done g m =
       let r = of-map (λ (part : ℕ). (f .0, part)) g parts m in
       ap (λ (x : Facet). componentsOf (i .answer .compounds) (x .1)) (r .2) ∙ parts-done lists (i .answer .compounds) (h .compounds) (h .some-items) (f .1) in-lists (r .0) (r .1)
-
-  -- their lists make up the facet's
-  pub split-in-items : List·Permᴰ (flatMap (λ (g : Facet). getD lists (g .1) []) (splitIn i f)) (getD lists (f .1) [])
-  unfolding splitIn
-  split-in-items =
-      subst (λ (l : List Pair). List·Permᴰ l (getD lists (f .1) [])) (sym (flatMap-map (λ (g : Facet). getD lists (g .1) []) (λ (part : ℕ). (f .0, part)) parts))
-      (parts-items lists (i .answer .compounds) (h .compounds) (h .some-items) (f .1) in-lists)
-
-  -- and so they are after any larger number of steps
-  pub split-in-steps : (steps : ℕ) → 2 * length (getD lists (f .1) []) ≤ steps → map (λ (part : ℕ). (f .0, part)) (splitQueue steps (i .answer .compounds) (f .1 ∷ [])) ≡ splitIn i f
-  unfolding splitIn
-  split-in-steps steps k = ap (map (λ (part : ℕ). (f .0, part))) (parts-stable lists (i .answer .compounds) (h .compounds) (h .some-items) (f .1) in-lists steps k)
 
 -- ---- a list of the call's facets
 

@@ -15,10 +15,10 @@ use Rattle.definitions.specs.Recursion.{Rules, Entry, Inner}
 use Rattle.definitions.specs.Faceting.{Prepared, prepare, faceting, splitIn, atOrbit, split, entryOf, entriesOf, searchFrom}
 use Rattle.definitions.specs.Job.{Job, bounds1, rulesOf, planeOf}
 use Rattle.definitions.specs.Demands.{CallComplete, preparedOf}
+use Rattle.laws.specs.Options.{none-is-not-some}
 use Rattle.laws.specs.Lists.{Mem, flatMap-same}
 use Rattle.laws.specs.Places.{flat-singles}
 use Rattle.shapes.specs.Answered.{preparation}
-use Rattle.shapes.specs.Compounds.{none-is-not-some}
 use Rattle.shapes.specs.Emitted.{found-facet, entry-of-list}
 use Rattle.shapes.specs.LowRanks.{innerAt, at-orbit, facet-orbit}
 use Rattle.shapes.specs.SplitCalls.{SplitAnswer, split-answer, split-in-call, split-final}

@@ -2,7 +2,7 @@
 -- is the law of nested sets (NestedRows); here closed rows are such rows, and a figure that is carried has each of its ranks carried. No fact about choices or about the order of the search is used.
 -- Leans on NestedRows, ClosedRows and Jobs.
 use mathlib.Core.Path.{_≡_, refl, sym, ap, _∙_, subst}
-use mathlib.Core.List.{List, [], _∷_, map, map-map}
+use mathlib.Core.List.{List, [], _∷_, map}
 use Prim.Native.Nat.{ℕ, suc, _-_, _≤_}
 use native.Mathlib.Omega.{arith}
 use lib.Dec.{T, leb, leb→le}
@@ -18,6 +18,7 @@ use Rattle.definitions.specs.Faceting.{faceting}
 use Rattle.definitions.specs.Job.{Bytes, readJob, between, bounds1, rulesOf, planeOf, callOf}
 use Rattle.definitions.specs.Demands.{Accepted}
 use Rattle.definitions.specs.Symmetry.{composed, closedRows, Carries, elementImage, RanksKept, CarriedByAll, Symmetric}
+use Rattle.shapes.specs.NestedFigures.{move-ranks}
 use Rattle.laws.specs.Bools.{first}
 use Rattle.laws.specs.Lists.{Mem}
 use Rattle.laws.specs.Sorting.{in-sorted, of-sorted}
@@ -59,12 +60,6 @@ ranks-kept to es (next ∷ more) e =
       },
       ranks-kept goes next more rest,
     )
-
--- a figure moved: its ranks from the edges up, the edges' ends sent elsewhere, all sorted
-move-ranks : (to : ℕ → ℕ) (empty points : Elements) (ranks : List Elements) → moveSorted to (empty ∷ points ∷ ranks) ≡ empty ∷ points ∷ sortAll (lowestBy to ranks)
-unfolding moveSorted sortStrong moveEnds sortAll lowestBy renumber
-move-ranks to empty points [] = refl
-move-ranks to empty points (edges ∷ more) = ap (λ (es : Elements). empty ∷ points ∷ sortRanks es more) (map-map sortNats (map to) edges)
 
 moved-drop : (to : ℕ → ℕ) (f : Figure) → drop 2 (moveSorted to f) ≡ sortAll (lowestBy to (drop 2 f))
 unfolding moveSorted sortStrong moveEnds sortAll lowestBy

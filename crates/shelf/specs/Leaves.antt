@@ -1,15 +1,15 @@
 -- What a call leaves in the workspace, at every rank above 2 in one form: what it kept, and its entries' split lists in order with their labels. Nothing else of the answer is stored: figures are
 -- functions of it (`keptFigure`). Leans on Keeps and on areas of lists.
-use mathlib.Core.Path.{_≡_}
 use mathlib.Core.List.{List, map}
-use Prim.Native.Nat.{ℕ, _+_, _*_, _≤_, _<_}
+use Prim.Native.Nat.{ℕ, _+_, _*_, _≤_}
 use lib.ListN.{length, getD, drop}
 use Rattle.definitions.specs.Orbits.{Row}
 use Rattle.definitions.specs.Search.{Facet}
 use Rattle.definitions.specs.Recursion.{Entry, Answer}
+use Rattle.definitions.specs.Figures.{compoundsFrom}
 use Rattle.order.specs.Areas.{HoldsOrder, listsIn}
 use Rattle.labels.specs.Labels.{labelsIn}
-use Rattle.order.specs.Numbers.{AllBelow, compoundsFrom}
+use Rattle.order.specs.Numbers.{AllBelow}
 use Rattle.shapes.specs.Kept.{Kept, keptFigure, keptPossible}
 use Rattle.shelf.specs.Keeps.{Keeps, facetsOf}
 use Rattle.shelf.specs.declared.Level.{Level}

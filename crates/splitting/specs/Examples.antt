@@ -1,21 +1,10 @@
--- Small cases, evaluated: `label_irc` of the definition, the order of lists, splitting first in first out. Leans on the definitions.
+-- Small cases, evaluated: the order of lists, splitting first in first out. Leans on the definitions.
 use mathlib.Core.Path.{_≡_, refl}
 use mathlib.Core.List.{[], _∷_}
 use mathlib.Core.Option.{some, none}
 use Rattle.definitions.specs.Lists.{compareNats, sortBy}
-use Rattle.definitions.specs.Figures.{labelIrc}
 use Rattle.definitions.specs.Open.{open-all}
 use Rattle.splitting.specs.Splitting.{splitNats, splitList}
-
--- 1 / 2 / 2,1: the last holds 2, and 1 is left, but no list behind the second is 1
-pub left-before : labelIrc (((0, 1) ∷ []) ∷ ((0, 2) ∷ []) ∷ ((0, 2) ∷ (0, 1) ∷ []) ∷ []) ≡ []
-unfolding open-all
-left-before = refl
-
--- 0,1,2 / 0,2 / 1: the first holds the second, and leaves the third
-pub left-behind : labelIrc (((0, 0) ∷ (0, 1) ∷ (0, 2) ∷ []) ∷ ((0, 0) ∷ (0, 2) ∷ []) ∷ ((0, 1) ∷ []) ∷ []) ≡ record { whole = 0; first = 1; second = 2 } ∷ []
-unfolding open-all
-left-behind = refl
 
 -- a proper prefix first, and items in their own order
 pub prefix-first : sortBy compareNats ((2 ∷ 1 ∷ []) ∷ (1 ∷ 3 ∷ []) ∷ (1 ∷ []) ∷ []) ≡ (1 ∷ []) ∷ (1 ∷ 3 ∷ []) ∷ (2 ∷ 1 ∷ []) ∷ []

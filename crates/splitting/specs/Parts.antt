@@ -1,55 +1,16 @@
 -- Splitting on numbers is the splitting of facets [8.6], for any numbering whose table says of each facet what its orbit's compounds say.
--- The definition gives each facet steps of its own; more steps than end the splitting change nothing, so that one number of steps serves all.
 -- Leans on the definitions and Splitting. Assumes nothing.
 use mathlib.Core.Path.{_≡_, refl, sym, ap, _∙_, subst}
 use mathlib.Core.Logic.{_⊎_, inl, inr}
-use mathlib.Core.Bool.{Bool, true, false}
 use mathlib.Core.List.{List, [], _∷_, _++_, map, flatMap, map-append, List·Memᴰ}
 use mathlib.Core.Option.{Option, some, none}
-use Prim.Native.Nat.{ℕ, zero, suc, _+_, _*_, _≤_, _<_}
-use native.Mathlib.Omega.{arith}
-use lib.Dec.{T}
-use lib.ListN.{length, getD}
+use Prim.Native.Nat.{ℕ, zero, suc, _+_, _<_}
+use lib.ListN.{getD}
 use Rattle.definitions.specs.Lists.{Pair}
-use Rattle.definitions.specs.Figures.{Compound, componentsOf, splitQueue, partsOf}
+use Rattle.definitions.specs.Figures.{Compound, componentsOf, splitQueue}
 use Rattle.laws.specs.Lists.{Mem, here, there, in-append}
-use Rattle.definitions.specs.Recursion.{Inner, Entry}
-use Rattle.definitions.specs.Faceting.{Prepared, splitIn, atOrbit, split}
 use Rattle.order.specs.Numbers.{ItemsBelow}
 use Rattle.splitting.specs.Splitting.{splitNats, splitList}
-
--- ---- more steps than end the splitting
-
--- whether so many steps empty the queue
-unfoldable pub endsIn : ℕ → List Compound → List ℕ → Bool
-endsIn zero compounds [] = true
-endsIn zero compounds (a ∷ queue) = false
-endsIn (suc steps) compounds [] = true
-endsIn (suc steps) compounds (a ∷ queue) = elim (componentsOf compounds a) [
-  | none ↦ endsIn steps compounds queue
-  | some parts ↦ endsIn steps compounds (queue ++ (parts .0 ∷ parts .1 ∷ []))
-]
-
-split-nothing : (steps : ℕ) (compounds : List Compound) → splitQueue steps compounds [] ≡ []
-unfolding splitQueue
-split-nothing zero compounds = refl
-split-nothing (suc steps) compounds = refl
-
-pub more-steps : (steps more : ℕ) (compounds : List Compound) (queue : List ℕ) → T (endsIn steps compounds queue) → steps ≤ more → splitQueue more compounds queue ≡ splitQueue steps compounds queue
-unfolding splitQueue endsIn
-more-steps zero more compounds [] t h = split-nothing more compounds
-more-steps zero more compounds (a ∷ queue) t h = absurd t
-more-steps (suc steps) zero compounds queue t h = absurd (omega arith)
-more-steps (suc steps) (suc more) compounds [] t h = refl
-more-steps (suc steps) (suc more) compounds (a ∷ queue) t h =
-    go (componentsOf compounds a) t (λ q u. more-steps steps more compounds q u (omega arith))
-  where
-    go : (o : Option Pair) → T (elim o [ none ↦ endsIn steps compounds queue | some parts ↦ endsIn steps compounds (queue ++ (parts .0 ∷ parts .1 ∷ [])) ])
-        → ((q : List ℕ) → T (endsIn steps compounds q) → splitQueue more compounds q ≡ splitQueue steps compounds q)
-        → _≡_ {A = List ℕ} (elim o [ none ↦ a ∷ splitQueue more compounds queue | some parts ↦ splitQueue more compounds (queue ++ (parts .0 ∷ parts .1 ∷ [])) ])
-        (elim o [ none ↦ a ∷ splitQueue steps compounds queue | some parts ↦ splitQueue steps compounds (queue ++ (parts .0 ∷ parts .1 ∷ [])) ])
-    go none u f = ap (λ (l : List ℕ). a ∷ l) (f queue u)
-    go (some parts) u f = f (queue ++ (parts .0 ∷ parts .1 ∷ [])) u
 
 -- ---- numbers and facets of one orbit
 
@@ -111,17 +72,6 @@ module _ (to : ℕ → Pair) (bound : ℕ) (table : List (Option Pair)) (orbit :
           rec (q ++ (p .0 ∷ p .1 ∷ [])) (two-more q (p .0) (p .1) (λ b i. f b (there i)) (s .0) (s .1))
           ∙ ap (λ (r : List ℕ). map (λ (part : ℕ). (orbit, part)) (splitQueue steps compounds r)) (map-append number q (p .0 ∷ p .1 ∷ []))
 
-  -- The parts of one facet, whose own list has so many items: the definition's, if its steps end the splitting and the code has no fewer.
-  pub parts-numbered : (steps items a : ℕ) → Of to bound orbit a → T (endsIn (2 * items) compounds (to a .1 ∷ [])) → 2 * items ≤ steps
-      → map to (splitNats steps table (a ∷ [])) ≡ map (λ (part : ℕ). (orbit, part)) (partsOf compounds items (to a .1))
-  unfolding partsOf
-  parts-numbered steps items a e t h =
-      queue-numbered steps (a ∷ []) (λ b i. only b i)
-      ∙ ap (map (λ (part : ℕ). (orbit, part))) (more-steps (2 * items) steps compounds (to a .1 ∷ []) t h)
-    where
-      only : (b : ℕ) → Mem b (a ∷ []) → Of to bound orbit b
-      only b (List·Memᴰ.List·Memᴰ·head q) = subst (Of to bound orbit) (sym q) e
-
 -- ---- a call's lists
 
 -- [9.3] where every facet's parts are the definition's, so is every list
@@ -132,33 +82,6 @@ lists-numbered to table steps parts [] f = refl
 lists-numbered to table steps parts (a ∷ l) f =
     map-append to (splitNats steps table (a ∷ [])) (splitList steps table l)
     ∙ rw (f a (here refl), lists-numbered to table steps parts l (λ b i. f b (there i))) refl
-
--- the facets of a call: `split` of each list, by the inner calls' own compounds and lists
-pub split-numbered : (p : Prepared) (to : ℕ → Pair) (table : List (Option Pair)) (steps : ℕ) (l : List ℕ)
-    → ((a : ℕ) → Mem a l → map to (splitNats steps table (a ∷ [])) ≡ atOrbit (λ (i : Inner). splitIn i (to a)) (p .inner) (to a .0))
-    → map to (splitList steps table l) ≡ split p (map to l)
-unfolding split
-split-numbered p to table steps l f = lists-numbered to table steps (λ (g : Pair). atOrbit (λ (i : Inner). splitIn i g) (p .inner) (g .0)) l f
-
--- an orbit's inner call is the one at its place
-at-orbit : (says : Inner → List Pair) (before later : List Inner) (i : Inner) → atOrbit says (before ++ (i ∷ later)) (length before) ≡ says i
-unfolding atOrbit
-at-orbit says [] later i = refl
-at-orbit says (j ∷ before) later i = at-orbit says before later i
-
--- one facet of a call: its orbit's inner call has its compounds and its list
-pub facet-numbered : (p : Prepared) (before later : List Inner) (i : Inner) → p .inner ≡ before ++ (i ∷ later) → (to : ℕ → Pair) (bound : ℕ) (table : List (Option Pair))
-    → Matches to bound table (length before) (i .answer .compounds) → (steps a : ℕ) → Of to bound (length before) a
-    → T (endsIn (2 * length (getD (map (λ (e : Entry). e .list) (i .answer .entries)) (to a .1) [])) (i .answer .compounds) (to a .1 ∷ []))
-    → 2 * length (getD (map (λ (e : Entry). e .list) (i .answer .entries)) (to a .1) []) ≤ steps
-    → map to (splitNats steps table (a ∷ [])) ≡ atOrbit (λ (j : Inner). splitIn j (to a)) (p .inner) (to a .0)
-unfolding splitIn
-facet-numbered p before later i q to bound table m steps a f t h =
-    let e = f .1 in
-    parts-numbered to bound table (length before) (i .answer .compounds) m steps (length (getD (map (λ (e : Entry). e .list) (i .answer .entries)) (to a .1) [])) a f t h
-    ∙ (ap (λ (o : ℕ). map (λ (part : ℕ). (o, part)) (partsOf (i .answer .compounds) (length (getD (map (λ (e : Entry). e .list) (i .answer .entries)) (to a .1) [])) (to a .1))) (sym e)
-    ∙ (sym (at-orbit (λ (j : Inner). splitIn j (to a)) before later i)
-    ∙ (ap (λ (r : List Inner). atOrbit (λ (j : Inner). splitIn j (to a)) r (length before)) (sym q) ∙ ap (atOrbit (λ (j : Inner). splitIn j (to a)) (p .inner)) (sym e))))
 
 -- ---- what is below a bound stays below it
 

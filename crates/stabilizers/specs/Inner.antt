@@ -12,13 +12,13 @@ use Rattle.definitions.specs.Lists.{placeOf, keep}
 use Rattle.definitions.specs.Orbits.{Row, image}
 use Rattle.definitions.specs.Recursion.{keepsSet, rowWithin, rowsWithin}
 use Rattle.laws.specs.Bools.{holds→true}
-use Rattle.laws.specs.Lists.{Mem, here, there, of-map, kept, at-member, member-at, map-at, place-hit}
+use Rattle.laws.specs.Lists.{Mem, here, there, of-map, kept, at-member, member-at, map-at, place-hit, keep-few}
 use Rattle.laws.specs.Pairs.{Pairs}
 use Rattle.laws.specs.Parts.{rows, rows-more, rows-of-take, getD-rows, length-rows}
 use Rattle.laws.specs.Segments.{take-sets-le, part-sets}
-use Rattle.laws.specs.Sets.{verticesOf, verticesFrom, vertices-set, set-range, set-rises}
+use Rattle.laws.specs.Sets.{verticesOf, vertices-set, set-range, set-rises}
 use Rattle.openers.specs.Rows.{rowsIn, rowAt, image-at, writtenRows, written-length}
-use Rattle.stabilizers.specs.Permutations.{Permutation, Permutations}
+use Rattle.stabilizers.specs.Permutations.{Permutations}
 use Rattle.stabilizers.specs.Places.{vertices-few, stays, image-one}
 
 -- ---- decoded
@@ -129,15 +129,6 @@ module _ (n m : ℕ) (s : List ℕ) (fits : Permutations n m s) (x : ℕ) where
       let is : r .0 ≡ rowAt n (a .0) s = sym (a .2) ∙ getD-rows 32 n m s (a .0) below in
       let keeps : keepsSet vs (rowAt n (a .0) s) ≡ true = ap (keepsSet vs) (sym is) ∙ holds→true _ (k .1) in
       subst (WithinFits (length vs)) (sym (r .2 ∙ ap (rowWithin vs) is)) (within-fits (a .0) below keeps)
-
-  keep-few : (p : Row → Bool) (l : List Row) → length (keep p l) ≤ length l
-  unfolding keep
-  keep-few p [] = omega arith
-  keep-few p (y ∷ l) = go (p y) (keep-few p l)
-    where
-      go : (b : Bool) → length (keep p l) ≤ length l → length (cond b (y ∷ keep p l) (keep p l)) ≤ suc (length l)
-      go true h = omega arith
-      go false h = omega arith
 
   inner-few : length (rowsWithin (verticesOf n x) (rowsIn n m s)) ≤ m
   unfolding rowsWithin rowsIn

@@ -7,7 +7,7 @@ use Prim.Native.Nat.{ℕ, zero, suc, _+_, _-_, _*_, _/_, _%_, _^_, _≤_, _<_}
 use native.Mathlib.Nat.{zero-add, suc-add, mul-zero, pow-zero, pow-suc, pow-succ', one-le-pow, div-one, div-div-eq-div-mul, div-lt-iff-lt-mul, zero-lt-suc}
 use native.Mathlib.Omega.{arith}
 use lib.ListN.{length, getD, set, take, drop, length-drop}
-use lib.Seq.{sets, length-sets, take-at, drop-at, take-add, drop-cons, drop-drop, getD-drop, length-take-le, take-take}
+use lib.Seq.{sets, length-sets, take-at, drop-at, take-add, drop-cons, drop-drop, length-take-le, take-take}
 use lib.Arith.{mod-mul}
 use Rattle.definitions.specs.Job.{little, numberAt, wordBytes}
 use Rattle.laws.specs.Segments.{part, take-sets-le, take-sets-ge, drop-sets-ge, drop-sets-add, part-sets, sets-append, drop-take, part-take, cons-same}
@@ -249,28 +249,3 @@ module _ (w : ℕ) (s : List ℕ) (base n : ℕ) where
   table-push v l f =
       let d = length-drop base s in
       ap (λ (r : List ℕ). words w r (n + 1)) (drop-put-add w s base (w * n) v) ∙ words-push w (drop base s) n v (omega arith) f
-
-  -- the table is known by the part that it fills
-  pub table-part : words w (part base (w * n) s) n ≡ words w (drop base s) n
-  table-part = words-take w (drop base s) (w * n) n (omega arith)
-
-  -- a number beside the table, in any width
-  pub table-put-off : (u at v : ℕ) → (base + w * n ≤ at) ⊎ (at + u ≤ base) → words w (drop base (put u s at v)) n ≡ words w (drop base s) n
-  table-put-off u at v o =
-      sym (words-take w (drop base (put u s at v)) (w * n) n (omega arith))
-      ∙ (ap (λ (r : List ℕ). words w r n) (part-put-off u s at v base (w * n) o) ∙ table-part)
-
--- ---- how large a number is: bytes are below 256
-
-little-small : (w : ℕ) (l : List ℕ) → ((i : ℕ) → getD l i 0 < 256) → little (take w l) < 256 ^ w
-unfolding little
-little-small zero l h = rw pow-zero (omega arith)
-little-small (suc w) [] h = one-le-pow (suc w) 256 (zero-lt-suc 255)
-little-small (suc w) (b ∷ l) h =
-    let first : b < 256 = h 0 in
-    let rest = little-small w l (λ i. h (suc i)) in
-    rw pow-succ' (omega arith)
-
-pub numberAt-small : (s : List ℕ) (at w : ℕ) → ((i : ℕ) → getD s i 0 < 256) → numberAt s at w < 256 ^ w
-unfolding numberAt
-numberAt-small s at w h = little-small w (drop at s) (λ i. rw (getD-drop at s i 0) (h (at + i)))

@@ -1,11 +1,4 @@
--- What is written: words in an answer buffer, and an answer's words from what stands in the workspace.
-pub mod Wrote
-pub mod Marks
-pub mod Facets
-pub mod Answers
+-- What is written: an answer's words from what stands in the workspace.
 pub mod Standing
+pub mod Asked
 pub mod Written
-pub mod Images
-pub mod Solids
-pub mod Arranged
-pub mod SolidWritten

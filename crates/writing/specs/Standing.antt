@@ -5,19 +5,21 @@ use Prim.Native.Nat.{ℕ, _+_, _*_, _-_, _≤_}
 use lib.ListN.{length, drop}
 use Rattle.definitions.specs.Job.{counted, figureWords, compoundWords}
 use Rattle.definitions.specs.Orbits.{Row}
+use Rattle.definitions.specs.Figures.{compoundsFrom}
 use Rattle.words.specs.Words.{words}
 use Rattle.pool.specs.Pool.{count, closedLists}
 use Rattle.orbits.specs.Workspace.{orbitsIn}
 use Rattle.order.specs.Areas.{HoldsOrder}
 use Rattle.labels.specs.Labels.{labelsIn}
-use Rattle.order.specs.Numbers.{AllBelow, compoundsFrom}
+use Rattle.order.specs.Numbers.{AllBelow}
 use Rattle.shapes.specs.EdgeSets.{polygon}
 use Rattle.shelf.specs.Keeps.{ShelfFits, ownersPart, edgesPart}
 use Rattle.shelf.specs.Leaves.{listsLeft}
 use Rattle.shelf.specs.declared.Level.{Level}
-use Rattle.writing.specs.Facets.{OwnersBelow, listWords}
-use Rattle.writing.specs.Marks.{EdgesFit, marksOf, codesMarked, edgesMarked}
-use Rattle.writing.specs.Answers.{countWords, edgeFigureWords, possibleFrom}
+use Rattle.possible_facets.specs.Facets.{OwnersBelow, listWords}
+use Rattle.edge_marks.specs.Marks.{EdgesFit, marksOf, codesMarked, edgesMarked}
+use Rattle.entry_lists.specs.Counts.{countWords}
+use Rattle.possible_facets.specs.Possible.{edgeFigureWords, possibleFrom}
 
 -- the orbit of each facet, and the codes of each facet's edges
 abbrev pub ownersIn : Level → List ℕ → List ℕ

@@ -6,7 +6,7 @@ use native.Mathlib.Omega.{arith}
 use lib.ListN.{length, getD, take, drop, replicate, length-map, length-replicate}
 use lib.Seq.{take-at, drop-at}
 use Rattle.definitions.specs.Lists.{Pair}
-use Rattle.definitions.specs.Figures.{Figure}
+use Rattle.definitions.specs.Figures.{Figure, compoundsFrom}
 use Rattle.definitions.specs.Orbits.{Orbit, pairImage}
 use Rattle.definitions.specs.Search.{Facet}
 use Rattle.definitions.specs.Recursion.{Entry}
@@ -20,7 +20,6 @@ use Rattle.openers.specs.Meaning.{pairCode, pairOf}
 use Rattle.openers.specs.Rows.{rowsIn, RowsFit, ImagesBelow}
 use Rattle.order.specs.Areas.{listAt}
 use Rattle.labels.specs.Labels.{labelsIn}
-use Rattle.order.specs.Numbers.{compoundsFrom}
 use Rattle.shapes.specs.Edges.{edgeFigure}
 use Rattle.shapes.specs.EdgeSets.{Proper, polygon, edgesInOrder}
 use Rattle.shapes.specs.FigureWords.{polygon-summary}
@@ -28,10 +27,11 @@ use Rattle.shapes.specs.Kept.{Kept, keptPossible, keptEdgeImages, keptFigure}
 use Rattle.shelf.specs.Keeps.{facetsIn, edgesOf, edgesPart}
 use Rattle.shelf.specs.Leaves.{facetAt, listsLeft, entryLeft, answerLeft, Leaves}
 use Rattle.shelf.specs.declared.Level.{Level}
-use Rattle.writing.specs.Wrote.{Wrote}
-use Rattle.writing.specs.Facets.{OwnersBelow, itemOf, itemWords, listWords, ownersFrom, owners-all, item-is, owners-below, Each, edges-at, many-edges, leading-is}
-use Rattle.writing.specs.Marks.{Ends, EdgesFit, marksOf, codesMarked, edgesMarked, pair-code, marked-edges}
-use Rattle.writing.specs.Answers.{countWords, edgeFigureWords, possibleFrom}
+use Rattle.figure_words.specs.Wrote.{Wrote}
+use Rattle.possible_facets.specs.Facets.{OwnersBelow, itemOf, itemWords, listWords, ownersFrom, owners-all, item-is, owners-below, Each, edges-at, many-edges, leading-is}
+use Rattle.edge_marks.specs.Marks.{Ends, EdgesFit, marksOf, codesMarked, edgesMarked, pair-code, marked-edges}
+use Rattle.entry_lists.specs.Counts.{countWords}
+use Rattle.possible_facets.specs.Possible.{edgeFigureWords, possibleFrom}
 use Rattle.writing.specs.Standing.{ownersIn, edgesIn, Standing, entryFrom, summaryFrom, answerFrom}
 
 -- What is kept of a call's facets: edges for each, and each edge with its smaller vertex first.

@@ -13,15 +13,15 @@ use Rattle.openers.specs.Rows.{rowsIn}
 use Rattle.words.specs.Lent.{lent-tail, back-front, back-tail, back-length}
 use Rattle.space.specs.Meaning.{subspaceOf, pointsOf}
 use Rattle.space.specs.Counts.{points-length}
-use Rattle.faceting.specs.Spaces.{Laid, laid-same, laid-as}
-use Rattle.faceting.specs.Stored.{Storing, OneMore}
-use Rattle.faceting.specs.declared.Stored.{Stored}
-use Rattle.faceting.specs.declared.Stored.the-variants.{Refused as RefusedStored, Kept as KeptStored}
+use Rattle.inner_answers.specs.Spaces.{Laid, laid-same, laid-as}
+use Rattle.inner_answers.specs.Stored.{Storing, OneMore}
+use Rattle.inner_answers.specs.declared.Stored.{Stored}
+use Rattle.inner_answers.specs.declared.Stored.the-variants.{Refused as RefusedStored, Kept as KeptStored}
 use Rattle.shelf.specs.declared.Shelf.{Shelf}
 use Rattle.calls.specs.declared.Called.the-variants.{Refused}
 use Rattle.definitions.specs.Outcome.{refused}
 use Rattle.sets.specs.declared.Fit.the-variants.{Refused as RefusedFit}
-use Rattle.faceting.specs.Says.{Site, SiteState, siteWhole, Turn}
+use Rattle.inner_answers.specs.Says.{Site, SiteState, siteWhole, Turn}
 use Rattle.faceting.specs.Loops as loops
 use Rattle.faceting.specs.Loops.{Loop, siteIn}
 use borrow.Fn.Kinds.{In}
@@ -31,9 +31,9 @@ use Rattle.faceting.proofs.faceting.Kinds as faceting-kinds
 use Rattle.faceting.proofs.+faceting.Lts-faceting as faceting-lts
 use Rattle.calls.proofs.shelf_for.Reads as shelf-for-reads
 use Rattle.calls.proofs.swaps_ends.Reads as swaps-ends-reads
-use Rattle.faceting.proofs.keep_inner.Reads as keep-inner-reads
+use Rattle.inner_answers.proofs.keep_inner.Reads as keep-inner-reads
 use Rattle.faceting.proofs.next_call.Reads as next-call-reads
-use Rattle.faceting.proofs.search_call.Reads as search-call-reads
+use Rattle.call_search.proofs.search_call.Reads as search-call-reads
 use Rattle.faceting.proofs.start_call.Reads as start-call-reads
 use Rattle.orbits.proofs.set_at.Reads as set-at-reads
 use Rattle.space.proofs.Points.flatten_all.Reads as flatten-all-reads

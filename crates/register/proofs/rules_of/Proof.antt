@@ -2,7 +2,7 @@
 use mathlib.Core.Path.{refl}
 use borrow.Author.Needs.{needs}
 use Rattle.definitions.specs.Job.{bounds1}
-use Rattle.faceting.specs.Stocks.{callRules}
+use Rattle.call_search.specs.Stocks.{callRules}
 use Rattle.register.specs.Loaded.{jobRules}
 use Rattle.register.proofs.rules_of.Statement.{statement}
 use Rattle.register.proofs.rules_of.Tie as tie

@@ -2,7 +2,7 @@
 use mathlib.Core.Bool.{true, false}
 use mathlib.Core.Path.{_≡_}
 use borrow.Author.Needs.{needs}
-use Rattle.keep.specs.Edges.{edgeAnswer}
+use Rattle.kept_edges.specs.Edges.{edgeAnswer}
 use Rattle.register.proofs.write_ends.Statement.{statement}
 use Rattle.register.proofs.write_ends.Tie as tie
 

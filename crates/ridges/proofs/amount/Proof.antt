@@ -7,7 +7,7 @@ use mathlib.Core.Logic.{⊎-elim}
 use native.Mathlib.Omega.{arith}
 use lib.ListN.{length, getD}
 use Rattle.pool.specs.Pool.{closedLists}
-use Rattle.ridges.proofs.Numbers.{length-read, item-asks, item-read}
+use Rattle.shares.specs.Laying.{length-read, item-asks, item-read}
 use Rattle.ridges.proofs.Tables.{Adding, adding-start, adding-joins, adding-stays, total-small, adding-end}
 use Rattle.ridges.proofs.amount.Statement.{statement}
 use Rattle.ridges.proofs.amount.Tie as tie

@@ -2,13 +2,13 @@
 use mathlib.Core.List.{[]}
 use Rattle.pool.specs.Pool.{closed-length, closedLists}
 use Rattle.ridges.specs.Codes.{ones-room, onesOf}
-use Rattle.ridges.proofs.Tables.{laid-start, laid-more, laid-ready, laid-end, laid-area, clear-area}
+use Rattle.shares.specs.Laying.{laid-start, laid-more, laid-ready, laid-end, laid-area, clear-area}
 use borrow.Author.Needs.{needs}
 use mathlib.Core.Path.{_≡_, refl}
 use Prim.Native.Nat.{_-_, _≤_}
 use native.Mathlib.Omega.{arith}
 use lib.ListN.{length}
-use Rattle.ridges.specs.Areas.{area, AreaGrown, listsTo, area-kept}
+use Rattle.shares.specs.Areas.{area, AreaGrown, listsTo, area-kept}
 use Rattle.ridges.proofs.lay_ones.Statement.{statement}
 use Rattle.ridges.proofs.lay_ones.Tie as tie
 

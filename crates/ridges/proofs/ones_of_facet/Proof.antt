@@ -1,5 +1,5 @@
 -- `ones_of_facet` meets its contract. The loop's invariant: the shares of 1 among the first i places are pushed. The measure is what is left of them.
-use Rattle.ridges.proofs.Numbers.{length-read, item-asks, item-read}
+use Rattle.shares.specs.Laying.{length-read, item-asks, item-read}
 use Rattle.ridges.proofs.Tables.{ones-start, ones-asks, ones-joins, ones-stays, ones-end}
 use borrow.Author.Needs.{needs}
 use mathlib.Core.Path.{_≡_, refl, _∙_}
@@ -9,7 +9,7 @@ use Prim.Native.Nat.{_-_, _≤_, _<_}
 use native.Mathlib.Omega.{arith}
 use lib.ListN.{length, getD, take}
 use Rattle.pool.specs.Pool.{closedLists}
-use Rattle.ridges.specs.Areas.{area, Joined, area-kept}
+use Rattle.shares.specs.Areas.{area, Joined, area-kept}
 use Rattle.ridges.specs.Codes.{onesIn}
 use Rattle.ridges.proofs.ones_of_facet.Statement.{statement}
 use Rattle.ridges.proofs.ones_of_facet.Tie as tie

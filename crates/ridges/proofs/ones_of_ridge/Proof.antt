@@ -6,7 +6,7 @@ use Prim.Native.Nat.{_-_, _≤_}
 use native.Mathlib.Omega.{arith}
 use lib.ListN.{length}
 use Rattle.pool.specs.Pool.{closedLists}
-use Rattle.ridges.specs.Areas.{area, Joined, area-kept, end-asks}
+use Rattle.shares.specs.Areas.{area, Joined, area-kept, end-asks}
 use Rattle.ridges.specs.Codes.{onesTo}
 use Rattle.ridges.proofs.ones_of_ridge.Statement.{statement}
 use Rattle.ridges.proofs.ones_of_ridge.Tie as tie

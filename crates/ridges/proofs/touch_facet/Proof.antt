@@ -8,7 +8,7 @@ use Prim.Native.Nat.{_-_, _≤_}
 use native.Mathlib.Omega.{arith}
 use lib.ListN.{length, getD}
 use Rattle.pool.specs.Pool.{closedLists}
-use Rattle.ridges.specs.Areas.{area, Joined, area-kept, end-asks, joined-end}
+use Rattle.shares.specs.Areas.{area, Joined, area-kept, end-asks, joined-end}
 use Rattle.ridges.proofs.Tables.{touch-start, touch-asks, touch-joins, touch-stays}
 use Rattle.ridges.proofs.touch_facet.Statement.{statement}
 use Rattle.ridges.proofs.touch_facet.Tie as tie

@@ -1,13 +1,14 @@
 -- `touch_facets` meets its contract. The loop's invariant: the first x facets have their lists. The measure is what is left of them.
 use mathlib.Core.List.{[]}
-use Rattle.ridges.proofs.Tables.{laid-start, laid-more, laid-ready, laid-end, laid-area, clear-area, touched-room}
+use Rattle.shares.specs.Laying.{laid-start, laid-more, laid-ready, laid-end, laid-area, clear-area}
+use Rattle.ridges.proofs.Tables.{touched-room}
 use borrow.Author.Needs.{needs}
 use mathlib.Core.Path.{_≡_, refl}
 use Prim.Native.Nat.{_-_, _≤_}
 use native.Mathlib.Omega.{arith}
 use lib.ListN.{length}
 use Rattle.pool.specs.Pool.{closedLists}
-use Rattle.ridges.specs.Areas.{area, AreaGrown, listsTo, area-kept}
+use Rattle.shares.specs.Areas.{area, AreaGrown, listsTo, area-kept}
 use Rattle.ridges.specs.Codes.{touchedOf}
 use Rattle.ridges.proofs.touch_facets.Statement.{statement}
 use Rattle.ridges.proofs.touch_facets.Tie as tie

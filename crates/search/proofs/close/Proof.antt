@@ -12,7 +12,7 @@ use Rattle.frames.specs.Paths.{PathStands, Emitted, listTo, emittedIn}
 use Rattle.search.specs.Outcomes.{searchLimit}
 use Rattle.facets.specs.Judged.{NotOver}
 use Rattle.frames.specs.Steps.{path-short}
-use Rattle.frames.specs.Emission.{emit-stands, emit-frames, emit-emitted, emit-lists, emit-tables}
+use Rattle.emission.specs.Emission.{emit-stands, emit-frames, emit-emitted, emit-lists, emit-tables}
 use Rattle.search.specs.Turns.{Followed, judged-light, follow-full, follow-stop, follow-closed}
 use borrow.Author.Needs.{needs}
 use Rattle.search.proofs.close.Statement.{statement}
@@ -54,10 +54,13 @@ same-length-2 c = search needs
 
 returns-2 : tie.Need-returns-2
 unfolding Followed
-returns-2 c = λ t j. let s = c .before .before .before .before .before .before .before .before .before .before .before in let e = c .before .before .before .before .before .before .before .lists .ensures in
-    let h : count (listsPart (s .args .a) (s .args .ws .now)) < s .args .a .bound = rw e at (c .before .before .before .before .before .before .if1 .left) in
+returns-2 c =
+    let at-emit = c .before .before .before .before in let at-if1 = at-emit .before .before in
+    let at-lists = at-if1 .before in
+    λ t j. let s = at-lists .before .before .before .before in let e = at-lists .lists .ensures in
+    let h : count (listsPart (s .args .a) (s .args .ws .now)) < s .args .a .bound = rw e at (at-if1 .if1 .left) in
     let r : limitReached (searchLimit (s .args .limit)) (count (listsPart (s .args .a) (s .args .ws .now)) + 1) ≡ true = rw e at (sym (c .before .reached .ensures) ∙ c .if2 .taken) in
-    rw (c .before .before .before .before .emit .ensures)
+    rw (at-emit .emit .ensures)
     (follow-stop t (s .args .a) (s .args .limit) (s .args .ws .now) (s .args .depth) j h _ (emit-stands t (s .args .a) (s .args .ws .now) (s .args .depth) (j .stands) (j .emitted) h) (emit-frames t (s .args .a) (s .args .ws .now) (s .args .depth) (j .stands) (j .emitted) h) (emit-lists t (s .args .a) (s .args .ws .now) (s .args .depth) (j .stands) (j .emitted) h) (emit-tables t (s .args .a) (s .args .ws .now) (s .args .depth) (j .stands) (j .emitted) h) (emit-emitted t (s .args .a) (s .args .ws .now) (s .args .depth) (j .stands) (j .emitted) h) r)
 
 -- a closed list is not over
@@ -66,10 +69,13 @@ unfolding NotOver
 within = tt
 
 enter-requires : tie.Need-enter-requires
-enter-requires c κs = let s = c .before .before .before .before .before .before .before .before .before .before .before .before in let j = s .pre .1 in let e = c .before .before .before .before .before .before .before .before .lists .ensures in
-    let h : count (listsPart (s .args .a) (s .args .ws .now)) < s .args .a .bound = rw e at (c .before .before .before .before .before .before .before .if1 .left) in
+enter-requires c κs =
+    let at-emit = c .before .before .before .before .before in let at-if1 = at-emit .before .before in
+    let at-lists = at-if1 .before in let s = at-lists .before .before .before .before in
+    let j = s .pre .1 in let e = at-lists .lists .ensures in
+    let h : count (listsPart (s .args .a) (s .args .ws .now)) < s .args .a .bound = rw e at (at-if1 .if1 .left) in
     let light = judged-light (s .pre .0) (s .args .a) (s .args .ws .now) (s .args .depth) closed j within in
-    rw (c .before .before .before .before .before .emit .ensures) (
+    rw (at-emit .emit .ensures) (
       s .pre .0,
       emit-stands (s .pre .0) (s .args .a) (s .args .ws .now) (s .args .depth) (j .stands) (j .emitted) h,
       j .deep,
@@ -78,22 +84,28 @@ enter-requires c κs = let s = c .before .before .before .before .before .before
     )
 
 add-t10 : tie.Need-add-t10
-add-t10 c = let s = c .before .before .before .before .before .before .before .before .before .before .before .before .before .before .before in let j = s .pre .1 in let n = path-short (s .pre .0) (s .args .a) (s .args .ws .now) (j .stands .inputs) (framesPart (s .args .a) (s .args .ws .now)) (s .args .depth) (s .args .depth) (j .stands .frames) in let f = j .stands .inputs .fits in omega arith
+add-t10 c =
+    let s = c .before .before .before .before .before .before .before .before .before .before .before .before .before .before .before in
+    let j = s .pre .1 in let n = path-short (s .pre .0) (s .args .a) (s .args .ws .now) (j .stands .inputs) (framesPart (s .args .a) (s .args .ws .now)) (s .args .depth) (s .args .depth) (j .stands .frames) in let f = j .stands .inputs .fits in omega arith
 
 same-length-3 : tie.Need-same-length-3
 same-length-3 c = search needs
 
 returns-3 : tie.Need-returns-3
 unfolding Followed
-returns-3 c = λ t j. let s = c .before .before .before .before .before .before .before .before .before .before .before .before .before .before .before in let e = c .before .before .before .before .before .before .before .before .before .before .before .lists .ensures in
-    let h : count (listsPart (s .args .a) (s .args .ws .now)) < s .args .a .bound = rw e at (c .before .before .before .before .before .before .before .before .before .before .if1 .left) in
-    let r : limitReached (searchLimit (s .args .limit)) (count (listsPart (s .args .a) (s .args .ws .now)) + 1) ≡ false = rw e at (sym (c .before .before .before .before .before .reached .ensures) ∙ c .before .before .before .before .if2 .left) in
-    let st : PathStands t (s .args .a) (c .before .before .before .before .before .before .before .before .emit .last .0) (s .args .depth) (s .args .depth) = rw (c .before .before .before .before .before .before .before .before .emit .ensures) (emit-stands t (s .args .a) (s .args .ws .now) (s .args .depth) (j .stands) (j .emitted) h) in
-    let fr : framesPart (s .args .a) (c .before .before .before .before .before .before .before .before .emit .last .0) ≡ framesPart (s .args .a) (s .args .ws .now) = rw (c .before .before .before .before .before .before .before .before .emit .ensures) (emit-frames t (s .args .a) (s .args .ws .now) (s .args .depth) (j .stands) (j .emitted) h) in
-    let ls : emittedIn t (s .args .a) (listsPart (s .args .a) (c .before .before .before .before .before .before .before .before .emit .last .0)) ≡ emittedIn t (s .args .a) (listsPart (s .args .a) (s .args .ws .now)) ++ (listTo t (framesPart (s .args .a) (s .args .ws .now)) (s .args .depth) ∷ []) = rw (c .before .before .before .before .before .before .before .before .emit .ensures) (emit-lists t (s .args .a) (s .args .ws .now) (s .args .depth) (j .stands) (j .emitted) h) in
-    let tb : take (s .args .a .frames) (c .before .before .before .before .before .before .before .before .emit .last .0) ≡ take (s .args .a .frames) (s .args .ws .now) = rw (c .before .before .before .before .before .before .before .before .emit .ensures) (emit-tables t (s .args .a) (s .args .ws .now) (s .args .depth) (j .stands) (j .emitted) h) in
-    let em : Emitted (s .args .a) (listsPart (s .args .a) (c .before .before .before .before .before .before .before .before .emit .last .0)) = rw (c .before .before .before .before .before .before .before .before .emit .ensures) (emit-emitted t (s .args .a) (s .args .ws .now) (s .args .depth) (j .stands) (j .emitted) h) in
-    follow-closed t (s .args .a) (s .args .limit) (s .args .ws .now) (s .args .depth) j h (c .before .before .before .before .before .before .before .before .emit .last .0) st fr ls tb em r (c .before .before .enter .last .0) (c .before .before .enter .ensures t st)
+returns-3 c =
+    let at-if2 = c .before .before .before .before in let at-reached = at-if2 .before in
+    let at-emit = at-reached .before .before .before in let at-if1 = at-emit .before .before in
+    let at-lists = at-if1 .before in
+    λ t j. let s = at-lists .before .before .before .before in let e = at-lists .lists .ensures in
+    let h : count (listsPart (s .args .a) (s .args .ws .now)) < s .args .a .bound = rw e at (at-if1 .if1 .left) in
+    let r : limitReached (searchLimit (s .args .limit)) (count (listsPart (s .args .a) (s .args .ws .now)) + 1) ≡ false = rw e at (sym (at-reached .reached .ensures) ∙ at-if2 .if2 .left) in
+    let st : PathStands t (s .args .a) (at-emit .emit .last .0) (s .args .depth) (s .args .depth) = rw (at-emit .emit .ensures) (emit-stands t (s .args .a) (s .args .ws .now) (s .args .depth) (j .stands) (j .emitted) h) in
+    let fr : framesPart (s .args .a) (at-emit .emit .last .0) ≡ framesPart (s .args .a) (s .args .ws .now) = rw (at-emit .emit .ensures) (emit-frames t (s .args .a) (s .args .ws .now) (s .args .depth) (j .stands) (j .emitted) h) in
+    let ls : emittedIn t (s .args .a) (listsPart (s .args .a) (at-emit .emit .last .0)) ≡ emittedIn t (s .args .a) (listsPart (s .args .a) (s .args .ws .now)) ++ (listTo t (framesPart (s .args .a) (s .args .ws .now)) (s .args .depth) ∷ []) = rw (at-emit .emit .ensures) (emit-lists t (s .args .a) (s .args .ws .now) (s .args .depth) (j .stands) (j .emitted) h) in
+    let tb : take (s .args .a .frames) (at-emit .emit .last .0) ≡ take (s .args .a .frames) (s .args .ws .now) = rw (at-emit .emit .ensures) (emit-tables t (s .args .a) (s .args .ws .now) (s .args .depth) (j .stands) (j .emitted) h) in
+    let em : Emitted (s .args .a) (listsPart (s .args .a) (at-emit .emit .last .0)) = rw (at-emit .emit .ensures) (emit-emitted t (s .args .a) (s .args .ws .now) (s .args .depth) (j .stands) (j .emitted) h) in
+    follow-closed t (s .args .a) (s .args .limit) (s .args .ws .now) (s .args .depth) j h (at-emit .emit .last .0) st fr ls tb em r (c .before .before .enter .last .0) (c .before .before .enter .ensures t st)
 
 pub close-spec : {M : Type 1} → statement M
 close-spec =

@@ -33,7 +33,9 @@ enter-requires c κs = let s = c .before .before .before .before .before in let 
     (s .pre .0, j .stands, j .deep, omega arith, judged-light (s .pre .0) (s .args .a) (s .args .ws .now) (s .args .s .depth) (openAt (c .before .before .v .given .0 .0)) j tt)
 
 add-t15 : tie.Need-add-t15
-add-t15 c = let s = c .before .before .before .before .before .before .before .before in let j = s .pre .1 in let n = path-short (s .pre .0) (s .args .a) (s .args .ws .now) (j .stands .inputs) (framesPart (s .args .a) (s .args .ws .now)) (s .args .s .depth) (s .args .s .depth) (j .stands .frames) in let f = j .stands .inputs .fits in omega arith
+add-t15 c =
+    let s = c .before .before .before .before .before .before .before .before in
+    let j = s .pre .1 in let n = path-short (s .pre .0) (s .args .a) (s .args .ws .now) (j .stands .inputs) (framesPart (s .args .a) (s .args .ws .now)) (s .args .s .depth) (s .args .s .depth) (j .stands .frames) in let f = j .stands .inputs .fits in omega arith
 
 enum-told-2 : tie.Need-enum-told-2
 enum-told-2 c = search needs
@@ -54,8 +56,10 @@ same-length-2 c = search needs
 
 returns-2 : tie.Need-returns-2
 unfolding Followed verdict
-returns-2 c = λ t j. let s = c .before .before .before .before .before .before .before .before in let k : Judged t (s .args .a) (s .args .ws .now) (s .args .s .depth) (openAt (c .before .before .before .before .before .v .given .0 .0)) = rw (c .before .before .before .before .before .v .given .1) at j in
-    follow-open t (s .args .a) (s .args .limit) (s .args .ws .now) (c .before .before .enter .last .0) (s .args .s .depth) (c .before .before .before .before .before .v .given .0 .0) k (c .before .before .enter .ensures t (k .stands))
+returns-2 c =
+    let at-v = c .before .before .before .before .before in
+    λ t j. let s = at-v .before .before .before in let k : Judged t (s .args .a) (s .args .ws .now) (s .args .s .depth) (openAt (at-v .v .given .0 .0)) = rw (at-v .v .given .1) at j in
+    follow-open t (s .args .a) (s .args .limit) (s .args .ws .now) (c .before .before .enter .last .0) (s .args .s .depth) (at-v .v .given .0 .0) k (c .before .before .enter .ensures t (k .stands))
 
 same-length-3 : tie.Need-same-length-3
 same-length-3 c = search needs

@@ -5,9 +5,9 @@ use Prim.Native.Nat.{ℕ}
 use borrow.Author.Needs.{needs}
 use lib.ListN.{getD}
 use Rattle.openers.specs.Rows.{rowsIn}
-use Rattle.writing.specs.Marks.{marksOf}
+use Rattle.edge_marks.specs.Marks.{marksOf}
 use Rattle.writing.specs.Standing.{edgesIn}
-use Rattle.writing.proofs.Asked.{area-asked, lists-are, numbers-asked}
+use Rattle.writing.specs.Asked.{area-asked, lists-are, numbers-asked}
 use Rattle.writing.proofs.entry_marks.Statement.{statement}
 use Rattle.writing.proofs.entry_marks.Tie as tie
 

@@ -1,10 +1,10 @@
 -- `writing::write_answer` meets its contract.
 use native.Mathlib.Omega.{arith}
 use borrow.Author.Needs.{needs}
-use Rattle.writing.specs.Wrote.{wrote-then, wrote-as}
+use Rattle.figure_words.specs.Wrote.{wrote-then, wrote-as}
 use Rattle.writing.specs.Standing.{answerFrom}
 use Rattle.writing.specs.Written.{answer-words}
-use Rattle.writing.proofs.Asked.{owners-asked}
+use Rattle.writing.specs.Asked.{owners-asked}
 use Rattle.writing.proofs.write_answer.Statement.{statement}
 use Rattle.writing.proofs.write_answer.Tie as tie
 

@@ -11,12 +11,12 @@ use Rattle.definitions.specs.Job.{counted, figureWords}
 use Rattle.openers.specs.Rows.{rowsIn}
 use Rattle.shapes.specs.EdgeSets.{polygon}
 use Rattle.shelf.specs.Leaves.{listsLeft}
-use Rattle.writing.specs.Facets.{listWords}
-use Rattle.writing.specs.Marks.{edgesMarked}
-use Rattle.writing.specs.Wrote.{Wrote, wrote-none, wrote-then, wrote-as}
+use Rattle.possible_facets.specs.Facets.{listWords}
+use Rattle.edge_marks.specs.Marks.{edgesMarked}
+use Rattle.figure_words.specs.Wrote.{Wrote, wrote-none, wrote-then, wrote-as}
 use Rattle.writing.specs.Standing.{ownersIn, edgesIn, entryFrom}
-use Rattle.writing.proofs.Asked.{many-lists, owners-asked}
-use Rattle.writing.proofs.Laws.{flat-more}
+use Rattle.writing.specs.Asked.{many-lists, owners-asked}
+use Rattle.figure_words.specs.Laws.{flat-more}
 use Rattle.writing.proofs.write_entries.Statement.{statement}
 use Rattle.writing.proofs.write_entries.Tie as tie
 

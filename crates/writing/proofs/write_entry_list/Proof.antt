@@ -5,10 +5,10 @@ use Prim.Native.Nat.{ℕ}
 use native.Mathlib.Omega.{arith}
 use borrow.Author.Needs.{needs}
 use lib.ListN.{getD}
-use Rattle.writing.specs.Wrote.{wrote-as}
-use Rattle.writing.specs.Facets.{listWords}
+use Rattle.figure_words.specs.Wrote.{wrote-as}
+use Rattle.possible_facets.specs.Facets.{listWords}
 use Rattle.writing.specs.Standing.{ownersIn}
-use Rattle.writing.proofs.Asked.{area-asked, lists-are, numbers-asked, owners-asked}
+use Rattle.writing.specs.Asked.{area-asked, lists-are, numbers-asked, owners-asked}
 use Rattle.writing.proofs.write_entry_list.Statement.{statement}
 use Rattle.writing.proofs.write_entry_list.Tie as tie
 

@@ -1,6 +1,6 @@
 -- `writing::write_front` meets its contract.
 use borrow.Author.Needs.{needs}
-use Rattle.writing.specs.Wrote.{wrote-then}
+use Rattle.figure_words.specs.Wrote.{wrote-then}
 use Rattle.writing.proofs.write_front.Statement.{statement}
 use Rattle.writing.proofs.write_front.Tie as tie
 

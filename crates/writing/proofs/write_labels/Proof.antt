@@ -1,7 +1,7 @@
 -- `writing::write_labels` meets its contract.
 use borrow.Author.Needs.{needs}
-use Rattle.writing.specs.Wrote.{wrote-as}
-use Rattle.writing.proofs.Asked.{labels-are}
+use Rattle.figure_words.specs.Wrote.{wrote-as}
+use Rattle.writing.specs.Asked.{labels-are}
 use Rattle.writing.proofs.write_labels.Statement.{statement}
 use Rattle.writing.proofs.write_labels.Tie as tie
 

@@ -1,6 +1,6 @@
 -- `writing::write_segment` meets its contract.
 use borrow.Author.Needs.{needs}
-use Rattle.writing.specs.Wrote.{wrote-as}
+use Rattle.figure_words.specs.Wrote.{wrote-as}
 use Rattle.writing.proofs.Segments.{segment-words}
 use Rattle.writing.proofs.write_segment.Statement.{statement}
 use Rattle.writing.proofs.write_segment.Tie as tie

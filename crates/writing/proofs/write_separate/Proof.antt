@@ -1,7 +1,7 @@
 -- `writing::write_separate` meets its contract.
 use mathlib.Core.Path.{_∙_}
 use borrow.Author.Needs.{needs}
-use Rattle.writing.specs.Wrote.{wrote-then, wrote-as}
+use Rattle.figure_words.specs.Wrote.{wrote-then, wrote-as}
 use Rattle.writing.proofs.Segments.{separate-words}
 use Rattle.writing.proofs.write_separate.Statement.{statement}
 use Rattle.writing.proofs.write_separate.Tie as tie

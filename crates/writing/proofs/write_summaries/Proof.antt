@@ -9,11 +9,11 @@ use lib.ListN.{length, take}
 use lib.Seq.{take-all}
 use Rattle.openers.specs.Rows.{rowsIn}
 use Rattle.shelf.specs.Leaves.{listsLeft}
-use Rattle.writing.specs.Marks.{codesMarked}
-use Rattle.writing.specs.Wrote.{Wrote, wrote-none, wrote-then, wrote-as}
+use Rattle.edge_marks.specs.Marks.{codesMarked}
+use Rattle.figure_words.specs.Wrote.{Wrote, wrote-none, wrote-then, wrote-as}
 use Rattle.writing.specs.Standing.{edgesIn, summaryFrom}
-use Rattle.writing.proofs.Asked.{many-lists}
-use Rattle.writing.proofs.Laws.{flat-more}
+use Rattle.writing.specs.Asked.{many-lists}
+use Rattle.figure_words.specs.Laws.{flat-more}
 use Rattle.writing.proofs.write_summaries.Statement.{statement}
 use Rattle.writing.proofs.write_summaries.Tie as tie
 

@@ -1,6 +1,6 @@
 -- `writing::write_swapped` meets its contract.
 use borrow.Author.Needs.{needs}
-use Rattle.writing.specs.Wrote.{wrote-then, wrote-as}
+use Rattle.figure_words.specs.Wrote.{wrote-then, wrote-as}
 use Rattle.writing.proofs.Segments.{swapped-words}
 use Rattle.writing.proofs.write_swapped.Statement.{statement}
 use Rattle.writing.proofs.write_swapped.Tie as tie

@@ -1,6 +1,6 @@
 -- `writing::write_vertex` meets its contract.
 use borrow.Author.Needs.{needs}
-use Rattle.writing.specs.Wrote.{wrote-then, wrote-as}
+use Rattle.figure_words.specs.Wrote.{wrote-then, wrote-as}
 use Rattle.writing.proofs.Segments.{ridge-words}
 use Rattle.writing.proofs.write_vertex.Statement.{statement}
 use Rattle.writing.proofs.write_vertex.Tie as tie

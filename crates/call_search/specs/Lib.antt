@@ -1,0 +1,4 @@
+pub mod Desks
+pub mod Stocks
+pub mod Answers
+pub mod Searched

@@ -1,0 +1,3 @@
+-- Edges as marks at their codes.
+pub mod Marks
+pub mod MarkTurns

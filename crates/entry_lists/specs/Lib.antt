@@ -1,0 +1,2 @@
+-- The words of counts, lists of facets and compounds.
+pub mod Counts

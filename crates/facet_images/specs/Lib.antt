@@ -1,0 +1,3 @@
+-- The images of facets in order.
+pub mod Images
+pub mod Arranged

@@ -1,0 +1,3 @@
+-- Words in an answer buffer, and the words of a figure.
+pub mod Wrote
+pub mod Laws

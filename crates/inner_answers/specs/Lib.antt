@@ -1,0 +1,9 @@
+pub mod Amounts
+pub mod InnerAmounts
+pub mod State
+pub mod InnerLeft
+pub mod Turns
+pub mod Spaces
+pub mod Says
+pub mod Keeping
+pub mod Stored

@@ -1,0 +1,4 @@
+pub mod Labels
+pub mod Facets
+pub mod Whole
+pub mod Totals

@@ -1,0 +1,4 @@
+pub mod Areas
+pub mod Laying
+pub mod Ends
+pub mod Shares
