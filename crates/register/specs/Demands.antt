@@ -96,3 +96,12 @@ module _ (bytes : Bytes) (workspace room : ℕ) {code : ℤ} {buffer : Bytes} (c
   meets-symmetry answer e =
       let c = called bytes workspace room answer e in
       subst (Symmetric bytes) (entries-are answer e) (job-symmetric bounds1 bytes (c .passed) (c .given) (c .is-given))
+
+  -- all six clauses of the exported function, from its two equations
+  pub meets-all : (code ≡ codeOf (outcome bytes workspace room))
+      × ((buffer ≡ bufferOf room (outcome bytes workspace room))
+      × (Demand1 bytes workspace room code buffer
+      × (Demand2 bytes workspace room code buffer
+      × (((answer : Bytes) → outcome bytes workspace room ≡ answered answer → Demand3 bytes (entriesRead buffer))
+      × ((answer : Bytes) → outcome bytes workspace room ≡ answered answer → Symmetric bytes (entriesRead buffer))))))
+  meets-all = (code-is, (buffer-is, (meets-1, (meets-2, (meets-3, meets-symmetry)))))

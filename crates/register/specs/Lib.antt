@@ -1,9 +1,3 @@
--- The exported function: what it writes of a call, what a job that passes gives a call, and what follows for the three demands.
-pub mod Spent
-pub mod Said
-pub mod Writable
-pub mod Closed
-pub mod Called
-pub mod Loaded
+-- The exported function: what is read back from an answer, and what follows for the three demands.
 pub mod Reading
 pub mod Demands

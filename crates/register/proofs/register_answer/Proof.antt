@@ -1,22 +1,28 @@
--- `register::register_answer` meets its contract: a refusal or a call, whatever the bytes and lengths; the demands follow from code and buffer. Assumes nothing.
-use mathlib.Core.Path.{sym, ap, _∙_}
+-- `register::register_answer` meets its contract: by what came of the job, whatever the bytes and lengths; the demands follow from code and buffer. Assumes nothing.
+use mathlib.Core.Path.{_≡_, sym, ap, _∙_}
 use Prim.Native.Nat.{ℕ}
+use native.Mathlib.Omega.{arith}
 use borrow.Author.Needs.{needs}
 use lib.ListN.{length, replicate}
-use mir.Facts.{toZ-ofZ}
+use mir.Facts.{toZ-ofZ, toZ-pos}
 use mir.Syntax.{w64}
 use mir.Val.{SFits}
-use Rattle.definitions.specs.Job.{outcome, codeOf, bufferOf}
-use Rattle.register.specs.Loaded.{refused-outcome}
-use Rattle.register.specs.Demands.{meets-1, meets-2, meets-3, meets-symmetry}
+use Rattle.completeness.specs.Lengths.{alone}
+use Rattle.answering.specs.Closed.{writtenIn, bufferIn}
+use Rattle.answering.specs.Codes.{codeWritten, code-is, buffer-is, says-wrote}
+use Rattle.register.specs.Demands.{meets-all}
 use Rattle.register.proofs.register_answer.Statement.{statement}
 use Rattle.register.proofs.register_answer.Tie as tie
 
 clear-requires : tie.Need-clear-requires
 clear-requires c κs = search needs
 
-check-requires : tie.Need-check-requires
-check-requires c κs = search needs
+answer-job-requires : tie.Need-answer-job-requires
+answer-job-requires c κs =
+    let at-cleared = c .before .before .before in
+    at-cleared .before .clear .ensures ∙ ap (λ (k : ℕ). replicate k 0) (sym (at-cleared .answer .given))
+
+-- ---- a refusal
 
 enum-known-number : tie.Need-enum-known-number
 enum-known-number c = search needs
@@ -24,61 +30,110 @@ enum-known-number c = search needs
 refusal-requires : tie.Need-refusal-requires
 refusal-requires c κs = search needs
 
-enum-known-fields : tie.Need-enum-known-fields
-enum-known-fields c = search needs
-
-answer-job-requires : tie.Need-answer-job-requires
-answer-job-requires c κs =
-    let s = c .before .before .before .before .before .before .before .before .before .before .before .before .before in
-    (sym (c .before .before .before .fields .given .1) ∙ c .before .before .before .before .before .check .ensures, c .before .before .before .before .before .before .before .before .clear .ensures ∙ ap (λ (k : ℕ). replicate k 0) (sym (c .before .before .before .before .before .before .before .answer .given)))
-
 same-length : tie.Need-same-length
 same-length c = search needs
-
-returns : tie.Need-returns
-unfolding codeOf bufferOf
-returns c =
-    let s = c .before .before .before .before .before .before .before .before .before .before .before .before in
-    let job = s .args .job .now in
-    let size = length (s .args .workspace .now) in
-    let room = length (s .args .answer .now) in
-    let fits : SFits w64 (c .refusal .result) = search needs in
-    let o = refused-outcome job size room _ (sym (c .before .before .number .given .1) ∙ c .before .before .before .before .check .ensures) in
-    let code = toZ-ofZ fits ∙ (c .refusal .ensures ∙ sym (ap codeOf o)) in
-    let buffer = c .before .before .before .before .before .before .before .clear .ensures ∙ sym (ap (bufferOf room) o) in
-    (code, (buffer, (meets-1 job size room code buffer, (meets-2 job size room code buffer, (meets-3 job size room code buffer, meets-symmetry job size room code buffer)))))
 
 same-length-2 : tie.Need-same-length-2
 same-length-2 c = search needs
 
+returns : tie.Need-returns
+unfolding codeWritten
+returns c =
+    let at-number = c .before .before in
+    let at-answer = at-number .before .before .before .before .before .before in
+    let at-cleared = at-answer .before .before .before .before in
+    let at-start = at-cleared .before .before .before .before .before .before in
+    let job = at-start .args .job .now in
+    let size = length (at-start .args .workspace .now) in
+    let room = length (at-start .args .answer .now) in
+    let same = at-cleared .answer .given in
+    let told = sym (at-number .number .given .1) ∙ (at-answer .answer-job .ensures .0 ∙ ap (λ (k : ℕ). writtenIn k (alone job size)) same) in
+    let fits : SFits w64 (c .refusal .result) = search needs in
+    meets-all job size room
+    (toZ-ofZ fits ∙ (c .refusal .ensures ∙ code-is job size room told))
+    (at-answer .answer-job .ensures .1 ∙ (ap (λ (k : ℕ). bufferIn k (alone job size)) same ∙ buffer-is job size room))
+
+-- ---- no room
+
+enum-told : tie.Need-enum-told
+enum-told c = search needs
+
 same-length-3 : tie.Need-same-length-3
 same-length-3 c = search needs
 
+same-length-4 : tie.Need-same-length-4
+same-length-4 c = search needs
+
 returns-2 : tie.Need-returns-2
+unfolding codeWritten
 returns-2 c =
-    let s = c .before .before .before .before .before .before .before .before .before .before .before .before .before .before .before .before .before .before in
-    let job = s .args .job .now in
-    let size = length (s .args .workspace .now) in
-    let k = c .before .before .before .before .answer-job in
-    let fits : SFits w64 (k .result) = search needs in
-    let same = c .before .before .before .before .before .before .before .before .before .before .before .before .answer .given in
-    let code = toZ-ofZ fits ∙ (k .ensures .0 ∙ ap (λ (room : ℕ). codeOf (outcome job size room)) same) in
-    let buffer = k .ensures .1 ∙ ap (λ (room : ℕ). bufferOf room (outcome job size room)) same in
-    let room = length (s .args .answer .now) in
-    (code, (buffer, (meets-1 job size room code buffer, (meets-2 job size room code buffer, (meets-3 job size room code buffer, meets-symmetry job size room code buffer)))))
+    let at-answer = c .before .before .before .before .before .before in
+    let at-cleared = at-answer .before .before .before .before in
+    let at-start = at-cleared .before .before .before .before .before .before in
+    let job = at-start .args .job .now in
+    let size = length (at-start .args .workspace .now) in
+    let room = length (at-start .args .answer .now) in
+    let same = at-cleared .answer .given in
+    let told = sym (c .enum-told .given .1) ∙ (at-answer .answer-job .ensures .0 ∙ ap (λ (k : ℕ). writtenIn k (alone job size)) same) in
+    meets-all job size room
+    (code-is job size room told)
+    (at-answer .answer-job .ensures .1 ∙ (ap (λ (k : ℕ). bufferIn k (alone job size)) same ∙ buffer-is job size room))
+
+-- ---- an answer
+
+enum-known-many : tie.Need-enum-known-many
+enum-known-many c = search needs
+
+cast-result : tie.Need-cast-result
+cast-result c =
+    let at-many = c .before in
+    let at-answer = at-many .before .before .before .before .before .before in
+    let at-cleared = at-answer .before .before .before .before in
+    let at-start = at-cleared .before .before .before .before .before .before in
+    let o = alone (at-start .args .job .now) (length (at-start .args .workspace .now)) in
+    let short = says-wrote _ o _ (sym (at-many .many .given .1) ∙ at-answer .answer-job .ensures .0) .3 in
+    omega (arith, short, at-cleared .answer .given)
+
+same-length-5 : tie.Need-same-length-5
+same-length-5 c = search needs
+
+same-length-6 : tie.Need-same-length-6
+same-length-6 c = search needs
+
+returns-3 : tie.Need-returns-3
+unfolding codeWritten
+returns-3 c =
+    let at-many = c .before in
+    let at-answer = at-many .before .before .before .before .before .before in
+    let at-cleared = at-answer .before .before .before .before in
+    let at-start = at-cleared .before .before .before .before .before .before in
+    let job = at-start .args .job .now in
+    let size = length (at-start .args .workspace .now) in
+    let room = length (at-start .args .answer .now) in
+    let same = at-cleared .answer .given in
+    let told = sym (at-many .many .given .1) ∙ (at-answer .answer-job .ensures .0 ∙ ap (λ (k : ℕ). writtenIn k (alone job size)) same) in
+    let short = says-wrote room (alone job size) _ told .3 in
+    meets-all job size room
+    (toZ-pos w64 {n = _} (omega (arith, short)) ∙ code-is job size room told)
+    (at-answer .answer-job .ensures .1 ∙ (ap (λ (k : ℕ). bufferIn k (alone job size)) same ∙ buffer-is job size room))
 
 pub register-answer-spec : {M : Type 1} → statement M
 register-answer-spec =
     tie.close
     (tie.spec
     clear-requires
-    check-requires
+    answer-job-requires
     enum-known-number
     refusal-requires
-    enum-known-fields
-    answer-job-requires
+    enum-told
+    enum-known-many
+    cast-result
     same-length
-    returns
     same-length-2
+    returns
     same-length-3
-    returns-2)
+    same-length-4
+    returns-2
+    same-length-5
+    same-length-6
+    returns-3)

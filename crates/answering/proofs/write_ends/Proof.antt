@@ -1,10 +1,10 @@
--- `register::write_ends` meets its contract: the two answers of rank 2, by whether the ends are swapped. Assumes nothing.
+-- `answering::write_ends` meets its contract: the two answers of rank 2, by whether the ends are swapped. Assumes nothing.
 use mathlib.Core.Bool.{true, false}
 use mathlib.Core.Path.{_≡_}
 use borrow.Author.Needs.{needs}
 use Rattle.kept_edges.specs.Edges.{edgeAnswer}
-use Rattle.register.proofs.write_ends.Statement.{statement}
-use Rattle.register.proofs.write_ends.Tie as tie
+use Rattle.answering.proofs.write_ends.Statement.{statement}
+use Rattle.answering.proofs.write_ends.Tie as tie
 
 write-swapped-requires : tie.Need-write-swapped-requires
 write-swapped-requires c κs = search needs

@@ -1,11 +1,11 @@
--- `register::call_job` meets its contract: what is loaded is what the call asks, and the call on it is the job's. Assumes nothing.
+-- `answering::call_job` meets its contract: what is loaded is what the call asks, and the call on it is the job's. Assumes nothing.
 use mathlib.Core.Path.{_≡_}
 use native.Mathlib.Omega.{arith}
 use borrow.Author.Needs.{needs}
 use lib.ListN.{length}
-use Rattle.register.specs.Loaded.{exact, own-fields, counts, loads, call-asked, job-called}
-use Rattle.register.proofs.call_job.Statement.{statement}
-use Rattle.register.proofs.call_job.Tie as tie
+use Rattle.answering.specs.Loaded.{exact, own-fields, counts, loads, call-asked, job-called}
+use Rattle.answering.proofs.call_job.Statement.{statement}
+use Rattle.answering.proofs.call_job.Tie as tie
 
 -- What was loaded is what the call asks: the plane, the points, the rules and the rows.
 

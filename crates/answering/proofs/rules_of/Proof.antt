@@ -1,11 +1,11 @@
--- `register::rules_of` meets its contract: the literal tolerance is that of [12.2]. Assumes nothing.
+-- `answering::rules_of` meets its contract: the literal tolerance is that of [12.2]. Assumes nothing.
 use mathlib.Core.Path.{refl}
 use borrow.Author.Needs.{needs}
 use Rattle.definitions.specs.Job.{bounds1}
 use Rattle.call_search.specs.Stocks.{callRules}
-use Rattle.register.specs.Loaded.{jobRules}
-use Rattle.register.proofs.rules_of.Statement.{statement}
-use Rattle.register.proofs.rules_of.Tie as tie
+use Rattle.answering.specs.Loaded.{jobRules}
+use Rattle.answering.proofs.rules_of.Statement.{statement}
+use Rattle.answering.proofs.rules_of.Tie as tie
 
 limit-of-requires : tie.Need-limit-of-requires
 limit-of-requires c κs = search needs

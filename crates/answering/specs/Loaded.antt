@@ -6,12 +6,13 @@ use mathlib.Core.Option.{none}
 use Prim.Native.Nat.{ℕ, _-_, _*_, _≤_}
 use native.Mathlib.Omega.{arith}
 use lib.ListN.{length}
-use Rattle.definitions.specs.Outcome.{refused}
+use Rattle.definitions.specs.Outcome.{Outcome, refused, answered, andThen}
 use Rattle.definitions.specs.Recursion as recursion
 use Rattle.definitions.specs.Faceting.{faceting}
 use Rattle.definitions.specs.Job as job
-use Rattle.definitions.specs.Job.{Bytes, readJob, planeOf, tolerance1, bounds1, tests, workspaceFor, callOf, outcome}
-use Rattle.laws.specs.Refusals.{firstRefused}
+use Rattle.definitions.specs.Job.{Bytes, readJob, planeOf, tolerance1, bounds1, tests, workspaceFor, callOf, answerBytes}
+use Rattle.completeness.specs.Lengths.{alone}
+use Rattle.laws.specs.Refusals.{firstRefused, pass-all-refused, pass-all-passed}
 use Rattle.openers.specs.Rows.{rowsIn}
 use Rattle.stabilizers.specs.Permutations.{Permutations, permutations-of, rows-fit}
 use Rattle.shapes.specs.Calls.{Given}
@@ -24,13 +25,14 @@ use Rattle.load.specs.Places.{Exact}
 use Rattle.load.specs.Meaning.{fieldsOf, limitNumber, Loadable, loadable}
 use Rattle.job.specs.declared.Checked.the-variants.{Refused, Passed}
 use Rattle.job.specs.Refusal.{checkedOf}
-use Rattle.job.specs.Passed.{refused-means, passed-means, own-passed, passed-exact, passed-rows, passed-workspace, outcome-refused, outcome-passed}
+use Rattle.job.specs.Passed.{refused-means, passed-means, own-passed, passed-exact, passed-rows, passed-workspace}
 use Rattle.calls.specs.declared.Rules.{Rules}
 use Rattle.call_search.specs.Stocks.{callRules}
 use Rattle.calls.specs.declared.Called.{Called}
 use Rattle.faceting.specs.Asked.{Asked}
 use Rattle.inner_answers.specs.Says.{Says}
-use Rattle.register.specs.Said.{Said, rest}
+use Rattle.answering.specs.Said as said
+use Rattle.answering.specs.Said.{Said}
 
 -- the definition's rules, from the fields of a job: the tolerance and the bounds of version 1
 unfoldable pub jobRules : Fields → recursion.Rules
@@ -46,9 +48,10 @@ pub record Loaded (bytes : Bytes) (f : Fields) (plane : Subspace) (points : Poin
   pub rows-room : 32 * f .count ≤ length rows
   pub rules-are : callRules rules ≡ jobRules f
 
--- what the outermost call [12.1] of a job says, its rows lying where they were loaded
+-- What the outermost call [12.1] of a job says, its rows lying where they were loaded: `said .is` is the equation with
+-- the definition's call, and `said .can-write` that its answer, if it has one, can be written.
 pub record JobCalled (bytes : Bytes) (f : Fields) (rows : List ℕ) (called : Called) (s : List ℕ) : Type 0 where
-  pub said : Said (f .rank) (job.rulesOf bounds1 (readJob bytes)) (planeOf (readJob bytes)) (readJob bytes .points) (f .n) (f .count) rows (f .budget) called s
+  pub said : Said (f .rank) (f .n) (f .count) rows (f .budget) (callOf bounds1 (readJob bytes)) called s
   pub rows-are : rowsIn (f .n) (f .count) rows ≡ readJob bytes .rows
 
 module _ (bytes : Bytes) (workspace : ℕ) (f : Fields) (passed : Passed f ≡ checkedOf bytes workspace) where
@@ -121,41 +124,38 @@ module _ (bytes : Bytes) (workspace : ℕ) (f : Fields) (passed : Passed f ≡ c
     rules-job = l .rules-are ∙ (λ i. record { tolerance = tolerance1; lengths = record { shortest = counts .min-is i; longest = counts .max-is i }; entryLimit = counts .entries-is i; bounds = bounds1 })
 
     -- what the call on what is loaded says
-    pub call-said : (called : Called) (s : List ℕ) → length s ≡ workspace
+    call-said : (called : Called) (s : List ℕ) → length s ≡ workspace
         → Says (f .rank - 2) (callRules rules) (subspaceOf plane) (pointsOf points) (rowsIn (points .n) (f .count) rows) (f .budget) called s
-        → Said (f .rank) (callRules rules) (subspaceOf plane) (pointsOf points) (f .n) (f .count) rows (f .budget) called s
+        → Said (f .rank) (f .n) (f .count) rows (f .budget) (faceting (f .rank - 2) (callRules rules) (subspaceOf plane) (pointsOf points) (rowsIn (f .n) (f .count) rows) (f .budget)) called s
     call-said called s long h =
         let asked = call-asked s long in
-        subst (λ (n : ℕ). Said (f .rank) (callRules rules) (subspaceOf plane) (pointsOf points) n (f .count) rows (f .budget) called s) (l .points-n) (record {
-          rank-least = asked .rank-least;
-          rank-most = asked .rank-most;
-          says = h;
-          n-is = l .points-held .n-is ∙ ap length (sym (l .points-held .means));
-          given = asked .given;
-          rows-fit = rows-fit (asked .permute);
-          few-rows = asked .rows-few;
-          room = asked .room-four;
-        })
+        let n-is : points .n ≡ length (pointsOf points) = l .points-held .n-is ∙ ap length (sym (l .points-held .means)) in
+        let own : length (pointsOf points) ≡ f .n = sym n-is ∙ l .points-n in
+        subst (λ (n : ℕ). Said (f .rank) n (f .count) rows (f .budget) (faceting (f .rank - 2) (callRules rules) (subspaceOf plane) (pointsOf points) (rowsIn n (f .count) rows) (f .budget)) called s) own
+        (said.call-said (callRules rules) (subspaceOf plane) (pointsOf points) (f .count) rows (f .budget) s (asked .rank-least) (asked .rank-most) (rw (← n-is) (asked .given)) (rw (← n-is) (rows-fit (asked .permute))) (asked .rows-few) (asked .room-four) called (rw (← n-is) h))
 
-    -- the same, of the definition's own rules, plane and points
+    -- the same, of the definition's own rules, plane, points and rows
     pub job-called : (called : Called) (s : List ℕ) → length s ≡ workspace
         → Says (f .rank - 2) (callRules rules) (subspaceOf plane) (pointsOf points) (rowsIn (points .n) (f .count) rows) (f .budget) called s → JobCalled bytes f rows called s
-    job-called called s long h = record {
-      said = rw (← rules-job, ← (l .plane-held .means), ← (l .points-held .means)) (call-said called s long h);
-      rows-are = l .rows-held;
-    }
+    unfolding callOf
+    job-called called s long h =
+        let own = readJob bytes in
+        let is : faceting (f .rank - 2) (callRules rules) (subspaceOf plane) (pointsOf points) (rowsIn (f .n) (f .count) rows) (f .budget) ≡ callOf bounds1 own =
+        λ i. faceting (counts .rank-is i - 2) (rules-job i) (l .plane-held .means i) (l .points-held .means i) (l .rows-held i) (counts .budget-is i) in
+        record {
+          said = subst (λ (call : Outcome recursion.Answer). Said (f .rank) (f .n) (f .count) rows (f .budget) call called s) is (call-said called s long h);
+          rows-are = l .rows-held;
+        }
 
-  -- the outcome of the job, from its outermost call
-  pub outcome-is : {rows : List ℕ} {called : Called} {s : List ℕ} → JobCalled bytes f rows called s → (space : ℕ)
-      → rest space (f .budget) (faceting (f .rank - 2) (job.rulesOf bounds1 (readJob bytes)) (planeOf (readJob bytes)) (readJob bytes .points) (rowsIn (f .n) (f .count) rows) (f .budget)) ≡ outcome bytes workspace space
-  unfolding outcome callOf
-  outcome-is k space =
-      let own = readJob bytes in
-      (λ i. rest space (counts .budget-is i) (faceting (counts .rank-is i - 2) (job.rulesOf bounds1 own) (planeOf own) (own .points) (k .rows-are i) (counts .budget-is i)))
-      ∙ sym (outcome-passed bounds1 bytes workspace space none-fails)
+  -- what the job gets by itself is its call's answer
+  pub alone-passed : alone bytes workspace ≡ andThen (callOf bounds1 (readJob bytes)) (λ (a : recursion.Answer). answered (answerBytes (f .budget) a))
+  unfolding alone
+  alone-passed =
+      pass-all-passed (tests bytes workspace) _ none-fails
+      ∙ ap (λ (budget : ℕ). andThen (callOf bounds1 (readJob bytes)) (λ (a : recursion.Answer). answered (answerBytes budget a))) (sym (counts .budget-is))
 
 -- ---- a job that is refused
 
-pub refused-outcome : (bytes : Bytes) (workspace space number : ℕ) → Refused number ≡ checkedOf bytes workspace → outcome bytes workspace space ≡ refused number
-unfolding outcome
-refused-outcome bytes workspace space number e = outcome-refused bounds1 bytes workspace space number (refused-means bytes workspace number e)
+pub alone-refused : (bytes : Bytes) (workspace number : ℕ) → Refused number ≡ checkedOf bytes workspace → alone bytes workspace ≡ refused number
+unfolding alone
+alone-refused bytes workspace number e = pass-all-refused (tests bytes workspace) _ number (refused-means bytes workspace number e)

@@ -1,11 +1,11 @@
--- `register::write_left` meets its contract: rank 3 and rank 4, each by its writer. Assumes nothing.
+-- `answering::write_left` meets its contract: rank 3 and rank 4, each by its writer. Assumes nothing.
 use mathlib.Core.Path.{_≡_}
 use Prim.Native.Nat.{_-_}
 use native.Mathlib.Omega.{arith}
 use borrow.Author.Needs.{needs}
-use Rattle.register.specs.Writable.{polygons-asked, polygons-wrote}
-use Rattle.register.proofs.write_left.Statement.{statement}
-use Rattle.register.proofs.write_left.Tie as tie
+use Rattle.answering.specs.Writable.{polygons-asked, polygons-wrote}
+use Rattle.answering.proofs.write_left.Statement.{statement}
+use Rattle.answering.proofs.write_left.Tie as tie
 
 write-answer-requires : tie.Need-write-answer-requires
 write-answer-requires c κs =

@@ -1,8 +1,8 @@
--- `register::write_polyhedra` meets its contract: the laws of Writable say what is asked, and that the words written are the definition's. Assumes nothing.
+-- `answering::write_polyhedra` meets its contract: the laws of Writable say what is asked, and that the words written are the definition's. Assumes nothing.
 use borrow.Author.Needs.{needs}
-use Rattle.register.specs.Writable.{images-asked, images-inside, solid-asked, solid-wrote}
-use Rattle.register.proofs.write_polyhedra.Statement.{statement}
-use Rattle.register.proofs.write_polyhedra.Tie as tie
+use Rattle.answering.specs.Writable.{images-asked, images-inside, solid-asked, solid-wrote}
+use Rattle.answering.proofs.write_polyhedra.Statement.{statement}
+use Rattle.answering.proofs.write_polyhedra.Tie as tie
 
 add-at : tie.Need-add-at
 add-at c = search needs

@@ -1,0 +1,63 @@
+-- The return code and the buffer of the first call, by what came of its job. Leans on what is written of a job, and on the law that the buffer's
+-- length matters last.
+use mathlib.Core.Path.{_≡_, refl, sym, ap, _∙_}
+use mathlib.Core.Bool.{Bool, true, false, cond}
+use Prim.Native.Nat.{ℕ, _≤_}
+use native.Mathlib.Omega.{arith}
+use lib.Dec.{ltb, nltb→le}
+use lib.IntN.{ℤ, pos, negℤ}
+use lib.ListN.{length}
+use Rattle.definitions.specs.Outcome.{Outcome, refused, answered, andThen, refuseIf}
+use Rattle.definitions.specs.Job.{Bytes, fitting, outcome, codeOf, bufferOf}
+use Rattle.laws.specs.Bools.{false→fails}
+use Rattle.completeness.specs.Lengths.{alone, outcome-alone}
+use Rattle.answering.specs.declared.Written.{Written}
+use Rattle.answering.specs.declared.Written.the-variants.{Refused, Short, Wrote}
+use Rattle.answering.specs.Closed.{writtenIn, bufferIn}
+
+-- [12.7] [11.5] minus the refusal's number, 17 where there is no room, or the length
+unfoldable pub codeWritten : Written → ℤ
+codeWritten (Refused number) = negℤ (pos number)
+codeWritten Short = negℤ (pos 17)
+codeWritten (Wrote many) = pos many
+
+pub code-is : (job : Bytes) (workspace room : ℕ) {w : Written} → w ≡ writtenIn room (alone job workspace) → codeWritten w ≡ codeOf (outcome job workspace room)
+unfolding codeWritten writtenIn codeOf fitting refuseIf andThen
+code-is job workspace room {w} e = ap codeWritten e ∙ (go (alone job workspace) ∙ sym (ap codeOf (outcome-alone job workspace room)))
+  where
+    by-room : (bytes : Bytes) (b : Bool) → codeWritten (cond b Short (Wrote (length bytes))) ≡ codeOf (refuseIf b 17 (λ u. answered bytes))
+    by-room bytes true = refl
+    by-room bytes false = refl
+
+    go : (o : Outcome Bytes) → codeWritten (writtenIn room o) ≡ codeOf (andThen o (fitting room))
+    go (refused number) = refl
+    go (answered bytes) = by-room bytes (ltb room (length bytes))
+
+pub buffer-is : (job : Bytes) (workspace room : ℕ) → bufferIn room (alone job workspace) ≡ bufferOf room (outcome job workspace room)
+unfolding bufferIn
+buffer-is job workspace room = sym (ap (bufferOf room) (outcome-alone job workspace room))
+
+-- ---- what the job gets by itself, from what came of it
+
+lengthWritten : Written → ℕ
+lengthWritten (Refused number) = 0
+lengthWritten Short = 0
+lengthWritten (Wrote many) = many
+
+kindWritten : Written → ℕ
+kindWritten (Refused number) = 0
+kindWritten Short = 1
+kindWritten (Wrote many) = 2
+
+module _ (room : ℕ) where
+  pub says-wrote : (o : Outcome Bytes) (many : ℕ) → Wrote many ≡ writtenIn room o → (bytes : Bytes) × (o ≡ answered bytes) × (many ≡ length bytes) × (many ≤ room)
+  unfolding writtenIn kindWritten lengthWritten
+  says-wrote (refused n) many e = let k = ap kindWritten e in absurd (omega arith)
+  says-wrote (answered bytes) many e = go (ltb room (length bytes)) refl e
+    where
+      go : (b : Bool) → ltb room (length bytes) ≡ b → Wrote many ≡ cond b Short (Wrote (length bytes)) → (l : Bytes) × (answered bytes ≡ answered l) × (many ≡ length l) × (many ≤ room)
+      go true t q = let k = ap kindWritten q in absurd (omega arith)
+      go false t q =
+          let same : many ≡ length bytes = ap lengthWritten q in
+          let short = nltb→le room (length bytes) (false→fails t) in
+          (bytes, refl, same, omega arith)
