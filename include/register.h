@@ -85,6 +85,8 @@ enum register_refusal {
  *     Closed is a matter of these sums [1.3]. Whether each ridge of a figure lies
  *     in just two of its facets is another question: [1.4] to [1.6].
  *   - Entries stand in ascending order of their lists.
+ *   - The summary of an entry counts the points at which an edge of its figure ends,
+ *     each once, its edges and its facets [12.5] (used-are-ends).
  *   - At ranks 3 and 4, if the rows are closed under composition (any row after
  *     any row is a row), every row carries each entry's figure to itself: the
  *     images of its edges, of its polygons and of its facets are its edges, its

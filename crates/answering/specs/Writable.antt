@@ -73,7 +73,7 @@ module _ {n m : ℕ} {rows : List ℕ} {kept : List Kept} {level : Level} {budge
     images-inside = let at : r .at ≡ imagesAt level = ap (λ (i : Images). i .at) (o .is) in omega (arith, images-fit, o .long)
 
     -- what `write_solid_answer` is asked
-    pub solid-asked : Standing m rows level t × ImagesStand m level t imagesIn (r .count) × (n < 4294967296) × (rest ≤ budget)
+    pub solid-asked : Standing m rows level t × ImagesStand m level t imagesIn (r .count) × (n ≤ 20) × (rest ≤ budget)
     solid-asked = (
       standing-after (w .rows-fit) (w .edges) (w .few-rows) (w .leaves) images-behind images-fit o,
       subst (λ (l : List ℕ). ImagesStand m level t l (r .count)) (sym (lent-tail (r .at) t)) (images-after (w .rows-fit) (w .edges) (w .few-rows) (w .leaves) images-behind images-fit o),
@@ -92,7 +92,7 @@ module _ {n m : ℕ} {rows : List ℕ} {kept : List Kept} {level : Level} {budge
 
 module _ {n m : ℕ} {rows : List ℕ} {kept : List Kept} {level : Level} {budget rest : ℕ} {s : List ℕ} (w : Writable 0 n m rows kept level budget rest s) where
   -- what `write_answer` is asked, and what it writes
-  pub polygons-asked : Standing m rows level s × (n < 4294967296) × (rest ≤ budget)
+  pub polygons-asked : Standing m rows level s × (n ≤ 20) × (rest ≤ budget)
   polygons-asked = (standing (w .rows-fit) (w .edges) (w .leaves), omega (arith, w .rows-fit .n-fits), w .spent)
 
   pub polygons-wrote : (from : List ℕ) (to : List ℕ) (end : ℕ) → WroteAnswer n m rows level s budget rest from 0 to end

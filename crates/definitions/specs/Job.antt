@@ -8,7 +8,7 @@ use lib.Dec.{leb, ltb, eqb, isEq}
 use lib.IntN.{ℤ, pos, negℤ}
 use lib.ListN.{length, getD, take, drop, replicate}
 use lib.Ieee.{Float, nan, inf, fin, binary64, ofBits, lt, le}
-use Rattle.definitions.specs.Lists.{Pair, compareNats, allOf, countFrom, sortNats}
+use Rattle.definitions.specs.Lists.{Pair, compareNats, anyOf, allOf, keep, countFrom, sortNats, memberNat}
 use Rattle.definitions.specs.Outcome.{Outcome, refused, answered, andThen, refuseIf}
 use Rattle.definitions.specs.Vectors.{Vec, zero64}
 use Rattle.definitions.specs.Subspace.{Subspace}
@@ -236,11 +236,19 @@ entryWords e = counted (λ (item : Pair). item .0 ∷ item .1 ∷ []) (e .list) 
 unfoldable pub compoundWords : Compound → List ℕ
 compoundWords c = c .whole ∷ c .first ∷ c .second ∷ []
 
--- [12.5] of an entry: points, edges, facets
+-- [12.5] the point is an end of some edge of the figure
+unfoldable pub isEnd : Figure → ℕ → Bool
+isEnd f v = anyOf (memberNat v) (rankOf 2 f)
+
+-- [12.5] the points of a figure that are an end of at least one of its edges, each once
+unfoldable pub usedPoints : Figure → List ℕ
+usedPoints f = keep (isEnd f) (countFrom 0 (length (rankOf 1 f)))
+
+-- [12.5] of an entry: points used, edges, facets
 unfoldable pub summaryWords : Entry → List ℕ
 summaryWords e =
     let f = e .figure in
-    length (rankOf 1 f) ∷ length (rankOf 2 f) ∷ length (rankOf (length f - 2) f) ∷ []
+    length (usedPoints f) ∷ length (rankOf 2 f) ∷ length (rankOf (length f - 2) f) ∷ []
 
 -- [12.3] All numbers of an answer. Lists examined, in all calls, are what was used of the budget.
 unfoldable pub answerWords : ℕ → Answer → List ℕ

@@ -7,7 +7,7 @@ use lib.Dec.{T, eqb}
 use lib.Ieee.{binary64, round, toBits}
 use Rattle.definitions.specs.Lists.{allOf}
 use Rattle.definitions.specs.Open.{open-all}
-use Rattle.definitions.specs.Examples.{Case, open-examples, passes, answers, refusedWith, plain, withBudget, withMax, withEntryLimit, identity, wholePoints, half, onePointTwo, fourE-8, twoE-7, whole, segmentJob, squareJob, symmetricJob, cornerJob, threePoints}
+use Rattle.definitions.specs.Examples.{Case, open-examples, passes, answers, refusedWith, plain, withBudget, withMax, withEntryLimit, identity, wholePoints, jobWith, half, onePointTwo, fourE-8, twoE-7, whole, segmentJob, squareJob, symmetricJob, cornerJob, threePoints}
 
 unfoldable pub twoPoints-answer : List ℕ
 twoPoints-answer =
@@ -100,7 +100,7 @@ plainSquare-answer =
     -- compounds
     0 ∷
     -- summaries
-    4 ∷ 3 ∷ 3 ∷ 4 ∷ 4 ∷ 4 ∷ 4 ∷ 4 ∷ 4 ∷ 4 ∷ 3 ∷ 3 ∷ 4 ∷ 4 ∷ 4 ∷ 4 ∷ 3 ∷ 3 ∷ 4 ∷ 3 ∷ 3 ∷ []
+    3 ∷ 3 ∷ 3 ∷ 4 ∷ 4 ∷ 4 ∷ 4 ∷ 4 ∷ 4 ∷ 3 ∷ 3 ∷ 3 ∷ 4 ∷ 4 ∷ 4 ∷ 3 ∷ 3 ∷ 3 ∷ 3 ∷ 3 ∷ 3 ∷ []
 
 unfoldable pub squareLimit0-answer : List ℕ
 squareLimit0-answer =
@@ -119,7 +119,7 @@ squareLimit0-answer =
     -- compounds
     0 ∷
     -- summaries
-    4 ∷ 3 ∷ 3 ∷ []
+    3 ∷ 3 ∷ 3 ∷ []
 
 unfoldable pub corner-answer : List ℕ
 corner-answer =
@@ -205,3 +205,26 @@ heights-are = tt
 pub starred-jobs : T (allOf passes starred)
 unfolding open-all open-examples starred twoPoints-answer twoPointsSwapped-answer symmetricSquare-answer symmetricSquareMax12-answer symmetricSquareMax05-answer plainSquare-answer squareLimit0-answer corner-answer crowdedLine-answer flatTriangle-answer
 starred-jobs = tt
+
+-- (0,0), (1,0), (2,0), (0,1), no symmetry. The first three lie on a line, whose edge ends at the first two; so no edge
+-- of the triangle ends at the third, and its summary counts three points.
+unfoldable pub crowdedTriangle-answer : List ℕ
+crowdedTriangle-answer =
+    -- examined; orbits and their counts
+    7 ∷ 4 ∷ 1 ∷ 1 ∷ 1 ∷ 1 ∷
+    -- entries
+    1 ∷
+    3 ∷ 0 ∷ 0 ∷ 1 ∷ 0 ∷ 2 ∷ 0 ∷ 4 ∷ 1 ∷ 0 ∷ 4 ∷ 1 ∷ 0 ∷ 1 ∷ 0 ∷ 1 ∷ 0 ∷ 1 ∷ 0 ∷ 3 ∷ 2 ∷ 0 ∷ 1 ∷ 2 ∷ 0 ∷ 3 ∷ 2 ∷ 1 ∷ 3 ∷ 1 ∷ 3 ∷ 0 ∷ 1 ∷ 2 ∷
+    -- possible facets of each orbit
+    1 ∷ 3 ∷ 1 ∷ 0 ∷ 2 ∷ 1 ∷ 0 ∷ 1 ∷ 0 ∷ 1 ∷ 2 ∷ 0 ∷ 1 ∷
+    1 ∷ 3 ∷ 1 ∷ 0 ∷ 2 ∷ 1 ∷ 0 ∷ 1 ∷ 0 ∷ 1 ∷ 2 ∷ 0 ∷ 3 ∷
+    1 ∷ 3 ∷ 1 ∷ 0 ∷ 2 ∷ 1 ∷ 0 ∷ 1 ∷ 0 ∷ 1 ∷ 2 ∷ 1 ∷ 3 ∷
+    1 ∷ 3 ∷ 1 ∷ 0 ∷ 2 ∷ 1 ∷ 0 ∷ 1 ∷ 0 ∷ 1 ∷ 2 ∷ 2 ∷ 3 ∷
+    -- compounds
+    0 ∷
+    -- summaries
+    3 ∷ 3 ∷ 3 ∷ []
+
+pub crowded-triangle : T (passes (answers 524288 (jobWith (plain 3) 2 (wholePoints ((0 ∷ 0 ∷ []) ∷ (1 ∷ 0 ∷ []) ∷ (2 ∷ 0 ∷ []) ∷ (0 ∷ 1 ∷ []) ∷ [])) (identity 4)) crowdedTriangle-answer))
+unfolding open-all open-examples crowdedTriangle-answer
+crowded-triangle = tt

@@ -1,3 +1,4 @@
 -- Edges as marks at their codes.
 pub mod Marks
 pub mod MarkTurns
+pub mod Summaries

@@ -13,6 +13,8 @@ ghost use Rattle.openers.specs.Rows.{rowsIn};
 ghost use Rattle.shapes.specs.EdgeSets.{polygon};
 ghost use Rattle.shapes.specs.FigureWords.{edgeWords};
 ghost use Rattle.figure_words.specs.Wrote.{Wrote};
+ghost use Rattle.shapes.specs.UsedPoints.{endsUsed};
+ghost use Rattle.edge_marks.specs.Summaries.{endAt, summaryMarked};
 ghost use Rattle.edge_marks.specs.Marks.{EdgesFit, imageCodes, marksOf, codesMarked, edgesMarked, markAt, markWords};
 
 // ---- edges as marks
@@ -107,4 +109,55 @@ pub fn write_marked(answer: &mut [u8], at: usize, n: usize, marks: &[bool; 400])
     let many = figure_words::push(answer, head, edges as u32);
     let body = write_marks(answer, many, marks);
     figure_words::write_body(answer, body, edges)
+}
+
+// ---- summaries
+
+// 1 for a vertex that is an end of some marked edge, 0 for any other.
+fn end_at(marks: &[bool; 400], v: usize) -> usize
+    requires { ⌜ v < 20 ⌝ }
+    ensures { λ r. ⌜ r ≡ endAt (now (marks .entry)) v ⌝ }
+{
+    let mut w = 0;
+    while w < 20 {
+        if marks[20 * v + w] {
+            return 1;
+        }
+        if marks[20 * w + v] {
+            return 1;
+        }
+        w += 1;
+    }
+    0
+}
+
+// How many of n vertices are an end of some marked edge.
+fn count_ends(marks: &[bool; 400], n: usize) -> usize
+    requires { ⌜ n ≤ 20 ⌝ }
+    ensures { λ r. ⌜ (r ≡ endsUsed n (edgesMarked (now (marks .entry)))) × (r ≤ n) ⌝ }
+{
+    let mut many = 0;
+    let mut v = 0;
+    while v < n {
+        many += end_at(marks, v);
+        v += 1;
+    }
+    many
+}
+
+// The summary of a figure over n points, with the marked edges, which are so many, and with so many facets, at every
+// rank: the points that are an end of an edge, the edges, the facets.
+pub fn write_summary(
+    answer: &mut [u8],
+    at: usize,
+    marks: &[bool; 400],
+    n: usize,
+    edges: usize,
+    facets: usize,
+) -> usize
+    requires { ⌜ (n ≤ 20) × (edges ≡ length (codesMarked (now marks) 400)) × (edges ≤ 400) × (facets < 4294967296) ⌝ }
+    ensures { λ r. ⌜ Wrote (now (answer .entry)) at (now (answer .exit)) r (summaryMarked n (now (marks .entry)) facets) ⌝ }
+{
+    let points = count_ends(marks, n);
+    figure_words::push_three(answer, at, points as u32, edges as u32, facets as u32)
 }

@@ -38,6 +38,8 @@ use Rattle.shelf.specs.Leaves.{facetAt, listsLeft, entryLeft, answerLeft, Leave
 use Rattle.shelf.specs.declared.Level.{Level}
 use Rattle.figure_words.specs.Wrote.{Wrote}
 use Rattle.possible_facets.specs.Facets.{edges-at}
+use Rattle.shapes.specs.UsedPoints.{endsUsed}
+use Rattle.edge_marks.specs.Summaries.{summaryMarked}
 use Rattle.edge_marks.specs.Marks.{codes-up, Ends, imageCodes, codesMarked, edgesMarked, edge-images, image-ends, marked-in-order, pair-code}
 use Rattle.facet_images.specs.Images.{imageMarks, nextChoice, chosenFrom}
 use Rattle.facet_images.specs.Arranged.{Arranged, chosen-in-order}
@@ -360,8 +362,8 @@ module _ {n m : ℕ} {bytes : List ℕ} {kept-all : List Kept} {level : Level} {
     entry-words = λ t. list-words fits h left numbers inside t ++ solid-words t
 
     summary-words : solidSummaryFrom n m bytes level s ids numbers ≡ summaryWords (entryLeft 1 n sends kept-all numbers)
-    unfolding solidSummaryFrom entryLeft keptFigure
-    summary-words = (λ t. n ∷ many-lines t ∷ many-polygons t ∷ []) ∙ sym (polyhedron-summary (entryLeft 1 n sends kept-all numbers) n lines polygons refl)
+    unfolding solidSummaryFrom summaryMarked entryLeft keptFigure
+    summary-words = (λ t. endsUsed n (lines-are t) ∷ many-lines t ∷ many-polygons t ∷ []) ∙ sym (polyhedron-summary (entryLeft 1 n sends kept-all numbers) n lines polygons refl)
 
   -- ---- entries and summaries
 

@@ -16,6 +16,7 @@ use Rattle.shelf.specs.Keeps.{edgesPart}
 use Rattle.shelf.specs.Leaves.{listsLeft}
 use Rattle.shelf.specs.declared.Level.{Level}
 use Rattle.possible_facets.specs.Facets.{listWords}
+use Rattle.edge_marks.specs.Summaries.{summaryMarked}
 use Rattle.edge_marks.specs.Marks.{marksOf, codesMarked, edgesMarked}
 use Rattle.facet_images.specs.Images.{imageMarks, IdsBelow, chosenFrom}
 use Rattle.entry_lists.specs.Counts.{countWords}
@@ -58,7 +59,7 @@ module _ (n m : ℕ) (rows : List ℕ) (level : Level) (s ids : List ℕ) where
   solidEntryFrom numbers = listWords (ownersIn level s) numbers ++ solidFrom numbers
 
   unfoldable pub solidSummaryFrom : List ℕ → List ℕ
-  solidSummaryFrom numbers = n ∷ length (codesMarked (linesOf numbers) 400) ∷ length (chosenFrom (insideOf numbers) 0 ids) ∷ []
+  solidSummaryFrom numbers = summaryMarked n (linesOf numbers) (length (chosenFrom (insideOf numbers) 0 ids))
 
   unfoldable pub solidAnswerFrom : ℕ → ℕ → List ℕ
   solidAnswerFrom budget left =

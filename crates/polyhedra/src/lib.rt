@@ -137,7 +137,7 @@ fn write_solids(
     cursor
 }
 
-// A summary of each entry: points, edges, facets.
+// A summary of each entry.
 fn write_solid_summaries(
     answer: &mut [u8],
     at: usize,
@@ -149,7 +149,7 @@ fn write_solid_summaries(
     ids: &[u8],
     many: usize,
 ) -> usize
-    requires { ⌜ Standing m (now rows) level (now ws) × ImagesStand m level (now ws) (now ids) many × (n < 4294967296) ⌝ }
+    requires { ⌜ Standing m (now rows) level (now ws) × ImagesStand m level (now ws) (now ids) many × (n ≤ 20) ⌝ }
     ensures { λ r. ⌜ Wrote (now (answer .entry)) at (now (answer .exit)) r (flatMap (solidSummaryFrom n m (now (rows .entry)) level (now (ws .entry)) (words 4 (now (ids .entry)) many)) (listsLeft level (now (ws .entry)))) ⌝ }
 {
     let count = level.count;
@@ -160,7 +160,7 @@ fn write_solid_summaries(
         let inside = entry_facets(ws, level, k);
         let lines = edge_marks::count_marks(&marks);
         let facets = facet_images::count_chosen(ids, many, &inside);
-        cursor = figure_words::push_three(answer, cursor, n as u32, lines as u32, facets as u32);
+        cursor = edge_marks::write_summary(answer, cursor, &marks, n, lines, facets);
         k += 1;
     }
     cursor
@@ -181,7 +181,7 @@ pub fn write_solid_answer(
     budget: u32,
     left: u32,
 ) -> usize
-    requires { ⌜ Standing m (now rows) level (now ws) × ImagesStand m level (now ws) (now ids) many × (n < 4294967296) × (left ≤ budget) ⌝ }
+    requires { ⌜ Standing m (now rows) level (now ws) × ImagesStand m level (now ws) (now ids) many × (n ≤ 20) × (left ≤ budget) ⌝ }
     ensures { λ r. ⌜ WroteSolidAnswer n m (now (rows .entry)) level (now (ws .entry)) (words 4 (now (ids .entry)) many) budget left (now (answer .entry)) at (now (answer .exit)) r ⌝ }
 {
     let owners = level.shelf.owners;

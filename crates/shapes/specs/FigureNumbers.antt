@@ -8,11 +8,12 @@ use native.Mathlib.Omega.{arith}
 use lib.ListN.{length, take, drop, replicate, length-replicate}
 use Rattle.definitions.specs.Figures.{Elements, Figure, rankOf, dyad, moveEnds, sortStrong, assemble, figureOf}
 use Rattle.definitions.specs.Recursion.{Entry, vertexRidge}
-use Rattle.definitions.specs.Job.{counted, figureWords, summaryWords}
+use Rattle.definitions.specs.Job.{counted, figureWords, usedPoints, summaryWords}
 use Rattle.laws.specs.Lists.{Mem, here, there, in-map, in-replicate}
 use Rattle.laws.specs.Orders.{nats}
 use Rattle.laws.specs.Ascending.{ascends-distinct}
 use Rattle.laws.specs.Ranges.{distinct-below}
+use Rattle.shapes.specs.UsedPoints.{used-few}
 use Rattle.shapes.specs.Shape.{Rank, Stack, Shaped, number-of-ranks}
 use Rattle.shapes.specs.Calls.{at-or}
 use Rattle.shapes.specs.FigureWords.{rankWords, figure-words}
@@ -193,5 +194,5 @@ module _ (most n w rank : ℕ) (f : Figure) (shaped : Shaped n rank f) (ground :
   pub summary-below : (e : Entry) → e .figure ≡ f → WordsBelow most (summaryWords e)
   unfolding summaryWords
   summary-below e is =
-      subst (λ (g : Figure). WordsBelow most (length (rankOf 1 g) ∷ length (rankOf 2 g) ∷ length (rankOf (length g - 2) g) ∷ [])) (sym is)
-      (more-below (rank-few 1) (more-below (rank-few 2) (more-below (rank-few (length f - 2)) none-below)))
+      subst (λ (g : Figure). WordsBelow most (length (usedPoints g) ∷ length (rankOf 2 g) ∷ length (rankOf (length g - 2) g) ∷ [])) (sym is)
+      (more-below (let u = used-few f in let r = rank-few 1 in omega arith) (more-below (rank-few 2) (more-below (rank-few (length f - 2)) none-below)))

@@ -1,5 +1,5 @@
 -- The answer's numbers of figures from their elements, at every rank: what a writer writes that stores nested sets and no figures. And of rank 2, 3 and 4 from edges and polygons. Leans on
--- NestedFigures.
+-- NestedFigures and UsedPoints.
 use mathlib.Core.Path.{_≡_, refl, ap, _∙_}
 use mathlib.Core.List.{List, [], _∷_, _++_, map, flatMap, append-nil}
 use Prim.Native.Nat.{ℕ, zero, suc, _+_, _-_}
@@ -8,7 +8,7 @@ use lib.ListN.{length, getD, replicate, length-map, length-replicate}
 use Rattle.definitions.specs.Lists.{Pair, countFrom}
 use Rattle.definitions.specs.Figures.{Elements, Figure, rankOf}
 use Rattle.definitions.specs.Recursion.{Entry, vertexRidge}
-use Rattle.definitions.specs.Job.{counted, figureWords, summaryWords}
+use Rattle.definitions.specs.Job.{counted, figureWords, usedPoints, summaryWords}
 use Rattle.laws.specs.Lists.{Mem, count-length, flatMap-same}
 use Rattle.laws.specs.Places.{placeIn, flat-singles, flatMap-map}
 use Rattle.shapes.specs.Edges.{edgeFigure}
@@ -17,6 +17,7 @@ use Rattle.shapes.specs.Levels.{Levels, Sets, AllGood, under, under-good
 use Rattle.shapes.specs.LevelMoves.{Keeping, under-kept, places-kept}
 use Rattle.shapes.specs.Nested.{Nested, nested}
 use Rattle.shapes.specs.NestedFigures.{nestedFigure}
+use Rattle.shapes.specs.UsedPoints.{endsUsed, used-ends}
 
 -- ---- elements and ranks
 
@@ -110,21 +111,21 @@ polyhedron-words n edges polygons =
 
 -- ---- summaries [12.5]
 
-pub polygon-summary : (e : Entry) (n : ℕ) (edges : List Pair) → e .figure ≡ polygon n edges → summaryWords e ≡ n ∷ length edges ∷ length edges ∷ []
+pub polygon-summary : (e : Entry) (n : ℕ) (edges : List Pair) → e .figure ≡ polygon n edges → summaryWords e ≡ endsUsed n edges ∷ length edges ∷ length edges ∷ []
 unfolding summaryWords rankOf polygon
 polygon-summary e n edges q =
-    let points = length-replicate {A = List ℕ} n (0 ∷ []) in
+    let points = used-ends (polygon n edges) n edges refl refl in
     let many = length-map edges ends in
-    ap (λ (f : Figure). length (rankOf 1 f) ∷ length (rankOf 2 f) ∷ length (rankOf (length f - 2) f) ∷ []) q ∙ (λ t. points t ∷ many t ∷ many t ∷ [])
+    ap (λ (f : Figure). length (usedPoints f) ∷ length (rankOf 2 f) ∷ length (rankOf (length f - 2) f) ∷ []) q ∙ (λ t. points t ∷ many t ∷ many t ∷ [])
 
 pub polyhedron-summary : (e : Entry) (n : ℕ) (edges : List Pair) (polygons : List (List Pair)) → e .figure ≡ polyhedron n edges polygons
-    → summaryWords e ≡ n ∷ length edges ∷ length polygons ∷ []
+    → summaryWords e ≡ endsUsed n edges ∷ length edges ∷ length polygons ∷ []
 unfolding summaryWords rankOf polyhedron
 polyhedron-summary e n edges polygons q =
-    let points = length-replicate {A = List ℕ} n (0 ∷ []) in
+    let points = used-ends (polyhedron n edges polygons) n edges refl refl in
     let many = length-map edges ends in
     let facets = length-map polygons (map (edgeNumber edges)) in
-    ap (λ (f : Figure). length (rankOf 1 f) ∷ length (rankOf 2 f) ∷ length (rankOf (length f - 2) f) ∷ []) q ∙ (λ t. points t ∷ many t ∷ facets t ∷ [])
+    ap (λ (f : Figure). length (usedPoints f) ∷ length (rankOf 2 f) ∷ length (rankOf (length f - 2) f) ∷ []) q ∙ (λ t. points t ∷ many t ∷ facets t ∷ [])
 
 -- ---- at every rank from 3
 
@@ -205,14 +206,14 @@ nested-words n k xs =
     let c = upper-words nested k xs (bodyOf (length xs)) ∙ ap (upperWords nested k xs) (append-nil (rankWords (countFrom 0 (length xs) ∷ [])) ∙ body-rank (length xs)) in
     figure-words (nestedFigure n (suc k) xs) ∙ (λ t. many t ∷ 1 ∷ 0 ∷ a t ++ (b t ++ c t))
 
--- "points, edges, facets"
-pub nested-summary : (e : Entry) (n k : ℕ) (xs : Nested (suc k)) → e .figure ≡ nestedFigure n (suc k) xs → summaryWords e ≡ n ∷ length (lowest nested k xs) ∷ length xs ∷ []
+-- points used, edges, facets
+pub nested-summary : (e : Entry) (n k : ℕ) (xs : Nested (suc k)) → e .figure ≡ nestedFigure n (suc k) xs → summaryWords e ≡ endsUsed n (lowest nested k xs) ∷ length (lowest nested k xs) ∷ length xs ∷ []
 unfolding summaryWords rankOf nestedFigure ranksOf ranksOn upperRanks bodyOf lowest
 nested-summary e n k xs q =
     let f = nestedFigure n (suc k) xs in
-    let points = length-replicate {A = List ℕ} n (0 ∷ []) in
+    let points = used-ends f n (lowest nested k xs) refl refl in
     let edges = length-map (lowest nested k xs) ends in
-    ap (λ (g : Figure). length (rankOf 1 g) ∷ length (rankOf 2 g) ∷ length (rankOf (length g - 2) g) ∷ []) q ∙ (λ t. points t ∷ edges t ∷ facets k xs t ∷ [])
+    ap (λ (g : Figure). length (usedPoints g) ∷ length (rankOf 2 g) ∷ length (rankOf (length g - 2) g) ∷ []) q ∙ (λ t. points t ∷ edges t ∷ facets k xs t ∷ [])
   where
     facets : (k : ℕ) (xs : Nested (suc k)) → length (getD (nestedFigure n (suc k) xs) (length (nestedFigure n (suc k) xs) - 2) []) ≡ length xs
     facets zero xs = length-map xs ends

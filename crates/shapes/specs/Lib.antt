@@ -40,6 +40,7 @@ pub mod RidgeCalls
 pub mod Sizes
 pub mod AnswerSizes
 pub mod RidgeCounts
+pub mod UsedPoints
 pub mod FigureWords
 pub mod Example
 pub mod KeyMarks

@@ -17,6 +17,7 @@ use Rattle.shelf.specs.Keeps.{ShelfFits, ownersPart, edgesPart}
 use Rattle.shelf.specs.Leaves.{listsLeft}
 use Rattle.shelf.specs.declared.Level.{Level}
 use Rattle.possible_facets.specs.Facets.{OwnersBelow, listWords}
+use Rattle.edge_marks.specs.Summaries.{summaryMarked}
 use Rattle.edge_marks.specs.Marks.{EdgesFit, marksOf, codesMarked, edgesMarked}
 use Rattle.entry_lists.specs.Counts.{countWords}
 use Rattle.possible_facets.specs.Possible.{edgeFigureWords, possibleFrom}
@@ -52,7 +53,7 @@ unfoldable pub entryFrom : ℕ → List Row → List ℕ → List (List ℕ) →
 entryFrom n rows owners edges numbers = listWords owners numbers ++ figureWords (polygon n (edgesMarked (marksOf rows edges numbers)))
 
 unfoldable pub summaryFrom : ℕ → List Row → List (List ℕ) → List ℕ → List ℕ
-summaryFrom n rows edges numbers = let many = length (codesMarked (marksOf rows edges numbers) 400) in n ∷ many ∷ many ∷ []
+summaryFrom n rows edges numbers = let marks = marksOf rows edges numbers in summaryMarked n marks (length (codesMarked marks 400))
 
 unfoldable pub answerFrom : ℕ → List Row → Level → List ℕ → ℕ → ℕ → List ℕ
 answerFrom n rows level s budget left =

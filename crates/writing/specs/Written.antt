@@ -23,12 +23,14 @@ use Rattle.labels.specs.Labels.{labelsIn}
 use Rattle.shapes.specs.Edges.{edgeFigure}
 use Rattle.shapes.specs.EdgeSets.{Proper, polygon, edgesInOrder}
 use Rattle.shapes.specs.FigureWords.{polygon-summary}
+use Rattle.shapes.specs.UsedPoints.{endsUsed}
 use Rattle.shapes.specs.Kept.{Kept, keptPossible, keptEdgeImages, keptFigure}
 use Rattle.shelf.specs.Keeps.{facetsIn, edgesOf, edgesPart}
 use Rattle.shelf.specs.Leaves.{facetAt, listsLeft, entryLeft, answerLeft, Leaves}
 use Rattle.shelf.specs.declared.Level.{Level}
 use Rattle.figure_words.specs.Wrote.{Wrote}
 use Rattle.possible_facets.specs.Facets.{OwnersBelow, itemOf, itemWords, listWords, ownersFrom, owners-all, item-is, owners-below, Each, edges-at, many-edges, leading-is}
+use Rattle.edge_marks.specs.Summaries.{summaryMarked}
 use Rattle.edge_marks.specs.Marks.{Ends, EdgesFit, marksOf, codesMarked, edgesMarked, pair-code, marked-edges}
 use Rattle.entry_lists.specs.Counts.{countWords}
 use Rattle.possible_facets.specs.Possible.{edgeFigureWords, possibleFrom}
@@ -229,12 +231,12 @@ module _ {more n m : ℕ} {bytes : List ℕ} {kept : List Kept} {level : Level} 
     entry-words = λ t. list-words t ++ figureWords (polygon n (edges-written t))
 
     summary-words : summaryFrom n (rowsIn 32 m bytes) (edgesIn level s) numbers ≡ summaryWords (entryLeft 0 n (rowsIn n m bytes) kept numbers)
-    unfolding summaryFrom entryLeft keptFigure edgesMarked
+    unfolding summaryFrom summaryMarked entryLeft keptFigure edgesMarked
     summary-words =
         let edges = edgesInOrder (flatMap (keptEdgeImages (rowsIn n m bytes) kept) parts) in
         let codes = codesMarked (marksOf (rowsIn 32 m bytes) (edgesIn level s) numbers) 400 in
         let many : length codes ≡ length edges = sym (length-map codes pairOf) ∙ ap length edges-written in
-        (λ t. n ∷ many t ∷ many t ∷ []) ∙ sym (polygon-summary (entryLeft 0 n (rowsIn n m bytes) kept numbers) n edges refl)
+        (λ t. endsUsed n (edges-written t) ∷ many t ∷ many t ∷ []) ∙ sym (polygon-summary (entryLeft 0 n (rowsIn n m bytes) kept numbers) n edges refl)
 
   entries-are : counted (entryFrom n (rowsIn 32 m bytes) (ownersIn level s) (edgesIn level s)) (listsLeft level s) ≡ counted entryWords (map (entryLeft 0 n (rowsIn n m bytes) kept) (listsLeft level s))
   unfolding counted

@@ -105,7 +105,7 @@ fn write_entries(
     cursor
 }
 
-// A summary of each entry: points, edges, and again edges, which are the facets.
+// A summary of each entry; at rank 3 the edges are the facets.
 fn write_summaries(
     answer: &mut [u8],
     at: usize,
@@ -115,7 +115,7 @@ fn write_summaries(
     m: usize,
     n: usize,
 ) -> usize
-    requires { ⌜ Standing m (now rows) level (now ws) × (n < 4294967296) ⌝ }
+    requires { ⌜ Standing m (now rows) level (now ws) × (n ≤ 20) ⌝ }
     ensures { λ r. ⌜ Wrote (now (answer .entry)) at (now (answer .exit)) r (flatMap (summaryFrom n (rowsIn 32 m (now (rows .entry))) (edgesIn level (now (ws .entry)))) (listsLeft level (now (ws .entry)))) ⌝ }
 {
     let count = level.count;
@@ -124,7 +124,7 @@ fn write_summaries(
     while k < count {
         let marks = entry_marks(ws, level, rows, m, k);
         let edges = edge_marks::count_marks(&marks);
-        cursor = figure_words::push_three(answer, cursor, n as u32, edges as u32, edges as u32);
+        cursor = edge_marks::write_summary(answer, cursor, &marks, n, edges, edges);
         k += 1;
     }
     cursor
@@ -167,7 +167,7 @@ pub fn write_answer(
     budget: u32,
     left: u32,
 ) -> usize
-    requires { ⌜ Standing m (now rows) level (now ws) × (n < 4294967296) × (left ≤ budget) ⌝ }
+    requires { ⌜ Standing m (now rows) level (now ws) × (n ≤ 20) × (left ≤ budget) ⌝ }
     ensures { λ r. ⌜ WroteAnswer n m (now (rows .entry)) level (now (ws .entry)) budget left (now (answer .entry)) at (now (answer .exit)) r ⌝ }
 {
     let owners = level.shelf.owners;
@@ -199,6 +199,16 @@ fn write_segment(answer: &mut [u8], at: usize) -> usize
     figure_words::write_edge_figure(answer, at, 1)
 }
 
+// The summary of the segment: one edge, whose two ends are its facets.
+fn write_segment_summary(answer: &mut [u8], at: usize) -> usize
+    ensures { λ r. ⌜ Wrote (now (answer .entry)) at (now (answer .exit)) r (2 ∷ 1 ∷ 2 ∷ []) ⌝ }
+{
+    let mut marks = [false; 400];
+    marks[1] = true;
+    let edges = edge_marks::count_marks(&marks);
+    edge_marks::write_summary(answer, at, &marks, 2, edges, 2)
+}
+
 // A ridge of rank 2: a vertex.
 fn write_vertex(answer: &mut [u8], at: usize, v: u32) -> usize
     ensures { λ r. ⌜ Wrote (now (answer .entry)) at (now (answer .exit)) r (counted figureWords (vertexRidge v ∷ [])) ⌝ }
@@ -219,7 +229,7 @@ pub fn write_swapped(answer: &mut [u8], at: usize, budget: u32, left: u32) -> us
     let segment = write_segment(answer, list);
     let vertex = write_vertex(answer, segment, 0);
     let compounds = figure_words::push(answer, vertex, 0);
-    figure_words::push_three(answer, compounds, 2, 1, 2)
+    write_segment_summary(answer, compounds)
 }
 
 // The answer where none does.
@@ -235,5 +245,5 @@ pub fn write_separate(answer: &mut [u8], at: usize, budget: u32, left: u32) -> u
     let first = write_vertex(answer, segment, 0);
     let second = write_vertex(answer, first, 1);
     let compounds = figure_words::push(answer, second, 0);
-    figure_words::push_three(answer, compounds, 2, 1, 2)
+    write_segment_summary(answer, compounds)
 }

@@ -30,12 +30,12 @@ pub struct Subject {
 const WORDS: &str = "\
 The host's own look, which is not proved: the notes, the margin, what closes in itself,
 pieces and equal figures. That rows which are closed under composition carry each figure
-to itself is proved, and looked at again. All else stands in the answer. A figure closes
-in itself where each of its ridges (at rank 3 a point, at rank 4 an edge) lies in exactly
-two of its facets. It is in pieces where its facets fall apart into groups without a
-common ridge. It is a compound where its parts are those of two other entries together.
-A row carries a figure to itself where the images of its edges are its edges, of its
-polygons its polygons, and so up to its facets.
+to itself is proved, and looked at again. All else stands in the answer. A figure's points
+are those at which one of its edges ends. It closes in itself where each of its ridges (at
+rank 3 a point, at rank 4 an edge) lies in exactly two of its facets. It is in pieces where
+its facets fall apart into groups without a common ridge. It is a compound where its parts
+are those of two other entries together. A row carries a figure to itself where the images
+of its edges are its edges, of its polygons its polygons, and so up to its facets.
 ";
 
 /// The whole page, each line ended.

@@ -33,15 +33,24 @@ pub struct Answer {
     pub facets: Vec<Vec<Figure>>,
     /// Compound entry, first component, second component.
     pub compounds: Vec<[u32; 3]>,
-    /// Per entry points, edges and facets.
+    /// Per entry the points that are an end of an edge, the edges and the facets.
     pub summaries: Vec<[u32; 3]>,
 }
 
 impl Figure {
-    /// Elements in rank 1, in rank 2 and in the second last rank.
+    /// Points that are an end of at least one edge, elements in rank 2 and in the second last
+    /// rank.
     pub fn summary(&self) -> [u32; 3] {
-        let elements = |rank: usize| self.ranks.get(rank).map_or(0, |r| r.len() as u32);
-        [1, 2, self.ranks.len().wrapping_sub(2)].map(elements)
+        let elements = |rank: usize| self.ranks.get(rank).map_or(&[][..], Vec::as_slice);
+        let mut used = vec![false; elements(1).len()];
+        for &end in elements(2).iter().flatten() {
+            if let Some(point) = used.get_mut(end as usize) {
+                *point = true;
+            }
+        }
+        let points = used.iter().filter(|&&point| point).count();
+        let facets = elements(self.ranks.len().wrapping_sub(2)).len();
+        [points, elements(2).len(), facets].map(|many| many as u32)
     }
 
     fn write(&self, words: &mut Vec<u32>) {

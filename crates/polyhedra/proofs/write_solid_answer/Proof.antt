@@ -33,7 +33,7 @@ part-write-possible-polygons-end-2 : tie.Need-part-write-possible-polygons-end-2
 part-write-possible-polygons-end-2 c = search needs
 
 write-possible-polygons-requires : tie.Need-write-possible-polygons-requires
-write-possible-polygons-requires c κs = let s = c .before .before .before .before .before .before .before .before .before .before .before .before .before .before .before in let h = s .pre .0 in let f = h .listed .fits in (omega (arith, h .fewOrbits, f .orbitRoom, f .edgeRoom, f .labelRoom, f .ownerRoom, f .ridgeRoom, f .placeRoom, f .ends), s .pre .2, owners-asked (h .listed), omega (arith, h .listed .fewFacets), h .edges .sound, h .each)
+write-possible-polygons-requires c κs = let s = c .before .before .before .before .before .before .before .before .before .before .before .before .before .before .before in let h = s .pre .0 in let f = h .listed .fits in (omega (arith, h .fewOrbits, f .orbitRoom, f .edgeRoom, f .labelRoom, f .ownerRoom, f .ridgeRoom, f .placeRoom, f .ends), omega (arith, s .pre .2), owners-asked (h .listed), omega (arith, h .listed .fewFacets), h .edges .sound, h .each)
 
 write-labels-requires : tie.Need-write-labels-requires
 write-labels-requires c κs = search needs

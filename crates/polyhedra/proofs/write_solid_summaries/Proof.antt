@@ -9,7 +9,7 @@ use lib.ListN.{length, take}
 use lib.Seq.{take-all}
 use Rattle.words.specs.Words.{words}
 use Rattle.shelf.specs.Leaves.{listsLeft}
-use Rattle.edge_marks.specs.Marks.{codesMarked}
+use Rattle.edge_marks.specs.Summaries.{summaryMarked}
 use Rattle.facet_images.specs.Images.{chosenFrom}
 use Rattle.figure_words.specs.Wrote.{Wrote, wrote-none, wrote-then, wrote-as}
 use Rattle.polyhedra.specs.Solids.{solidSummaryFrom}
@@ -40,34 +40,27 @@ count-marks-requires c κs = search needs
 count-chosen-requires : tie.Need-count-chosen-requires Inv-loop μ-loop
 count-chosen-requires c κs = let s = c .before .before .before .before .before .before .before .before .before .before .before in s .pre .1 .room
 
-cast-push-three : tie.Need-cast-push-three Inv-loop μ-loop
-cast-push-three c = search needs
-
-cast-push-three-2 : tie.Need-cast-push-three-2 Inv-loop μ-loop
-cast-push-three-2 c = let s = c .before .before .before .before .before .before .before .before .before .before .before .before .before in omega (arith, c .before .count-chosen .ensures .1, c .before .before .before .count-marks .ensures .1, s .pre .1 .few)
-
-cast-push-three-3 : tie.Need-cast-push-three-3 Inv-loop μ-loop
-cast-push-three-3 c = let s = c .before .before .before .before .before .before .before .before .before .before .before .before .before in omega (arith, c .before .count-chosen .ensures .1, c .before .before .before .count-marks .ensures .1, s .pre .1 .few)
-
-push-three-requires : tie.Need-push-three-requires Inv-loop μ-loop
-push-three-requires c κs = search needs
+write-summary-requires : tie.Need-write-summary-requires Inv-loop μ-loop
+write-summary-requires c κs = let s = c .before .before .before .before .before .before .before .before .before .before .before .before .before .before in
+    let lines = c .before .before .before .before .count-marks .ensures in
+    (s .pre .2, lines .0, lines .1, omega (arith, c .before .before .count-chosen .ensures .1, s .pre .1 .few))
 
 add-k : tie.Need-add-k Inv-loop μ-loop
-add-k c = let h = c .before .before .before .before .before .before .before .before .before .before .before .before .before .before .before .before .pre .0 .listed in omega (arith, c .before .before .before .before .before .before .before .before .before .before .loop-test .taken, h .fewEntries)
+add-k c = let h = c .before .before .before .before .before .before .before .before .before .before .before .before .before .before .before .before .before .pre .0 .listed in omega (arith, c .before .before .before .before .before .before .before .before .before .before .before .loop-test .taken, h .fewEntries)
 
 loop-less : tie.Need-loop-less Inv-loop μ-loop
 loop-less c = search needs
 
 loop-again : tie.Need-loop-again Inv-loop μ-loop
 unfolding solidSummaryFrom
-loop-again c = let l = c .before .before .before .before .before .before .before .before .before .before .before .loop in let s = c .before .before .before .before .before .before .before .before .before .before .before .before .before .before .before .before in
+loop-again c = let l = c .before .before .before .before .before .before .before .before .before .before .before .before .loop in let s = c .before .before .before .before .before .before .before .before .before .before .before .before .before .before .before .before .before in
     let lists = listsLeft (s .args .level) (s .args .ws .now) in
     let ids = words 4 (s .args .ids .now) (s .args .many) in
     let summary = solidSummaryFrom (s .args .n) (s .args .m) (s .args .rows .now) (s .args .level) (s .args .ws .now) ids in
-    let here : l .k < length lists = omega (arith, many-lists (s .pre .0 .listed), c .before .before .before .before .before .before .before .before .before .before .loop-test .taken) in
-    let lines = c .before .before .before .before .before .before .count-marks .ensures .0 ∙ ap (λ (marks : List Bool). length (codesMarked marks 400)) (c .before .before .before .before .before .before .before .before .before .entry-marks .ensures) in
-    let facets = c .before .before .before .before .count-chosen .ensures .0 ∙ ap (λ (marks : List Bool). length (chosenFrom marks 0 ids)) (c .before .before .before .before .before .before .before .before .entry-facets .ensures) in
-    (omega (arith, c .before .before .before .before .before .before .before .before .before .before .loop-test .taken), wrote-as (wrote-then (l .inv .1) (c .before .before .push-three .ensures)) ((λ t. flatMap summary (take (l .k) lists) ++ (s .args .n ∷ lines t ∷ facets t ∷ [])) ∙ flat-more summary lists (l .k) [] here))
+    let here : l .k < length lists = omega (arith, many-lists (s .pre .0 .listed), c .before .before .before .before .before .before .before .before .before .before .before .loop-test .taken) in
+    let marks = c .before .before .before .before .before .before .before .before .before .before .entry-marks .ensures in
+    let facets = c .before .before .before .before .before .count-chosen .ensures .0 ∙ ap (λ (marks : List Bool). length (chosenFrom marks 0 ids)) (c .before .before .before .before .before .before .before .before .before .entry-facets .ensures) in
+    (omega (arith, c .before .before .before .before .before .before .before .before .before .before .before .loop-test .taken), wrote-as (wrote-then (l .inv .1) (c .before .before .write-summary .ensures)) ((λ t. flatMap summary (take (l .k) lists) ++ summaryMarked (s .args .n) (marks t) (facets t)) ∙ flat-more summary lists (l .k) [] here))
 
 same-length : tie.Need-same-length Inv-loop μ-loop
 same-length c = c .before .loop .inv .1 .long
@@ -89,10 +82,7 @@ write-solid-summaries-spec =
     entry-facets-requires
     count-marks-requires
     count-chosen-requires
-    cast-push-three
-    cast-push-three-2
-    cast-push-three-3
-    push-three-requires
+    write-summary-requires
     add-k
     loop-less
     loop-again

@@ -33,14 +33,14 @@ write-vertex-requires-2 c κs = search needs
 push-requires-2 : tie.Need-push-requires-2
 push-requires-2 c κs = search needs
 
-push-three-requires-4 : tie.Need-push-three-requires-4
-push-three-requires-4 c κs = search needs
+write-segment-summary-requires : tie.Need-write-segment-summary-requires
+write-segment-summary-requires c κs = search needs
 
 same-length : tie.Need-same-length
-same-length c = c .before .before .push-three4 .ensures .long ∙ (c .before .before .before .before .before .before .push2 .ensures .long ∙ (c .before .before .before .before .before .before .before .before .before .before .write-vertex2 .ensures .long ∙ (c .before .before .before .before .before .before .before .before .before .before .before .before .before .before .write-vertex .ensures .long ∙ (c .before .before .before .before .before .before .before .before .before .before .before .before .before .before .before .before .before .before .write-segment .ensures .long ∙ (c .before .before .before .before .before .before .before .before .before .before .before .before .before .before .before .before .before .before .before .before .before .before .push .ensures .long ∙ (c .before .before .before .before .before .before .before .before .before .before .before .before .before .before .before .before .before .before .before .before .before .before .before .before .before .before .push-three3 .ensures .long ∙ (c .before .before .before .before .before .before .before .before .before .before .before .before .before .before .before .before .before .before .before .before .before .before .before .before .before .before .before .before .before .before .push-three2 .ensures .long ∙ c .before .before .before .before .before .before .before .before .before .before .before .before .before .before .before .before .before .before .before .before .before .before .before .before .before .before .before .before .before .before .before .before .before .before .push-three .ensures .long)))))))
+same-length c = c .before .before .write-segment-summary .ensures .long ∙ (c .before .before .before .before .before .before .push2 .ensures .long ∙ (c .before .before .before .before .before .before .before .before .before .before .write-vertex2 .ensures .long ∙ (c .before .before .before .before .before .before .before .before .before .before .before .before .before .before .write-vertex .ensures .long ∙ (c .before .before .before .before .before .before .before .before .before .before .before .before .before .before .before .before .before .before .write-segment .ensures .long ∙ (c .before .before .before .before .before .before .before .before .before .before .before .before .before .before .before .before .before .before .before .before .before .before .push .ensures .long ∙ (c .before .before .before .before .before .before .before .before .before .before .before .before .before .before .before .before .before .before .before .before .before .before .before .before .before .before .push-three3 .ensures .long ∙ (c .before .before .before .before .before .before .before .before .before .before .before .before .before .before .before .before .before .before .before .before .before .before .before .before .before .before .before .before .before .before .push-three2 .ensures .long ∙ c .before .before .before .before .before .before .before .before .before .before .before .before .before .before .before .before .before .before .before .before .before .before .before .before .before .before .before .before .before .before .before .before .before .before .push-three .ensures .long)))))))
 
 returns : tie.Need-returns
-returns c = let s = c .before .before .before .before .before .before .before .before .before .before .before .before .before .before .before .before .before .before .before .before .before .before .before .before .before .before .before .before .before .before .before .before .before .before .before .before .before in wrote-as (wrote-then (c .before .before .before .before .before .before .before .before .before .before .before .before .before .before .before .before .before .before .before .before .before .before .before .before .before .before .before .before .before .before .before .before .before .before .push-three .ensures) (wrote-then (c .before .before .before .before .before .before .before .before .before .before .before .before .before .before .before .before .before .before .before .before .before .before .before .before .before .before .before .before .before .before .push-three2 .ensures) (wrote-then (c .before .before .before .before .before .before .before .before .before .before .before .before .before .before .before .before .before .before .before .before .before .before .before .before .before .before .push-three3 .ensures) (wrote-then (c .before .before .before .before .before .before .before .before .before .before .before .before .before .before .before .before .before .before .before .before .before .before .push .ensures) (wrote-then (c .before .before .before .before .before .before .before .before .before .before .before .before .before .before .before .before .before .before .write-segment .ensures) (wrote-then (c .before .before .before .before .before .before .before .before .before .before .before .before .before .before .write-vertex .ensures) (wrote-then (c .before .before .before .before .before .before .before .before .before .before .write-vertex2 .ensures) (wrote-then (c .before .before .before .before .before .before .push2 .ensures) (c .before .before .push-three4 .ensures))))))))) (separate-words (s .args .budget) (s .args .left))
+returns c = let s = c .before .before .before .before .before .before .before .before .before .before .before .before .before .before .before .before .before .before .before .before .before .before .before .before .before .before .before .before .before .before .before .before .before .before .before .before .before in wrote-as (wrote-then (c .before .before .before .before .before .before .before .before .before .before .before .before .before .before .before .before .before .before .before .before .before .before .before .before .before .before .before .before .before .before .before .before .before .before .push-three .ensures) (wrote-then (c .before .before .before .before .before .before .before .before .before .before .before .before .before .before .before .before .before .before .before .before .before .before .before .before .before .before .before .before .before .before .push-three2 .ensures) (wrote-then (c .before .before .before .before .before .before .before .before .before .before .before .before .before .before .before .before .before .before .before .before .before .before .before .before .before .before .push-three3 .ensures) (wrote-then (c .before .before .before .before .before .before .before .before .before .before .before .before .before .before .before .before .before .before .before .before .before .before .push .ensures) (wrote-then (c .before .before .before .before .before .before .before .before .before .before .before .before .before .before .before .before .before .before .write-segment .ensures) (wrote-then (c .before .before .before .before .before .before .before .before .before .before .before .before .before .before .write-vertex .ensures) (wrote-then (c .before .before .before .before .before .before .before .before .before .before .write-vertex2 .ensures) (wrote-then (c .before .before .before .before .before .before .push2 .ensures) (c .before .before .write-segment-summary .ensures))))))))) (separate-words (s .args .budget) (s .args .left))
 
 pub write-separate-spec : {M : Type 1} → statement M
 write-separate-spec =
@@ -55,6 +55,6 @@ write-separate-spec =
     write-vertex-requires
     write-vertex-requires-2
     push-requires-2
-    push-three-requires-4
+    write-segment-summary-requires
     same-length
     returns)

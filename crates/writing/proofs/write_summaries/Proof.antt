@@ -1,7 +1,7 @@
 -- `writing::write_summaries` meets its contract.
 use mathlib.Core.Bool.{Bool}
 use mathlib.Core.Path.{ap, _∙_}
-use mathlib.Core.List.{List, [], _∷_, _++_, flatMap}
+use mathlib.Core.List.{List, [], _++_, flatMap}
 use Prim.Native.Nat.{_+_, _-_, _≤_, _<_}
 use native.Mathlib.Omega.{arith}
 use borrow.Author.Needs.{needs}
@@ -10,6 +10,7 @@ use lib.Seq.{take-all}
 use Rattle.openers.specs.Rows.{rowsIn}
 use Rattle.shelf.specs.Leaves.{listsLeft}
 use Rattle.edge_marks.specs.Marks.{codesMarked}
+use Rattle.edge_marks.specs.Summaries.{summaryMarked}
 use Rattle.figure_words.specs.Wrote.{Wrote, wrote-none, wrote-then, wrote-as}
 use Rattle.writing.specs.Standing.{edgesIn, summaryFrom}
 use Rattle.writing.specs.Asked.{many-lists}
@@ -33,17 +34,10 @@ entry-marks-requires c κs = search needs
 count-marks-requires : tie.Need-count-marks-requires Inv-loop μ-loop
 count-marks-requires c κs = search needs
 
-cast-push-three : tie.Need-cast-push-three Inv-loop μ-loop
-cast-push-three c = search needs
-
-cast-push-three-2 : tie.Need-cast-push-three-2 Inv-loop μ-loop
-cast-push-three-2 c = search needs
-
-cast-push-three-3 : tie.Need-cast-push-three-3 Inv-loop μ-loop
-cast-push-three-3 c = search needs
-
-push-three-requires : tie.Need-push-three-requires Inv-loop μ-loop
-push-three-requires c κs = search needs
+write-summary-requires : tie.Need-write-summary-requires Inv-loop μ-loop
+write-summary-requires c κs = let s = c .before .before .before .before .before .before .before .before .before .before in
+    let edges = c .before .before .count-marks .ensures in
+    (s .pre .1, edges .0, edges .1, omega (arith, edges .1))
 
 add-k : tie.Need-add-k Inv-loop μ-loop
 add-k c = search needs
@@ -53,12 +47,13 @@ loop-less c = search needs
 
 loop-again : tie.Need-loop-again Inv-loop μ-loop
 unfolding summaryFrom
-loop-again c = let l = c .before .before .before .before .before .before .before .before .loop in let s = c .before .before .before .before .before .before .before .before .before .before .before .before in
+loop-again c = let l = c .before .before .before .before .before .before .before .before .before .loop in let s = c .before .before .before .before .before .before .before .before .before .before .before .before .before in
     let lists = listsLeft (s .args .level) (s .args .ws .now) in
     let summary = summaryFrom (s .args .n) (rowsIn 32 (s .args .m) (s .args .rows .now)) (edgesIn (s .args .level) (s .args .ws .now)) in
-    let here : l .k < length lists = omega (arith, many-lists (s .pre .0 .listed), c .before .before .before .before .before .before .before .loop-test .taken) in
-    let edges = c .before .before .before .before .count-marks .ensures .0 ∙ ap (λ (marks : List Bool). length (codesMarked marks 400)) (c .before .before .before .before .before .before .entry-marks .ensures) in
-    (omega (arith, c .before .before .before .before .before .before .before .loop-test .taken), wrote-as (wrote-then (l .inv .1) (c .before .before .push-three .ensures)) ((λ t. flatMap summary (take (l .k) lists) ++ (s .args .n ∷ edges t ∷ edges t ∷ [])) ∙ flat-more summary lists (l .k) [] here))
+    let here : l .k < length lists = omega (arith, many-lists (s .pre .0 .listed), c .before .before .before .before .before .before .before .before .loop-test .taken) in
+    let marks = c .before .before .before .before .before .before .before .entry-marks .ensures in
+    let edges = c .before .before .before .before .before .count-marks .ensures .0 ∙ ap (λ (marks : List Bool). length (codesMarked marks 400)) marks in
+    (omega (arith, c .before .before .before .before .before .before .before .before .loop-test .taken), wrote-as (wrote-then (l .inv .1) (c .before .before .write-summary .ensures)) ((λ t. flatMap summary (take (l .k) lists) ++ summaryMarked (s .args .n) (marks t) (edges t)) ∙ flat-more summary lists (l .k) [] here))
 
 same-length : tie.Need-same-length Inv-loop μ-loop
 same-length c = c .before .loop .inv .1 .long
@@ -78,10 +73,7 @@ write-summaries-spec =
     loop-holds
     entry-marks-requires
     count-marks-requires
-    cast-push-three
-    cast-push-three-2
-    cast-push-three-3
-    push-three-requires
+    write-summary-requires
     add-k
     loop-less
     loop-again

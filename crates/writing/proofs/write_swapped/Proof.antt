@@ -26,14 +26,14 @@ write-vertex-requires c κs = search needs
 push-requires-2 : tie.Need-push-requires-2
 push-requires-2 c κs = search needs
 
-push-three-requires-3 : tie.Need-push-three-requires-3
-push-three-requires-3 c κs = search needs
+write-segment-summary-requires : tie.Need-write-segment-summary-requires
+write-segment-summary-requires c κs = search needs
 
 same-length : tie.Need-same-length
 same-length c = search needs
 
 returns : tie.Need-returns
-returns c = let s = c .before .before .before .before .before .before .before .before .before .before .before .before .before .before .before .before .before .before .before .before .before .before .before .before .before .before .before .before .before in wrote-as (wrote-then (c .before .before .before .before .before .before .before .before .before .before .before .before .before .before .before .before .before .before .before .before .before .before .before .before .before .before .push-three .ensures) (wrote-then (c .before .before .before .before .before .before .before .before .before .before .before .before .before .before .before .before .before .before .before .before .before .before .push-three2 .ensures) (wrote-then (c .before .before .before .before .before .before .before .before .before .before .before .before .before .before .before .before .before .before .push .ensures) (wrote-then (c .before .before .before .before .before .before .before .before .before .before .before .before .before .before .write-segment .ensures) (wrote-then (c .before .before .before .before .before .before .before .before .before .before .write-vertex .ensures) (wrote-then (c .before .before .before .before .before .before .push2 .ensures) (c .before .before .push-three3 .ensures))))))) (swapped-words (s .args .budget) (s .args .left))
+returns c = let s = c .before .before .before .before .before .before .before .before .before .before .before .before .before .before .before .before .before .before .before .before .before .before .before .before .before .before .before .before .before in wrote-as (wrote-then (c .before .before .before .before .before .before .before .before .before .before .before .before .before .before .before .before .before .before .before .before .before .before .before .before .before .before .push-three .ensures) (wrote-then (c .before .before .before .before .before .before .before .before .before .before .before .before .before .before .before .before .before .before .before .before .before .before .push-three2 .ensures) (wrote-then (c .before .before .before .before .before .before .before .before .before .before .before .before .before .before .before .before .before .before .push .ensures) (wrote-then (c .before .before .before .before .before .before .before .before .before .before .before .before .before .before .write-segment .ensures) (wrote-then (c .before .before .before .before .before .before .before .before .before .before .write-vertex .ensures) (wrote-then (c .before .before .before .before .before .before .push2 .ensures) (c .before .before .write-segment-summary .ensures))))))) (swapped-words (s .args .budget) (s .args .left))
 
 pub write-swapped-spec : {M : Type 1} → statement M
 write-swapped-spec =
@@ -46,6 +46,6 @@ write-swapped-spec =
     write-segment-requires
     write-vertex-requires
     push-requires-2
-    push-three-requires-3
+    write-segment-summary-requires
     same-length
     returns)
