@@ -5,7 +5,6 @@ mod common;
 use std::collections::BTreeSet;
 
 use faceting_register::{Answer, Engine};
-use facetings_host::engines::judgement::Bounds;
 
 use common::{answer, job, judge, oracle, orbit_lists, refusal, CORNER, SQUARE, SQUARE_GROUP};
 
@@ -177,15 +176,12 @@ fn a_min_of_minus_zero_and_a_budget_of_zero_are_accepted() {
 }
 
 #[test]
-fn the_tolerance_is_a_value_of_the_run() {
-    let Some(mut oracle) = oracle() else { return };
+fn the_tolerance_is_a_value_of_the_job() {
+    let Some(oracle) = oracle() else { return };
     let text = "points\n0 0\n1 0\n0.5 0.0000002\n";
     assert_eq!(answer(&oracle, text).counts.len(), 3);
-    oracle.bounds = Bounds {
-        tolerance: 1e-3,
-        ..Bounds::default()
-    };
-    assert_eq!(answer(&oracle, text).counts.len(), 1);
+    let coarse = format!("tolerance 0.001\n{text}");
+    assert_eq!(answer(&oracle, &coarse).counts.len(), 1);
 }
 
 #[test]

@@ -289,7 +289,7 @@ fn damaged_files_are_read_or_told_of() {
                     assert!(full == turns || full == 2 * turns);
                 }
             }
-            for refusal in (1..=17).filter_map(|number| Refusal::from_code(-number)) {
+            for refusal in Refusal::all() {
                 set.culprit(refusal);
             }
         }

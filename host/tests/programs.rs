@@ -36,14 +36,21 @@ fn the_worked_example_is_what_an_engine_answers() {
     }
 }
 
-fn refusals() -> impl Iterator<Item = Refusal> {
-    (1..).map_while(|number| Refusal::from_code(-number))
+/// A job's refusals in the order in which they are looked for: that of a tolerance
+/// directly behind that of a number.
+fn refusals() -> Vec<Refusal> {
+    let mut all: Vec<Refusal> = Refusal::all().collect();
+    all.sort_by_key(|refusal| match refusal {
+        Refusal::Tolerance => (Refusal::Number.number(), 1),
+        other => (other.number(), 0),
+    });
+    all
 }
 
 #[test]
 fn page_and_header_have_every_refusal() {
-    let numbers: Vec<u8> = refusals().map(Refusal::number).collect();
-    assert_eq!(numbers.len(), 17);
+    let numbers: Vec<u8> = refusals().into_iter().map(Refusal::number).collect();
+    assert_eq!(numbers.len(), 18);
     assert_eq!(refusal_numbers(), numbers);
     let mut rest = HEADER;
     for refusal in refusals() {

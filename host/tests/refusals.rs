@@ -18,6 +18,8 @@ fn refusal(bytes: &[u8], workspace: usize) -> u8 {
 #[test]
 fn the_first_fault_in_order_decides() {
     let mut job = Job::read(&job(SQUARE)).expect("the square is laid out");
+    job.version = 2;
+    job.tolerance = 1.0;
     job.rows = vec![vec![1, 0, 2, 3], vec![0, 0, 0, 9]];
     job.min = Some(-1.0);
     let mut bytes = job.write();
@@ -25,11 +27,11 @@ fn the_first_fault_in_order_decides() {
     let row_0 = bytes.len() - 9;
     let row_1 = bytes.len() - 5;
     bytes[0] = b'G';
-    bytes[3] = 2;
+    bytes[3] = 3;
     bytes[5..11].copy_from_slice(&[9, 9, 1, 0, 0, 9]);
-    let steps: [(u8, usize, &[u8]); 10] = [
+    let steps: [(u8, usize, &[u8]); 11] = [
         (1, 0, b"F"),
-        (2, 3, &[1]),
+        (2, 3, &[2]),
         (3, 5, &[3]),
         (4, 6, &[2]),
         (5, 7, &[4]),
@@ -37,6 +39,7 @@ fn the_first_fault_in_order_decides() {
         (7, 10, &[1]),
         (8, 0, b""),
         (9, 18, &[0x3f]),
+        (22, 19, &0.001_f64.to_le_bytes()),
         (10, row_0, &[0, 1]),
     ];
     for (number, place, mended) in steps {
@@ -71,6 +74,20 @@ fn both_sides_of_each_bound_on_numbers() {
         assert_eq!(with(change, bound), 0);
         assert_eq!(with(change, bound.next_up()), 9);
         assert_eq!(with(change, f64::NAN), 9);
+    }
+    let tolerance: Change = |job, x| (job.version, job.tolerance) = (2, x);
+    for (end, beyond) in [
+        (1e-9, 1e-9_f64.next_down()),
+        (1e-3, 1e-3_f64.next_up()),
+        (1e-7, 0.0),
+        (1e-7, -0.0),
+        (1e-7, -1e-7),
+    ] {
+        assert_eq!(with(tolerance, end), 0);
+        assert_eq!(with(tolerance, beyond), 22);
+    }
+    for never in [f64::NAN, f64::INFINITY, f64::NEG_INFINITY] {
+        assert_eq!(with(tolerance, never), 9);
     }
     assert_eq!(with(|job, x| job.max = Some(x), -0.0), 0);
     assert_eq!(with(|job, x| job.max = Some(x), -5e-324), 9);

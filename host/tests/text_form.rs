@@ -14,6 +14,22 @@ fn read(text: &str) -> Job {
     Job::read(&job(text)).expect("the text form writes the layout")
 }
 
+/// A tolerance asks for version 2, and version 1 cannot say one.
+#[test]
+fn a_tolerance_makes_a_job_of_version_2() {
+    let square = |words: &str| read(&format!("{words}{SQUARE}"));
+    let usual = square("");
+    assert_eq!((usual.version, usual.tolerance), (1, 1e-7));
+    let named = square("tolerance 0.001\n");
+    assert_eq!((named.version, named.tolerance), (2, 0.001));
+    assert_eq!(named, square("version 2\ntolerance 1/1000\n"));
+    assert_eq!(read(&decode(&named.write())), named);
+    assert_eq!(square("version 2\n").tolerance, 1e-7);
+    let both = format!("version 1\ntolerance 0.001\n{SQUARE}");
+    let error = encode(&both).expect_err("version 1 has no tolerance");
+    assert!(error.contains("version 1 has no tolerance"), "{error}");
+}
+
 #[test]
 fn what_is_not_said_has_its_default() {
     let flat = read(SQUARE);

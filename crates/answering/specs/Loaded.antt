@@ -1,4 +1,4 @@
--- A job that passes refusals 1 to 12, loaded: its plane, points, rows and rules are what a call asks, and the definition's call on them is the job's. Leans on the check, on the loaded fields
+-- A job that passes the refusals before the call, loaded: its plane, points, rows and rules are what a call asks, and the definition's call on them is the job's. Leans on the check, on the loaded fields
 -- and on what a call asks.
 use mathlib.Core.Path.{_≡_, sym, ap, _∙_, subst}
 use mathlib.Core.List.{List}
@@ -10,7 +10,7 @@ use Rattle.definitions.specs.Outcome.{Outcome, refused, answered, andThen}
 use Rattle.definitions.specs.Recursion as recursion
 use Rattle.definitions.specs.Faceting.{faceting}
 use Rattle.definitions.specs.Job as job
-use Rattle.definitions.specs.Job.{Bytes, readJob, planeOf, tolerance1, bounds1, tests, workspaceFor, callOf, answerBytes}
+use Rattle.definitions.specs.Job.{Bytes, readJob, planeOf, bounds1, tests, workspaceFor, callOf, answerBytes}
 use Rattle.completeness.specs.Lengths.{alone}
 use Rattle.laws.specs.Refusals.{firstRefused, pass-all-refused, pass-all-passed}
 use Rattle.openers.specs.Rows.{rowsIn}
@@ -34,9 +34,9 @@ use Rattle.inner_answers.specs.Says.{Says}
 use Rattle.answering.specs.Said as said
 use Rattle.answering.specs.Said.{Said}
 
--- the definition's rules, from the fields of a job: the tolerance and the bounds of version 1
+-- the definition's rules, from the fields of a job
 unfoldable pub jobRules : Fields → recursion.Rules
-jobRules f = record { tolerance = tolerance1; lengths = limitsOf (f .min) (f .max); entryLimit = limitNumber (f .entries); bounds = bounds1 }
+jobRules f = record { tolerance = f .tolerance; lengths = limitsOf (f .min) (f .max); entryLimit = limitNumber (f .entries); bounds = bounds1 }
 
 -- a job as a call takes it
 pub record Loaded (bytes : Bytes) (f : Fields) (plane : Subspace) (points : Points) (rows : List ℕ) (rules : Rules) : Type 0 where
@@ -121,7 +121,7 @@ module _ (bytes : Bytes) (workspace : ℕ) (f : Fields) (passed : Passed f ≡ c
     -- the rules are the job's
     rules-job : callRules rules ≡ job.rulesOf bounds1 (readJob bytes)
     unfolding jobRules job.rulesOf limitsOf
-    rules-job = l .rules-are ∙ (λ i. record { tolerance = tolerance1; lengths = record { shortest = counts .min-is i; longest = counts .max-is i }; entryLimit = counts .entries-is i; bounds = bounds1 })
+    rules-job = l .rules-are ∙ (λ i. record { tolerance = counts .tolerance-is i; lengths = record { shortest = counts .min-is i; longest = counts .max-is i }; entryLimit = counts .entries-is i; bounds = bounds1 })
 
     -- what the call on what is loaded says
     call-said : (called : Called) (s : List ℕ) → length s ≡ workspace

@@ -39,7 +39,7 @@ fn limit_of(entries: EntryLimit) -> Limit
     }
 }
 
-// What is alike at every depth of a job's call: the tolerance and bounds of [12.2], and the job's own limits.
+// What is alike at every depth of a job's call: the job's own tolerance and limits, and the bounds of [12.2].
 fn rules_of(fields: Fields) -> Rules
     ensures { λ r. ⌜ callRules r ≡ jobRules fields ⌝ }
 {
@@ -47,7 +47,7 @@ fn rules_of(fields: Fields) -> Rules
     let max = fields.max;
     let entries = fields.entries;
     Rules {
-        tolerance: 0.0000001,
+        tolerance: fields.tolerance,
         min: min,
         max: max,
         limit: limit_of(entries),
@@ -60,7 +60,7 @@ fn rules_of(fields: Fields) -> Rules
 // The bytes of a job's rows in a call: 32 to a row, 120 rows at most.
 const ROWS_ROOM: usize = 3840;
 
-// A job that passed refusals 1 to 12, loaded and called [12.1]. Its rows stay with the caller, who needs them for what the call leaves.
+// A job that passed the refusals before the call, loaded and called [12.1]. Its rows stay with the caller, who needs them for what the call leaves.
 pub fn call_job(job: &[u8], fields: Fields, ws: &mut [u8], rows: &mut [u8]) -> Called
     requires { ⌜ (Passed fields ≡ checkedOf (now job) (length (now ws))) × (length (now rows) ≡ 3840) ⌝ }
     ensures { λ r. ⌜ JobCalled (now (job .entry)) fields (now (rows .exit)) r (now (ws .exit)) ⌝ }
@@ -166,7 +166,7 @@ fn close(answer: &mut [u8], at: usize) -> Written
     Written::Wrote(at)
 }
 
-// A job that passed refusals 1 to 12, called, and what its call says written into the cleared buffer.
+// A job that passed the refusals before the call, called, and what its call says written into the cleared buffer.
 fn write_job(job: &[u8], fields: Fields, ws: &mut [u8], answer: &mut [u8]) -> Written
     requires { ⌜ (Passed fields ≡ checkedOf (now job) (length (now ws))) × (now answer ≡ replicate (length (now answer)) 0) ⌝ }
     ensures result { λ r. ⌜ r ≡ writtenIn (length (now (answer .entry))) (alone (now (job .entry)) (length (now (ws .entry)))) ⌝ }

@@ -13,8 +13,9 @@ use lib.Ieee.{Float, le}
 use Rattle.definitions.specs.Vectors.{Vec, dot, hasRoot, norm, isDouble, minus}
 use Rattle.definitions.specs.Subspace.{Subspace, residual, fromPoints, flatten}
 use Rattle.definitions.specs.Orbits.{pointAt}
+use Rattle.definitions.specs.Job.{leastTolerance}
 use Rattle.bounds.specs.Sizes.{Each, each-getD, each-map, each-of-map, is-double, Small, small-none, small-wider, Tame, minus-small, residual-small, flatten-small}
-use Rattle.bounds.specs.Norms.{billionth, norm-has-root, norm-finite}
+use Rattle.bounds.specs.Norms.{norm-has-root, norm-finite}
 use Rattle.bounds.specs.Fits.{FitTakes, fit-tame, fit-takes-small}
 
 -- ---- the norms that a call takes
@@ -76,7 +77,7 @@ module _ (n k : ℕ) (plane : Subspace) (points : List Vec) (room : NormsFit n k
       each-of-map (Small n (k + 2 + n)) (pointAt (flattened plane points))
       (λ v. each-getD (Small n (k + 2 + n)) (flattened plane points) v [] (small-none n (k + 2 + n)) flattened-small) vertices
 
-  module _ (tolerance : Float) (low : T (le billionth tolerance)) where
+  module _ (tolerance : Float) (low : T (le leastTolerance tolerance)) where
     -- an inner call's points and plane, with a bound that is larger by 2 + n
     pub inner-bounded : (vertices : List ℕ) → Bounded n (k + 2 + n) (through tolerance plane points vertices) (chosen plane points vertices)
     unfolding through
@@ -113,7 +114,7 @@ unfoldable pub boundAt : ℕ → ℕ → ℕ → ℕ
 boundAt n k zero = k
 boundAt n k (suc depth) = boundAt n k depth + 2 + n
 
-module _ (n k : ℕ) (tolerance : Float) (low : T (le billionth tolerance)) (top : ℕ) (outer : Subspace) (given : List Vec) (h : Bounded n k outer given) where
+module _ (n k : ℕ) (tolerance : Float) (low : T (le leastTolerance tolerance)) (top : ℕ) (outer : Subspace) (given : List Vec) (h : Bounded n k outer given) where
   pub occurs-bounded : {depth more : ℕ} {plane : Subspace} {points : List Vec} → NormsFit n (boundAt n k depth) → Occurs tolerance top outer given depth more plane points
       → Bounded n (boundAt n k depth) plane points
   unfolding boundAt

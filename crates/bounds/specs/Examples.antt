@@ -5,21 +5,10 @@ use mathlib.Core.List.{[], _∷_}
 use Prim.Native.Nat.{ℕ, _+_, _*_}
 use lib.Dec.{leb}
 use lib.IntN.{pos}
-use lib.Ieee.{fin, binary64, round}
+use lib.Ieee.{fin}
 use Rattle.definitions.specs.Open.{open-all}
 use Rattle.definitions.specs.Vectors.{dot, hasRoot}
-use Rattle.definitions.specs.Job.{tolerance1}
-use Rattle.bounds.specs.Norms.{billionth}
 use Rattle.bounds.specs.Calls.{boundAt}
-
--- `billionth` is the double nearest to 1e-9, as the tolerance of version 1 is that nearest to 1e-7
-billionth-is-nearest : billionth ≡ round binary64 false 1 1000000000
-unfolding open-all
-billionth-is-nearest = refl
-
-tolerance-is-nearest : tolerance1 ≡ round binary64 false 1 10000000
-unfolding open-all
-tolerance-is-nearest = refl
 
 -- The promise says something: there are finite vectors whose norm asks for a root without a value. (2 ^ 512)² is an infinity, (2 ^ 511)² is not.
 long-vector : hasRoot (dot (fin false 1 (pos 512) ∷ []) (fin false 1 (pos 512) ∷ [])) ≡ false

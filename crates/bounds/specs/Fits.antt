@@ -10,8 +10,9 @@ use lib.ListN.{length, length-append}
 use lib.Ieee.{Float, lt, le}
 use Rattle.definitions.specs.Vectors.{Vec, norm, normalised}
 use Rattle.definitions.specs.Subspace.{Subspace, residual, addPoint, addPoints, fromPoints}
+use Rattle.definitions.specs.Job.{leastTolerance}
 use Rattle.bounds.specs.Sizes.{Each, each-append, Small, small-none, Tame, residual-small}
-use Rattle.bounds.specs.Norms.{billionth, normalised-small}
+use Rattle.bounds.specs.Norms.{normalised-small}
 
 -- A bound k on points of n coordinates that leaves room for the norms of their residuals: the residuals are at most 2 ^ (k + 4 + 2 n), and so the sum of n squares is finite.
 abbrev pub RoomToFit : ℕ → ℕ → Type 0
@@ -31,7 +32,7 @@ pub data FitTakes (tolerance : Float) : List Vec → Vec → Type 0 where
 
 -- ---- fits are tame
 
-module _ (n k : ℕ) (tolerance : Float) (room : RoomToFit n k) (low : T (le billionth tolerance)) where
+module _ (n k : ℕ) (tolerance : Float) (room : RoomToFit n k) (low : T (le leastTolerance tolerance)) where
   add-point-tame : (s : Subspace) (p : Vec) → length (s .basis) < n → Tame n k s → Small n k p → Tame n k (addPoint tolerance s p)
   unfolding addPoint
   add-point-tame s p few h a = go (lt tolerance (norm (residual s p))) (λ t. t)

@@ -14,9 +14,8 @@ use Rattle.definitions.specs.Subspace.{Subspace}
 use Rattle.definitions.specs.Orbits.{Row}
 use Rattle.definitions.specs.Recursion.{Bounds, Rules, Answer}
 use Rattle.definitions.specs.Faceting.{faceting}
-use Rattle.definitions.specs.Job.{Bytes, Job, readJob, jobTests, workspaceTests, tests, rulesOf, planeOf, callOf, answerBytes, fitting, outcomeWithin}
+use Rattle.definitions.specs.Job.{Bytes, Job, leastTolerance, readJob, jobTests, workspaceTests, tests, rulesOf, planeOf, callOf, answerBytes, fitting, outcomeWithin}
 use Rattle.laws.specs.Refusals.{front-passed, pass-all-same}
-use Rattle.bounds.specs.Norms.{billionth}
 use Rattle.bounds.specs.Calls.{outermost}
 use Rattle.bounds.specs.AnyNorm.{facetingBy, callBy, outcomeBy}
 use Rattle.bounds.specs.Covered.{call-same}
@@ -42,7 +41,7 @@ pub any-norm-is-the-text : (more : ℕ) (rules : Rules) (plane : Subspace) (poin
 any-norm-is-the-text more rules plane points rows budget = call-same norm rules more plane points (record { at = λ c k. refl }) more outermost rows budget
 
 -- For any rules with a tolerance from 1e-9 on, and any rank: a job's call does not depend on what a norm is where its root has no value.
-pub call-is-indifferent : (other : Vec → Float) → KeepsRoots other → (job : Job) → Whole job → Admitted 5 job → (rules : Rules) → T (le billionth (rules .tolerance)) → (rows : List Row) (budget : ℕ)
+pub call-is-indifferent : (other : Vec → Float) → KeepsRoots other → (job : Job) → Whole job → Admitted 5 job → (rules : Rules) → T (le leastTolerance (rules .tolerance)) → (rows : List Row) (budget : ℕ)
     → facetingBy other (job .rank - 2) rules (planeOf job) (job .points) rows budget ≡ faceting (job .rank - 2) rules (planeOf job) (job .points) rows budget
 call-is-indifferent other keeps job w h rules low rows budget =
     call-same other rules (job .rank - 2) (planeOf job) (job .points)
@@ -58,8 +57,9 @@ outcome-is-indifferent other keeps bounds bytes workspace room =
     let job = readJob bytes in
     let finished : Outcome Answer → Outcome Bytes = λ o. andThen o (λ (a : Answer). fitting room (answerBytes (job .budget) a)) in
     pass-all-same (tests bytes workspace) (λ u. finished (callBy other bounds job)) (λ u. finished (callOf bounds job)) (λ t.
+    let own = front-passed (jobTests bytes) (workspaceTests bytes workspace) t in
     ap finished
-    (call-is-indifferent other keeps job (job-whole bytes) (passed-is-admitted bytes (front-passed (jobTests bytes) (workspaceTests bytes workspace) t)) (rulesOf bounds job) tolerance-high-enough (job .rows) (job .budget)))
+    (call-is-indifferent other keeps job (job-whole bytes) (passed-is-admitted bytes own) (rulesOf bounds job) (tolerance-high-enough bytes own) (job .rows) (job .budget)))
 
 -- for instance: the norm where it has a value, and otherwise any float
 unfoldable pub normOr : Float → Vec → Float

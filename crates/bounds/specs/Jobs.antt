@@ -1,5 +1,5 @@
 -- No root is refused inside a job. A job's numbers are doubles, its points' and offset's at most 2 ^ 16 in size and its basis' at most 1, so that Calls' theorem holds for every call of it:
--- for every rank and every tolerance from 1e-9 on, where a point has at most 5 coordinates; and so for every job that passes refusals 1 to 11. Leans on Calls and on `ofBits-fits`.
+-- for every rank and every tolerance from 1e-9 on, where a point has at most 5 coordinates; and so for every job that passes its own refusals. Leans on Calls and on `ofBits-fits`.
 use mathlib.Core.Path.{_≡_, refl, ap, _∙_}
 use mathlib.Core.Bool.{Bool, true, _&&_}
 use mathlib.Core.List.{List, [], _∷_}
@@ -15,9 +15,8 @@ use Rattle.laws.specs.Refusals.{AllPassed, passesAt, passed}
 use Rattle.definitions.specs.Lists.{allOf, countFrom}
 use Rattle.definitions.specs.Vectors.{Vec, dot, hasRoot}
 use Rattle.definitions.specs.Subspace.{Subspace}
-use Rattle.definitions.specs.Job.{Bytes, Job, floatAt, floatsAt, vectorsAt, readJob, between, within, allWithin, limitGood, floatsGood, headerTests, valueTests, jobTests, tolerance1, planeOf}
+use Rattle.definitions.specs.Job.{Bytes, Job, floatAt, floatsAt, vectorsAt, readJob, between, within, allWithin, limitGood, floatsGood, isFinite, toleranceGood, headerTests, valueTests, jobTests, leastTolerance, greatestTolerance, planeOf}
 use Rattle.bounds.specs.Sizes.{Each, IsDouble, is-double, each-of-map, each-so, each-both, Double, Small, small-wider}
-use Rattle.bounds.specs.Norms.{billionth}
 use Rattle.bounds.specs.Calls.{Takes, Occurs, depth-and-rank, Bounded, Rooted, NormsFit, boundAt, flattened, flattened-small, occurs-bounded, every-norm-has-its-root}
 
 -- ---- tests over lists
@@ -99,7 +98,7 @@ job-whole bytes = record { offset = floats-read bytes _ _; basis = vectors-read 
 pub job-bounded : (n : ℕ) (job : Job) → Whole job → Admitted n job → Bounded n 16 (planeOf job) (job .points)
 unfolding floatsGood planeOf
 job-bounded n job w h =
-    let limits = limitGood (job .shortest) && limitGood (job .longest) in
+    let limits = limitGood (job .shortest) && limitGood (job .longest) && isFinite (job .tolerance) in
     let offsets = allWithin 65536 (job .offset) in
     let bases = allOf (allWithin 1) (job .basis) in
     let before = and-l (limits && offsets && bases) (allOf (allWithin 65536) (job .points)) (h .good) in
@@ -144,7 +143,7 @@ bounded-doubles n k plane points room h = record {
   flat = each-so (Small n (k + 2 + n)) (Each IsDouble) (small-doubles n (k + 2 + n)) (flattened plane points) (flattened-small n k plane points room h);
 }
 
-module _ (job : Job) (w : Whole job) (h : Admitted 5 job) (tolerance : Float) (low : T (le billionth tolerance)) where
+module _ (job : Job) (w : Whole job) (h : Admitted 5 job) (tolerance : Float) (low : T (le leastTolerance tolerance)) where
   call-room : {depth more : ℕ} {plane : Subspace} {points : List Vec} → Occurs tolerance (job .rank - 2) (planeOf job) (job .points) depth more plane points → NormsFit 5 (boundAt 5 16 depth)
   call-room {depth} c =
       let e = depth-and-rank c in
@@ -166,7 +165,7 @@ module _ (job : Job) (w : Whole job) (h : Admitted 5 job) (tolerance : Float) (l
       → AllDoubles plane points
   job-handles-doubles {depth} {plane = plane} {points = points} c = bounded-doubles 5 (boundAt 5 16 depth) plane points (call-room c) (call-bounded c)
 
--- ---- version 1
+-- ---- a job that passes its tests
 
 pub passed-is-admitted : (bytes : Bytes) → AllPassed (jobTests bytes) → Admitted 5 (readJob bytes)
 unfolding passesAt jobTests headerTests valueTests between
@@ -176,14 +175,16 @@ passed-is-admitted bytes h =
     let most = leb→le (job .d) 4 (and-r (leb (job .rank - 1) (job .d)) (leb (job .d) 4) dimension) in
     record { enough = leb→le (job .rank - 1) (job .d) (and-l (leb (job .rank - 1) (job .d)) (leb (job .d) 4) dimension); few = omega arith; good = passed 9 (jobTests bytes) h }
 
--- 1e-7 is above 1e-9
-pub tolerance-high-enough : T (le billionth tolerance1)
-unfolding le ofBits
-tolerance-high-enough = tt
+-- refusal 22 leaves a tolerance from 1e-9 on
+pub tolerance-high-enough : (bytes : Bytes) → AllPassed (jobTests bytes) → T (le leastTolerance (readJob bytes .tolerance))
+unfolding passesAt jobTests headerTests valueTests toleranceGood
+tolerance-high-enough bytes h =
+    let tolerance = readJob bytes .tolerance in
+    and-l (le leastTolerance tolerance) (le tolerance greatestTolerance) (passed 22 (jobTests bytes) h)
 
--- A double that is negative, infinite or no number has no root [3.2]: no job that passes its own refusals ever asks for it.
+-- A double that is negative, infinite or no number has no root [3.2]: no job that passes its own refusals ever asks for it, at whatever tolerance it names.
 pub no-root-is-refused : (bytes : Bytes) → AllPassed (jobTests bytes)
     → {depth more : ℕ} {plane : Subspace} {points : List Vec} {v : Vec}
-    → Occurs tolerance1 (readJob bytes .rank - 2) (planeOf (readJob bytes)) (readJob bytes .points) depth more plane points → Takes tolerance1 plane points v
+    → Occurs (readJob bytes .tolerance) (readJob bytes .rank - 2) (planeOf (readJob bytes)) (readJob bytes .points) depth more plane points → Takes (readJob bytes .tolerance) plane points v
     → hasRoot (dot v v) ≡ true
-no-root-is-refused bytes t c k = job-asks-for-roots-that-exist (readJob bytes) (job-whole bytes) (passed-is-admitted bytes t) tolerance1 tolerance-high-enough c k .root
+no-root-is-refused bytes t c k = job-asks-for-roots-that-exist (readJob bytes) (job-whole bytes) (passed-is-admitted bytes t) (readJob bytes .tolerance) (tolerance-high-enough bytes t) c k .root

@@ -15,6 +15,7 @@ use lib.Ieee.Fits.{down-pos}
 use Rattle.laws.specs.Floats.{wider, add-sized, mul-sized}
 use Rattle.laws.specs.LowerBounds.{Plus, AtLeast, Reaches, NotBeyond, add-plus, square-plus, square-at-least, add-at-least-left, add-at-least-right, below-at-least, div-sized, power-below, below-twice}
 use Rattle.definitions.specs.Vectors.{Vec, zero64, dotFrom, dot, valueOf, squareRoot, hasRoot, norm, normalised}
+use Rattle.definitions.specs.Job.{leastTolerance}
 use Rattle.bounds.specs.Sizes.{Each, each-map, each-both, Double, Small, zero-small}
 use Rattle.bounds.specs.Roots.{root-small, root-at-least, plus-has-root}
 
@@ -149,21 +150,17 @@ component-half k (fin s m e) sum K h f d g =
 
 -- ---- normalised vectors
 
--- 1e-9, the smallest tolerance
-abbrev pub billionth : Float
-billionth = ofBits binary64 0x3e112e0be826d695
-
--- it is more than 2 ^ −30
-billionth-reaches : AtLeast binary64 1044 billionth
+-- the least tolerance of a job is more than 2 ^ −30
+least-reaches : AtLeast binary64 1044 leastTolerance
 unfolding ofBits
-billionth-reaches = lit≤ tt
+least-reaches = lit≤ tt
 
-pub normalised-small : (n k : ℕ) (tolerance : Float) (v : Vec) → k + k + n ≤ 1023 → T (le billionth tolerance) → T (lt tolerance (norm v)) → Small n k v → Small n 1 (normalised v)
+pub normalised-small : (n k : ℕ) (tolerance : Float) (v : Vec) → k + k + n ≤ 1023 → T (le leastTolerance tolerance) → T (lt tolerance (norm v)) → Small n k v → Small n 1 (normalised v)
 unfolding normalised norm
 normalised-small n k tolerance v K low t a =
     let s = squared-not-negative n k v K a in
     let root = valueOf (squareRoot (dot v v)) in
-    let reached : AtLeast binary64 1044 root = below-at-least binary64 1044 539 billionth tolerance root billionth-reaches low t (norm-finite n k v K a .within) in
+    let reached : AtLeast binary64 1044 root = below-at-least binary64 1044 539 leastTolerance tolerance root least-reaches low t (norm-finite n k v K a .within) in
     record {
       short = subst (λ (z : ℕ). z ≤ n) (sym (length-map v (λ (x : Float). div binary64 x root))) (a .short);
       sized =

@@ -1,20 +1,20 @@
 -- What the lengths of workspace and answer buffer change. A job has an outcome before its buffer is looked at (`alone`), and the buffer only adds 17; a longer workspace only takes 12 away. So an
 -- accepted job has the same bytes with every longer workspace and every room from its length on, and a refused one the same refusal, unless it is 12 or 17. Leans on Refusals.
-use mathlib.Core.Path.{_≡_, refl, sym, ap, _∙_}
+use mathlib.Core.Path.{_≡_, refl, sym, ap, subst, _∙_}
 use mathlib.Core.Logic.{_⊎_, inl, inr}
 use mathlib.Core.Bool.{Bool, true, false, not}
 use mathlib.Core.List.{List, [], _∷_}
 use Prim.Native.Nat.{ℕ, _≤_, _<_}
 use native.Mathlib.Omega.{arith}
-use lib.Dec.{leb, ltb, leb→le, le→leb, nltb→le, ltb→lt}
+use lib.Dec.{T, leb, ltb, leb→le, le→leb, nltb→le, ltb→lt}
 use lib.ListN.{length}
 use Rattle.definitions.specs.Outcome.{Outcome, refused, answered, andThen, refuseIf}
 use Rattle.definitions.specs.Recursion.{Answer}
-use Rattle.definitions.specs.Job.{Bytes, Job, Test, readJob, workspaceFor, jobTests, workspaceTests, tests, passAll, bounds1, callOf, fitting, answerBytes, outcomeWithin, outcome}
+use Rattle.definitions.specs.Job.{Bytes, Job, Test, between, readJob, workspaceFor, jobTests, workspaceTests, tests, passAll, bounds1, callOf, fitting, answerBytes, outcomeWithin, outcome}
 use Rattle.laws.specs.Bools.{false→fails, true→holds, holds→true}
 use Rattle.laws.specs.Outcomes.{answered-before, not-refused-if}
 use Rattle.laws.specs.Refusals.{pass-all-append}
-use Rattle.completeness.specs.Refusals.{RefusedWithin, same-number, answer-is-no-refusal, by-answer, by-then, by-tests, wider, call-refusals, test-number}
+use Rattle.completeness.specs.Refusals.{RefusedBy, RefusedWithin, isTest, same-number, answer-is-no-refusal, by-answer, by-then, by-tests, wider, call-refusals, test-number}
 
 -- ---- the outcome before the buffer
 
@@ -55,10 +55,11 @@ outcome-alone bytes workspace room =
     ∙ ap (λ (o : Outcome Bytes). passAll (tests bytes workspace) (λ u. o)) (then-then (callOf bounds1 job) written (fitting room)))
 
 -- and it is never 17 itself
-pub alone-refusals : (bytes : Bytes) (workspace : ℕ) → RefusedWithin 1 16 (alone bytes workspace)
-unfolding alone
-alone-refusals bytes workspace =
-    by-tests (tests bytes workspace) _ (λ t i. let h = test-number bytes workspace t i in (omega arith, omega arith)) (wider 1 13 16 16 (omega arith) (omega arith) (job-call-refusals (readJob bytes)))
+pub never-17 : (bytes : Bytes) (workspace : ℕ) → RefusedBy (λ (n : ℕ). n ≡ 17 → ⊥) (alone bytes workspace)
+unfolding alone isTest between
+never-17 bytes workspace =
+    by-tests (tests bytes workspace) _ (λ t i e. subst (λ (n : ℕ). T (isTest n)) e (test-number bytes workspace t i))
+    (wider _ _ (λ n h e. omega (arith, h .1)) (job-call-refusals (readJob bytes)))
 
 -- ---- a longer workspace
 
@@ -104,13 +105,13 @@ module _ (bytes : Bytes) (workspace other : ℕ) where
       go false e q = absurd (n (sym q))
 
   -- and no workspace changes a refusal before 12
-  pub alone-early : (number : ℕ) → number < 12 → alone bytes workspace ≡ refused number → alone bytes other ≡ refused number
+  pub alone-early : (number : ℕ) → (12 ≤ number → number ≤ 17 → ⊥) → alone bytes workspace ≡ refused number → alone bytes other ≡ refused number
   unfolding refuseIf
   alone-early number early = by-twelfth (refused number) (λ q. absurd (go (leb need workspace) q))
     where
       go : (b : Bool) → refuseIf (not b) 12 next ≡ refused number → ⊥
-      go true q = let k = job-call-refusals (readJob bytes) .number-is number q .0 in omega arith
-      go false q = let k = same-number {A = Bytes} 12 number q in omega arith
+      go true q = let k = job-call-refusals (readJob bytes) .number-is number q in early (omega arith) (omega arith)
+      go false q = let k = same-number {A = Bytes} 12 number q in early (omega arith) (omega arith)
 
 -- ---- the outcome
 
@@ -186,14 +187,14 @@ module _ (bytes : Bytes) (workspace room : ℕ) where
           outcome-alone bytes longer space ∙ ap (λ (o : Outcome Bytes). andThen o (fitting space)) is
       go (inr x) = absurd (not-17 (x .is-17))
 
-  -- with every workspace whatever, where it stands before 12
-  pub early-refusal-stays : (number : ℕ) → outcome bytes workspace room ≡ refused number → number < 12 → (other space : ℕ) → outcome bytes other space ≡ refused number
+  -- with every workspace whatever, where it is looked for before 12: a number that is not 12 to 17
+  pub early-refusal-stays : (number : ℕ) → outcome bytes workspace room ≡ refused number → (12 ≤ number → number ≤ 17 → ⊥) → (other space : ℕ) → outcome bytes other space ≡ refused number
   unfolding andThen
   early-refusal-stays number e early other space = go (refused-alone bytes workspace room number e)
     where
       go : (alone bytes workspace ≡ refused number) ⊎ TooLong bytes workspace room number → outcome bytes other space ≡ refused number
       go (inl a) = outcome-alone bytes other space ∙ ap (λ (o : Outcome Bytes). andThen o (fitting space)) (alone-early bytes workspace other number early a)
-      go (inr x) = let k = x .is-17 in absurd (omega arith)
+      go (inr x) = let k = x .is-17 in absurd (early (omega arith) (omega arith))
 
   -- and 17 is an answer that does not fit: with room enough it is given
   pub seventeen-means : outcome bytes workspace room ≡ refused 17 → (answer : Bytes) × (room < length answer) × (outcome bytes workspace (length answer) ≡ answered answer)
@@ -202,7 +203,7 @@ module _ (bytes : Bytes) (workspace room : ℕ) where
     where
       go : (alone bytes workspace ≡ refused 17) ⊎ TooLong bytes workspace room 17
           → (answer : Bytes) × (room < length answer) × (outcome bytes workspace (length answer) ≡ answered answer)
-      go (inl a) = let k = alone-refusals bytes workspace .number-is 17 a .1 in absurd (omega arith)
+      go (inl a) = absurd (never-17 bytes workspace .number-is 17 a refl)
       go (inr x) =
           let many = length (x .answer) in
           (x .answer, x .long, outcome-alone bytes workspace many ∙ ap (λ (o : Outcome Bytes). andThen o (fitting many)) (x .is-alone) ∙ fits many (x .answer) (omega arith))

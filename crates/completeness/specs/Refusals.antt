@@ -1,10 +1,11 @@
--- Which numbers a refusal has: a call's are 13 to 16, at every rank; a job's 1 to 17. So a return code below 0 is minus one of these, and a code of 0 or more is an answer's length. Leans on Jobs.
+-- Which numbers a refusal has: a call's are 13 to 16, at every rank; a job's 1 to 17 and 22. So a return code below 0 is minus one of these, and a code of 0 or more is an answer's length. Leans on Jobs.
 use mathlib.Core.Path.{_≡_, refl, sym, ap, subst}
-use mathlib.Core.Bool.{Bool, true, false, not}
+use mathlib.Core.Logic.{_⊎_, inl, inr}
+use mathlib.Core.Bool.{Bool, true, false, not, _&&_, _||_}
 use mathlib.Core.List.{List, [], _∷_, _++_, map, reverseAux}
 use Prim.Native.Nat.{ℕ, zero, suc, _+_, _≤_}
 use native.Mathlib.Omega.{arith}
-use lib.Dec.{T, leb, ltb, eqb, leb→le}
+use lib.Dec.{T, leb, ltb, eqb, leb→le, le→leb}
 use lib.IntN.{ℤ, pos, negsuc}
 use lib.ListN.{length}
 use Rattle.definitions.specs.Lists.{allOf}
@@ -16,14 +17,18 @@ use Rattle.definitions.specs.Search.{Facet, Table, Found, Item, Verdict, over, 
 use Rattle.definitions.specs.Recursion.{Rules, Call, Inner, edgeCall, innerCall, innerCalls, rowsWithin, callOnSet}
 use Rattle.definitions.specs.Faceting.{prepare, faceting, searchFrom, orbitsOf, prepareFrom, answerFrom}
 use Rattle.definitions.specs.Job.{Bytes, Test, tests, passAll, callOf, between, fitting, outcomeWithin, outcome, codeOf, headerTests, valueTests, jobTests, workspaceTests}
-use Rattle.laws.specs.Bools.{first, second}
+use Rattle.laws.specs.Bools.{both, first, second, left-of, right-of, either}
 use Rattle.laws.specs.Lists.{Mem, here, there, all-of}
 
--- ---- refusals between two numbers
+-- ---- refusals of some numbers
 
--- whatever is refused has a number between these
-pub record RefusedWithin {A : Type 0} (low high : ℕ) (o : Outcome A) : Type 0 where
-  pub number-is : (number : ℕ) → o ≡ refused number → (low ≤ number) × (number ≤ high)
+-- whatever is refused has a number of which this holds
+pub record RefusedBy {A : Type 0} (p : ℕ → Type 0) (o : Outcome A) : Type 0 where
+  pub number-is : (number : ℕ) → o ≡ refused number → p number
+
+-- one between these
+abbrev pub RefusedWithin : {A : Type 0} → ℕ → ℕ → Outcome A → Type 0
+RefusedWithin low high o = RefusedBy (λ (number : ℕ). (low ≤ number) × (number ≤ high)) o
 
 numberOf : {A : Type 0} → Outcome A → ℕ
 numberOf (refused number) = number
@@ -41,29 +46,32 @@ pub answer-is-no-refusal : {A : Type 0} (a : A) (n : ℕ) → answered a ≡ ref
 unfolding isRefused
 answer-is-no-refusal {A} a n e = subst (λ (o : Outcome A). T (not (isRefused o))) e tt
 
-module _ {low high : ℕ} where
-  pub one-number : {A : Type 0} (n : ℕ) → low ≤ n → n ≤ high → RefusedWithin {A = A} low high (refused n)
-  one-number {A} n h k = record { number-is = λ m e. let q = same-number {A = A} n m e in (omega arith, omega arith) }
+module _ {p : ℕ → Type 0} where
+  pub one-number : {A : Type 0} (n : ℕ) → p n → RefusedBy {A = A} p (refused n)
+  one-number {A} n h = record { number-is = λ m e. subst p (same-number {A = A} n m e) h }
 
-  pub by-answer : {A : Type 0} {a : A} → RefusedWithin low high (answered a)
+  pub by-answer : {A : Type 0} {a : A} → RefusedBy p (answered a)
   by-answer {A} {a} = record { number-is = λ m e. absurd (answer-is-no-refusal a m e) }
 
-  pub by-then : {A B : Type 0} (o : Outcome A) (next : A → Outcome B) → RefusedWithin low high o → ((a : A) → RefusedWithin low high (next a)) → RefusedWithin low high (andThen o next)
+  pub by-then : {A B : Type 0} (o : Outcome A) (next : A → Outcome B) → RefusedBy p o → ((a : A) → RefusedBy p (next a)) → RefusedBy p (andThen o next)
   unfolding andThen
   by-then {A} {B} (refused n) next h k = record { number-is = λ m e. h .number-is m (ap refused (same-number {A = B} n m e)) }
   by-then (answered a) next h k = k a
 
-  pub by-test : {A : Type 0} (b : Bool) (n : ℕ) (next : Unit {0} → Outcome A) → low ≤ n → n ≤ high → RefusedWithin low high (next tt) → RefusedWithin low high (refuseIf b n next)
+  pub by-test : {A : Type 0} (b : Bool) (n : ℕ) (next : Unit {0} → Outcome A) → p n → RefusedBy p (next tt) → RefusedBy p (refuseIf b n next)
   unfolding refuseIf
-  by-test true n next h k g = one-number n h k
-  by-test false n next h k g = g
+  by-test true n next h g = one-number n h
+  by-test false n next h g = g
 
-  pub by-tests : {A : Type 0} (ts : List Test) (next : Unit {0} → Outcome A) → ((t : Test) → Mem t ts → (low ≤ t .number) × (t .number ≤ high)) → RefusedWithin low high (next tt) → RefusedWithin low high (passAll ts next)
+  pub by-tests : {A : Type 0} (ts : List Test) (next : Unit {0} → Outcome A) → ((t : Test) → Mem t ts → p (t .number)) → RefusedBy p (next tt) → RefusedBy p (passAll ts next)
   unfolding passAll
   by-tests [] next h g = g
   by-tests (t ∷ ts) next h g =
-      let k = h t (here refl) in
-      by-test (not (t .passes tt)) (t .number) (λ u. passAll ts next) (k .0) (k .1) (by-tests ts next (λ s i. h s (there i)) g)
+      by-test (not (t .passes tt)) (t .number) (λ u. passAll ts next) (h t (here refl)) (by-tests ts next (λ s i. h s (there i)) g)
+
+-- of more numbers
+pub wider : {A : Type 0} {o : Outcome A} (p q : ℕ → Type 0) → ((n : ℕ) → p n → q n) → RefusedBy p o → RefusedBy q o
+wider p q h r = record { number-is = λ n e. h n (r .number-is n e) }
 
 -- ---- the search: 15 and 16
 
@@ -73,7 +81,7 @@ unfolding emitIf emit
 emitted-within over limits list left emitted next h = h emitted
 emitted-within (openAt ridge) limits list left emitted next h = h emitted
 emitted-within closed limits list left emitted next h =
-    by-test (leb (limits .bound) (length emitted)) 15 _ (omega arith) (omega arith) (go (limitReached (limits .limit) (length (emitted ++ (list ∷ [])))))
+    by-test (leb (limits .bound) (length emitted)) 15 _ (omega arith, omega arith) (go (limitReached (limits .limit) (length (emitted ++ (list ∷ [])))))
   where
     go : (b : Bool) → RefusedWithin {A = Found} 15 16 (elim b [ true ↦ answered (record { lists = emitted ++ (list ∷ []); left = left }) | false ↦ next (emitted ++ (list ∷ [])) ])
     go true = by-answer
@@ -82,7 +90,7 @@ emitted-within closed limits list left emitted next h =
 examined-within : (t : Table) (limits : EntryLimits) (left : ℕ) (pending : List Item) (emitted : List (List Facet)) → RefusedWithin 15 16 (examine t limits left pending emitted)
 unfolding examine
 examined-within t limits zero [] emitted = by-answer
-examined-within t limits zero (item ∷ pending) emitted = one-number 16 (omega arith) (omega arith)
+examined-within t limits zero (item ∷ pending) emitted = one-number 16 (omega arith, omega arith)
 examined-within t limits (suc left) [] emitted = by-answer
 examined-within t limits (suc left) (item ∷ pending) emitted =
     let verdict = judge (totals t (item .list)) in
@@ -92,9 +100,6 @@ examined-within t limits (suc left) (item ∷ pending) emitted =
 pub search-refusals : (t : Table) (limits : EntryLimits) (budget : ℕ) → RefusedWithin 15 16 (search t limits budget)
 unfolding search
 search-refusals t limits budget = examined-within t limits budget (reverseAux (starts t) []) []
-
-pub wider : {A : Type 0} {o : Outcome A} (a b c d : ℕ) → a ≤ b → c ≤ d → RefusedWithin b c o → RefusedWithin a d o
-wider a b c d h k r = record { number-is = λ n e. let q = r .number-is n e in (omega arith, omega arith) }
 
 -- ---- a call of any rank: 13 to 16
 
@@ -106,7 +111,7 @@ inner-within inner bound h (orbit ∷ orbits) facets left =
     by-then (inner orbit left) _ (h orbit left)
     (λ i.
     let stored = facets + length (i .answer .entries) in
-    by-test (ltb bound stored) 15 _ (omega arith) (omega arith)
+    by-test (ltb bound stored) 15 _ (omega arith, omega arith)
     (by-then (innerCalls inner bound orbits stored (i .answer .left)) _ (inner-within inner bound h orbits stored (i .answer .left)) (λ later. by-answer)))
 
 refit-within : (wanted : ℕ) (rules : Rules) (call : Call) → ((plane : Subspace) (points : List Vec) (rows : List Row) (budget : ℕ) → RefusedWithin 13 16 (call plane points rows budget))
@@ -115,7 +120,7 @@ unfolding callOnSet innerCall
 refit-within wanted rules call h flat rows orbit budget =
     let points = map (pointAt flat) (orbit .vertices) in
     let plane = fromPoints (rules .tolerance) points in
-    by-test (not (eqb (length (plane .basis)) wanted)) 14 _ (omega arith) (omega arith)
+    by-test (not (eqb (length (plane .basis)) wanted)) 14 _ (omega arith, omega arith)
     (by-then (call plane points (rowsWithin (orbit .vertices) rows) budget) _ (h plane points (rowsWithin (orbit .vertices) rows) budget) (λ a. by-answer))
 
 pub call-refusals : (more : ℕ) (rules : Rules) (plane : Subspace) (points : List Vec) (rows : List Row) (budget : ℕ) → RefusedWithin 13 16 (faceting more rules plane points rows budget)
@@ -126,47 +131,64 @@ call-refusals (suc more) rules plane points rows budget =
     let orbits = orbitsOf more rules plane points rows in
     let call = faceting more rules in
     by-then (prepare more rules call plane points rows budget) _
-    (by-test (ltb (rules .bounds .orbits) (length orbits)) 13 _ (omega arith) (omega arith)
+    (by-test (ltb (rules .bounds .orbits) (length orbits)) 13 _ (omega arith, omega arith)
     (by-then (innerCalls (innerCall (suc more) rules call flat rows) (rules .bounds .facets) orbits 0 budget) _
     (inner-within (innerCall (suc more) rules call flat rows) (rules .bounds .facets) (refit-within (suc more) rules call (call-refusals more rules) flat rows) orbits 0 budget) (λ done. by-answer)))
-    (λ p. by-then (searchFrom rules p) _ (wider 13 15 16 16 (omega arith) (omega arith) (search-refusals _ _ _)) (λ found. by-answer))
+    (λ p. by-then (searchFrom rules p) _ (wider _ _ (λ n h. (omega arith, h .1)) (search-refusals _ _ _)) (λ found. by-answer))
 
--- ---- a job: 1 to 17
+-- ---- a job: 1 to 17, and 22
 
-numbered : (bytes : Bytes) (workspace : ℕ) → T (allOf (λ (t : Test). between 1 12 (t .number)) (tests bytes workspace))
-unfolding allOf between tests jobTests headerTests valueTests workspaceTests
+-- the numbers of the tests before the call
+unfoldable pub isTest : ℕ → Bool
+isTest number = between 1 12 number || eqb number 22
+
+-- all numbers of refusals
+unfoldable pub isRefusal : ℕ → Bool
+isRefusal number = between 1 17 number || eqb number 22
+
+numbered : (bytes : Bytes) (workspace : ℕ) → T (allOf (λ (t : Test). isTest (t .number)) (tests bytes workspace))
+unfolding allOf isTest between tests jobTests headerTests valueTests workspaceTests
 numbered bytes workspace = tt
 
-pub test-number : (bytes : Bytes) (workspace : ℕ) (t : Test) → Mem t (tests bytes workspace) → (1 ≤ t .number) × (t .number ≤ 12)
-unfolding between
-test-number bytes workspace t i =
-    let h = all-of (λ (s : Test). between 1 12 (s .number)) (tests bytes workspace) (numbered bytes workspace) t i in
-    (leb→le 1 (t .number) (first (leb 1 (t .number)) (leb (t .number) 12) h), leb→le (t .number) 12 (second (leb 1 (t .number)) (leb (t .number) 12) h))
+pub test-number : (bytes : Bytes) (workspace : ℕ) (t : Test) → Mem t (tests bytes workspace) → T (isTest (t .number))
+test-number bytes workspace t i = all-of (λ (s : Test). isTest (s .number)) (tests bytes workspace) (numbered bytes workspace) t i
 
-pub refusal-numbers : (bytes : Bytes) (workspace room : ℕ) → RefusedWithin 1 17 (outcome bytes workspace room)
-unfolding outcome outcomeWithin callOf fitting
+within-refusals : (low high n : ℕ) → 1 ≤ low → high ≤ 17 → low ≤ n → n ≤ high → T (isRefusal n)
+unfolding isRefusal between
+within-refusals low high n l h a b = left-of (leb 1 n && leb n 17) (eqb n 22) (both (leb 1 n) (leb n 17) (le→leb 1 n (omega arith)) (le→leb n 17 (omega arith)))
+
+test-is-refusal : (n : ℕ) → T (isTest n) → T (isRefusal n)
+unfolding isTest isRefusal between
+test-is-refusal n h = go (either (leb 1 n && leb n 12) (eqb n 22) h)
+  where
+    go : T (leb 1 n && leb n 12) ⊎ T (eqb n 22) → T ((leb 1 n && leb n 17) || eqb n 22)
+    go (inl k) = within-refusals 1 12 n (omega arith) (omega arith) (leb→le 1 n (first (leb 1 n) (leb n 12) k)) (leb→le n 12 (second (leb 1 n) (leb n 12) k))
+    go (inr k) = right-of (leb 1 n && leb n 17) (eqb n 22) k
+
+pub refusal-numbers : (bytes : Bytes) (workspace room : ℕ) → RefusedBy (λ (n : ℕ). T (isRefusal n)) (outcome bytes workspace room)
+unfolding outcome outcomeWithin callOf fitting isRefusal between
 refusal-numbers bytes workspace room =
-    by-tests (tests bytes workspace) _ (λ t i. let h = test-number bytes workspace t i in (omega arith, omega arith))
-    (by-then _ _ (wider 1 13 16 17 (omega arith) (omega arith) (call-refusals _ _ _ _ _ _)) (λ a. by-test _ 17 _ (omega arith) (omega arith) by-answer))
+    by-tests (tests bytes workspace) _ (λ t i. test-is-refusal (t .number) (test-number bytes workspace t i))
+    (by-then _ _ (wider _ _ (λ n h. within-refusals 13 16 n (omega arith) (omega arith) (h .0) (h .1)) (call-refusals _ _ _ _ _ _)) (λ a. by-test _ 17 _ tt by-answer))
 
 -- ---- the return code
 
--- What a return code says: 0 or more is an answer's length, less is minus the number of a refusal, one of 1 to 17.
+-- What a return code says: 0 or more is an answer's length, less is minus the number of a refusal, one of 1 to 17 or 22.
 pub record CodeSays (o : Outcome Bytes) (code : ℤ) : Type 0 where
   pub an-answer : (many : ℕ) → code ≡ pos many → (answer : Bytes) × (o ≡ answered answer) × (length answer ≡ many)
-  pub a-refusal : (less : ℕ) → code ≡ negsuc less → (o ≡ refused (suc less)) × (suc less ≤ 17)
+  pub a-refusal : (less : ℕ) → code ≡ negsuc less → (o ≡ refused (suc less)) × T (isRefusal (suc less))
 
 pub code-says : (bytes : Bytes) (workspace room : ℕ) → CodeSays (outcome bytes workspace room) (codeOf (outcome bytes workspace room))
-unfolding codeOf
+unfolding codeOf isRefusal between
 code-says bytes workspace room = go (outcome bytes workspace room) (refusal-numbers bytes workspace room)
   where
     no-length : (n many : ℕ) → negsuc n ≡ pos many → ⊥
     no-length n many e = let z : _≡_ {A = ℕ} 0 1 = cc in omega arith
 
-    go : (o : Outcome Bytes) → RefusedWithin 1 17 o → CodeSays o (codeOf o)
-    go (refused zero) h = let k = h .number-is 0 refl .0 in absurd (omega arith)
+    go : (o : Outcome Bytes) → RefusedBy (λ (n : ℕ). T (isRefusal n)) o → CodeSays o (codeOf o)
+    go (refused zero) h = absurd (h .number-is 0 refl)
     go (refused (suc n)) h = record {
       an-answer = λ many e. absurd (no-length n many e);
-      a-refusal = λ less e. let same : n ≡ less = cc in let k = h .number-is (suc n) refl .1 in (ap (λ (m : ℕ). refused (suc m)) same, omega arith);
+      a-refusal = λ less e. let same : n ≡ less = cc in (ap (λ (m : ℕ). refused (suc m)) same, subst (λ (m : ℕ). T (isRefusal (suc m))) same (h .number-is (suc n) refl));
     }
     go (answered bytes) h = record { an-answer = λ many e. (bytes, refl, cc); a-refusal = λ less e. absurd (no-length less (length bytes) (sym e)) }

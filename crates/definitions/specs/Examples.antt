@@ -31,8 +31,9 @@ vectorBytes = flatMap (flatMap (bytesOf 8))
 unfoldable pub unitVectors : ℕ → ℕ → List (List ℕ)
 unitVectors d many = map (λ (i : ℕ). map (λ (j : ℕ). cond (eqb i j) (whole 1) 0) (countFrom 0 d)) (countFrom 0 many)
 
--- what a job says beside its points and rows
+-- what a job says beside its points and rows; `present` is what stands between the flags and the budget
 pub record Terms : Type 0 where
+  pub version : ℕ
   pub rank : ℕ
   pub flags : ℕ
   pub present : Bytes
@@ -41,26 +42,30 @@ pub record Terms : Type 0 where
 -- [10.2] a job whose offset is 0 and whose basis is the first rank − 1 unit vectors
 unfoldable pub jobWith : Terms → ℕ → List (List ℕ) → List (List ℕ) → Bytes
 jobWith terms d points rows =
-    (70 ∷ 67 ∷ 84 ∷ []) ++ bytesOf 2 1 ++ (terms .rank ∷ d ∷ length points ∷ []) ++ bytesOf 2 (length rows) ++ (terms .flags ∷ [])
+    (70 ∷ 67 ∷ 84 ∷ []) ++ bytesOf 2 (terms .version) ++ (terms .rank ∷ d ∷ length points ∷ []) ++ bytesOf 2 (length rows) ++ (terms .flags ∷ [])
     ++ terms .present ++ bytesOf 4 (terms .budget)
     ++ vectorBytes (replicate d 0 ∷ []) ++ vectorBytes (unitVectors d (terms .rank - 1)) ++ vectorBytes points ++ flatMap (λ (row : List ℕ). row) rows
 
 -- no limits, and a budget of a million
 unfoldable pub plain : ℕ → Terms
-plain rank = record { rank = rank; flags = 0; present = []; budget = 1000000 }
+plain rank = record { version = 1; rank = rank; flags = 0; present = []; budget = 1000000 }
 
 unfoldable pub withBudget : ℕ → ℕ → Terms
-withBudget rank budget = record { rank = rank; flags = 0; present = []; budget = budget }
+withBudget rank budget = record { version = 1; rank = rank; flags = 0; present = []; budget = budget }
 
 -- a limit on lengths, from below or from above, as a bit pattern
 unfoldable pub withMin : ℕ → ℕ → Terms
-withMin rank shortest = record { rank = rank; flags = 1; present = bytesOf 8 shortest; budget = 1000000 }
+withMin rank shortest = record { version = 1; rank = rank; flags = 1; present = bytesOf 8 shortest; budget = 1000000 }
 
 unfoldable pub withMax : ℕ → ℕ → Terms
-withMax rank longest = record { rank = rank; flags = 2; present = bytesOf 8 longest; budget = 1000000 }
+withMax rank longest = record { version = 1; rank = rank; flags = 2; present = bytesOf 8 longest; budget = 1000000 }
 
 unfoldable pub withEntryLimit : ℕ → ℕ → Terms
-withEntryLimit rank m = record { rank = rank; flags = 4; present = bytesOf 4 m; budget = 1000000 }
+withEntryLimit rank m = record { version = 1; rank = rank; flags = 4; present = bytesOf 4 m; budget = 1000000 }
+
+-- version 2 with a tolerance, as a bit pattern
+unfoldable pub withinTolerance : ℕ → ℕ → Terms
+withinTolerance rank tolerance = record { version = 2; rank = rank; flags = 0; present = bytesOf 8 tolerance; budget = 1000000 }
 
 -- the identity alone
 unfoldable pub identity : ℕ → List (List ℕ)
@@ -86,6 +91,17 @@ fourE-8 = 0x3e65798ee2308c3a
 
 abbrev pub twoE-7 : ℕ
 twoE-7 = 0x3e8ad7f29abcaf48
+
+-- 0.0000001, 0.000000001
+abbrev pub oneE-7 : ℕ
+oneE-7 = 0x3e7ad7f29abcaf48
+
+abbrev pub oneE-9 : ℕ
+oneE-9 = 0x3e112e0be826d695
+
+-- 0.0005
+abbrev pub fiveE-4 : ℕ
+fiveE-4 = 0x3f40624dd2f1a9fc
 
 -- ---- jobs
 
@@ -165,5 +181,5 @@ refusedWith number workspace job = record { job = job; workspace = workspace; ro
 
 -- `open-examples` on an `unfolding` line opens the words of this file
 unfoldable pub open-examples : Unit {0}
-unfolding bytesOf whole wholePoints vectorBytes unitVectors jobWith plain withBudget withMin withMax withEntryLimit identity square squareRows squareJob symmetricJob cornerJob segmentJob threePoints expectedCode expectedBuffer sameCode passesWithin passes answers refusedWith
+unfolding bytesOf whole wholePoints vectorBytes unitVectors jobWith plain withBudget withMin withMax withEntryLimit withinTolerance identity square squareRows squareJob symmetricJob cornerJob segmentJob threePoints expectedCode expectedBuffer sameCode passesWithin passes answers refusedWith
 open-examples = tt

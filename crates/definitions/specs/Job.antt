@@ -44,10 +44,25 @@ floatsAt bytes at many = map (λ (i : ℕ). floatAt bytes (at + 8 * i)) (countFr
 unfoldable pub vectorsAt : Bytes → ℕ → ℕ → ℕ → List Vec
 vectorsAt bytes at d many = map (λ (i : ℕ). floatsAt bytes (at + 8 * d * i) d) (countFrom 0 many)
 
+-- ---- the tolerance
+
+-- [12.2] 1e-7, the tolerance of version 1
+abbrev pub tolerance1 : Float
+tolerance1 = ofBits binary64 0x3e7ad7f29abcaf48
+
+-- [11.2] the least tolerance, 1e-9, and the greatest, 1e-3: the doubles nearest to them
+abbrev pub leastTolerance : Float
+leastTolerance = ofBits binary64 0x3e112e0be826d695
+
+-- [11.2]
+abbrev pub greatestTolerance : Float
+greatestTolerance = ofBits binary64 0x3f50624dd2f1a9fc
+
 -- ---- the job
 
 -- [10.2] the job's fields, read where they would stand whether or not the job is long enough
 pub record Job : Type 0 where
+  pub version : ℕ
   pub rank : ℕ
   pub d : ℕ
   pub n : ℕ
@@ -56,6 +71,7 @@ pub record Job : Type 0 where
   pub shortest : Option Float
   pub longest : Option Float
   pub entryLimit : Option ℕ
+  pub tolerance : Float
   pub budget : ℕ
   pub offset : Vec
   pub basis : List Vec
@@ -72,9 +88,11 @@ unfoldable pub present : {A : Type 0} → Bool → A → Option A
 present true a = some a
 present false a = none
 
--- [10.2] each field behind the one before; `size` is where the last row ends
+-- [10.2] each field behind the one before; `size` is where the last row ends. The tolerance is there from version 2
+-- on, and is 1e-7 before.
 unfoldable pub readJob : Bytes → Job
 readJob bytes =
+    let version = numberAt bytes 3 2 in
     let rank = getD bytes 5 0 in
     let d = getD bytes 6 0 in
     let n = getD bytes 7 0 in
@@ -83,14 +101,17 @@ readJob bytes =
     let hasMin = flagSet flags 1 in
     let hasMax = flagSet flags 2 in
     let hasLimit = flagSet flags 4 in
+    let hasTolerance = leb 2 version in
     let maxAt = 11 + cond hasMin 8 0 in
     let limitAt = maxAt + cond hasMax 8 0 in
-    let budgetAt = limitAt + cond hasLimit 4 0 in
+    let toleranceAt = limitAt + cond hasLimit 4 0 in
+    let budgetAt = toleranceAt + cond hasTolerance 8 0 in
     let offsetAt = budgetAt + 4 in
     let basisAt = offsetAt + 8 * d in
     let pointsAt = basisAt + 8 * d * (rank - 1) in
     let rowsAt = pointsAt + 8 * d * n in
     record {
+      version = version;
       rank = rank;
       d = d;
       n = n;
@@ -99,6 +120,7 @@ readJob bytes =
       shortest = present hasMin (floatAt bytes 11);
       longest = present hasMax (floatAt bytes maxAt);
       entryLimit = present hasLimit (numberAt bytes limitAt 4);
+      tolerance = cond hasTolerance (floatAt bytes toleranceAt) tolerance1;
       budget = numberAt bytes budgetAt 4;
       offset = floatsAt bytes offsetAt d;
       basis = vectorsAt bytes basisAt d (rank - 1);
@@ -106,6 +128,20 @@ readJob bytes =
       rows = map (λ (i : ℕ). take n (drop (rowsAt + n * i) bytes)) (countFrom 0 rowCount);
       size = rowsAt + n * rowCount;
     }
+
+-- ---- one job in another version
+
+-- [10.2] where the fields that the flags name end
+unfoldable pub flaggedEnd : ℕ → ℕ
+flaggedEnd flags = 11 + cond (flagSet flags 1) 8 0 + cond (flagSet flags 2) 8 0 + cond (flagSet flags 4) 4 0
+
+-- [10.3] a job with another version and with more bytes at a place behind its header
+unfoldable pub inVersion : ℕ → ℕ → Bytes → Bytes → Bytes
+inVersion version at more bytes = take 3 bytes ++ (version ∷ 0 ∷ []) ++ take (at - 5) (drop 5 bytes) ++ more ++ drop at bytes
+
+-- [10.3] a job of version 1 as one of version 2: the bytes of a tolerance stand before its budget
+unfoldable pub withTolerance : Bytes → Bytes → Bytes
+withTolerance tolerance bytes = inVersion 2 (flaggedEnd (getD bytes 10 0)) tolerance bytes
 
 -- ---- refusals
 
@@ -128,11 +164,21 @@ unfoldable pub limitGood : Option Float → Bool
 limitGood none = true
 limitGood (some x) = within 131072 x && le zero64 x
 
--- [11.2] every f64 of the job is within its bound
+-- [11.2] neither an infinity nor a NaN
+unfoldable pub isFinite : Float → Bool
+isFinite nan = false
+isFinite (inf s) = false
+isFinite (fin s m e) = true
+
+-- [11.2] every f64 of the job is finite and, but for the tolerance, within its bound
 unfoldable pub floatsGood : Job → Bool
 floatsGood job =
-    limitGood (job .shortest) && limitGood (job .longest)
+    limitGood (job .shortest) && limitGood (job .longest) && isFinite (job .tolerance)
     && allWithin 65536 (job .offset) && allOf (allWithin 1) (job .basis) && allOf (allWithin 65536) (job .points)
+
+-- [11.2] from the least tolerance to the greatest, both included
+unfoldable pub toleranceGood : Float → Bool
+toleranceGood tolerance = le leastTolerance tolerance && le tolerance greatestTolerance
 
 -- [11.1] two lists of numbers are equal
 unfoldable pub sameNats : List ℕ → List ℕ → Bool
@@ -156,7 +202,7 @@ unfoldable pub headerTests : Bytes → List Test
 headerTests bytes =
     let job = readJob bytes in
     record { number = 1; passes = λ u. leb 11 (length bytes) && sameNats (take 3 bytes) (70 ∷ 67 ∷ 84 ∷ []) }
-    ∷ record { number = 2; passes = λ u. eqb (numberAt bytes 3 2) 1 }
+    ∷ record { number = 2; passes = λ u. between 1 2 (job .version) }
     ∷ record { number = 3; passes = λ u. between 2 4 (job .rank) }
     ∷ record { number = 4; passes = λ u. between (job .rank - 1) 4 (job .d) }
     ∷ record { number = 5; passes = λ u. between 2 20 (job .n) }
@@ -165,11 +211,12 @@ headerTests bytes =
     ∷ record { number = 8; passes = λ u. eqb (length bytes) (job .size) }
     ∷ []
 
--- [11.1] 9 to 11: the floats and the rows
+-- [11.1] 9, 22, 10 and 11: the floats, the tolerance and the rows
 unfoldable pub valueTests : Bytes → List Test
 valueTests bytes =
     let job = readJob bytes in
     record { number = 9; passes = λ u. floatsGood job }
+    ∷ record { number = 22; passes = λ u. toleranceGood (job .tolerance) }
     ∷ record { number = 10; passes = λ u. sameNats (getD (job .rows) 0 []) (countFrom 0 (job .n)) }
     ∷ record { number = 11; passes = λ u. allOf (isPermutation (job .n)) (job .rows) }
     ∷ []
@@ -193,18 +240,14 @@ passAll (t ∷ ts) next = refuseIf (not (t .passes tt)) (t .number) (λ u. passA
 
 -- ---- the call
 
--- [12.2] 1e-7, the tolerance of version 1
-abbrev pub tolerance1 : Float
-tolerance1 = ofBits binary64 0x3e7ad7f29abcaf48
-
--- [12.2] [11.4] the bounds of version 1: one more is refused with 13, 15, 15
+-- [12.2] [11.4] the bounds: one more is refused with 13, 15, 15
 unfoldable pub bounds1 : Bounds
 bounds1 = record { orbits = 256; facets = 1024; entries = 1024 }
 
 -- [12.1] [6.2] what is alike in all calls of this job
 unfoldable pub rulesOf : Bounds → Job → Rules
 rulesOf bounds job = record {
-  tolerance = tolerance1;
+  tolerance = job .tolerance;
   lengths = record { shortest = job .shortest; longest = job .longest };
   entryLimit = job .entryLimit;
   bounds = bounds;
@@ -282,7 +325,7 @@ outcomeWithin bounds bytes workspace room =
     passAll (tests bytes workspace) (λ u.
     andThen (callOf bounds job) (λ (a : Answer). fitting room (answerBytes (job .budget) a)))
 
--- [1.1] the outcome of version 1: everything that the register promises is said of it
+-- [1.1] the outcome at these bounds: everything that the register promises is said of it
 unfoldable pub outcome : Bytes → ℕ → ℕ → Outcome Bytes
 outcome = outcomeWithin bounds1
 

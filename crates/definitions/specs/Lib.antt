@@ -18,6 +18,7 @@ pub mod Examples
 pub mod Roots
 pub mod KnownJobs
 pub mod Refusals
+pub mod Tolerances
 pub mod PortersErrors
 pub mod RuledOut
 pub mod Carried

@@ -1,5 +1,5 @@
 -- Subspaces: docs/SPECIFICATION.md, chapter 4. Every definition that tests a distance takes the tolerance as a
--- value; version 1 of a job passes 1e-7 [12.2]. Leans on Vectors.
+-- value; a call passes that of its job [12.2]. Leans on Vectors.
 use mathlib.Core.Bool.{Bool, true, false, cond}
 use mathlib.Core.List.{List, [], _∷_, _++_, map}
 use Prim.Native.Nat.{ℕ, suc}

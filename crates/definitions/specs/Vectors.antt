@@ -113,7 +113,7 @@ dotFrom sum (x ∷ xs) (y ∷ ys) = dotFrom (add binary64 sum (mul binary64 x y)
 unfoldable pub dot : Vec → Vec → Float
 dot = dotFrom zero64
 
--- [3.5] Where a root has no value a norm is `nan`. No job that passes refusals 1 to 11 comes to it: that is a
+-- [3.5] Where a root has no value a norm is `nan`. No job that passes its own tests comes to it: that is a
 -- promise of its own.
 unfoldable pub valueOf : Option Float → Float
 valueOf none = nan

@@ -1,10 +1,10 @@
 // The register as a program: a job on standard input, its answer on standard output. Where the job is refused nothing is written there, and a line on standard error has the number.
-// A job has at most 3,203 bytes, so what is longer than the buffer is refused for its length all the same.
+// A job has at most 3,211 bytes, so what is longer than the buffer is refused for its length all the same.
 
-// Says which of the 17 refusals a return code is.
+// Says which refusal a return code is; their numbers are below 28.
 fn tell_refusal(code: i64) {
     let mut number: u8 = 1;
-    while number < 18 {
+    while number < 28 {
         if code == register::refusal(number) {
             io::write_all(2, b"facetings: refused ");
             io::print_decimal(2, number as u64);

@@ -9,10 +9,10 @@ use borrow.Author.Tests.{lt-leb, le-leb, eq-eqb, ne-eqb}
 use lib.Dec.{leb, eqb, leb→le}
 use lib.IntN.{pos}
 use lib.ListN.{length, getD, take, drop}
-use lib.Ieee.{Float, binary64, ofBits, le}
+use lib.Ieee.{Float, nan, inf, fin, binary64, ofBits, neg, div, lt, le}
 use Rattle.definitions.specs.Lists.{allOf, countFrom}
 use Rattle.definitions.specs.Vectors.{zero64}
-use Rattle.definitions.specs.Job.{Bytes, readJob, floatAt, floatsAt, vectorsAt, between, within, allWithin, limitGood, floatsGood, sameNats, isPermutation, Test}
+use Rattle.definitions.specs.Job.{Bytes, readJob, floatAt, floatsAt, vectorsAt, between, within, allWithin, limitGood, isFinite, floatsGood, sameNats, isPermutation, Test}
 use Rattle.laws.specs.Bools.{true→holds, first, second}
 use Rattle.laws.specs.Refusals.{firstRefused, firstOf, stops, first-refused-append}
 use Rattle.laws.specs.Tests.{product-at-most, spaced, spaced-first, all-same, all-spaced, same-first, same-none, between-opposites}
@@ -82,6 +82,14 @@ module _ (x : Float) (r : Bool) (told : r ≡ sizeWithin (ofBits binary64 0x4100
   unfolding limitGood
   length-beyond e = rw (← (within-131072 x), ← told, e) refl
 
+-- the two comparisons with an infinity: of what is below it, and of what is not
+pub finite-between : (x : Float) → (lt x (div binary64 (ofBits binary64 0x3ff0000000000000) (ofBits binary64 0)) && lt (neg (div binary64 (ofBits binary64 0x3ff0000000000000) (ofBits binary64 0))) x) ≡ isFinite x
+unfolding isFinite lt neg div ofBits
+finite-between nan = refl
+finite-between (inf true) = refl
+finite-between (inf false) = refl
+finite-between (fin s m e) = refl
+
 -- a run of numbers, as one vector and as several
 module _ (c : Float) (most : ℕ) (same : (x : Float) → sizeWithin c x ≡ within most x) (bytes : Bytes) (at : ℕ) where
   pub vector-good : (d : ℕ) → allOf (sizeWithin c) (floatsAt bytes at d) ≡ allWithin most (floatsAt bytes at d)
@@ -94,11 +102,8 @@ module _ (c : Float) (most : ℕ) (same : (x : Float) → sizeWithin c x ≡ wit
 
 -- the tests of the floats, in terms of the fields
 module _ (bytes : Bytes) (f : Fields) (k : Loadable bytes f) where
-  abbrev minGood : Bool
-  minGood = limitGood (lengthOf (f .min))
-
-  abbrev maxGood : Bool
-  maxGood = limitGood (lengthOf (f .max))
+  abbrev limitsGood : Bool
+  limitsGood = limitGood (lengthOf (f .min)) && limitGood (lengthOf (f .max)) && isFinite (f .tolerance)
 
   abbrev offsetGood : Bool
   offsetGood = allOf (sizeWithin (ofBits binary64 0x40f0000000000000)) (floatsAt bytes (f .offset) (f .d))
@@ -109,31 +114,28 @@ module _ (bytes : Bytes) (f : Fields) (k : Loadable bytes f) where
   abbrev pointsGood : Bool
   pointsGood = allOf (sizeWithin (ofBits binary64 0x40f0000000000000)) (floatsAt bytes (f .points) (f .d * f .n))
 
-  floats-are : floatsGood (readJob bytes) ≡ (minGood && maxGood && offsetGood && basisGood && pointsGood)
+  floats-are : floatsGood (readJob bytes) ≡ (limitsGood && offsetGood && basisGood && pointsGood)
   unfolding floatsGood
   floats-are =
-      rw (k .min-is, k .max-is, k .offset-is, k .basis-is, k .points-is, vector-good _ 65536 within-65536 bytes (f .offset) (f .d), vectors-good _ 1 within-1 bytes (f .basis) (f .d) (f .rank - 1), vectors-good _ 65536 within-65536 bytes (f .points) (f .d) (f .n)) refl
+      rw (k .min-is, k .max-is, k .tolerance-is, k .offset-is, k .basis-is, k .points-is, vector-good _ 65536 within-65536 bytes (f .offset) (f .d), vectors-good _ 1 within-1 bytes (f .basis) (f .d) (f .rank - 1), vectors-good _ 65536 within-65536 bytes (f .points) (f .d) (f .n)) refl
 
-  pub min-fails : minGood ≡ false → false ≡ floatsGood (readJob bytes)
-  min-fails p = sym (floats-are ∙ ap (λ (z : Bool). z && maxGood && offsetGood && basisGood && pointsGood) p)
+  pub limits-fail : limitsGood ≡ false → false ≡ floatsGood (readJob bytes)
+  limits-fail p = sym (floats-are ∙ ap (λ (z : Bool). z && offsetGood && basisGood && pointsGood) p)
 
-  pub max-fails : minGood ≡ true → maxGood ≡ false → false ≡ floatsGood (readJob bytes)
-  max-fails p q = sym (floats-are ∙ (ap (λ (z : Bool). z && maxGood && offsetGood && basisGood && pointsGood) p ∙ ap (λ (z : Bool). z && offsetGood && basisGood && pointsGood) q))
+  behind-limits : limitsGood ≡ true → floatsGood (readJob bytes) ≡ (offsetGood && basisGood && pointsGood)
+  behind-limits p = floats-are ∙ ap (λ (z : Bool). z && offsetGood && basisGood && pointsGood) p
 
-  behind-limits : minGood ≡ true → maxGood ≡ true → floatsGood (readJob bytes) ≡ (offsetGood && basisGood && pointsGood)
-  behind-limits p q = floats-are ∙ (ap (λ (z : Bool). z && maxGood && offsetGood && basisGood && pointsGood) p ∙ ap (λ (z : Bool). z && offsetGood && basisGood && pointsGood) q)
+  pub offset-fails : limitsGood ≡ true → offsetGood ≡ false → false ≡ floatsGood (readJob bytes)
+  offset-fails p r = sym (behind-limits p ∙ ap (λ (z : Bool). z && basisGood && pointsGood) r)
 
-  pub offset-fails : minGood ≡ true → maxGood ≡ true → offsetGood ≡ false → false ≡ floatsGood (readJob bytes)
-  offset-fails p q r = sym (behind-limits p q ∙ ap (λ (z : Bool). z && basisGood && pointsGood) r)
+  behind-offset : limitsGood ≡ true → offsetGood ≡ true → floatsGood (readJob bytes) ≡ (basisGood && pointsGood)
+  behind-offset p r = behind-limits p ∙ ap (λ (z : Bool). z && basisGood && pointsGood) r
 
-  behind-offset : minGood ≡ true → maxGood ≡ true → offsetGood ≡ true → floatsGood (readJob bytes) ≡ (basisGood && pointsGood)
-  behind-offset p q r = behind-limits p q ∙ ap (λ (z : Bool). z && basisGood && pointsGood) r
+  pub basis-fails : limitsGood ≡ true → offsetGood ≡ true → basisGood ≡ false → false ≡ floatsGood (readJob bytes)
+  basis-fails p r s = sym (behind-offset p r ∙ ap (λ (z : Bool). z && pointsGood) s)
 
-  pub basis-fails : minGood ≡ true → maxGood ≡ true → offsetGood ≡ true → basisGood ≡ false → false ≡ floatsGood (readJob bytes)
-  basis-fails p q r s = sym (behind-offset p q r ∙ ap (λ (z : Bool). z && pointsGood) s)
-
-  pub points-decide : minGood ≡ true → maxGood ≡ true → offsetGood ≡ true → basisGood ≡ true → pointsGood ≡ floatsGood (readJob bytes)
-  points-decide p q r s = sym (behind-offset p q r ∙ ap (λ (z : Bool). z && pointsGood) s)
+  pub points-decide : limitsGood ≡ true → offsetGood ≡ true → basisGood ≡ true → pointsGood ≡ floatsGood (readJob bytes)
+  points-decide p r s = sym (behind-offset p r ∙ ap (λ (z : Bool). z && pointsGood) s)
 
 -- ---- what the tests of the header leave
 

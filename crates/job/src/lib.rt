@@ -1,12 +1,13 @@
-// Whether a job is refused, and with which number: refusals 1 to 12 in the order of [11.1], for every byte slice and every length of the workspace. A job that passes is handed on as its
+// Whether a job is refused, and with which number: the refusals before the call in the order of [11.1], for every byte slice and every length of the workspace. A job that passes is handed on as its
 // fields. Each test equals the definition's; what it requires are the tests before it.
 use load::Fields;
 use space::Limit;
 ghost use mathlib.Core.Path.{_≡_};
+ghost use mathlib.Core.Bool.{_&&_};
 ghost use Prim.Native.Nat.{_+_, _*_, _≤_};
 ghost use lib.ListN.{length, take, drop};
 ghost use Rattle.definitions.specs.Lists.{allOf, countFrom};
-ghost use Rattle.definitions.specs.Job.{readJob, floatsAt, between, limitGood, floatsGood, sameNats, isPermutation, workspaceFor, headerTests, valueTests, jobTests};
+ghost use Rattle.definitions.specs.Job.{readJob, floatsAt, between, limitGood, isFinite, toleranceGood, floatsGood, sameNats, isPermutation, workspaceFor, headerTests, valueTests, jobTests};
 ghost use Rattle.space.specs.Meaning.{lengthOf};
 ghost use Rattle.load.specs.Places.{Exact};
 ghost use Rattle.load.specs.Meaning.{fieldsOf, rowsAt};
@@ -53,7 +54,41 @@ fn limit_good(limit: Limit) -> bool
     }
 }
 
+// Neither an infinity nor a NaN, which passes no comparison.
+fn is_finite(x: f64) -> bool
+    ensures { λ r. ⌜ r ≡ isFinite x ⌝ }
+{
+    let infinity = 1.0 / 0.0;
+    x < infinity && -infinity < x
+}
+
+// The ends of the range of tolerances, both in it.
+const LEAST_TOLERANCE: f64 = 0.000000001;
+
+const GREATEST_TOLERANCE: f64 = 0.001;
+
+fn tolerance_good(tolerance: f64) -> bool
+    ensures { λ r. ⌜ r ≡ toleranceGood tolerance ⌝ }
+{
+    LEAST_TOLERANCE <= tolerance && tolerance <= GREATEST_TOLERANCE
+}
+
 // ---- floats
+
+// The f64 that stand before the budget.
+fn limits_good(fields: Fields) -> bool
+    ensures { λ r. ⌜ r ≡ (limitGood (lengthOf (fields .min)) && limitGood (lengthOf (fields .max)) && isFinite (fields .tolerance)) ⌝ }
+{
+    let min = fields.min;
+    let max = fields.max;
+    if !limit_good(min) {
+        return false;
+    }
+    if !limit_good(max) {
+        return false;
+    }
+    is_finite(fields.tolerance)
+}
 
 // So many numbers from a place on.
 fn all_within(job: &[u8], at: usize, many: usize, most: f64) -> bool
@@ -75,18 +110,13 @@ fn floats_good(job: &[u8], fields: Fields) -> bool
     requires { ⌜ Exact (now job) × (fields ≡ fieldsOf (now job)) ⌝ }
     ensures { λ r. ⌜ r ≡ floatsGood (readJob (now (job .entry))) ⌝ }
 {
-    let min = fields.min;
-    let max = fields.max;
     let d = fields.d;
     let in_basis = d * (fields.rank - 1);
     let in_points = d * fields.n;
     let offset = fields.offset;
     let basis = fields.basis;
     let points = fields.points;
-    if !limit_good(min) {
-        return false;
-    }
-    if !limit_good(max) {
+    if !limits_good(fields) {
         return false;
     }
     if !all_within(job, offset, d, 65536.0) {
@@ -179,10 +209,10 @@ fn check_header(job: &[u8]) -> Checked
     if !has_mark(job) {
         return Checked::Refused(1);
     }
-    if words::get_u16(job, 3) != 1 {
+    let h = load::header_of(job);
+    if !between(1, 2, h.version) {
         return Checked::Refused(2);
     }
-    let h = load::header_of(job);
     if !between(2, 4, h.rank) {
         return Checked::Refused(3);
     }
@@ -205,13 +235,16 @@ fn check_header(job: &[u8]) -> Checked
     Checked::Passed(load::fields_of(job))
 }
 
-// Refusals 9 to 11, of a job whose header passes: its floats and its rows.
+// Refusals 9, 22, 10 and 11, of a job whose header passes: its floats, its tolerance and its rows.
 fn check_values(job: &[u8], fields: Fields) -> Checked
     requires { ⌜ Exact (now job) × (fields ≡ fieldsOf (now job)) ⌝ }
     ensures { λ r. ⌜ r ≡ checkedBy (valueTests (now (job .entry))) (now (job .entry)) ⌝ }
 {
     if !floats_good(job, fields) {
         return Checked::Refused(9);
+    }
+    if !tolerance_good(fields.tolerance) {
+        return Checked::Refused(22);
     }
     if !is_identity(job, fields.rows, fields.n) {
         return Checked::Refused(10);
@@ -222,7 +255,7 @@ fn check_values(job: &[u8], fields: Fields) -> Checked
     Checked::Passed(fields)
 }
 
-// The job's own refusals, 1 to 11: what its bytes alone decide.
+// The job's own refusals: what its bytes alone decide.
 fn check_job(job: &[u8]) -> Checked
     ensures { λ r. ⌜ r ≡ checkedBy (jobTests (now (job .entry))) (now (job .entry)) ⌝ }
 {
@@ -232,7 +265,7 @@ fn check_job(job: &[u8]) -> Checked
     }
 }
 
-// All refusals before the call, 1 to 12.
+// All refusals before the call.
 pub fn check(job: &[u8], workspace: usize) -> Checked
     ensures { λ r. ⌜ r ≡ checkedOf (now (job .entry)) workspace ⌝ }
 {

@@ -4,11 +4,12 @@ use mathlib.Core.Bool.{true, false, cond}
 use mathlib.Core.List.{List, [], _∷_, _++_}
 use Prim.Native.Nat.{ℕ, _+_, _-_, _*_, _/_, _%_, _≤_, _<_}
 use native.Mathlib.Omega.{arith}
-use borrow.Author.Tests.{eq-eqb, ne-eqb}
+use borrow.Author.Tests.{eq-eqb, ne-eqb, le-leb, lt-leb}
+use lib.Dec.{leb}
 use lib.ListN.{length, take, drop, length-drop, length-map}
 use lib.Seq.{paste, length-paste, length-take-le, take-all, sets, sets-eq}
 use lib.Ieee.{Float, nan, inf, fin, binary64, ofBits, div}
-use Rattle.definitions.specs.Job.{Bytes, flagSet, present, floatAt, floatsAt, vectorsAt, numberAt, readJob, planeOf}
+use Rattle.definitions.specs.Job.{Bytes, tolerance1, flagSet, present, floatAt, floatsAt, vectorsAt, numberAt, readJob, planeOf}
 use Rattle.words.specs.Floats.{readOf}
 use Rattle.words.specs.declared.Read.the-variants.{Number, NotANumber}
 use Rattle.space.specs.declared.Limit.{Limit}
@@ -30,6 +31,16 @@ use Rattle.space.specs.Meaning.{subspaceOf, HoldsSubspace, pointAlone, withVect
 use Rattle.laws.specs.Lists.{count-length}
 use Rattle.laws.specs.Tests.{product-at-most, spaced, spaced-more, rows-paste}
 use Rattle.laws.specs.Parts.{rows, length-rows}
+
+-- ---- versions
+
+-- a field that is there from a version on, and what stands for it before
+module _ (first version : ℕ) {A : Type 0} (field instead : A) where
+  pub from-version : first ≤ version → field ≡ cond (leb first version) field instead
+  from-version h = rw (le-leb first version h) refl
+
+  pub before-version : version < first → instead ≡ cond (leb first version) field instead
+  before-version h = rw (lt-leb first version h) refl
 
 -- ---- flags
 
@@ -99,6 +110,7 @@ pub record Fitting (bytes : Bytes) (h : Header) (p : Places) : Type 0 where
   pub min : 19 ≤ length bytes
   pub max : p .max + 8 ≤ length bytes
   pub limit : p .limit + 4 ≤ length bytes
+  pub tolerance : p .tolerance + 8 ≤ length bytes
   pub budget : p .budget + 4 ≤ length bytes
 
 fitting-own : (bytes : Bytes) → Exact bytes → Fitting bytes (headerOf bytes) (placesOf (headerOf bytes))
@@ -106,16 +118,17 @@ unfolding headerOf placesOf
 fitting-own bytes k =
     let h = k .counted in
     let long = k .long in
-    record { counted = h; min = omega arith; max = omega arith; limit = omega arith; budget = omega arith }
+    record { counted = h; min = omega arith; max = omega arith; limit = omega arith; tolerance = omega arith; budget = omega arith }
 
 pub fitting : (bytes : Bytes) (h : Header) (p : Places) → Exact bytes → h ≡ headerOf bytes → p ≡ placesOf h → Fitting bytes h p
 fitting bytes h p k e q = rw (q, e) (fitting-own bytes k)
 
-pub fields-are : (bytes : Bytes) (h : Header) (p : Places) (min max : Limit) (entries : EntryLimit) (budget : ℕ)
+pub fields-are : (bytes : Bytes) (h : Header) (p : Places) (min max : Limit) (entries : EntryLimit) (tolerance : Float) (budget : ℕ)
     → h ≡ headerOf bytes → p ≡ placesOf h
     → min ≡ lengthLimit (present (flagSet (h .flags) 1) (floatAt bytes 11))
     → max ≡ lengthLimit (present (flagSet (h .flags) 2) (floatAt bytes (p .max)))
     → entries ≡ entryLimitOf (present (flagSet (h .flags) 4) (numberAt bytes (p .limit) 4))
+    → tolerance ≡ cond (leb 2 (h .version)) (floatAt bytes (p .tolerance)) tolerance1
     → budget ≡ numberAt bytes (p .budget) 4
     → _≡_ {A = Fields}
     record {
@@ -126,6 +139,7 @@ pub fields-are : (bytes : Bytes) (h : Header) (p : Places) (min max : Limit) (en
       min = min;
       max = max;
       entries = entries;
+      tolerance = tolerance;
       budget = budget;
       offset = p .offset;
       basis = p .basis;
@@ -134,7 +148,7 @@ pub fields-are : (bytes : Bytes) (h : Header) (p : Places) (min max : Limit) (en
     }
     (fieldsOf bytes)
 unfolding fieldsOf readJob headerOf placesOf
-fields-are bytes h p min max entries budget e q a b c d = rw (a, b, c, d, q, e) refl
+fields-are bytes h p min max entries tolerance budget e q a b c t d = rw (a, b, c, t, d, q, e) refl
 
 -- ---- what grows by one
 

@@ -58,6 +58,7 @@ fieldsOf bytes =
       min = lengthLimit (job .shortest);
       max = lengthLimit (job .longest);
       entries = entryLimitOf (job .entryLimit);
+      tolerance = job .tolerance;
       budget = job .budget;
       offset = places .offset;
       basis = places .basis;
@@ -82,6 +83,7 @@ pub record Loadable (bytes : Bytes) (f : Fields) : Type 0 where
   pub min-is : lengthOf (f .min) ≡ readJob bytes .shortest
   pub max-is : lengthOf (f .max) ≡ readJob bytes .longest
   pub entries-is : limitNumber (f .entries) ≡ readJob bytes .entryLimit
+  pub tolerance-is : f .tolerance ≡ readJob bytes .tolerance
   pub budget-is : f .budget ≡ readJob bytes .budget
   pub rank-least : 2 ≤ f .rank
   pub rank-most : f .rank ≤ 4
@@ -113,6 +115,7 @@ own bytes k =
       min-is = length-of-limit (readJob bytes .shortest);
       max-is = length-of-limit (readJob bytes .longest);
       entries-is = number-of-limit (readJob bytes .entryLimit);
+      tolerance-is = refl;
       budget-is = refl;
       rank-least = h .rank-least;
       rank-most = h .rank-most;

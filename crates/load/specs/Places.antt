@@ -2,14 +2,16 @@
 use mathlib.Core.Path.{_≡_, refl}
 use mathlib.Core.Bool.{cond}
 use Prim.Native.Nat.{_+_, _-_, _*_, _≤_}
+use lib.Dec.{leb}
 use lib.ListN.{length, getD}
 use Rattle.definitions.specs.Job.{Bytes, numberAt, flagSet, readJob}
 use Rattle.load.specs.declared.Header.{Header}
 use Rattle.load.specs.declared.Places.{Places}
 
--- the counts and the flags, read where they would stand
+-- the version, the counts and the flags, read where they would stand
 unfoldable pub headerOf : Bytes → Header
 headerOf bytes = record {
+  version = numberAt bytes 3 2;
   rank = getD bytes 5 0;
   d = getD bytes 6 0;
   n = getD bytes 7 0;
@@ -22,7 +24,8 @@ unfoldable pub placesOf : Header → Places
 placesOf h =
     let maxAt = 11 + cond (flagSet (h .flags) 1) 8 0 in
     let limitAt = maxAt + cond (flagSet (h .flags) 2) 8 0 in
-    let budgetAt = limitAt + cond (flagSet (h .flags) 4) 4 0 in
+    let toleranceAt = limitAt + cond (flagSet (h .flags) 4) 4 0 in
+    let budgetAt = toleranceAt + cond (leb 2 (h .version)) 8 0 in
     let offsetAt = budgetAt + 4 in
     let basisAt = offsetAt + 8 * h .d in
     let pointsAt = basisAt + 8 * h .d * (h .rank - 1) in
@@ -30,6 +33,7 @@ placesOf h =
     record {
       max = maxAt;
       limit = limitAt;
+      tolerance = toleranceAt;
       budget = budgetAt;
       offset = offsetAt;
       basis = basisAt;

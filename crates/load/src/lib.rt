@@ -7,8 +7,9 @@ use words::Read;
 ghost use mathlib.Core.Path.{_≡_};
 ghost use mathlib.Core.Bool.{cond};
 ghost use Prim.Native.Nat.{_+_, _-_, _*_, _≤_, _<_};
+ghost use lib.Dec.{leb};
 ghost use lib.ListN.{length};
-ghost use Rattle.definitions.specs.Job.{flagSet, present, numberAt, floatAt, floatsAt, readJob, planeOf};
+ghost use Rattle.definitions.specs.Job.{tolerance1, flagSet, present, numberAt, floatAt, floatsAt, readJob, planeOf};
 ghost use Rattle.vectors.specs.Meaning.{five};
 ghost use Rattle.space.specs.Meaning.{HoldsSubspace, HoldsPoints};
 ghost use Rattle.load.specs.Places.{headerOf, placesOf, Counted, Exact};
@@ -17,8 +18,9 @@ ghost use Rattle.load.specs.Meaning.{lengthLimit, entryLimitOf, fieldsOf
 
 // ---- the header
 
-// The counts, the last that of the rows, and the flags.
+// The version, the counts, the last that of the rows, and the flags.
 pub struct Header {
+    pub version: usize,
     pub rank: usize,
     pub d: usize,
     pub n: usize,
@@ -31,6 +33,7 @@ pub fn header_of(job: &[u8]) -> Header
     ensures { λ r. ⌜ r ≡ headerOf (now (job .entry)) ⌝ }
 {
     Header {
+        version: words::get_u16(job, 3) as usize,
         rank: words::wide(job[5]),
         d: words::wide(job[6]),
         n: words::wide(job[7]),
@@ -41,10 +44,11 @@ pub fn header_of(job: &[u8]) -> Header
 
 // ---- where the fields stand
 
-// The place of each field that a flag can move, and the length of the whole job.
+// The place of each field that the version or a flag can move, and the length of the whole job.
 pub struct Places {
     pub max: usize,
     pub limit: usize,
+    pub tolerance: usize,
     pub budget: usize,
     pub offset: usize,
     pub basis: usize,
@@ -61,6 +65,13 @@ fn room(flags: usize, weight: usize, bytes: usize) -> usize
     if 1 == flags / weight % 2 { bytes } else { 0 }
 }
 
+// The bytes of a field that is there from a version on.
+fn room_from(version: usize, first: usize, bytes: usize) -> usize
+    ensures { λ r. ⌜ (r ≡ cond (leb first version) bytes 0) × (r ≤ bytes) ⌝ }
+{
+    if first <= version { bytes } else { 0 }
+}
+
 pub fn places_of(h: Header) -> Places
     requires { ⌜ Counted h ⌝ }
     ensures { λ r. ⌜ r ≡ placesOf h ⌝ }
@@ -68,7 +79,8 @@ pub fn places_of(h: Header) -> Places
     let flags = h.flags;
     let max = 11 + room(flags, 1, 8);
     let limit = max + room(flags, 2, 8);
-    let budget = limit + room(flags, 4, 4);
+    let tolerance = limit + room(flags, 4, 4);
+    let budget = tolerance + room_from(h.version, 2, 8);
     let offset = budget + 4;
     let vector = 8 * h.d;
     let basis = offset + vector;
@@ -77,6 +89,7 @@ pub fn places_of(h: Header) -> Places
     Places {
         max: max,
         limit: limit,
+        tolerance: tolerance,
         budget: budget,
         offset: offset,
         basis: basis,
@@ -128,9 +141,21 @@ fn entry_limit_at(job: &[u8], flags: usize, at: usize) -> EntryLimit
     }
 }
 
+// The tolerance is 1e-7 where the version has no field for it.
+fn tolerance_at(job: &[u8], version: usize, at: usize) -> f64
+    requires { ⌜ at + 8 ≤ length (now job) ⌝ }
+    ensures { λ r. ⌜ r ≡ cond (leb 2 version) (floatAt (now (job .entry)) at) tolerance1 ⌝ }
+{
+    if 2 <= version {
+        float_at(job, at)
+    } else {
+        0.0000001
+    }
+}
+
 // ---- all fields
 
-// The counts, the limits and the budget by value; the last four are the places in the job where offset, basis, points and rows begin.
+// The counts, the limits, the tolerance and the budget by value; the last four are the places in the job where offset, basis, points and rows begin.
 pub struct Fields {
     pub rank: usize,
     pub d: usize,
@@ -139,6 +164,7 @@ pub struct Fields {
     pub min: Limit,
     pub max: Limit,
     pub entries: EntryLimit,
+    pub tolerance: f64,
     pub budget: u32,
     pub offset: usize,
     pub basis: usize,
@@ -161,6 +187,7 @@ pub fn fields_of(job: &[u8]) -> Fields
         min: limit_at(job, flags, 1, 11),
         max: limit_at(job, flags, 2, p.max),
         entries: entry_limit_at(job, flags, p.limit),
+        tolerance: tolerance_at(job, h.version, p.tolerance),
         budget: words::get_u32(job, p.budget),
         offset: p.offset,
         basis: p.basis,

@@ -92,11 +92,11 @@ fn list_rows(rows: &[u8], m: usize, n: usize, set: u32, size: usize)
 }
 
 // Whether a set's refit was not refused.
-fn list_inner(flat: Points, rank: usize, rows: &[u8], m: usize, set: u32) -> bool
+fn list_inner(flat: Points, rank: usize, tolerance: f64, rows: &[u8], m: usize, set: u32) -> bool
     requires { ⌜ PointsFit flat × (2 ≤ rank) × Permutations (flat .n) m (now rows) × (m ≤ 120) × (set < 2 ^ flat .n) ⌝ }
 {
     let chosen = sets::chosen_points(flat, set);
-    let refitted = sets::refit(chosen, 0.0000001, rank - 2);
+    let refitted = sets::refit(chosen, tolerance, rank - 2);
     let fit = refitted.fit;
     match fit {
         Fit::Refused => {
@@ -111,7 +111,15 @@ fn list_inner(flat: Points, rank: usize, rows: &[u8], m: usize, set: u32) -> boo
 }
 
 // Orbit by orbit, up to the first refit that is refused.
-fn list_inners(flat: Points, rank: usize, rows: &[u8], m: usize, ws: &[u8], count: usize)
+fn list_inners(
+    flat: Points,
+    rank: usize,
+    tolerance: f64,
+    rows: &[u8],
+    m: usize,
+    ws: &[u8],
+    count: usize,
+)
     requires { ⌜ PointsFit flat × (2 ≤ rank) × Permutations (flat .n) m (now rows) × (m ≤ 120) × (8 * count ≤ length (now ws)) ⌝ }
 {
     let n = flat.n;
@@ -120,7 +128,7 @@ fn list_inners(flat: Points, rank: usize, rows: &[u8], m: usize, ws: &[u8], coun
         put(b"inner ");
         put_number(k);
         put(b":");
-        if !list_inner(flat, rank, rows, m, orbits::set_at(ws, k, n)) {
+        if !list_inner(flat, rank, tolerance, rows, m, orbits::set_at(ws, k, n)) {
             return;
         }
         k += 1;
@@ -130,17 +138,25 @@ fn list_inners(flat: Points, rank: usize, rows: &[u8], m: usize, ws: &[u8], coun
 // ---- jobs
 
 // How many orbits were found, the orbits, and what comes of each.
-fn list_found(flat: Points, rank: usize, rows: &[u8], m: usize, ws: &[u8], count: usize)
+fn list_found(
+    flat: Points,
+    rank: usize,
+    tolerance: f64,
+    rows: &[u8],
+    m: usize,
+    ws: &[u8],
+    count: usize,
+)
     requires { ⌜ PointsFit flat × (2 ≤ rank) × Permutations (flat .n) m (now rows) × (m ≤ 120) × (8 * count ≤ length (now ws)) ⌝ }
 {
     put(b" ");
     put_number(count);
     put(b" orbits\n");
     list_orbits(ws, count, flat.n);
-    list_inners(flat, rank, rows, m, ws, count);
+    list_inners(flat, rank, tolerance, rows, m, ws, count);
 }
 
-// A job of rank 3 or 4 that passes refusals 1 to 12.
+// A job of rank 3 or 4 that passes the refusals before the call.
 fn list_call(job: &[u8], fields: Fields, ws: &mut [u8])
     requires { ⌜ (Passed fields ≡ checkedOf (now job) 4194304) × (3 ≤ fields .rank) × (124928 ≤ length (now ws)) ⌝ }
 {
@@ -150,6 +166,7 @@ fn list_call(job: &[u8], fields: Fields, ws: &mut [u8])
     let m = fields.count;
     let min = fields.min;
     let max = fields.max;
+    let tolerance = fields.tolerance;
     let mut rows = [0; 3840];
     load::load_rows(job, fields, &mut rows);
     match orbits::find_orbits(
@@ -160,12 +177,12 @@ fn list_call(job: &[u8], fields: Fields, ws: &mut [u8])
         m,
         min,
         max,
-        0.0000001,
+        tolerance,
         256,
         ws,
     ) {
         Answer::Refused => put(b" refused 13\n"),
-        Answer::Orbits(count) => list_found(flat, rank, &rows, m, ws, count),
+        Answer::Orbits(count) => list_found(flat, rank, tolerance, &rows, m, ws, count),
     }
 }
 

@@ -72,7 +72,7 @@ module _ (bytes : Bytes) (workspace room : ℕ) {code : ℤ} {buffer : Bytes} (c
   pub meets-1 : Demand1 bytes workspace room code buffer
   meets-1 = rw (code-is, buffer-is) (demand-1 bytes workspace room)
 
-  -- and what the code says: an answer's length, or minus one of 1 to 17
+  -- and what the code says: an answer's length, or minus the number of a refusal
   pub meets-code : CodeSays (outcome bytes workspace room) code
   meets-code = rw code-is (code-says bytes workspace room)
 

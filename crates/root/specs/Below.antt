@@ -13,6 +13,7 @@ use lib.IntN.{ℤ, pos, negsuc}
 use lib.Ieee.{Float, nan, inf, fin, binary64, up, down, fits, ofBits, lt, le}
 use lib.Ieee.Fits.{up-pos, down-pos, and-l, and-r}
 use Rattle.definitions.specs.Vectors.{squareRoot, valueOf, zero64, unitsIn, fourTimes, sumSquared, isDouble, signOf, hasRoot, NearestRoot}
+use Rattle.definitions.specs.Job.{leastTolerance}
 use Rattle.laws.specs.Bools.{holds→true, true→holds}
 use Rattle.laws.specs.Floats.{not-above}
 use Rattle.root.specs.Powers.{pow-back-le}
@@ -154,8 +155,8 @@ least = ofBits binary64 0x3e10000000000000
 abbrev pub tiny : Float
 tiny = ofBits binary64 0x3c10000000000000
 
--- no tolerance from 0.000000001 on is below the least
-billionth-covered : T (le least (ofBits binary64 0x3e112e0be826d695))
+-- no tolerance of a job is below the least of these
+billionth-covered : T (le least leastTolerance)
 unfolding le ofBits
 billionth-covered = tt
 

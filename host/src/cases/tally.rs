@@ -134,15 +134,20 @@ impl Tally {
 
     /// How often there was no result: the original panicked.
     pub fn others(&self) -> usize {
-        let known = (0..=17).map(|number| self.result(number)).sum::<usize>();
+        let known = results().map(|number| self.result(number)).sum::<usize>();
         self.cases - known
     }
+}
+
+/// The numbers of all results: 0 for an answer, else the refusal's.
+fn results() -> impl Iterator<Item = u8> {
+    std::iter::once(0).chain(Refusal::all().map(Refusal::number))
 }
 
 impl fmt::Display for Tally {
     fn fmt(&self, f: &mut fmt::Formatter<'_>) -> fmt::Result {
         writeln!(f, "{} cases", self.cases)?;
-        for number in 0..=17 {
+        for number in results() {
             let words = Refusal::from_code(-i64::from(number)).map_or("answered", Refusal::words);
             writeln!(f, "{:>8}  result {number:>2}: {words}", self.result(number))?;
         }

@@ -4,7 +4,7 @@ use std::time::Instant;
 
 use faceting_register::bounds::workspace_length;
 use faceting_register::request::USUAL_ROOM;
-use facetings_host::cases::generator::{case, kind_named, Kind};
+use facetings_host::cases::generator::{case, case_within, kind_named, Kind};
 use facetings_host::cases::known_jobs::KNOWN_JOBS;
 use facetings_host::cases::record::record;
 use facetings_host::cases::{Case, Room};
@@ -20,11 +20,11 @@ use crate::{Failure, DIFFERENT};
 pub const COMPARE_REGISTER: Command = Command {
     name: "compare-register",
     about: "Compares the register with the Rust on generated cases.",
-    usage: "[--seed S] [--count N] [--first I] [--kind K] [--stop D] [--memory M] [--library FILE]",
+    usage: "[--seed S] [--count N] [--first I] [--kind K] [--stop D] [--tolerance T] [--memory M] [--library FILE]",
     details: || {
         "\
 Puts the known jobs and N generated cases (default: 10000; as generate makes
-them, every eighth of the kind brink) to the Rust once each, and to the register in several calls: as
+them, every eighth of the kind brink, one of 64 of the kind tolerance) to the Rust once each, and to the register in several calls: as
 generated, with the workspace of the rank's length and one byte less, with the
 answer buffer exactly full and one byte short, with the job one byte shorter and
 longer, and as a copy with one altered byte. Buffers are poisoned, the workspace is
@@ -35,6 +35,9 @@ Prints the first difference of each call, until D cases have one (default: 10), 
 often each result and rare event was reached, and the rate. Exit status 1 if any
 call differs. The register is linked where 'rt staticlib register' has left it
 before the build; --library takes the function from a shared library instead.
+With --tolerance all generated cases are of version 2 and name T: points and lengths
+around T, at least, above and below. The Rust runs with the job's tolerance in the six
+places of its constant.
 With --memory fresh each slice is new memory of exactly its length and the workspace
 was never written, so that a memory checker such as valgrind sees every access beside
 them, and every choice that hangs on what the workspace held.
@@ -47,6 +50,7 @@ them, and every choice that hangs on what the workspace held.
         "--first",
         "--kind",
         "--stop",
+        "--tolerance",
         "--memory",
         "--library",
     ],
@@ -62,10 +66,11 @@ pub fn open_register(arguments: &Arguments) -> Result<Guard, Failure> {
 }
 
 /// Every eighth case has a distance at the tolerance: hardly any drawn case shows
-/// in which order products are added.
+/// in which order products are added. Some name another tolerance.
 fn at_the_brink(number: usize) -> Option<&'static Kind> {
-    match number % 8 {
-        5 => kind_named("brink"),
+    match number % 64 {
+        3 => kind_named("tolerance"),
+        number if number % 8 == 5 => kind_named("brink"),
         _ => None,
     }
 }
@@ -112,7 +117,11 @@ fn compare_register(arguments: Arguments) -> Result<(), Failure> {
     }
     let start = Instant::now();
     let numbers = first..first.saturating_add(count);
-    let generated = numbers.map(|number| case(seed, number, kind.or(at_the_brink(number))));
+    let tolerance: Option<f64> = arguments.number("--tolerance")?;
+    let generated = numbers.map(|number| match tolerance {
+        Some(tolerance) => case_within(seed, number, tolerance),
+        None => case(seed, number, kind.or(at_the_brink(number))),
+    });
     let all = known_cases()?.into_iter().chain(generated);
     let (cases, differing) = tried(&mut trials, all, stop.max(1))?;
     print(&told(&trials, cases, start.elapsed().as_secs_f64()))?;

@@ -2,7 +2,9 @@
 
 use std::time::Duration;
 
-use faceting_register::Job;
+use faceting_register::bounds::TOLERANCE;
+use faceting_register::job::{Job, TOLERANCE_VERSION};
+use facetings_host::cases::generator::TRIED;
 use facetings_host::measure::speed::{cases, Effort, Stopwatch, Timing};
 use facetings_host::measure::workload::{self, Workload};
 
@@ -24,7 +26,8 @@ Rust, taken in turn, and how many times as fast the register is. T seconds (defa
 answer buffer is as long as the answer. Then how the time grows: parabolas of 5 to 20
 points with a budget of B lists (default: 20000), one parabola with growing budgets,
 one job with growing numbers of rows, points of space with growing numbers of
-orbits, and what a list of these costs in the search alone. Last, of N generated
+orbits, and what a list of these costs in the search alone. Then the jobs of the table
+at each of four tolerances, beside their time at 0.0000001. Last, of N generated
 cases (default: 3000) those that take either side a millisecond: how many, and where
 the register does worst. Exit status 1 if it is slower than the Rust on a job of the
 table or on such a case. --only takes the jobs whose names hold the word, as for a
@@ -73,6 +76,7 @@ fn run(arguments: Arguments) -> Result<(), Failure> {
     let searched = [workload::parabolas(lists), workload::planes()];
     let searched = only(searched.into_iter().flatten().collect());
     searches(&mut watch, &searched, lists, effort)?;
+    tolerances(&mut watch, &only(workload::table()), effort)?;
     let slower = slower + slow_cases(&mut watch, seed, cases)?;
     match slower {
         0 => Ok(()),
@@ -164,6 +168,27 @@ fn searches(
             clock(each(all.original, first.original)),
             job.rank
         ))?;
+    }
+    Ok(())
+}
+
+/// The register at each tolerance that is tried: its times, and the greatest of them as
+/// a multiple of the one at the usual tolerance.
+fn tolerances(watch: &mut Stopwatch, jobs: &[Workload], effort: Effort) -> Result<(), Failure> {
+    print("\nthe register at the tolerances 1e-9, 1e-7, 1e-5, 1e-3\n")?;
+    for Workload { name, job } in jobs {
+        let within = |tolerance| Job {
+            version: TOLERANCE_VERSION,
+            tolerance,
+            ..job.clone()
+        };
+        let jobs: Vec<Vec<u8>> = TRIED.iter().map(|&t| within(t).write()).collect();
+        let times = watch.best_of_each(&jobs, effort);
+        let clocks: Vec<String> = times.iter().map(|&time| clock(time)).collect();
+        let usual = TRIED.iter().position(|&t| t == TOLERANCE).unwrap_or(0);
+        let slowest = times.iter().max().copied().unwrap_or_default();
+        let ratio = slowest.as_secs_f64() / times[usual].as_secs_f64().max(1e-9);
+        print(&format!("{} {ratio:>7.2}  {name}\n", clocks.join(" ")))?;
     }
     Ok(())
 }

@@ -2,7 +2,7 @@
 
 use faceting_register::{bounds, Answer, Job, Stop};
 
-/// The register's bounds and tolerance; tests set smaller ones.
+/// The register's bounds; tests set smaller ones.
 #[derive(Clone, Debug)]
 pub struct Bounds {
     /// The most hyperplane orbits of a call.
@@ -11,8 +11,6 @@ pub struct Bounds {
     pub facets: usize,
     /// The most entries of a call.
     pub entries: usize,
-    /// Distances below it count as none.
-    pub tolerance: f64,
 }
 
 impl Default for Bounds {
@@ -21,7 +19,6 @@ impl Default for Bounds {
             orbits: bounds::MOST_ORBITS,
             facets: bounds::MOST_FACETS,
             entries: bounds::MOST_ENTRIES,
-            tolerance: bounds::TOLERANCE,
         }
     }
 }
@@ -84,7 +81,7 @@ pub struct Judgement {
     pub result: Result<Answer, Stop>,
     /// What was met on the way.
     pub events: Events,
-    /// The job, if refusals 1 to 12 did not stop it.
+    /// The job, if no refusal before the call stopped it.
     pub job: Option<Job>,
 }
 

@@ -1,7 +1,7 @@
 //! The part of a job that a refusal is about: which number or row, on which line of
 //! its text, and what to do there.
 
-use faceting_register::bounds::{FARTHEST, LONGEST_BASIS, LONGEST_EDGE};
+use faceting_register::bounds::{FARTHEST, LONGEST_BASIS, LONGEST_EDGE, TOLERANCES};
 use faceting_register::job::is_identity;
 use faceting_register::{Job, Refusal};
 
@@ -20,6 +20,12 @@ pub struct Culprit {
 pub fn culprit(refusal: Refusal, job: &Job, lines: &Lines) -> Option<Culprit> {
     match refusal {
         Refusal::Number => number(job, lines),
+        Refusal::Tolerance => {
+            let (least, most) = TOLERANCES.into_inner();
+            let fault = fault(job.tolerance, least, most)?;
+            let words = format!("the tolerance {fault}");
+            Some(at(lines.keywords.get("tolerance"), &words, None))
+        }
         Refusal::Identity => {
             let first = job.rows.first().filter(|row| !is_identity(row))?;
             let images: Vec<String> = first.iter().map(u8::to_string).collect();
@@ -53,6 +59,11 @@ fn number(job: &Job, lines: &Lines) -> Option<Culprit> {
         let change = format!("give a length from 0 to 131,072, or leave '{word}' out");
         Some(at(keyword(word), &format!("{word} {fault}"), Some(change)))
     });
+    let tolerance = || {
+        let fault = fault(job.tolerance, f64::MIN, f64::MAX)?;
+        let words = format!("the tolerance {fault}");
+        Some(at(keyword("tolerance"), &words, change_of(&fault)))
+    };
     let offset = || {
         let (place, fault) = within(&job.offset, FARTHEST)?;
         let words = format!("the {place} number of the offset {fault}");
@@ -69,7 +80,11 @@ fn number(job: &Job, lines: &Lines) -> Option<Culprit> {
         )
     };
     let points = || vectors(&job.points, FARTHEST, "point", &lines.points, || None);
-    length.or_else(offset).or_else(basis).or_else(points)
+    length
+        .or_else(tolerance)
+        .or_else(offset)
+        .or_else(basis)
+        .or_else(points)
 }
 
 fn vectors(

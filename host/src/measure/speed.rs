@@ -91,6 +91,28 @@ impl Stopwatch<'_> {
         })
     }
 
+    /// The register's best time on each of some jobs, taken in turn.
+    pub fn best_of_each(&mut self, jobs: &[Vec<u8>], effort: Effort) -> Vec<Duration> {
+        let asked: Vec<(usize, usize)> = jobs
+            .iter()
+            .map(|job| {
+                let workspace = workspace_length(rank_of(job));
+                (workspace, self.length(job, workspace))
+            })
+            .collect();
+        let mut best = vec![Duration::MAX; jobs.len()];
+        let start = Instant::now();
+        let mut runs = 0;
+        while runs < effort.least || (runs < effort.most && start.elapsed() < effort.time) {
+            for (j, (job, &(workspace, room))) in jobs.iter().zip(&asked).enumerate() {
+                let (_, time) = once(self.register, job, workspace, room);
+                best[j] = best[j].min(time);
+            }
+            runs += 1;
+        }
+        best
+    }
+
     /// The length of the answer; 0 for a job that is refused.
     fn length(&mut self, job: &[u8], workspace: usize) -> usize {
         let judged = self.oracle.judge(job, workspace);

@@ -5,13 +5,16 @@ use faceting_register::Refusal;
 
 use crate::format::culprit::Culprit;
 
-/// The rule and the change, for refusals 1 to 17.
-const ALL: [(&str, &str); 17] = [
+/// The rule and the change of each refusal, in the order of `Refusal::all`.
+const ALL: [(&str, &str); 18] = [
     (
         "a job has at least 11 bytes and begins with the letters FCT",
         "give the set in the text form, or make the bytes with 'facetings-host encode'",
     ),
-    ("the version is 1", "leave the keyword 'version' out"),
+    (
+        "the version is 1 or 2",
+        "leave the keyword 'version' out",
+    ),
     (
         "the rank is 2, 3 or 4",
         "write 'rank 3' for figures in a plane, 'rank 4' for solids",
@@ -58,7 +61,7 @@ const ALL: [(&str, &str); 17] = [
     ),
     (
         "the points of a plane or line, fitted one by one, give just that plane or line",
-        "move points that lie almost on it, or almost together, clearly on or clearly off (0.0000001 tells them apart)",
+        "move points that lie almost on it, or almost together, clearly on or clearly off (the tolerance tells them apart, 0.0000001 unless the set names one)",
     ),
     (
         "no call has more than 1,024 possible facets or entries",
@@ -72,10 +75,16 @@ const ALL: [(&str, &str); 17] = [
         "the answer buffer holds the whole answer",
         "allow a longer answer (--room); 'limit 100' lists only some of the figures, and the label then says 'at least'",
     ),
+    (
+        "the tolerance is from 0.000000001 to 0.001",
+        "write 'tolerance 0.001' for points that are good to three places, or leave the keyword out",
+    ),
 ];
 
 fn row(refusal: Refusal) -> (&'static str, &'static str) {
-    ALL[usize::from(refusal.number()) - 1]
+    let mut rows = Refusal::all().zip(ALL);
+    let own = rows.find(|(other, _)| *other == refusal);
+    own.map_or(("", ""), |(_, row)| row)
 }
 
 /// The rule that the job breaks, as it should be.

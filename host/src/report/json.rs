@@ -170,6 +170,7 @@ fn limits(job: &Job) -> Json {
         ("max", or_null(&job.max, |&length| Json::Float(length))),
         ("entries", or_null(&job.limit, |&limit| number(limit))),
         ("budget", number(job.budget)),
+        ("tolerance", Json::Float(job.tolerance)),
     ])
 }
 

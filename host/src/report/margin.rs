@@ -29,8 +29,12 @@ pub struct Margin {
 /// A distance so many times below the border is clearly on the plane.
 const CLEARLY_ON: f64 = 10.0;
 
-/// One so many times above it is clearly off.
+/// One so many times above it is clearly off,
 const CLEARLY_OFF: f64 = 1_000.0;
+
+/// and so is one from here on that is clear of the border at all: who names a large
+/// tolerance says how good the coordinates are.
+const FAR: f64 = 1e-4;
 
 impl Margin {
     /// Over the lines, planes and so on below the points' own space, through each
@@ -94,7 +98,8 @@ impl Margin {
 
     /// The nearest off it, likewise.
     pub fn barely_off(&self) -> Option<&Distance> {
-        let barely = |off: &&Distance| off.length < CLEARLY_OFF * self.border;
-        self.off.as_ref().filter(barely)
+        let far = FAR.max(CLEARLY_ON * self.border);
+        let clear = (CLEARLY_OFF * self.border).min(far);
+        self.off.as_ref().filter(|off| off.length < clear)
     }
 }

@@ -4,7 +4,6 @@
 
 use std::collections::HashSet;
 
-use faceting_register::bounds::TOLERANCE;
 use faceting_register::job::compose;
 use faceting_register::Job;
 
@@ -64,7 +63,7 @@ struct Set<'a> {
 
 impl Set<'_> {
     fn of(job: &Job) -> Set<'_> {
-        let tolerance = TOLERANCE;
+        let tolerance = job.tolerance;
         let flat = flattened(job);
         let from = |a: &Vec<f64>| flat.iter().map(|b| norm(&minus(a, b))).collect();
         let dimensions = usize::from(job.rank).saturating_sub(1);

@@ -4,6 +4,7 @@
 
 use std::fmt::{Display, Write};
 
+use faceting_register::job::TOLERANCE_VERSION;
 use faceting_register::{Answer, Figure};
 
 use super::label::{counted, Count};
@@ -58,6 +59,9 @@ pub fn page(report: &Report) -> String {
     if let Some(kind) = subject.found {
         let rows = found_rows(report.job.rows.len(), kind);
         let _ = writeln!(text, "Rows: {rows} that the host found in the points");
+    }
+    if report.job.version >= TOLERANCE_VERSION {
+        let _ = writeln!(text, "Tolerance: {}", short(report.job.tolerance));
     }
     let _ = writeln!(
         text,

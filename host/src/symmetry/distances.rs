@@ -1,17 +1,26 @@
 //! The distances between points, as far as they are told apart.
 
-use faceting_register::bounds::TOLERANCE;
+use faceting_register::bounds;
 use faceting_register::job::Job;
 
 use crate::geometry::{flattened, minus, norm};
 
-/// The part of a set's size that is told apart in a set of any size.
-const FINENESS: f64 = 1e-6;
+/// In a set of size 1 or more lengths are told apart by the tolerance; in a smaller one
+/// by so many times that part of its size.
+const FINENESS: f64 = 10.0;
 
 /// Lengths that differ by no more count as the same, in a set whose greatest length
-/// is given: the register's own tolerance, and less in a small set.
-pub fn gap(greatest: f64) -> f64 {
-    TOLERANCE.min(FINENESS * greatest)
+/// is given: the job's own tolerance, and less in a small set.
+pub fn gap(greatest: f64, tolerance: f64) -> f64 {
+    tolerance.min(FINENESS * tolerance * greatest)
+}
+
+/// A job's tolerance; the usual one where the job is refused for its own.
+pub fn tolerance_of(job: &Job) -> f64 {
+    match bounds::TOLERANCES.contains(&job.tolerance) {
+        true => job.tolerance,
+        false => bounds::TOLERANCE,
+    }
 }
 
 /// A number for each pair of points: equal ones for equal distances. So being equal
@@ -23,24 +32,25 @@ pub struct Distances {
 
 impl Distances {
     /// Those between these points.
-    pub fn between(points: &[Vec<f64>]) -> Distances {
+    pub fn between(points: &[Vec<f64>], tolerance: f64) -> Distances {
         let lengths: Vec<f64> = points
             .iter()
             .flat_map(|p| points.iter().map(move |q| norm(&minus(p, q))))
             .collect();
         Distances {
             points: points.len(),
-            classes: classes(&lengths),
+            classes: classes(&lengths, tolerance),
         }
     }
 
     /// Those that matter to a job: between its flattened points and, where it has a
     /// least or greatest length, between the points as given.
     pub fn of(job: &Job) -> Distances {
-        let flat = Distances::between(&flattened(job));
+        let tolerance = tolerance_of(job);
+        let flat = Distances::between(&flattened(job), tolerance);
         match (job.min, job.max) {
             (None, None) => flat,
-            _ => flat.and(&Distances::between(&job.points)),
+            _ => flat.and(&Distances::between(&job.points, tolerance)),
         }
     }
 
@@ -78,10 +88,10 @@ impl Distances {
 }
 
 /// In ascending order a new number begins behind each gap that is wide enough.
-fn classes(lengths: &[f64]) -> Vec<usize> {
+fn classes(lengths: &[f64], tolerance: f64) -> Vec<usize> {
     let mut order: Vec<usize> = (0..lengths.len()).collect();
     order.sort_by(|&i, &j| lengths[i].total_cmp(&lengths[j]));
-    let gap = gap(lengths.iter().copied().fold(0.0, f64::max));
+    let gap = gap(lengths.iter().copied().fold(0.0, f64::max), tolerance);
     let mut classes = vec![0; lengths.len()];
     for pair in order.windows(2) {
         let apart = lengths[pair[1]] - lengths[pair[0]] > gap;

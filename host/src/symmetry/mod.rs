@@ -73,7 +73,7 @@ impl Symmetry {
         }
         Some(Symmetry {
             chain: Chain::of(&Distances::of(job)),
-            orientation: Orientation::of(&flattened(job)),
+            orientation: Orientation::of(&flattened(job), distances::tolerance_of(job)),
         })
     }
 

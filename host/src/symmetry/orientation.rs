@@ -14,14 +14,14 @@ pub struct Orientation {
 
 impl Orientation {
     /// That of these points, of which there is one at least.
-    pub fn of(points: &[Vec<f64>]) -> Orientation {
+    pub fn of(points: &[Vec<f64>], tolerance: f64) -> Orientation {
         let from_first = |point: &Vec<f64>| minus(point, &points[0]);
         let mut rests: Vec<Vec<f64>> = points.iter().map(from_first).collect();
         let mut orientation = Orientation {
             frame: vec![0],
             places: vec![Vec::new(); points.len()],
         };
-        let least = gap(farthest(&rests).1);
+        let least = gap(farthest(&rests).1, tolerance);
         while orientation.frame.len() <= points[0].len() {
             let (next, length) = farthest(&rests);
             if length <= least {

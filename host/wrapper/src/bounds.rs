@@ -2,6 +2,9 @@
 
 use std::ops::RangeInclusive;
 
+/// Versions of a job's layout.
+pub const VERSIONS: RangeInclusive<u16> = 1..=2;
+
 /// Ranks that a job may have: a line, figures in a plane, solids.
 pub const RANKS: RangeInclusive<u8> = 2..=4;
 
@@ -32,8 +35,12 @@ pub const MOST_FACETS: usize = 1_024;
 /// The most entries of a call.
 pub const MOST_ENTRIES: usize = 1_024;
 
-/// A point counts as lying on a plane where its distance is below this.
+/// A point counts as lying on a plane where its distance is below this, unless the job
+/// names another tolerance.
 pub const TOLERANCE: f64 = 1e-7;
+
+/// The tolerances that a job may name.
+pub const TOLERANCES: RangeInclusive<f64> = 1e-9..=1e-3;
 
 /// The workspace of rank 3, in bytes.
 pub const PLANE_WORKSPACE: usize = 524_288;

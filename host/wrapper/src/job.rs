@@ -8,8 +8,11 @@ use crate::refusal::Refusal;
 /// The letters that begin a job.
 pub const MARK: &[u8; 3] = b"FCT";
 
-/// The only version that there is.
+/// The version of a job that names no tolerance.
 pub const VERSION: u16 = 1;
+
+/// The first version whose jobs name a tolerance.
+pub const TOLERANCE_VERSION: u16 = 2;
 
 /// The bytes in front of a job's numbers.
 pub const HEADER_LENGTH: usize = 11;
@@ -40,7 +43,7 @@ pub fn point_count_of(bytes: &[u8]) -> u8 {
 /// register's rules. Number of points, number of rows and flags are implied.
 #[derive(Clone, Debug, PartialEq)]
 pub struct Job {
-    /// Of the layout; the register takes `VERSION` alone.
+    /// Of the layout; the register takes `bounds::VERSIONS`.
     pub version: u16,
     /// 2: a line, 3: figures in a plane, 4: solids.
     pub rank: u8,
@@ -52,6 +55,9 @@ pub struct Job {
     pub max: Option<f64>,
     /// Figures after which the search of each call stops.
     pub limit: Option<u32>,
+    /// Distances below it count as none. Written from `TOLERANCE_VERSION` on; before, it
+    /// is `bounds::TOLERANCE`.
+    pub tolerance: f64,
     /// Lists that may be examined, over all calls.
     pub budget: u32,
     /// A point of the plane that the set is seen in.
@@ -88,7 +94,7 @@ impl Header {
     }
 
     fn check(&self) -> Result<(), Refusal> {
-        refuse_unless(self.version == VERSION, Refusal::Version)?;
+        refuse_unless(bounds::VERSIONS.contains(&self.version), Refusal::Version)?;
         refuse_unless(bounds::RANKS.contains(&self.rank), Refusal::Rank)?;
         let dimensions = self.rank - 1..=bounds::MOST_COORDINATES;
         refuse_unless(dimensions.contains(&self.dimension), Refusal::Dimension)?;
@@ -107,11 +113,13 @@ fn refuse_unless(fine: bool, refusal: Refusal) -> Result<(), Refusal> {
     }
 }
 
-/// Refusals 1 to 12, in their order; the job if there is none.
+/// The refusals before the call, in their order; the job if there is none.
 pub fn accept(bytes: &[u8], workspace: usize) -> Result<Job, Refusal> {
     Header::read(bytes).ok_or(Refusal::Mark)?.check()?;
     let job = Job::read(bytes).ok_or(Refusal::Length)?;
     refuse_unless(job.numbers_in_bounds(), Refusal::Number)?;
+    let tolerated = bounds::TOLERANCES.contains(&job.tolerance);
+    refuse_unless(tolerated, Refusal::Tolerance)?;
     let identity = job.rows.first().is_some_and(|row| is_identity(row));
     refuse_unless(identity, Refusal::Identity)?;
     let permutations = job.rows.iter().all(|row| is_permutation(row));
@@ -163,6 +171,7 @@ impl Job {
             min: None,
             max: None,
             limit: None,
+            tolerance: bounds::TOLERANCE,
             budget: DEFAULT_BUDGET,
             offset: vec![0.0; dimension],
             basis: unit_vectors(usize::from(rank).saturating_sub(1), dimension),
@@ -179,6 +188,7 @@ impl Job {
         }
         let mut rest = Fields(&bytes[HEADER_LENGTH..]);
         let present = |flag| header.flags & flag != 0;
+        let has_tolerance = header.version >= TOLERANCE_VERSION;
         let (d, n) = (usize::from(header.dimension), usize::from(header.points));
         let job = Job {
             version: header.version,
@@ -187,6 +197,9 @@ impl Job {
             min: rest.optional(present(MIN_FLAG), Fields::float)?,
             max: rest.optional(present(MAX_FLAG), Fields::float)?,
             limit: rest.optional(present(LIMIT_FLAG), Fields::word)?,
+            tolerance: rest
+                .optional(has_tolerance, Fields::float)?
+                .unwrap_or(bounds::TOLERANCE),
             budget: rest.word()?,
             offset: rest.floats(d)?,
             basis: rest.many(usize::from(header.rank) - 1, |r| r.floats(d))?,
@@ -206,9 +219,11 @@ impl Job {
         for length in [self.min, self.max].into_iter().flatten() {
             bytes.extend(length.to_le_bytes());
         }
-        for word in self.limit.into_iter().chain([self.budget]) {
-            bytes.extend(word.to_le_bytes());
+        bytes.extend(self.limit.into_iter().flat_map(u32::to_le_bytes));
+        if self.version >= TOLERANCE_VERSION {
+            bytes.extend(self.tolerance.to_le_bytes());
         }
+        bytes.extend(self.budget.to_le_bytes());
         bytes.extend(self.coordinates().flat_map(f64::to_le_bytes));
         bytes.extend(self.rows.iter().flatten());
         bytes
@@ -242,6 +257,7 @@ impl Job {
                 .flatten()
                 .all(within(bounds::LONGEST_BASIS))
             && places.into_iter().all(within(bounds::FARTHEST))
+            && self.tolerance.is_finite()
     }
 
     /// Whether each row after another is again a row.

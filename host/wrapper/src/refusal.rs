@@ -1,4 +1,4 @@
-//! The register's seventeen refusals, in the order in which they are looked for.
+//! The register's refusals by number.
 
 /// Why a job got no answer. The discriminant is the refusal number.
 #[derive(Clone, Copy, Debug, PartialEq, Eq)]
@@ -37,14 +37,16 @@ pub enum Refusal {
     Budget,
     /// Too short an answer buffer.
     Room,
+    /// A tolerance that is too small or too large; looked for behind `Number`.
+    Tolerance = 22,
 }
 
 use Refusal::*;
 
 /// Every refusal with its words, ascending by number.
-const ALL: [(Refusal, &str); 17] = [
+const ALL: [(Refusal, &str); 18] = [
     (Mark, "the job is under 11 bytes or has the wrong mark"),
-    (Version, "the version is not 1"),
+    (Version, "the version is not 1 or 2"),
     (Rank, "the rank is not 2 to 4"),
     (Dimension, "d is below rank - 1 or above 4"),
     (PointCount, "the number of points is not 2 to 20"),
@@ -60,6 +62,7 @@ const ALL: [(Refusal, &str); 17] = [
     (Facets, "a 1,025th possible facet or entry in some call"),
     (Budget, "a list is due when the budget is used up"),
     (Room, "the answer buffer is too short"),
+    (Tolerance, "the tolerance is not 1e-9 to 1e-3"),
 ];
 
 impl Refusal {
@@ -75,12 +78,18 @@ impl Refusal {
 
     /// The refusal that a returned value stands for.
     pub fn from_code(code: i64) -> Option<Refusal> {
-        ALL.iter().map(|row| row.0).find(|r| r.code() == code)
+        Refusal::all().find(|r| r.code() == code)
     }
 
     /// What was met.
     pub fn words(self) -> &'static str {
-        ALL[usize::from(self.number()) - 1].1
+        let own = ALL.iter().find(|row| row.0 == self);
+        own.map_or("", |row| row.1)
+    }
+
+    /// Every refusal, ascending by number.
+    pub fn all() -> impl Iterator<Item = Refusal> {
+        ALL.iter().map(|row| row.0)
     }
 }
 

@@ -1,4 +1,4 @@
--- `answering::rules_of` meets its contract: the literal tolerance is that of [12.2]. Assumes nothing.
+-- `answering::rules_of` meets its contract: the literal bounds are those of [12.2]. Assumes nothing.
 use mathlib.Core.Path.{refl}
 use borrow.Author.Needs.{needs}
 use Rattle.definitions.specs.Job.{bounds1}

@@ -10,10 +10,10 @@ use Rattle.io.proofs.write_all.Reads as write-all-reads
 use Rattle.register.proofs.refusal.Reads as refusal-reads
 
 abbrev Inv-loop : tie.InvT-loop
-Inv-loop code number₀ t3 t4 number = number ≤ 18
+Inv-loop code number₀ t3 t4 number = number ≤ 28
 
 abbrev μ-loop : tie.MeasureT-loop
-μ-loop code number₀ t3 t4 number = 18 - number
+μ-loop code number₀ t3 t4 number = 28 - number
 
 -- src/main.rt:6:5
 loop-holds : tie.Need-loop-holds Inv-loop μ-loop

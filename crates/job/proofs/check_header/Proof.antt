@@ -17,7 +17,6 @@ use Rattle.load.specs.Places.{headerOf, placesOf, Counted, Exact, size-is}
 use Rattle.job.specs.Refusal.{hasMark}
 use Rattle.job.specs.Passed.{header-passed}
 use Rattle.job.proofs.Laws.{marked-long, counted, rank-above-zero, Reached, refused-here, all-passed}
-use Rattle.words.proofs.get_u16.Reads as get-u16-reads
 use Rattle.load.proofs.fields_of.Reads as fields-of-reads
 use Rattle.load.proofs.header_of.Reads as header-of-reads
 use Rattle.load.proofs.places_of.Reads as places-of-reads
@@ -30,7 +29,7 @@ use Rattle.job.proofs.check_header.Tie as tie
 
 -- What the functions that are called ask and ensure.
 abbrev claims : lts.Claims
-claims = (has-mark-reads.Asked, has-mark-reads.Learnt, get-u16-reads.Asked, get-u16-reads.Learnt, header-of-reads.Asked, header-of-reads.Learnt, between-reads.Asked, between-reads.Learnt, places-of-reads.Asked, places-of-reads.Learnt, fields-of-reads.Asked, fields-of-reads.Learnt)
+claims = (has-mark-reads.Asked, has-mark-reads.Learnt, header-of-reads.Asked, header-of-reads.Learnt, between-reads.Asked, between-reads.Learnt, places-of-reads.Asked, places-of-reads.Learnt, fields-of-reads.Asked, fields-of-reads.Learnt)
 
 -- ---- the mark, and the version
 
@@ -48,29 +47,37 @@ unfolding headerTests hasMark
 behind-1 c = goes-on (headerTests (job-1 c)) _ _ refl (mark-good c)
 
 abbrev job-2 : lts.Else2 claims reads.Pre reads.Post → Bytes
-job-2 c = job-1 (c .before .before)
+job-2 c = job-1 (c .before .before .before)
+
+abbrev header-2 : lts.Else2 claims reads.Pre reads.Post → Header
+header-2 c = c .before .before .header-of .result
+
+header-is-2 : (c : lts.Else2 claims reads.Pre reads.Post) → header-2 c ≡ headerOf (job-2 c)
+header-is-2 c = c .before .before .header-of .ensures
 
 behind-2 : (c : lts.Else2 claims reads.Pre reads.Post) → Reached (headerTests (job-2 c)) (job-2 c) 2
-unfolding headerTests
-behind-2 c = goes-on (headerTests (job-2 c)) _ _ (behind-1 (c .before .before)) (eq-eqb _ _ (sym (c .before .get-u16 .ensures) ∙ c .if2 .left))
+unfolding headerTests readJob headerOf
+behind-2 c =
+    goes-on (headerTests (job-2 c)) _ _ (behind-1 (c .before .before .before))
+    (ap (λ (h : Header). between 1 2 (h .version)) (sym (header-is-2 c)) ∙ (sym (c .before .between .ensures) ∙ not-false _ (c .if2 .left)))
 
 -- ---- the counts of the header
 
 abbrev job-3 : lts.Else3 claims reads.Pre reads.Post → Bytes
-job-3 c = job-2 (c .before .before .before)
+job-3 c = job-2 (c .before .before)
 
 abbrev header-3 : lts.Else3 claims reads.Pre reads.Post → Header
-header-3 c = c .before .before .header-of .result
+header-3 c = header-2 (c .before .before)
 
 header-is : (c : lts.Else3 claims reads.Pre reads.Post) → header-3 c ≡ headerOf (job-3 c)
-header-is c = c .before .before .header-of .ensures
+header-is c = header-is-2 (c .before .before)
 
 rank-good : (c : lts.Else3 claims reads.Pre reads.Post) → between 2 4 (header-3 c .rank) ≡ true
-rank-good c = sym (c .before .between .ensures) ∙ not-false _ (c .if3 .left)
+rank-good c = sym (c .before .between2 .ensures) ∙ not-false _ (c .if3 .left)
 
 behind-3 : (c : lts.Else3 claims reads.Pre reads.Post) → Reached (headerTests (job-3 c)) (job-3 c) 3
 unfolding headerTests readJob headerOf
-behind-3 c = goes-on (headerTests (job-3 c)) _ _ (behind-2 (c .before .before .before)) (ap (λ (h : Header). between 2 4 (h .rank)) (sym (header-is c)) ∙ rank-good c)
+behind-3 c = goes-on (headerTests (job-3 c)) _ _ (behind-2 (c .before .before)) (ap (λ (h : Header). between 2 4 (h .rank)) (sym (header-is c)) ∙ rank-good c)
 
 abbrev job-4 : lts.Else4 claims reads.Pre reads.Post → Bytes
 job-4 c = job-3 (c .before .before .before)
@@ -82,7 +89,7 @@ header-is-4 : (c : lts.Else4 claims reads.Pre reads.Post) → header-4 c ≡ hea
 header-is-4 c = header-is (c .before .before .before)
 
 d-good : (c : lts.Else4 claims reads.Pre reads.Post) → between (header-4 c .rank - 1) 4 (header-4 c .d) ≡ true
-d-good c = sym (c .before .between2 .ensures) ∙ not-false _ (c .if4 .left)
+d-good c = sym (c .before .between3 .ensures) ∙ not-false _ (c .if4 .left)
 
 behind-4 : (c : lts.Else4 claims reads.Pre reads.Post) → Reached (headerTests (job-4 c)) (job-4 c) 4
 unfolding headerTests readJob headerOf
@@ -98,7 +105,7 @@ header-is-5 : (c : lts.Else5 claims reads.Pre reads.Post) → header-5 c ≡ hea
 header-is-5 c = header-is-4 (c .before .before)
 
 n-good : (c : lts.Else5 claims reads.Pre reads.Post) → between 2 20 (header-5 c .n) ≡ true
-n-good c = sym (c .before .between3 .ensures) ∙ not-false _ (c .if5 .left)
+n-good c = sym (c .before .between4 .ensures) ∙ not-false _ (c .if5 .left)
 
 behind-5 : (c : lts.Else5 claims reads.Pre reads.Post) → Reached (headerTests (job-5 c)) (job-5 c) 5
 unfolding headerTests readJob headerOf
@@ -114,7 +121,7 @@ header-is-6 : (c : lts.Else6 claims reads.Pre reads.Post) → header-6 c ≡ hea
 header-is-6 c = header-is-5 (c .before .before)
 
 count-good : (c : lts.Else6 claims reads.Pre reads.Post) → between 1 120 (header-6 c .count) ≡ true
-count-good c = sym (c .before .between4 .ensures) ∙ not-false _ (c .if6 .left)
+count-good c = sym (c .before .between5 .ensures) ∙ not-false _ (c .if6 .left)
 
 behind-6 : (c : lts.Else6 claims reads.Pre reads.Post) → Reached (headerTests (job-6 c)) (job-6 c) 6
 unfolding headerTests readJob headerOf
@@ -164,62 +171,61 @@ returns : tie.Need-returns
 unfolding headerTests hasMark
 returns c = refused-here (headerTests (c .before .before .before .args .job .now)) _ _ _ refl (sym (c .before .has-mark .ensures) ∙ not-true _ (c .if1 .taken))
 
-get-u16-requires : tie.Need-get-u16-requires
-get-u16-requires c κs =
-    let l = long c in
-    omega arith
-
-returns-2 : tie.Need-returns-2
-unfolding headerTests
-returns-2 c =
-    let at-1 = c .before .before in
-    refused-here (headerTests (job-1 at-1)) _ _ _ (behind-1 at-1) (ne-eqb _ _ (λ e. c .if2 .taken (c .before .get-u16 .ensures ∙ e)))
-
 header-of-requires : tie.Need-header-of-requires
-header-of-requires c κs = long (c .before .before)
+header-of-requires c κs = long c
 
 between-requires : tie.Need-between-requires
 between-requires c κs = search needs
 
+returns-2 : tie.Need-returns-2
+unfolding headerTests readJob headerOf
+returns-2 c =
+    let at-1 = c .before .before .before in
+    refused-here (headerTests (job-1 at-1)) _ _ _ (behind-1 at-1)
+    (ap (λ (h : Header). between 1 2 (h .version)) (sym (c .before .before .header-of .ensures)) ∙ (sym (c .before .between .ensures) ∙ not-true _ (c .if2 .taken)))
+
+between-requires-2 : tie.Need-between-requires-2
+between-requires-2 c κs = search needs
+
 returns-3 : tie.Need-returns-3
 unfolding headerTests readJob headerOf
 returns-3 c =
-    let at-2 = c .before .before .before in
+    let at-2 = c .before .before in
     refused-here (headerTests (job-2 at-2)) _ _ _ (behind-2 at-2)
-    (ap (λ (h : Header). between 2 4 (h .rank)) (sym (c .before .before .header-of .ensures)) ∙ (sym (c .before .between .ensures) ∙ not-true _ (c .if3 .taken)))
+    (ap (λ (h : Header). between 2 4 (h .rank)) (sym (header-is-2 at-2)) ∙ (sym (c .before .between2 .ensures) ∙ not-true _ (c .if3 .taken)))
 
 sub-between : tie.Need-sub-between
 sub-between c = rank-above-zero _ (rank-good (c .before))
 
-between-requires-2 : tie.Need-between-requires-2
-between-requires-2 c κs = search needs
+between-requires-3 : tie.Need-between-requires-3
+between-requires-3 c κs = search needs
 
 returns-4 : tie.Need-returns-4
 unfolding headerTests readJob headerOf
 returns-4 c =
     let at-3 = c .before .before .before in
     refused-here (headerTests (job-3 at-3)) _ _ _ (behind-3 at-3)
-    (ap (λ (h : Header). between (h .rank - 1) 4 (h .d)) (sym (header-is at-3)) ∙ (sym (c .before .between2 .ensures) ∙ not-true _ (c .if4 .taken)))
+    (ap (λ (h : Header). between (h .rank - 1) 4 (h .d)) (sym (header-is at-3)) ∙ (sym (c .before .between3 .ensures) ∙ not-true _ (c .if4 .taken)))
 
-between-requires-3 : tie.Need-between-requires-3
-between-requires-3 c κs = search needs
+between-requires-4 : tie.Need-between-requires-4
+between-requires-4 c κs = search needs
 
 returns-5 : tie.Need-returns-5
 unfolding headerTests readJob headerOf
 returns-5 c =
     let at-4 = c .before .before in
     refused-here (headerTests (job-4 at-4)) _ _ _ (behind-4 at-4)
-    (ap (λ (h : Header). between 2 20 (h .n)) (sym (header-is-4 at-4)) ∙ (sym (c .before .between3 .ensures) ∙ not-true _ (c .if5 .taken)))
+    (ap (λ (h : Header). between 2 20 (h .n)) (sym (header-is-4 at-4)) ∙ (sym (c .before .between4 .ensures) ∙ not-true _ (c .if5 .taken)))
 
-between-requires-4 : tie.Need-between-requires-4
-between-requires-4 c κs = search needs
+between-requires-5 : tie.Need-between-requires-5
+between-requires-5 c κs = search needs
 
 returns-6 : tie.Need-returns-6
 unfolding headerTests readJob headerOf
 returns-6 c =
     let at-5 = c .before .before in
     refused-here (headerTests (job-5 at-5)) _ _ _ (behind-5 at-5)
-    (ap (λ (h : Header). between 1 120 (h .count)) (sym (header-is-5 at-5)) ∙ (sym (c .before .between4 .ensures) ∙ not-true _ (c .if6 .taken)))
+    (ap (λ (h : Header). between 1 120 (h .count)) (sym (header-is-5 at-5)) ∙ (sym (c .before .between5 .ensures) ∙ not-true _ (c .if6 .taken)))
 
 returns-7 : tie.Need-returns-7
 unfolding headerTests readJob headerOf
@@ -249,4 +255,4 @@ returns-9 c =
 pub check-header-spec : {M : Type 1} → statement M
 check-header-spec =
     tie.close
-    (tie.spec has-mark-requires returns get-u16-requires returns-2 header-of-requires between-requires returns-3 sub-between between-requires-2 returns-4 between-requires-3 returns-5 between-requires-4 returns-6 returns-7 places-of-requires returns-8 fields-of-requires returns-9)
+    (tie.spec has-mark-requires returns header-of-requires between-requires returns-2 between-requires-2 returns-3 sub-between between-requires-3 returns-4 between-requires-4 returns-5 between-requires-5 returns-6 returns-7 places-of-requires returns-8 fields-of-requires returns-9)

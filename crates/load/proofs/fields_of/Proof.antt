@@ -24,11 +24,16 @@ limit-at-requires-2 c κs =
 entry-limit-at-requires : tie.Need-entry-limit-at-requires
 entry-limit-at-requires c κs = fitting _ _ _ (c .before .before .before .before .before .pre) (c .before .before .before .header-of .ensures) (c .before .before .places-of .ensures) .limit
 
+tolerance-at-requires : tie.Need-tolerance-at-requires
+tolerance-at-requires c κs = fitting _ _ _ (c .before .before .before .before .before .before .pre) (c .before .before .before .before .header-of .ensures) (c .before .before .before .places-of .ensures) .tolerance
+
 get-u32-requires : tie.Need-get-u32-requires
-get-u32-requires c κs = fitting _ _ _ (c .before .before .before .before .before .before .pre) (c .before .before .before .before .header-of .ensures) (c .before .before .before .places-of .ensures) .budget
+get-u32-requires c κs = fitting _ _ _ (c .before .before .before .before .before .before .before .pre) (c .before .before .before .before .before .header-of .ensures) (c .before .before .before .before .places-of .ensures) .budget
 
 returns : tie.Need-returns
-returns c = fields-are _ _ _ _ _ _ _ (c .before .before .before .before .before .header-of .ensures) (c .before .before .before .before .places-of .ensures) (c .before .before .before .limit-at .ensures) (c .before .before .limit-at2 .ensures) (c .before .entry-limit-at .ensures) (c .get-u32 .ensures)
+returns c =
+    fields-are _ _ _ _ _ _ _ _ (c .before .before .before .before .before .before .header-of .ensures) (c .before .before .before .before .before .places-of .ensures)
+    (c .before .before .before .before .limit-at .ensures) (c .before .before .before .limit-at2 .ensures) (c .before .before .entry-limit-at .ensures) (c .before .tolerance-at .ensures) (c .get-u32 .ensures)
 
 pub fields-of-spec : {M : Type 1} → statement M
 fields-of-spec =
@@ -39,5 +44,6 @@ fields-of-spec =
     limit-at-requires
     limit-at-requires-2
     entry-limit-at-requires
+    tolerance-at-requires
     get-u32-requires
     returns)

@@ -22,6 +22,12 @@ add-limit c = search needs
 room-requires-3 : tie.Need-room-requires-3
 room-requires-3 c κs = search needs
 
+add-tolerance : tie.Need-add-tolerance
+add-tolerance c = search needs
+
+room-from-requires : tie.Need-room-from-requires
+room-from-requires c κs = search needs
+
 add-budget : tie.Need-add-budget
 add-budget c = search needs
 
@@ -39,37 +45,37 @@ sub-points c = search needs
 
 mul-points : tie.Need-mul-points
 mul-points c =
-    let b = bounded _ (c .before .before .before .before .before .pre) in
+    let b = bounded _ (c .before .before .before .before .before .before .pre) in
     omega arith
 
 add-points : tie.Need-add-points
 add-points c =
-    let b = bounded _ (c .before .before .before .before .before .pre) in
+    let b = bounded _ (c .before .before .before .before .before .before .pre) in
     omega arith
 
 mul-rows : tie.Need-mul-rows
 mul-rows c =
-    let b = bounded _ (c .before .before .before .before .before .before .pre) in
+    let b = bounded _ (c .before .before .before .before .before .before .before .pre) in
     omega arith
 
 add-rows : tie.Need-add-rows
 add-rows c =
-    let b = bounded _ (c .before .before .before .before .before .before .pre) in
-    omega arith
-
-mul-t12 : tie.Need-mul-t12
-mul-t12 c =
     let b = bounded _ (c .before .before .before .before .before .before .before .pre) in
     omega arith
 
-add-t11 : tie.Need-add-t11
-add-t11 c =
-    let b = bounded _ (c .before .before .before .before .before .before .before .pre) in
+mul-t13 : tie.Need-mul-t13
+mul-t13 c =
+    let b = bounded _ (c .before .before .before .before .before .before .before .before .pre) in
+    omega arith
+
+add-t12 : tie.Need-add-t12
+add-t12 c =
+    let b = bounded _ (c .before .before .before .before .before .before .before .before .pre) in
     omega arith
 
 returns : tie.Need-returns
 unfolding placesOf
-returns c = rw (c .before .before .before .before .before .before .room .ensures .0, c .before .before .before .before .before .room2 .ensures .0, c .before .before .before .before .room3 .ensures .0) refl
+returns c = rw (c .before .before .before .before .before .before .before .room .ensures .0, c .before .before .before .before .before .before .room2 .ensures .0, c .before .before .before .before .before .room3 .ensures .0, c .before .before .before .before .room-from .ensures .0) refl
 
 pub places-of-spec : {M : Type 1} → statement M
 places-of-spec =
@@ -80,6 +86,8 @@ places-of-spec =
     room-requires-2
     add-limit
     room-requires-3
+    add-tolerance
+    room-from-requires
     add-budget
     add-offset
     mul-vector
@@ -89,6 +97,6 @@ places-of-spec =
     add-points
     mul-rows
     add-rows
-    mul-t12
-    add-t11
+    mul-t13
+    add-t12
     returns)

@@ -5,10 +5,10 @@ use Rattle.orbit_list.proofs.list_inners.Statement.{statement}
 use Rattle.orbit_list.proofs.list_inners.Tie as tie
 
 abbrev Inv-loop : tie.InvT-loop
-Inv-loop flat rank rows m ws count n k₀ t9 t10 k = k ≤ count
+Inv-loop flat rank tolerance rows m ws count n k₀ t9 t10 k = k ≤ count
 
 abbrev μ-loop : tie.MeasureT-loop
-μ-loop flat rank rows m ws count n k₀ t9 t10 k = count - k
+μ-loop flat rank tolerance rows m ws count n k₀ t9 t10 k = count - k
 
 loop-holds : tie.Need-loop-holds Inv-loop μ-loop
 loop-holds c = search needs

@@ -1,7 +1,8 @@
 //! Jobs that break the register's rules: both sides of every bound on the
 //! header, the floats and the rows; bytes altered anywhere; wrong lengths.
 
-use faceting_register::job::{identity_row, unit_vectors};
+use faceting_register::bounds::TOLERANCES;
+use faceting_register::job::{identity_row, unit_vectors, TOLERANCE_VERSION};
 use faceting_register::Job;
 
 use super::kinds::{small_job, wide, wide_bytes, Draft};
@@ -12,7 +13,7 @@ use super::symmetry;
 pub fn counts(rng: &mut Rng) -> Draft {
     let mut job = small_job(rng);
     match rng.below(5) {
-        0 => job.version = *rng.pick(&[0, 1, 2, 256, 65_535]),
+        0 => job.version = *rng.pick(&[0, 1, 2, 3, 256, 257, 65_535]),
         1 => set_rank(&mut job, *rng.pick(&[1, 2, 3, 4, 5, 6])),
         2 => set_dimension(&mut job, rng.within(0, 6)),
         3 => set_points(&mut job, *rng.pick(&[0, 1, 2, 19, 20, 21, 22])),
@@ -65,6 +66,11 @@ pub fn numbers(rng: &mut Rng) -> Draft {
     let mut job = small_job(rng);
     job.budget = job.budget.min(400);
     let never = [f64::NAN, f64::INFINITY, f64::NEG_INFINITY];
+    if rng.once_in(6) {
+        job.version = TOLERANCE_VERSION;
+        job.tolerance = tolerance(rng);
+        return wide(job);
+    }
     if rng.once_in(3) {
         let length = match rng.once_in(3) {
             true => *rng.pick(&never),
@@ -97,6 +103,15 @@ pub fn numbers(rng: &mut Rng) -> Draft {
         .take(1)
         .for_each(|x| *x = value);
     wide(job)
+}
+
+/// An end of the range of tolerances, the next float on either side of it, or one that
+/// is refused.
+pub fn tolerance(rng: &mut Rng) -> f64 {
+    const NEVER: [f64; 6] = [0.0, -0.0, -1e-7, f64::NAN, f64::INFINITY, f64::NEG_INFINITY];
+    let (least, most) = TOLERANCES.into_inner();
+    let end = *rng.pick(&[least, most]);
+    beside(rng, end, &NEVER)
 }
 
 fn beside(rng: &mut Rng, bound: f64, others: &[f64]) -> f64 {

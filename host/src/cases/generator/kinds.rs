@@ -2,7 +2,7 @@
 //! case of it is made.
 
 use faceting_register::bounds::{workspace_length, TOLERANCE, WORKSPACE};
-use faceting_register::job::{identity_row, unit_vectors};
+use faceting_register::job::{identity_row, unit_vectors, TOLERANCE_VERSION};
 use faceting_register::request::USUAL_ROOM;
 use faceting_register::Job;
 
@@ -143,6 +143,12 @@ pub const KINDS: &[Kind] = &[
         "answer buffers exactly full, short and long",
     ),
     kind(
+        "tolerance",
+        0,
+        tolerance,
+        "version 2: the kinds near, brink and limits around another tolerance, and the range's ends; never drawn, only named",
+    ),
+    kind(
         "brink",
         0,
         brink,
@@ -248,11 +254,15 @@ fn crowded(rng: &mut Rng) -> Draft {
 
 /// Any small set, moved by about the tolerance; sometimes with points twice.
 fn near(rng: &mut Rng) -> Draft {
+    wide(near_job(rng, TOLERANCE))
+}
+
+fn near_job(rng: &mut Rng, tolerance: f64) -> Job {
     if rng.once_in(3) {
         let dimension = rng.within(2, 3);
         let count = rng.within(dimension + 1, 6);
-        let points = shapes::at_tolerance(rng, count, dimension, TOLERANCE);
-        return wide(with_rows(rng, points));
+        let points = shapes::at_tolerance(rng, count, dimension, tolerance);
+        return with_rows(rng, points);
     }
     let mut points = match rng.below(3) {
         0 => shapes::crowded(rng, 5, 2),
@@ -263,18 +273,48 @@ fn near(rng: &mut Rng) -> Draft {
         let twin = rng.pick(&points).clone();
         points.push(twin);
     }
-    let size = *rng.pick(&[1e-9, 3e-8, 1e-7, 1.5e-7, 3e-7, 1e-6]);
-    let squeeze = *rng.pick(&[1.0, 1.0, 1e-3, 1e-6]);
+    let size = tolerance * *rng.pick(&[0.01, 0.3, 1.0, 1.5, 3.0, 10.0]);
+    let squeeze = *rng.pick(&[1.0, 1.0, 1e4 * tolerance, 10.0 * tolerance]);
     let points = shapes::nudged(rng, shapes::scaled(points, squeeze), size);
-    wide(with_rows(rng, points))
+    with_rows(rng, points)
 }
 
 /// In space more often than in the plane, where two products can be added in
 /// either order.
 fn brink(rng: &mut Rng) -> Draft {
+    wide(brink_job(rng, TOLERANCE))
+}
+
+fn brink_job(rng: &mut Rng, tolerance: f64) -> Job {
     let dimension = if rng.once_in(4) { 2 } else { 3 };
-    let points = shapes::brink(rng, dimension, TOLERANCE);
-    wide(with_rows(rng, points))
+    let points = shapes::brink(rng, dimension, tolerance);
+    with_rows(rng, points)
+}
+
+/// The tolerances that version 2 is tried at.
+pub const TRIED: [f64; 4] = [1e-9, 1e-7, 1e-5, 1e-3];
+
+fn tolerance(rng: &mut Rng) -> Draft {
+    let tolerance = *rng.pick(&TRIED);
+    let mut job = at_tolerance(rng, tolerance);
+    if rng.once_in(4) {
+        job.tolerance = damage::tolerance(rng);
+    }
+    wide(job)
+}
+
+/// A job of version 2 whose points lie near a border, or whose lengths near a limit.
+pub fn at_tolerance(rng: &mut Rng, tolerance: f64) -> Job {
+    let job = match rng.below(4) {
+        0 | 1 => near_job(rng, tolerance),
+        2 => brink_job(rng, tolerance),
+        _ => limits_job(rng, tolerance),
+    };
+    Job {
+        version: TOLERANCE_VERSION,
+        tolerance,
+        ..job
+    }
 }
 
 fn large(rng: &mut Rng) -> Draft {
@@ -323,7 +363,7 @@ fn plane(rng: &mut Rng) -> Draft {
     job.offset = (0..dimension).map(|_| rng.below(3) as f64 / 2.0).collect();
     job.basis = some_basis(rng, rank - 1, dimension);
     if rng.once_in(2) {
-        limit_lengths(rng, &mut job);
+        limit_lengths(rng, &mut job, TOLERANCE);
     }
     wide(job)
 }
@@ -357,32 +397,37 @@ fn turned_basis(rng: &mut Rng, count: usize, dimension: usize) -> Vec<Vec<f64>> 
 }
 
 fn limits(rng: &mut Rng) -> Draft {
+    wide(limits_job(rng, TOLERANCE))
+}
+
+fn limits_job(rng: &mut Rng, tolerance: f64) -> Job {
     let mut job = small_job(rng);
     if rng.once_in(3) {
         let points = lattice_points(rng);
         job = with_rows(rng, points);
     }
-    limit_lengths(rng, &mut job);
+    limit_lengths(rng, &mut job, tolerance);
     if rng.once_in(2) {
         job.limit = Some(*rng.pick(&[0, 1, 2, 3, 5, 20, 1_024, u32::MAX]));
     }
-    wide(job)
+    job
 }
 
-fn limit_lengths(rng: &mut Rng, job: &mut Job) {
+fn limit_lengths(rng: &mut Rng, job: &mut Job, tolerance: f64) {
     if rng.once_in(2) {
-        job.min = Some(limit_length(rng, &job.points));
+        job.min = Some(limit_length(rng, &job.points, tolerance));
     }
     if rng.once_in(2) {
-        job.max = Some(limit_length(rng, &job.points));
+        job.max = Some(limit_length(rng, &job.points, tolerance));
     }
 }
 
 /// The length of some edge, or a little beside it, around the tolerance.
-fn limit_length(rng: &mut Rng, points: &Points) -> f64 {
+fn limit_length(rng: &mut Rng, points: &Points, tolerance: f64) -> f64 {
     let (p, q) = (rng.pick(points), rng.pick(points));
     let squares = p.iter().zip(q).map(|(a, b)| (a - b) * (a - b));
-    let beside = *rng.pick(&[0.0, 0.0, 5e-8, 9.9e-8, 1e-7, 1.01e-7, 2e-7, 0.3]);
+    let beside = [0.0, 0.0, 0.5, 0.99, 1.0, 1.01, 2.0, 0.3 / tolerance];
+    let beside = tolerance * *rng.pick(&beside);
     let sign = if rng.once_in(2) { -1.0 } else { 1.0 };
     (squares.sum::<f64>().sqrt() + sign * beside).max(0.0)
 }

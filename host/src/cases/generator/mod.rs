@@ -9,10 +9,25 @@ pub mod rng;
 pub(crate) mod shapes;
 pub(crate) mod symmetry;
 
-pub use kinds::{Kind, KINDS};
+pub use kinds::{Kind, KINDS, TRIED};
 
 use crate::cases::Case;
 use rng::{mix, Rng};
+
+/// Case `number` of a seed at a tolerance, in version 2: points or lengths near a border.
+pub fn case_within(seed: u64, number: usize, tolerance: f64) -> Case {
+    let seed = mix(mix(seed) ^ number as u64);
+    let mut rng = Rng::new(seed);
+    let draft = kinds::wide(kinds::at_tolerance(&mut rng, tolerance));
+    Case {
+        number,
+        seed,
+        kind: "tolerance".into(),
+        workspace: draft.workspace,
+        room: draft.room,
+        job: draft.job,
+    }
+}
 
 /// Case `number` of a seed; of any kind, or of that one.
 pub fn case(seed: u64, number: usize, kind: Option<&Kind>) -> Case {

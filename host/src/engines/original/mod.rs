@@ -75,7 +75,7 @@ pub fn faceting(job: &Job, bounds: &Bounds) -> (Result<Answer, Stop>, Events) {
         basis: job.basis.iter().map(Point::from).collect(),
         offset: Point::from(&job.offset),
     };
-    let (found, events) = watched(bounds, job.budget, || cut::run(plane, job));
+    let (found, events) = watched(bounds, job, || cut::run(plane, job));
     (found.map(|found| answer(events.examined, found)), events)
 }
 

@@ -5,12 +5,13 @@
 use std::cell::RefCell;
 use std::panic::{catch_unwind, resume_unwind, AssertUnwindSafe};
 
-use faceting_register::{Refusal, Stop};
+use faceting_register::{Job, Refusal, Stop};
 
 use crate::engines::judgement::{Bounds, Events, Inner, Orbit};
 
 struct Watch {
     bounds: Bounds,
+    tolerance: f64,
     budget: u32,
     events: Events,
 }
@@ -19,15 +20,16 @@ thread_local! {
     static WATCH: RefCell<Option<Watch>> = const { RefCell::new(None) };
 }
 
-/// Runs under a fresh watch: the result and the events.
+/// Runs a job's call under a fresh watch: the result and the events.
 pub fn watched<T>(
     bounds: &Bounds,
-    budget: u32,
+    job: &Job,
     run: impl FnOnce() -> T,
 ) -> (Result<T, Stop>, Events) {
     let watch = Watch {
         bounds: bounds.clone(),
-        budget,
+        tolerance: job.tolerance,
+        budget: job.budget,
         events: Events::default(),
     };
     WATCH.set(Some(watch));
@@ -68,9 +70,9 @@ fn refuse_if(met: bool, refusal: Refusal) -> Result<(), Refusal> {
     }
 }
 
-/// The tolerance of the run.
+/// The tolerance of the run: the job's.
 pub(super) fn tolerance() -> f64 {
-    WATCH.with_borrow(|watch| watch.as_ref().map_or(0.0, |w| w.bounds.tolerance))
+    WATCH.with_borrow(|watch| watch.as_ref().map_or(0.0, |w| w.tolerance))
 }
 
 /// A new set of that many points is about to open an orbit.

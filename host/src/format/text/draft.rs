@@ -201,6 +201,7 @@ impl Draft {
         let basis = self.full_basis(rank, d)?;
         let rows = self.written_rows()?;
         Ok(Job {
+            version: self.full_version()?,
             rank,
             dimension,
             offset: offset.unwrap_or_else(|| vec![0.0; d]),
@@ -209,6 +210,21 @@ impl Draft {
             points: vectors_of(self.points, d, "the point")?,
             ..self.job
         })
+    }
+
+    /// The version that was said, or the least that has the keywords.
+    fn full_version(&self) -> Result<u16, String> {
+        let least = match self.has("tolerance") {
+            true => job::TOLERANCE_VERSION,
+            false => job::VERSION,
+        };
+        match self.job.version {
+            _ if !self.has("version") => Ok(least),
+            said if said < least && self.has("tolerance") => Err(format!(
+                "version {said} has no tolerance; leave 'version' out"
+            )),
+            said => Ok(said),
+        }
     }
 
     fn full_basis(&mut self, rank: u8, dimension: usize) -> Result<Vec<Vec<f64>>, String> {

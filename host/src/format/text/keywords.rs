@@ -1,7 +1,7 @@
 //! The keywords of the text form, each in one place: what it reads into a draft and
 //! what is written of a job. `help/text.txt` tells people of them.
 
-use faceting_register::Job;
+use faceting_register::job::{Job, TOLERANCE_VERSION, VERSION};
 
 use super::draft::{Draft, Wanted};
 use super::values::{numbers, one_number, one_of, row, whole};
@@ -40,11 +40,11 @@ pub fn find(word: &str) -> Option<&'static Keyword> {
 }
 
 /// Every keyword, in the order in which a job is written.
-pub static KEYWORDS: [Keyword; 14] = [
+pub static KEYWORDS: [Keyword; 15] = [
     value(
         "version",
         |draft, text| put(&mut draft.job.version, whole(text)),
-        |job| (job.version != 1).then(|| Said::behind(job.version)),
+        |job| (!implied(job.version)).then(|| Said::behind(job.version)),
     ),
     value(
         "rank",
@@ -70,6 +70,11 @@ pub static KEYWORDS: [Keyword; 14] = [
         "limit",
         |draft, text| put(&mut draft.job.limit, whole(text).map(Some)),
         |job| job.limit.map(Said::behind),
+    ),
+    value(
+        "tolerance",
+        |draft, text| put(&mut draft.job.tolerance, one_number(text)),
+        |job| (job.version >= TOLERANCE_VERSION).then(|| Said::behind(decimal(job.tolerance))),
     ),
     value(
         "budget",
@@ -119,6 +124,11 @@ const SYMMETRIES: [(&str, Wanted); 3] = [
     ("turns", Wanted::Found(Kind::Turns)),
     ("none", Wanted::None),
 ];
+
+/// Whether a version follows from the other keywords.
+fn implied(version: u16) -> bool {
+    [VERSION, TOLERANCE_VERSION].contains(&version)
+}
 
 /// A keyword with values behind it.
 const fn value(word: &'static str, values: Values, write: fn(&Job) -> Option<Said>) -> Keyword {
