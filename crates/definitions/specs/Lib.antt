@@ -12,6 +12,7 @@ pub mod Faceting
 pub mod Job
 pub mod Demands
 pub mod Symmetry
+pub mod Noble
 pub mod Open
 pub mod Labels
 pub mod Examples
@@ -22,3 +23,4 @@ pub mod Tolerances
 pub mod PortersErrors
 pub mod RuledOut
 pub mod Carried
+pub mod Packages
