@@ -45,7 +45,7 @@ below-child extended t item j e h k =
 
 -- ---- a facet that adds 1, where all that is left adds 1
 
-adding-one : (t : Table) (ridge : ℕ) (l : List Facet) → total t l ridge ≡ 1 → (f : Facet) × Mem f l × (adds t ridge f ≡ 1)
+pub adding-one : (t : Table) (ridge : ℕ) (l : List Facet) → total t l ridge ≡ 1 → (f : Facet) × Mem f l × (adds t ridge f ≡ 1)
 unfolding total
 adding-one t ridge [] e = absurd (omega arith)
 adding-one t ridge (g ∷ l) e = go (adds t ridge g) refl (λ q. adding-one t ridge l q)

@@ -7,6 +7,7 @@ pub mod Choices
 pub mod Complete
 pub mod Unique
 pub mod OneOrder
+pub mod Minimal
 pub mod Entries
 pub mod Determined
 pub mod Jobs
