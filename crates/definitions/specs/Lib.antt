@@ -12,6 +12,7 @@ pub mod Faceting
 pub mod Job
 pub mod Demands
 pub mod Symmetry
+pub mod Prices
 pub mod Noble
 pub mod Open
 pub mod Labels
@@ -23,4 +24,5 @@ pub mod Tolerances
 pub mod PortersErrors
 pub mod RuledOut
 pub mod Carried
+pub mod Quotes
 pub mod Packages
