@@ -1,6 +1,6 @@
 /*
- * The register of facetings: one function, every promise of which is proved
- * (docs/READING.md). It lives in target/staticlib/libregister.a, which
+ * The register of facetings: functions, every promise of which is proved
+ * (docs/READING.md). They live in target/staticlib/libregister.a, which
  * `rt staticlib register` proves and writes:
  *
  *     cc -I include program.c target/staticlib/libregister.a -o program
@@ -111,6 +111,38 @@ enum register_refusal {
 int64_t register_answer(const uint8_t *job, size_t job_length,
                         uint8_t *workspace, size_t workspace_length,
                         uint8_t *answer, size_t answer_length);
+
+/* The bytes of a tariff. */
+#define REGISTER_TARIFF_LENGTH ((size_t)768)
+
+/* Why there is no quote, behind all refusals of the job but 17 [16.4]. */
+#define REGISTER_TARIFF 19 /* tariff of another length, or with a number above its bound */
+#define REGISTER_SOLIDS 20 /* rank other than 4 */
+#define REGISTER_ENTRY 21  /* not so many entries */
+
+/*
+ * What an entry of a job of rank 4 costs at a tariff, in pence.
+ *
+ * Entries are counted from 0, as the answer has them. A tariff is 192 uint32_t, each
+ * in four bytes, the lowest first: the price of a polygon of 1 edge, of 2, .., of 190;
+ * the price of a joint; the discount in thousandths. Prices are at most 1,000,000, the
+ * discount at most 1,000.
+ *
+ * S is the price of each polygon of the entry's figure, by its edges, and of a joint
+ * for each edge of the figure. Returns floor((S * (1000 - discount) + 500) / 1000), or
+ * minus the number of a refusal: those of register_answer but 17, then 19, 20, 21 in
+ * this order. Nothing else is returned, and every call ends.
+ *
+ * What is promised, for all bytes in the three slices: the value is the definition's
+ * quote [16.4], at the figure of the definition's entry. Every polygon has a price
+ * (sizes-priced), and no total overflows (never-overflows). Nothing is written but the
+ * workspace; its contents before make no difference and mean nothing afterwards. The
+ * caller owes what register_answer's owes.
+ */
+int64_t register_price(const uint8_t *job, size_t job_length,
+                       uint8_t *workspace, size_t workspace_length,
+                       uint64_t entry,
+                       const uint8_t *tariff, size_t tariff_length);
 
 #ifdef __cplusplus
 }

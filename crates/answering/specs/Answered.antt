@@ -38,9 +38,9 @@ module _ {bytes : Bytes} {f : Fields} {rows s : List ℕ} where
   unfolding outcomeSaid
   call-refuses d = d .said .is
 
-  pub call-ends : {swapped : Bool} {rest : ℕ} → JobCalled bytes f rows (Ends swapped rest) s → (callOf bounds1 (readJob bytes) ≡ answered (edgeAnswer swapped rest)) × (rest ≤ f .budget)
+  pub call-ends : {swapped : Bool} {rest : ℕ} → JobCalled bytes f rows (Ends swapped rest) s → (callOf bounds1 (readJob bytes) ≡ answered (edgeAnswer swapped rest)) × (rest ≤ f .budget) × (f .rank ≤ 2)
   unfolding outcomeSaid CanWrite
-  call-ends d = (d .said .is, d .said .can-write)
+  call-ends d = let w = d .said .can-write in (d .said .is, w .0, w .1)
 
   -- and what a call of rank 3 or more leaves is its answer
   pub call-leaves : {level : Level} {rest : ℕ} → JobCalled bytes f rows (Left level rest) s

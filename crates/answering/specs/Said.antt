@@ -32,7 +32,7 @@ outcomeSaid more n rows kept (Left level rest) s = answered (answerLeft more n r
 -- and an answer can be written
 unfoldable pub CanWrite : ℕ → ℕ → ℕ → List ℕ → List Kept → ℕ → Called → List ℕ → Type 0
 CanWrite rank n m rows kept budget (Refused number) s = Unit {0}
-CanWrite rank n m rows kept budget (Ends swapped rest) s = rest ≤ budget
+CanWrite rank n m rows kept budget (Ends swapped rest) s = (rest ≤ budget) × (rank ≤ 2)
 CanWrite rank n m rows kept budget (Left level rest) s =
     (3 ≤ rank) × (rank ≤ 4) × Writable (rank - 3) n m rows kept level budget rest s
 
@@ -66,7 +66,7 @@ module _ (rules : Rules) (plane : Subspace) (points : List Vec) (m : ℕ) (rows 
       go zero e (Ends swapped rest) h = record {
         kept = [];
         is = h;
-        can-write = subst (λ (x : ℕ). x ≤ budget) (ends-left swapped rest) (call-spends 0 rules plane points (rowsIn (length points) m rows) budget (edgeAnswer swapped rest) h);
+        can-write = (subst (λ (x : ℕ). x ≤ budget) (ends-left swapped rest) (call-spends 0 rules plane points (rowsIn (length points) m rows) budget (edgeAnswer swapped rest) h), omega arith);
       }
       go zero e (Left level rest) h = absurd h
       go (suc more) e (Refused number) h = record { kept = []; is = h; can-write = tt }

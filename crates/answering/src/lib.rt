@@ -58,7 +58,7 @@ fn rules_of(fields: Fields) -> Rules
 }
 
 // The bytes of a job's rows in a call: 32 to a row, 120 rows at most.
-const ROWS_ROOM: usize = 3840;
+pub const ROWS_ROOM: usize = 3840;
 
 // A job that passed the refusals before the call, loaded and called [12.1]. Its rows stay with the caller, who needs them for what the call leaves.
 pub fn call_job(job: &[u8], fields: Fields, ws: &mut [u8], rows: &mut [u8]) -> Called

@@ -49,7 +49,7 @@ pub fn list_marks(lists: &[u8], area: Area, k: usize) -> [bool; 1024]
 }
 
 // The edges of the image of facet x under a row.
-fn image_marks(edges: &[u8], x: usize, rows: &[u8], m: usize, row: usize) -> [bool; 400]
+pub fn image_marks(edges: &[u8], x: usize, rows: &[u8], m: usize, row: usize) -> [bool; 400]
     requires { ⌜ (32 * m ≤ length (now rows)) × EdgesFit m (now rows) (now edges) × (x < count (now edges)) × (row < m) ⌝ }
     ensures { λ r. ⌜ r ≡ imageMarks (now (edges .entry)) (now (rows .entry)) x row ⌝ }
 {
@@ -104,7 +104,7 @@ fn was_chosen(before: usize, id: usize) -> bool
 }
 
 // What comes of an image, from what came of the one before it: 1 for one that is chosen, 2 for one that equals one chosen before, 0 for any other.
-fn next_choice(inside: &[bool; 1024], before: usize, id: usize) -> usize
+pub fn next_choice(inside: &[bool; 1024], before: usize, id: usize) -> usize
     ensures { λ r. ⌜ r ≡ nextChoice (now (inside .entry)) before id ⌝ }
 {
     if was_chosen(before, id) {

@@ -226,13 +226,13 @@ polygons-figured n o s (k ∷ kept-all) b h e =
 
 module _ {n m : ℕ} {bytes : List ℕ} {kept-all : List Kept} {level : Level} {s ids : List ℕ} (fits : RowsFit n m bytes) (h : EdgesKept n kept-all) (left : Leaves 1 n (rowsIn n m bytes) kept-all level s)
     (arranged : Arranged (imageEdges (rowsIn n m bytes) (edgesOf kept-all)) (level .shelf .facets) m ids) where
-  abbrev sends : List Row
+  abbrev pub sends : List Row
   sends = rowsIn n m bytes
 
   abbrev image : ℕ → List Pair
   image = imageEdges sends (edgesOf kept-all)
 
-  abbrev drawn : ℕ → List Bool
+  abbrev pub drawn : ℕ → List Bool
   drawn id = imageOf (edgesPart (level .shelf) s) bytes id
 
   many-rows : length sends ≡ m
@@ -250,19 +250,19 @@ module _ {n m : ℕ} {bytes : List ℕ} {kept-all : List Kept} {level : Level} {
       ∙ row-image fits (id % 131072 / 1024) (arranged .row id i) es (λ e j. all-ends h es (member-at (edgesOf kept-all) x [] (omega (arith, a, b))) e j)
 
   module _ (numbers : List ℕ) (inside : (x : ℕ) → Mem x numbers → x < level .shelf .facets) where
-    abbrev facets : List Facet
+    abbrev pub facets : List Facet
     facets = map (facetAt kept-all) numbers
 
-    abbrev marks : List Bool
+    abbrev pub marks : List Bool
     marks = linesOf n m bytes level s ids numbers
 
-    abbrev chosen : List ℕ
+    abbrev pub chosen : List ℕ
     chosen = chosenFrom (insideOf n m bytes level s ids numbers) 0 ids
 
-    abbrev lines : List Pair
+    abbrev pub lines : List Pair
     lines = edgesInOrder (flatMap (keptEdgeImages sends kept-all) facets)
 
-    abbrev polygons : List (List Pair)
+    abbrev pub polygons : List (List Pair)
     polygons = polygonsInOrder (flatMap (keptPolygons sends kept-all) facets)
 
     lines-are : edgesMarked marks ≡ lines
@@ -301,7 +301,7 @@ module _ {n m : ℕ} {bytes : List ℕ} {kept-all : List Kept} {level : Level} {
               ∙ (λ t. edgesInOrder (map (λ (e : Pair). pairImage e (getD sends (sym (found .3) t) [])) (getD (edgesOf kept-all) (sym (found .2) t) [])))),
         )
 
-    polygons-are : map (λ (id : ℕ). edgesMarked (drawn id)) chosen ≡ polygons
+    pub polygons-are : map (λ (id : ℕ). edgesMarked (drawn id)) chosen ≡ polygons
     polygons-are =
         map-same (λ (id : ℕ). edgesMarked (drawn id)) image chosen (λ id i. image-written id (of-chosen (insideOf n m bytes level s ids numbers) 0 ids id i .0))
         ∙ chosen-in-order image (insideOf n m bytes level s ids numbers) ids (arranged .runs) (flatMap (keptPolygons sends kept-all) facets) into back
@@ -340,7 +340,7 @@ module _ {n m : ℕ} {bytes : List ℕ} {kept-all : List Kept} {level : Level} {
         ∙ sym (map-map (edgeNumber (edgesMarked marks)) pairOf codes) in
         λ t. sym (length-map codes pairOf) t ∷ each t
 
-    many-lines : length (codesMarked marks 400) ≡ length lines
+    pub many-lines : length (codesMarked marks 400) ≡ length lines
     unfolding edgesMarked
     many-lines = sym (length-map (codesMarked marks 400) pairOf) ∙ ap length lines-are
 

@@ -58,7 +58,7 @@ fn write_polyhedron(
 }
 
 // The facets of entry k.
-fn entry_facets(ws: &[u8], level: Level, k: usize) -> [bool; 1024]
+pub fn entry_facets(ws: &[u8], level: Level, k: usize) -> [bool; 1024]
     requires { ⌜ ListsStanding level (now ws) × (k < level .count) ⌝ }
     ensures { λ r. ⌜ r ≡ marked (replicate 1024 false) (getD (listsLeft level (now (ws .entry))) k []) ⌝ }
 {

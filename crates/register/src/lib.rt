@@ -1,5 +1,6 @@
-// The exported function, a thin one: a job's bytes in, its answer's bytes out, whatever the lengths of the slices are. The work is done in the crates below.
+// The exported functions, thin ones: a job's bytes in, its answer's bytes out, whatever the lengths of the slices are. The work is done in the crates below.
 use answering::Written;
+use quotes::Quoted;
 ghost use mathlib.Core.Path.{_≡_};
 ghost use lib.IntN.{pos, negℤ};
 ghost use lib.ListN.{length};
@@ -7,6 +8,7 @@ ghost use Rattle.definitions.specs.Outcome.{answered};
 ghost use Rattle.definitions.specs.Job.{Bytes, outcome, codeOf, bufferOf};
 ghost use Rattle.definitions.specs.Demands.{Demand1, Demand2, Demand3};
 ghost use Rattle.definitions.specs.Symmetry.{Symmetric};
+ghost use Rattle.definitions.specs.Prices.{quote, quoteCode};
 ghost use Rattle.register.specs.Reading.{entriesRead};
 
 // [12.7] minus the refusal's number
@@ -33,5 +35,17 @@ pub extern "C" fn register_answer(job: &[u8], workspace: &mut [u8], answer: &mut
         Written::Refused(number) => refusal(number),
         Written::Short => -17,
         Written::Wrote(many) => many as i64,
+    }
+}
+
+// The quote of an entry of a job of rank 4, counted from 0, at a tariff: its total in pence, or minus the number of the refusal. It is the definition's quote [16.4], whose figure is the
+// definition's entry, whatever the slices are; nothing is written but the workspace.
+#[no_mangle]
+pub extern "C" fn register_price(job: &[u8], workspace: &mut [u8], entry: u64, tariff: &[u8]) -> i64
+    ensures code { λ r. ⌜ r ≡ quoteCode (quote (now (job .entry)) (length (now (workspace .entry))) entry (now (tariff .entry))) ⌝ }
+{
+    match quotes::quote_job(job, workspace, entry, tariff) {
+        Quoted::Refused(number) => refusal(number),
+        Quoted::Total(total) => total as i64,
     }
 }

@@ -4,4 +4,5 @@
 pub mod definitions;
 pub mod difference;
 pub mod mutants;
+pub mod pricing;
 pub mod trials;

@@ -9,5 +9,6 @@ pub mod hints;
 pub mod letters;
 pub mod off;
 pub mod quote;
+pub mod tariff;
 pub mod text;
 pub mod vertex_set;

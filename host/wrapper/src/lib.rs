@@ -17,6 +17,7 @@ pub mod answer;
 pub mod bounds;
 pub mod engine;
 pub mod job;
+pub mod quote;
 pub mod refusal;
 pub mod register;
 pub mod request;

@@ -6,6 +6,7 @@ mod order;
 mod outcome;
 mod output;
 mod places;
+mod price;
 mod symmetry;
 mod work;
 
@@ -28,6 +29,7 @@ fn main() -> ExitCode {
             Some(Told::Help) => print(&format!("{ABOUT}{RULES}")),
             Some(Told::Version) => print(VERSION),
             None if options.symmetry => symmetry::run(&options),
+            None if options.price.is_some() => price::run(&options),
             None => work::run(&options),
         },
         Err(words) => complain(&words, Status::Bad),

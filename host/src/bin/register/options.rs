@@ -34,6 +34,8 @@ pub struct Options {
     pub quiet: bool,
     /// Whether symmetries are printed in place of answers.
     pub symmetry: bool,
+    /// The tariff to quote from, in place of answers.
+    pub price: Option<PathBuf>,
     /// Whether a note of weight counts in the exit status.
     pub strict: bool,
     /// What is told of the command itself.
@@ -52,6 +54,7 @@ impl Options {
             original: false,
             quiet: false,
             symmetry: false,
+            price: None,
             strict: false,
             told: None,
             inputs: Vec::new(),
@@ -81,6 +84,8 @@ impl Options {
             "--original" => self.original = true,
             "--quiet" => self.quiet = true,
             "--symmetry" => self.symmetry = true,
+            "--price" if self.price.is_some() => return Err("'--price' was given before".into()),
+            "--price" => self.price = Some(value()?.into()),
             "--strict" => self.strict = true,
             "--help" | "-h" => self.told = self.told.or(Some(Told::Help)),
             "--version" => self.told = self.told.or(Some(Told::Version)),
@@ -103,6 +108,14 @@ impl Options {
     fn checked(self) -> Result<Options, String> {
         if self.symmetry && (self.form != Form::Page || self.place.is_some()) {
             return Err("'--symmetry' goes with none of '--json', '--raw' and '-o'".into());
+        }
+        let priced = self.price.is_some();
+        if priced
+            && (self.symmetry || self.original || self.form != Form::Page || self.place.is_some())
+        {
+            return Err(
+                "'--price' goes with none of '--json', '--raw', '-o', '--symmetry' and '--original'".into(),
+            );
         }
         if self.inputs.is_empty() && self.told.is_none() {
             return Err("no vertex set is named; see --help".into());

@@ -1,0 +1,240 @@
+//! Quotes beside a second pricing of the answer's own bytes, where the register is
+//! linked; and the command that prints them.
+
+mod common;
+
+use std::time::{Duration, Instant};
+
+use faceting_register::bounds::WORKSPACE as LARGEST;
+use faceting_register::job::rank_of;
+use faceting_register::quote::{Counter, Tariff, MOST_EDGES, TARIFF_LENGTH};
+use faceting_register::request::USUAL_ROOM;
+use faceting_register::{Answer, Engine, Job, Register};
+use facetings_host::cases::generator::case;
+use facetings_host::compare::pricing::total;
+use facetings_host::format::text::encode;
+
+use common::WORKSPACE;
+
+/// Generated jobs whose entries are all quoted in every run of the tests.
+const COUNT: usize = 600;
+
+/// The linked functions; where there are none, the test says that it was skipped.
+fn linked() -> Option<(Register, Counter)> {
+    let opened = Register::open().and_then(|register| Ok((register, Counter::open()?)));
+    opened.map_err(|absent| println!("skipped: {absent}")).ok()
+}
+
+/// Numbers that look like any others, from a seed.
+struct Draw(u64);
+
+impl Draw {
+    fn below(&mut self, bound: u32) -> u32 {
+        self.0 ^= self.0 << 13;
+        self.0 ^= self.0 >> 7;
+        self.0 ^= self.0 << 17;
+        (self.0 >> 32) as u32 % bound
+    }
+}
+
+/// A tariff: small prices, prices at their bound, or any, and any discount.
+fn tariff(seed: u64) -> Tariff {
+    let mut draw = Draw(seed.wrapping_mul(0x9e37_79b9_7f4a_7c15) | 1);
+    let most = [10, 1_000, 1_000_001][draw.below(3) as usize];
+    let mut price = |full: bool| match full {
+        true => 1_000_000,
+        false => draw.below(most),
+    };
+    let full = seed % 7 == 0;
+    let prices = (0..MOST_EDGES).map(|_| price(full)).collect();
+    let joint = price(full);
+    let discount = [0, 1_000, draw.below(1_001)][draw.below(3) as usize];
+    Tariff {
+        prices,
+        joint,
+        discount,
+    }
+}
+
+/// The answer's bytes, where the job has one.
+fn answered(register: &mut Register, job: &[u8]) -> (i64, Option<Answer>) {
+    let mut buffer = vec![0; USUAL_ROOM];
+    let code = register.answer(job, LARGEST, &mut buffer);
+    let read = usize::try_from(code).ok().map(|length| {
+        let (answer, end) = Answer::read(&buffer).expect("an answer");
+        assert_eq!(end, length);
+        answer
+    });
+    (code, read)
+}
+
+/// Quotes every entry of a job and the first that is not there, and says how many.
+fn quoted(register: &mut Register, counter: &mut Counter, job: &[u8], seed: u64) -> usize {
+    let (code, answer) = answered(register, job);
+    let tariff = tariff(seed);
+    let bytes = tariff.bytes();
+    let four = rank_of(job) == 4;
+    let Some(answer) = answer else {
+        if code != -17 {
+            assert_eq!(counter.code(job, LARGEST, 0, &bytes), code);
+            assert_eq!(counter.code(job, LARGEST, 0, &bytes[1..]), code);
+        }
+        return 0;
+    };
+    assert_eq!(counter.code(job, LARGEST, seed, &bytes[1..]), -19);
+    if !four {
+        assert_eq!(counter.code(job, LARGEST, 0, &bytes), -20);
+        return 0;
+    }
+    for (number, entry) in answer.entries.iter().enumerate() {
+        let code = counter.code(job, LARGEST, number as u64, &bytes);
+        assert_eq!(
+            code as i128,
+            total(entry, &tariff) as i128,
+            "entry {number}"
+        );
+    }
+    let many = answer.entries.len() as u64;
+    for beyond in [many, many + 1, u64::from(u32::MAX) + 1, u64::MAX] {
+        assert_eq!(counter.code(job, LARGEST, beyond, &bytes), -21);
+    }
+    answer.entries.len()
+}
+
+/// Jobs of rank 4 as the generator makes them, and every tenth as it comes.
+fn jobs(seed: u64, count: usize) -> impl Iterator<Item = Vec<u8>> {
+    let all = (0..).map(move |number| case(seed, number, None).job);
+    let kept = all
+        .enumerate()
+        .filter(|(i, job)| i % 10 == 0 || rank_of(job) == 4);
+    kept.map(|(_, job)| job).take(count)
+}
+
+#[test]
+fn every_entry_of_generated_jobs_costs_what_its_figure_does() {
+    let Some((mut register, mut counter)) = linked() else {
+        return;
+    };
+    let mut entries = 0;
+    for (seed, job) in jobs(31, count()).enumerate() {
+        entries += quoted(&mut register, &mut counter, &job, seed as u64);
+    }
+    println!("{} jobs, {entries} entries", count());
+    assert!(entries > count() / 2);
+}
+
+/// So many jobs; the variable QUOTES asks for more.
+fn count() -> usize {
+    let asked = std::env::var("QUOTES").ok();
+    asked.and_then(|text| text.parse().ok()).unwrap_or(COUNT)
+}
+
+/// The best of so many calls, taken in turn.
+const TURNS: usize = 40;
+
+/// A quote beside the answer that it belongs to: run with `--ignored --nocapture`.
+#[test]
+#[ignore = "takes times"]
+fn a_quote_takes_less_than_its_answer() {
+    let Some((mut register, mut counter)) = linked() else {
+        return;
+    };
+    let bytes = by_edges(7, 125).bytes();
+    for name in [
+        "tetrahedron",
+        "cube",
+        "prism-6",
+        "icosahedron",
+        "dodecahedron",
+    ] {
+        let place = format!("{}/../examples/{name}.txt", env!("CARGO_MANIFEST_DIR"));
+        let text = std::fs::read_to_string(place).expect("an example");
+        let job = encode(&text).expect("a job");
+        let mut buffer = vec![0; USUAL_ROOM];
+        let (mut answer, mut quote) = (Duration::MAX, Duration::MAX);
+        for _ in 0..TURNS {
+            let start = Instant::now();
+            assert!(register.answer(&job, LARGEST, &mut buffer) > 0);
+            answer = answer.min(start.elapsed());
+            let start = Instant::now();
+            assert!(counter.code(&job, LARGEST, 0, &bytes) > 0);
+            quote = quote.min(start.elapsed());
+        }
+        println!("{name}: the answer {answer:?}, a quote {quote:?}");
+        assert!(quote < answer, "{name}");
+    }
+}
+
+fn tetrahedron() -> Vec<u8> {
+    let points = [[0, 0, 0], [1, 0, 0], [0, 1, 0], [0, 0, 1]];
+    let points = points.map(|point| point.map(f64::from).to_vec()).to_vec();
+    Job::usual(4, points).write()
+}
+
+/// As many pence as edges.
+fn by_edges(joint: u32, discount: u32) -> Tariff {
+    let prices = (1..=MOST_EDGES as u32).collect();
+    Tariff {
+        prices,
+        joint,
+        discount,
+    }
+}
+
+#[test]
+fn the_tetrahedron_costs_four_triangles_and_six_joints() {
+    let Some((_, mut counter)) = linked() else {
+        return;
+    };
+    let job = tetrahedron();
+    for (joint, discount, pence) in [
+        (0, 0, 12),
+        (1, 0, 18),
+        (1, 500, 9),
+        (1, 1_000, 0),
+        (1, 750, 5),
+        (1, 250, 14),
+        (1, 751, 4),
+        (1_000_000, 0, 6_000_012),
+    ] {
+        let code = counter.code(&job, WORKSPACE, 0, &by_edges(joint, discount).bytes());
+        assert_eq!(code, pence, "joint {joint}, discount {discount}");
+    }
+}
+
+#[test]
+fn refusals_come_in_their_order() {
+    let Some((_, mut counter)) = linked() else {
+        return;
+    };
+    let job = tetrahedron();
+    let good = by_edges(1, 0).bytes();
+    assert_eq!(good.len(), TARIFF_LENGTH);
+    let longer = [&good[..], &[0]].concat();
+    let altered = |at: usize, number: u32| {
+        let mut bytes = good.clone();
+        bytes[4 * at..4 * at + 4].copy_from_slice(&number.to_le_bytes());
+        bytes
+    };
+    let mut code =
+        |job: &[u8], entry: u64, tariff: &[u8]| counter.code(job, WORKSPACE, entry, tariff);
+    for tariff in [&good[..767], &longer, &[]] {
+        assert_eq!(code(&job, 0, tariff), -19);
+    }
+    for at in 0..=MOST_EDGES {
+        assert_eq!(code(&job, 0, &altered(at, 1_000_001)), -19, "number {at}");
+        assert!(code(&job, 0, &altered(at, 1_000_000)) >= 0, "number {at}");
+    }
+    assert_eq!(code(&job, 0, &altered(MOST_EDGES + 1, 1_001)), -19);
+    assert_eq!(code(&job, 0, &altered(MOST_EDGES + 1, 1_000)), 0);
+    assert_eq!(code(&job, 1, &good), -21);
+    assert_eq!(code(&job, 1, &longer), -19);
+    let points = [[0.0, 0.0], [1.0, 0.0], [1.0, 1.0], [0.0, 1.0]];
+    let mut square = Job::usual(3, points.map(Vec::from).to_vec());
+    assert_eq!(code(&square.write(), 99, &good), -20);
+    assert_eq!(code(&square.write(), 99, &longer), -19);
+    square.budget = 0;
+    assert_eq!(code(&square.write(), 99, &longer), -16);
+    assert_eq!(counter.code(&job, WORKSPACE - 1, 99, &longer), -12);
+    assert_eq!(counter.code(&[], 0, 99, &longer), -1);
+}
