@@ -7,8 +7,7 @@ use Prim.Native.Nat.{ℕ, _-_, _≤_, _<_}
 use lib.ListN.{length, replicate}
 use Rattle.definitions.specs.Outcome.{Outcome, refused, answered, andThen}
 use Rattle.definitions.specs.Recursion.{Answer}
-use Rattle.definitions.specs.Job.{Bytes, readJob, bounds1, callOf, answerWords, answerBytes, bufferOf}
-use Rattle.completeness.specs.Lengths.{alone}
+use Rattle.definitions.specs.Job.{Bytes, readJob, bounds1, callOf, answerWords, answerBytes, bufferOf, alone}
 use Rattle.words.specs.Writer.{encoded, full}
 use Rattle.openers.specs.Rows.{rowsIn}
 use Rattle.shapes.specs.Kept.{Kept}

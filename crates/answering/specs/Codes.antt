@@ -8,9 +8,9 @@ use lib.Dec.{ltb, nltb→le}
 use lib.IntN.{ℤ, pos, negℤ}
 use lib.ListN.{length}
 use Rattle.definitions.specs.Outcome.{Outcome, refused, answered, andThen, refuseIf}
-use Rattle.definitions.specs.Job.{Bytes, fitting, outcome, codeOf, bufferOf}
+use Rattle.definitions.specs.Job.{Bytes, fitting, outcome, codeOf, bufferOf, alone}
 use Rattle.laws.specs.Bools.{false→fails}
-use Rattle.completeness.specs.Lengths.{alone, outcome-alone}
+use Rattle.completeness.specs.Lengths.{outcome-alone}
 use Rattle.answering.specs.declared.Written.{Written}
 use Rattle.answering.specs.declared.Written.the-variants.{Refused, Short, Wrote}
 use Rattle.answering.specs.Closed.{writtenIn, bufferIn}

@@ -10,8 +10,7 @@ use Rattle.definitions.specs.Outcome.{Outcome, refused, answered, andThen}
 use Rattle.definitions.specs.Recursion as recursion
 use Rattle.definitions.specs.Faceting.{faceting}
 use Rattle.definitions.specs.Job as job
-use Rattle.definitions.specs.Job.{Bytes, readJob, planeOf, bounds1, tests, workspaceFor, callOf, answerBytes}
-use Rattle.completeness.specs.Lengths.{alone}
+use Rattle.definitions.specs.Job.{Bytes, readJob, planeOf, bounds1, tests, workspaceFor, callOf, answerBytes, alone}
 use Rattle.laws.specs.Refusals.{firstRefused, pass-all-refused, pass-all-passed}
 use Rattle.openers.specs.Rows.{rowsIn}
 use Rattle.stabilizers.specs.Permutations.{Permutations, permutations-of, rows-fit}

@@ -1,4 +1,4 @@
--- What the lengths of workspace and answer buffer change. A job has an outcome before its buffer is looked at (`alone`), and the buffer only adds 17; a longer workspace only takes 12 away. So an
+-- What the lengths of workspace and answer buffer change. A job has an outcome by itself (`alone`), and the buffer only adds 17; a longer workspace only takes 12 away. So an
 -- accepted job has the same bytes with every longer workspace and every room from its length on, and a refused one the same refusal, unless it is 12 or 17. Leans on Refusals.
 use mathlib.Core.Path.{_≡_, refl, sym, ap, subst, _∙_}
 use mathlib.Core.Logic.{_⊎_, inl, inr}
@@ -10,7 +10,7 @@ use lib.Dec.{T, leb, ltb, leb→le, le→leb, nltb→le, ltb→lt}
 use lib.ListN.{length}
 use Rattle.definitions.specs.Outcome.{Outcome, refused, answered, andThen, refuseIf}
 use Rattle.definitions.specs.Recursion.{Answer}
-use Rattle.definitions.specs.Job.{Bytes, Job, Test, between, readJob, workspaceFor, jobTests, workspaceTests, tests, passAll, bounds1, callOf, fitting, answerBytes, outcomeWithin, outcome}
+use Rattle.definitions.specs.Job.{Bytes, Job, Test, between, readJob, workspaceFor, jobTests, workspaceTests, tests, passAll, bounds1, callOf, answerBytes, alone, fitting, outcomeWithin, outcome}
 use Rattle.laws.specs.Bools.{false→fails, true→holds, holds→true}
 use Rattle.laws.specs.Outcomes.{answered-before, not-refused-if}
 use Rattle.laws.specs.Refusals.{pass-all-append}
@@ -22,12 +22,6 @@ use Rattle.completeness.specs.Refusals.{RefusedBy, RefusedWithin, isTest
 job-call-refusals : (job : Job) → RefusedWithin 13 16 (andThen (callOf bounds1 job) (λ (a : Answer). answered (answerBytes (job .budget) a)))
 unfolding callOf
 job-call-refusals job = by-then _ _ (call-refusals _ _ _ _ _ _) (λ a. by-answer)
-
--- a job's outcome with so much workspace, the answer buffer being as long as need be
-unfoldable pub alone : Bytes → ℕ → Outcome Bytes
-alone bytes workspace =
-    let job = readJob bytes in
-    passAll (tests bytes workspace) (λ u. andThen (callOf bounds1 job) (λ (a : Answer). answered (answerBytes (job .budget) a)))
 
 then-then : {A B C : Type 0} (o : Outcome A) (f : A → Outcome B) (g : B → Outcome C) → andThen (andThen o f) g ≡ andThen o (λ a. andThen (f a) g)
 unfolding andThen

@@ -317,6 +317,13 @@ answerBytes budget a = flatMap wordBytes (answerWords budget a)
 unfoldable pub fitting : ℕ → Bytes → Outcome Bytes
 fitting room bytes = refuseIf (ltb room (length bytes)) 17 (λ u. answered bytes)
 
+-- [11.6] what a job gets by itself: its answer's bytes, however many, or a refusal that is not 17
+unfoldable pub alone : Bytes → ℕ → Outcome Bytes
+alone bytes workspace =
+    let job = readJob bytes in
+    passAll (tests bytes workspace) (λ u.
+    andThen (callOf bounds1 job) (λ (a : Answer). answered (answerBytes (job .budget) a)))
+
 -- [1.1] The answer's bytes, or the refusal, for a job with so many bytes of workspace and room for so many bytes of
 -- answer; the bounds are passed in.
 unfoldable pub outcomeWithin : Bounds → Bytes → ℕ → ℕ → Outcome Bytes

@@ -7,7 +7,7 @@ use lib.ListN.{length, replicate}
 use mir.Facts.{toZ-ofZ, toZ-pos}
 use mir.Syntax.{w64}
 use mir.Val.{SFits}
-use Rattle.completeness.specs.Lengths.{alone}
+use Rattle.definitions.specs.Job.{alone}
 use Rattle.answering.specs.Closed.{writtenIn, bufferIn}
 use Rattle.answering.specs.Codes.{codeWritten, code-is, buffer-is, says-wrote}
 use Rattle.register.specs.Demands.{meets-all}
