@@ -10,7 +10,7 @@ const PAGE: &str = include_str!("../../docs/SPECIFICATION.md");
 
 /// The files that render the specification. The others of their folder are tables
 /// that are evaluated against them.
-const RENDERING: [&str; 14] = [
+const RENDERING: [&str; 15] = [
     "Lists",
     "Outcome",
     "Vectors",
@@ -23,6 +23,7 @@ const RENDERING: [&str; 14] = [
     "Job",
     "Demands",
     "Symmetry",
+    "Batch",
     "Prices",
     "Noble",
 ];

@@ -1,5 +1,5 @@
 -- A search that does not extend closed lists emits, under the proviso [13.7], just the closed choices with no closed
--- choice properly inside [15.7], each once. Over any table, and so for every rank from 3.
+-- choice properly inside [17.7], each once. Over any table, and so for every rank from 3.
 -- None inside: of a closed choice C, a part D that is closed leaves a closed rest. An emitted list of C begins in one
 -- of the two and never leaves it: it is open until its end, and where it is open the part has its total of 2 already.
 -- None missing: a search that extends closed lists comes to every closed choice, and on the way there to the first

@@ -12,6 +12,7 @@ pub mod Faceting
 pub mod Job
 pub mod Demands
 pub mod Symmetry
+pub mod Batch
 pub mod Prices
 pub mod Noble
 pub mod Open
@@ -24,5 +25,6 @@ pub mod Tolerances
 pub mod PortersErrors
 pub mod RuledOut
 pub mod Carried
+pub mod Rows
 pub mod Quotes
 pub mod Packages

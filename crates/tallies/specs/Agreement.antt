@@ -1,4 +1,4 @@
--- The tallies that the code keeps are the definition's [15.5], and so are the orbits that it keeps [15.6]. Leans on
+-- The tallies that the code keeps are the definition's [17.5], and so are the orbits that it keeps [17.6]. Leans on
 -- Counts, and on sets as numbers. Assumes nothing.
 use mathlib.Core.Path.{_≡_, refl, sym, ap, subst, _∙_}
 use mathlib.Core.Bool.{Bool, true, false, cond, _||_}

@@ -1,5 +1,5 @@
 -- What the code is given: the full set's numbers by value, global numbers and full rows in bytes, rows at a stride of 32.
--- What they mean is a package [15.1]. Leans on the rows in bytes and on Counts.
+-- What they mean is a package [17.1]. Leans on the rows in bytes and on Counts.
 use mathlib.Core.Path.{_≡_, refl, sym, ap, subst, _∙_}
 use mathlib.Core.List.{List, [], _∷_, map}
 use Prim.Native.Nat.{ℕ, zero, suc, _+_, _*_, _^_, _≤_, _<_}

@@ -1,7 +1,7 @@
 // Which hyperplane orbits a package keeps: tallies added up orbit by orbit, then the orbits moved together whose key's
 // tally is 2 or more. A key is the number of its set of global numbers, below 2 ^ 20. A mark is one number, 256 · key +
 // tally, in an ascending region, so that nothing is written over: a key's latest mark is its largest number.
-// Each function equals a step of [15.4] to [15.6]. Leans on the sorted sets, the sets' images and the orbits.
+// Each function equals a step of [17.4] to [17.6]. Leans on the sorted sets, the sets' images and the orbits.
 use sets::set_image;
 ghost use mathlib.Core.Path.{_≡_};
 ghost use mathlib.Core.List.{_∷_, [], map};
@@ -267,7 +267,7 @@ fn move_together(
     kept
 }
 
-// [15.6] The first `orbits` orbits of a workspace become those that the package keeps; returns how many there are. The
+// [17.6] The first `orbits` orbits of a workspace become those that the package keeps; returns how many there are. The
 // workspace is that of `orbits`; the region of the sets seen holds the marks.
 pub fn keep_orbits(
     globals: &[u8],
