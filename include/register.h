@@ -51,8 +51,12 @@ enum register_refusal {
                                   that plane (line) when it is fitted to them all */
     REGISTER_FACETS = 15,      /* a 1,025th possible facet or entry in some call */
     REGISTER_BUDGET = 16,      /* a list to examine, and the budget is used up */
-    REGISTER_ROOM = 17         /* answer buffer shorter than the answer: lend a
+    REGISTER_ROOM = 17,        /* answer buffer shorter than the answer: lend a
                                   longer one and call again */
+    REGISTER_ROW = 26,         /* register_batch: a length overruns the row, or one
+                                  to three bytes are left */
+    REGISTER_RECORDS = 27      /* register_batch: answer buffer shorter than all
+                                  records, or an answer of 2^32 bytes or more */
 };
 
 /*
@@ -111,6 +115,25 @@ enum register_refusal {
 int64_t register_answer(const uint8_t *job, size_t job_length,
                         uint8_t *workspace, size_t workspace_length,
                         uint8_t *answer, size_t answer_length);
+
+/*
+ * Answers a row of jobs, each behind its length as a u32. For each job, in order,
+ * it writes a record: the answer's length as a u32 (0 where the job is refused),
+ * the refusal's number as a u16 (0 where it is accepted), and the answer [15.2].
+ * Numbers are little-endian bytes, and a record may begin at any of them. Each
+ * record is of what register_answer gives that job with the same workspace and a
+ * buffer that is long enough; every job gets the whole workspace, and a refused
+ * one does not hold up the others.
+ *
+ * Returns the length of all records, 0 for a row of no bytes, or -26 or -27.
+ * After a refusal the whole answer buffer is zero, and after the records every
+ * byte behind them. A row that is refused with 26 is so before any job is run.
+ * examples/row.c is a program that uses it. What else is promised, and what the
+ * caller owes, is as for register_answer, with the row in place of the job.
+ */
+int64_t register_batch(const uint8_t *row, size_t row_length,
+                       uint8_t *workspace, size_t workspace_length,
+                       uint8_t *answer, size_t answer_length);
 
 /* The bytes of a tariff. */
 #define REGISTER_TARIFF_LENGTH ((size_t)768)

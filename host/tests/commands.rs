@@ -72,6 +72,7 @@ const NAMES: &[&str] = &[
     "definitions",
     "roots",
     "compare-register",
+    "compare-rows",
     "speed",
     "load",
     "record",

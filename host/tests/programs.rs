@@ -22,6 +22,9 @@ const SQUARE: &str = include_str!("../../examples/square.txt");
 /// What both programs print.
 const PRINTED: &str = "figures: 1\n0: 0.0\n";
 
+/// What the row of three jobs prints; its first answer has a length, whatever it is.
+const ROW_REFUSED: &str = "bytes\nrefused 1\nrefused 2\n";
+
 fn repository() -> PathBuf {
     Path::new(env!("CARGO_MANIFEST_DIR")).join("..")
 }
@@ -47,14 +50,18 @@ fn refusals() -> Vec<Refusal> {
     all
 }
 
+/// What the header has behind those of a job: the refusals of a row.
+const OF_A_ROW: [&str; 2] = ["    REGISTER_ROW = 26", "    REGISTER_RECORDS = 27"];
+
 #[test]
 fn page_and_header_have_every_refusal() {
     let numbers: Vec<u8> = refusals().into_iter().map(Refusal::number).collect();
     assert_eq!(numbers.len(), 18);
     assert_eq!(refusal_numbers(), numbers);
+    let named = |refusal| format!("    {} = {}", constant(refusal), refusal.number());
+    let of_a_job = refusals().into_iter().map(named);
     let mut rest = HEADER;
-    for refusal in refusals() {
-        let constant = format!("    {} = {}", constant(refusal), refusal.number());
+    for constant in of_a_job.chain(OF_A_ROW.map(String::from)) {
         let (_, behind) = rest.split_once(&constant).expect(&constant);
         assert!(behind.starts_with([',', ' ', '\n']), "{constant}");
         rest = behind;
@@ -105,6 +112,10 @@ fn stand_in() -> String {
 /// The C program built with that in the library's place, and what it prints; none
 /// where there is no C compiler.
 fn run_c(place: &Place, library: &Path) -> Option<Done> {
+    run_program(place, "examples/figures.c", library)
+}
+
+fn run_program(place: &Place, program: &str, library: &Path) -> Option<Done> {
     let folder = repository();
     let mut compiler = Command::new("cc");
     compiler.args([
@@ -116,11 +127,7 @@ fn run_c(place: &Place, library: &Path) -> Option<Done> {
         "-Werror",
         "-I",
     ]);
-    compiler.args([
-        &folder.join("include"),
-        &folder.join("examples/figures.c"),
-        library,
-    ]);
+    compiler.args([&folder.join("include"), &folder.join(program), library]);
     match compiler.arg("-o").arg(place.path("figures")).output() {
         Ok(output) => {
             let error = String::from_utf8_lossy(&output.stderr);
@@ -170,6 +177,25 @@ fn the_program_in_c_runs_with_the_library() {
     let library = repository().join("target/staticlib/libregister.a");
     if let Some(done) = run_c(&place, &library) {
         assert_eq!(done.fine(), PRINTED);
+    }
+}
+
+#[test]
+fn the_row_in_c_runs_with_the_library() {
+    if !LINKED {
+        tell(&format!(
+            "skipped, the row in C with the library: {NotLinked}"
+        ));
+        return;
+    }
+    let place = Place::new("c-row");
+    let library = repository().join("target/staticlib/libregister.a");
+    if let Some(done) = run_program(&place, "examples/row.c", &library) {
+        let printed = done.fine();
+        assert!(
+            printed.starts_with("answered, ") && printed.ends_with(ROW_REFUSED),
+            "{printed}"
+        );
     }
 }
 

@@ -1,3 +1,4 @@
--- The exported functions: what is read back from an answer, and what follows for the three demands.
+-- The exported functions: what is read back from an answer, what follows for the three demands, and what is promised of a row of jobs.
 pub mod Reading
 pub mod Demands
+pub mod Batches

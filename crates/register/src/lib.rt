@@ -3,13 +3,15 @@ use answering::Written;
 use quotes::Quoted;
 ghost use mathlib.Core.Path.{_≡_};
 ghost use lib.IntN.{pos, negℤ};
-ghost use lib.ListN.{length};
+ghost use lib.ListN.{length, take};
 ghost use Rattle.definitions.specs.Outcome.{answered};
 ghost use Rattle.definitions.specs.Job.{Bytes, outcome, codeOf, bufferOf};
 ghost use Rattle.definitions.specs.Demands.{Demand1, Demand2, Demand3};
 ghost use Rattle.definitions.specs.Symmetry.{Symmetric};
+ghost use Rattle.definitions.specs.Batch.{batch, Batched};
 ghost use Rattle.definitions.specs.Prices.{quote, quoteCode};
 ghost use Rattle.register.specs.Reading.{entriesRead};
+ghost use Rattle.register.specs.Batches.{Promised};
 
 // [12.7] minus the refusal's number
 pub fn refusal(number: u8) -> i64
@@ -36,6 +38,17 @@ pub extern "C" fn register_answer(job: &[u8], workspace: &mut [u8], answer: &mut
         Written::Short => -17,
         Written::Wrote(many) => many as i64,
     }
+}
+
+// [15.3] The records of a row of jobs, each behind its length: their length in bytes, or minus 26 or 27. Code and buffer are the definition's, whatever the three slices are. After an answer the front of
+// the buffer is the records of the row's jobs, and each is of what the first call gives that job by itself, with the demands [13.2] [13.8] and the symmetry [13.12] that hold of it [15.4].
+#[no_mangle]
+pub extern "C" fn register_batch(row: &[u8], workspace: &mut [u8], answer: &mut [u8]) -> i64
+    ensures code { λ r. ⌜ r ≡ codeOf (batch (now (row .entry)) (length (now (workspace .entry))) (length (now (answer .entry)))) ⌝ }
+    ensures buffer { λ _. ⌜ now (answer .exit) ≡ bufferOf (length (now (answer .entry))) (batch (now (row .entry)) (length (now (workspace .entry))) (length (now (answer .entry)))) ⌝ }
+    ensures each { λ _. ⌜ ((bytes : Bytes) → batch (now (row .entry)) (length (now (workspace .entry))) (length (now (answer .entry))) ≡ answered bytes → Batched (Promised (length (now (workspace .entry)))) (now (row .entry)) (take (length bytes) (now (answer .exit)))) ⌝ }
+{
+    batches::answer_row(row, workspace, answer)
 }
 
 // The quote of an entry of a job of rank 4, counted from 0, at a tariff: its total in pence, or minus the number of the refusal. It is the definition's quote [16.4], whose figure is the

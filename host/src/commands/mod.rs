@@ -6,6 +6,7 @@ mod load;
 mod mutants;
 mod register;
 mod roots;
+mod rows;
 mod speed;
 mod streams;
 
@@ -47,6 +48,7 @@ pub const COMMANDS: &[Command] = &[
     definitions::DEFINITIONS,
     roots::ROOTS,
     register::COMPARE_REGISTER,
+    rows::COMPARE_ROWS,
     speed::SPEED,
     load::LOAD,
     register::RECORD,

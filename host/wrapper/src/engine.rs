@@ -13,6 +13,12 @@ pub trait Engine {
     /// Job, workspace and answer buffer in; the answer's length or minus the refusal
     /// number out, with the answer at the front of the buffer and zeros behind it.
     fn answer(&mut self, job: &[u8], workspace: usize, answer: &mut [u8]) -> i64;
+
+    /// A row of jobs in; the length of their records or minus a refusal number out.
+    /// None where the engine answers one job at a time.
+    fn answer_row(&mut self, _row: &[u8], _workspace: usize, _answer: &mut [u8]) -> Option<i64> {
+        None
+    }
 }
 
 /// Why a job has no answer.

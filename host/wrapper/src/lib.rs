@@ -14,6 +14,7 @@
 #![deny(missing_docs)]
 
 pub mod answer;
+pub mod batch;
 pub mod bounds;
 pub mod engine;
 pub mod job;

@@ -40,6 +40,15 @@ mod linked {
             answer: *mut u8,
             answer_length: usize,
         ) -> i64;
+
+        pub fn register_batch(
+            row: *const u8,
+            row_length: usize,
+            workspace: *mut u8,
+            workspace_length: usize,
+            answer: *mut u8,
+            answer_length: usize,
+        ) -> i64;
     }
 }
 
@@ -55,19 +64,61 @@ pub fn exported() -> Result<Exported, NotLinked> {
     Err(NotLinked)
 }
 
+/// The function that answers a row of jobs. Its slices are the row, the workspace and
+/// the buffer for the records.
+#[cfg(has_register)]
+pub fn exported_batch() -> Result<Exported, NotLinked> {
+    Ok(linked::register_batch)
+}
+
+/// The function that answers a row of jobs. Its slices are the row, the workspace and
+/// the buffer for the records.
+#[cfg(not(has_register))]
+pub fn exported_batch() -> Result<Exported, NotLinked> {
+    Err(NotLinked)
+}
+
 /// The register with a workspace that is kept from call to call.
 pub struct Register {
     function: Exported,
+    batch: Exported,
     workspace: Vec<u8>,
 }
 
 impl Register {
     /// The register, where its library is linked.
     pub fn open() -> Result<Register, NotLinked> {
-        exported().map(|function| Register {
-            function,
+        Ok(Register {
+            function: exported()?,
+            batch: exported_batch()?,
             workspace: Vec::new(),
         })
+    }
+
+    /// One of the functions, with so many bytes of the workspace.
+    fn call(
+        &mut self,
+        function: Exported,
+        given: &[u8],
+        workspace: usize,
+        answer: &mut [u8],
+    ) -> i64 {
+        if self.workspace.len() < workspace {
+            self.workspace.resize(workspace, 0);
+        }
+        let lent = &mut self.workspace[..workspace];
+        // The linked function reads what is given and writes workspace and answer, each
+        // over its own length; they do not overlap, and it keeps none of them.
+        unsafe {
+            function(
+                given.as_ptr(),
+                given.len(),
+                lent.as_mut_ptr(),
+                lent.len(),
+                answer.as_mut_ptr(),
+                answer.len(),
+            )
+        }
     }
 }
 
@@ -77,21 +128,10 @@ impl Engine for Register {
     }
 
     fn answer(&mut self, job: &[u8], workspace: usize, answer: &mut [u8]) -> i64 {
-        if self.workspace.len() < workspace {
-            self.workspace.resize(workspace, 0);
-        }
-        let lent = &mut self.workspace[..workspace];
-        // The linked function reads the job and writes workspace and answer, each over
-        // its own length; they do not overlap, and it keeps none of them.
-        unsafe {
-            (self.function)(
-                job.as_ptr(),
-                job.len(),
-                lent.as_mut_ptr(),
-                lent.len(),
-                answer.as_mut_ptr(),
-                answer.len(),
-            )
-        }
+        self.call(self.function, job, workspace, answer)
+    }
+
+    fn answer_row(&mut self, row: &[u8], workspace: usize, answer: &mut [u8]) -> Option<i64> {
+        Some(self.call(self.batch, row, workspace, answer))
     }
 }
