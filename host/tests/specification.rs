@@ -162,6 +162,7 @@ fn prose(path: &Path, text: &str) -> String {
     let mark = match path.extension().and_then(|end| end.to_str()) {
         Some("rs" | "rt") => "//",
         Some("antt") => "--",
+        Some("py") => "#",
         _ => return text.to_string(),
     };
     let comments = text.lines().filter_map(|line| line.split_once(mark));

@@ -1,0 +1,185 @@
+"""The faceting register for Python: jobs and answers as values, and the proved function.
+
+Needs nothing but the shared library, which `make` builds from what `rt staticlib register`
+has proved (docs/FORMAT.md has the bytes, include/register.h every promise):
+
+    from faceting_register import Register, job
+    square = [(0, 0), (1, 0), (1, 1), (0, 1)]
+    answer = Register().answer(job(square))
+    print(len(answer.entries), "figures")
+
+A refused job raises Refused, with the refusal's number.
+"""
+
+import ctypes
+import os
+import struct
+from dataclasses import dataclass
+
+VERSION = 1
+TOLERANCE_VERSION = 2  # the first whose jobs name a tolerance
+DEFAULT_BUDGET = 1_000_000
+WORKSPACE = 4_194_304
+USUAL_ROOM = 1 << 20
+LONGEST = 1 << 30
+ROOM = 17  # the refusal of a buffer that is too short
+
+REFUSALS = {
+    1: "under 11 bytes, or does not begin with FCT",
+    2: "a version that there is not",
+    3: "a rank that there is not",
+    4: "fewer coordinates than rank - 1, or more than 4",
+    5: "fewer than 2 points, or more than 20",
+    6: "no row, or more than 120",
+    7: "a flag bit that is not in use",
+    8: "longer or shorter than the fields say",
+    9: "a number that is not finite or beyond its bound",
+    10: "the first row moves a point",
+    11: "a row that is no permutation",
+    12: "too short a workspace",
+    13: "a 257th orbit of planes in some call",
+    14: "points of a plane that do not give that plane again",
+    15: "a 1,025th possible facet or entry in some call",
+    16: "the budget is used up",
+    17: "the answer buffer is shorter than the answer",
+    22: "a tolerance outside its range",
+}
+
+
+class Refused(Exception):
+    """A job that the register refuses; `number` says why."""
+
+    def __init__(self, number):
+        self.number = number
+        words = REFUSALS.get(number, "a number that this module does not know")
+        super().__init__(f"refused {number}: {words}")
+
+
+@dataclass(frozen=True)
+class Entry:
+    """A listed figure: pairs of an orbit and a possible facet, and what they build."""
+
+    parts: list
+    figure: list
+    points: int
+    edges: int
+    facets: int
+
+
+@dataclass(frozen=True)
+class Answer:
+    """Everything that an answer says; a figure is a list of ranks, each a list of elements,
+    each a list of the numbers of elements one rank below."""
+
+    examined: int
+    counts: list
+    entries: list
+    facets: list
+    compounds: list
+
+
+def job(points, rows=None, rank=None, *, low=None, high=None, limit=None, tolerance=None,
+        budget=DEFAULT_BUDGET, offset=None, basis=None):
+    """The bytes of a job; rank is by default one more than the number of coordinates."""
+    version = VERSION if tolerance is None else TOLERANCE_VERSION
+    dimension = len(points[0]) if points else 0
+    rank = dimension + 1 if rank is None else rank
+    rows = [range(len(points))] if rows is None else rows
+    offset = [0.0] * dimension if offset is None else offset
+    if basis is None:
+        basis = [[float(i == j) for j in range(dimension)] for i in range(rank - 1)]
+    flags = sum(bit for bit, there in ((1, low), (2, high), (4, limit)) if there is not None)
+    head = struct.pack("<3sHBBBHB", b"FCT", version, rank, dimension, len(points), len(rows), flags)
+    limits = b"".join(struct.pack("<d", x) for x in (low, high) if x is not None)
+    if limit is not None:
+        limits += struct.pack("<I", limit)
+    if tolerance is not None:
+        limits += struct.pack("<d", tolerance)
+    numbers = [*offset, *(x for vector in basis for x in vector), *(x for p in points for x in p)]
+    body = struct.pack(f"<I{len(numbers)}d", budget, *numbers)
+    return head + limits + body + b"".join(bytes(row) for row in rows)
+
+
+class _Words:
+    """The words of an answer, one behind another."""
+
+    def __init__(self, answer):
+        if len(answer) % 4:
+            raise ValueError("an answer is made of words of four bytes")
+        self.words = struct.unpack(f"<{len(answer) // 4}I", answer)
+        self.at = 0
+
+    def word(self):
+        if self.at == len(self.words):
+            raise ValueError("the words of the answer end too early")
+        self.at += 1
+        return self.words[self.at - 1]
+
+    def many(self, one):
+        count = self.word()
+        if count > len(self.words) - self.at:
+            raise ValueError("a count of the answer asks for more words than follow it")
+        return [one() for _ in range(count)]
+
+    def figure(self):
+        return self.many(lambda: self.many(lambda: self.many(self.word)))
+
+    def pair(self):
+        return self.word(), self.word()
+
+    def triple(self):
+        return self.word(), self.word(), self.word()
+
+    def entry(self):
+        return self.many(self.pair), self.figure()
+
+
+def read_answer(answer):
+    """An answer's bytes as a value; ValueError where they are none."""
+    words = _Words(answer)
+    examined = words.word()
+    counts = words.many(words.word)
+    entries = words.many(words.entry)
+    facets = [words.many(words.figure) for _ in counts]
+    compounds = words.many(words.triple)
+    listed = [Entry(parts, figure, *words.triple()) for parts, figure in entries]
+    if words.at != len(words.words):
+        raise ValueError("something follows the answer")
+    return Answer(examined, counts, listed, facets, compounds)
+
+
+def _library():
+    """The shared library: the one that FACETING_REGISTER names, the repository's, or the
+    system's."""
+    here = os.path.dirname(os.path.abspath(__file__))
+    built = os.path.join(here, "..", "target", "shared", "libregister.so")
+    named = os.environ.get("FACETING_REGISTER")
+    return named or (built if os.path.exists(built) else "libregister.so")
+
+
+class Register:
+    """The proved function, with a workspace that is kept from call to call. Calls keep
+    nothing else; two threads need a Register each."""
+
+    def __init__(self, library=None):
+        self._function = ctypes.CDLL(library or _library()).register_answer
+        self._function.restype = ctypes.c_int64
+        self._function.argtypes = [ctypes.c_char_p, ctypes.c_size_t, ctypes.c_char_p,
+                                   ctypes.c_size_t, ctypes.c_char_p, ctypes.c_size_t]
+        self._workspace = ctypes.create_string_buffer(WORKSPACE)
+
+    def answer_bytes(self, asked, longest=LONGEST):
+        """The answer's bytes; a buffer that is too short is replaced by a longer one."""
+        room = min(USUAL_ROOM, longest)
+        while True:
+            buffer = ctypes.create_string_buffer(room)
+            code = self._function(asked, len(asked), self._workspace, WORKSPACE, buffer, room)
+            if code >= 0:
+                return buffer.raw[:code]
+            if -code != ROOM or room == longest:
+                raise Refused(-code)
+            room = min(8 * room, longest)
+
+    def answer(self, asked, longest=LONGEST):
+        """The answer to a job's bytes."""
+        return read_answer(self.answer_bytes(asked, longest))
