@@ -11,5 +11,6 @@ pub mod engines;
 pub mod format;
 pub mod geometry;
 pub mod measure;
+pub mod parts;
 pub mod report;
 pub mod symmetry;

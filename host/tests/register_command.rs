@@ -122,6 +122,10 @@ Figures: 1 entry, closes in itself
       0       4      4       4  0.0
   carried to itself by all rows
 
+Parts, measured: 1 shape
+  A edge, length 1.0000
+  entry 0: 4 × A edge, length 1.0000; 4 corners, angle 90.00° A–A
+
 Compounds: no entries
 
 3 lists were examined.
@@ -253,7 +257,9 @@ fn entry(value: &Value) -> Entry {
         [orbit, facet] => (orbit, facet),
         _ => panic!("{pair:?} is no pair"),
     };
-    let names = ["edges", "facets", "figure", "look", "parts", "points"];
+    let names = [
+        "edges", "facets", "figure", "look", "measured", "parts", "points",
+    ];
     assert_eq!(value.names(), names);
     Entry {
         list: value.field("parts").list().iter().map(pair).collect(),
@@ -284,6 +290,7 @@ fn answer(value: &Value) -> Answer {
         "rank",
         "result",
         "rows",
+        "shapes",
         "symmetry",
         "version",
     ];

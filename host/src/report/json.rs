@@ -8,6 +8,7 @@ use faceting_register::{Answer, Entry, Figure, Job};
 use super::look::Look;
 use super::margin::{Distance, Margin};
 use super::notes::Note;
+use super::parts::{entry_json, shapes_json};
 use super::{advice, Rejection, Report, Source, VERSION};
 use crate::symmetry::{Carried, Kind};
 
@@ -103,6 +104,7 @@ pub fn answered(report: &Report) -> Json {
         ("margin", or_null(&report.notes.margin, margin)),
         ("examined", number(answer.examined)),
         ("orbits", orbits(answer)),
+        ("shapes", shapes_json(&report.parts)),
         ("entries", entries(report)),
         ("compounds", list(&answer.compounds, compound)),
     ]);
@@ -225,21 +227,25 @@ fn orbits(answer: &Answer) -> Json {
 }
 
 fn entries(report: &Report) -> Json {
-    let answer = &report.answer;
-    let rows = answer.entries.iter().zip(&answer.summaries);
-    let entry = |((entry, summary), look)| one(entry, summary, look);
-    Json::List(rows.zip(&report.looks).map(entry).collect())
+    let entries = 0..report.answer.entries.len();
+    Json::List(entries.map(|e| one(report, e)).collect())
 }
 
-fn one(entry: &Entry, [points, edges, facets]: &[u32; 3], look: &Look) -> Json {
+fn one(report: &Report, e: usize) -> Json {
+    let Entry {
+        list: parts,
+        figure: built,
+    } = &report.answer.entries[e];
+    let [points, edges, facets] = report.answer.summaries[e];
     let pair = |&(orbit, facet): &(u32, u32)| numbers(&[orbit, facet]);
     Json::Object(vec![
-        ("parts", list(&entry.list, pair)),
-        ("points", number(*points)),
-        ("edges", number(*edges)),
-        ("facets", number(*facets)),
-        ("figure", figure(&entry.figure)),
-        ("look", seen(look)),
+        ("parts", list(parts, pair)),
+        ("points", number(points)),
+        ("edges", number(edges)),
+        ("facets", number(facets)),
+        ("figure", figure(built)),
+        ("look", seen(&report.looks[e])),
+        ("measured", entry_json(&report.parts.entries[e], built)),
     ])
 }
 

@@ -42,7 +42,7 @@ pub fn looks(answer: &Answer) -> Vec<Look> {
 
 /// The number of a figure's rank of facets, which is the second last; its ridges
 /// stand one rank below.
-fn facet_rank(figure: &Figure) -> Option<usize> {
+pub fn facet_rank(figure: &Figure) -> Option<usize> {
     figure.ranks.len().checked_sub(2).filter(|&rank| rank > 0)
 }
 
@@ -89,8 +89,8 @@ fn element(figure: &Figure, rank: usize, number: usize) -> String {
     }
 }
 
-/// The edges below an element of rank 3 or more, ascending.
-fn edges_of(figure: &Figure, rank: usize, number: usize) -> Vec<usize> {
+/// The edges below an element of rank 2 or more, ascending.
+pub fn edges_of(figure: &Figure, rank: usize, number: usize) -> Vec<usize> {
     let mut elements = vec![number];
     for below in (3..=rank).rev() {
         let subs = elements.iter().flat_map(|&e| &figure.ranks[below][e]);

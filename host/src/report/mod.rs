@@ -13,11 +13,13 @@ pub mod margin;
 pub mod notes;
 pub mod orbits;
 pub mod page;
+pub mod parts;
 
 use faceting_register::answer::Damage;
 use faceting_register::{Answer, Job, Refusal};
 
 use crate::format::culprit::Culprit;
+use crate::parts::Parts;
 use crate::symmetry::Carried;
 use label::{left_out, Count};
 use look::{looks, Look};
@@ -72,6 +74,8 @@ pub struct Report {
     pub length: usize,
     /// The host's own look at each entry.
     pub looks: Vec<Look>,
+    /// What the host measured of the figures.
+    pub parts: Parts,
     /// What the host saw of the promised symmetry, from rank 3 on.
     pub carried: Option<Carried>,
     /// The host's own look at the job.
@@ -96,6 +100,7 @@ impl Report {
             notes: Notes::of(&job),
             count: Count::of(&job, &read, &looks),
             carried: Carried::of(&job, &read),
+            parts: Parts::of(&job, &read),
             job,
             answer: read,
             length,

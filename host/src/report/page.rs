@@ -2,16 +2,18 @@
 //! is read from the answer's bytes; the host's own look at them and at the job is told
 //! as such.
 
-use std::fmt::{Display, Write};
+use std::fmt::Write;
 
 use faceting_register::job::TOLERANCE_VERSION;
-use faceting_register::{Answer, Figure};
+use faceting_register::Answer;
 
 use super::label::{counted, Count};
 use super::look::Look;
 use super::margin::Margin;
 use super::notes::{short, Note};
+use super::parts::{facet_words, put_parts};
 use super::{Report, Source, VERSION};
+use crate::parts::Parts;
 use crate::symmetry::{Carried, Kind};
 
 /// What a page is about: a name, what its writer says of it, and the job's rank.
@@ -30,13 +32,15 @@ pub struct Subject {
 /// What the words on a page mean, and which of them the host is responsible for.
 const WORDS: &str = "\
 The host's own look, which is not proved: the notes, the margin, what closes in itself,
-pieces and equal figures. That rows which are closed under composition carry each figure
-to itself is proved, and looked at again. All else stands in the answer. A figure's points
-are those at which one of its edges ends. It closes in itself where each of its ridges (at
-rank 3 a point, at rank 4 an edge) lies in exactly two of its facets. It is in pieces where
-its facets fall apart into groups without a common ridge. It is a compound where its parts
-are those of two other entries together. A row carries a figure to itself where the images
-of its edges are its edges, of its polygons its polygons, and so up to its facets.
+pieces, equal figures, and what is measured: shapes, lengths and angles. That rows which
+are closed under composition carry each figure to itself is proved, and looked at again.
+All else stands in the answer. A figure's points are those at which one of its edges
+ends. It closes in itself where each of its ridges (at rank 3 a point, at rank 4 an edge)
+lies in exactly two of its facets. It is in pieces where its facets fall apart into groups
+without a common ridge. It is a compound where its parts are those of two other entries
+together. A row carries a figure to itself where the images of its edges are its edges, of
+its polygons its polygons, and so up to its facets. Lengths are in the units of the
+points. The angle of a joint is that between its two facets, at most 180°.
 ";
 
 /// The whole page, each line ended.
@@ -50,8 +54,9 @@ pub fn page(report: &Report) -> String {
     }
     let _ = writeln!(text, "\nLabel: {}", report.label());
     put_notes(&mut text, report);
-    put_orbits(&mut text, subject.rank, answer);
+    put_orbits(&mut text, subject.rank, answer, &report.parts);
     put_entries(&mut text, report);
+    put_parts(&mut text, report);
     put_compounds(&mut text, answer);
     let lists = counted(answer.examined as usize, "list was", "lists were");
     let Source { engine, hash } = &report.source;
@@ -131,31 +136,17 @@ fn hyperplanes(rank: u8) -> (&'static str, &'static str) {
 }
 
 /// Each orbit with its count and its possible facets, a line to a facet.
-fn put_orbits(text: &mut String, rank: u8, answer: &Answer) {
+fn put_orbits(text: &mut String, rank: u8, answer: &Answer, parts: &Parts) {
     let (one, many) = hyperplanes(rank);
     let orbits = counted(answer.counts.len(), "orbit", "orbits");
     let _ = writeln!(text, "\nPossible facets: {orbits} of {many}");
-    for (o, (&count, facets)) in answer.counts.iter().zip(&answer.facets).enumerate() {
+    for (o, (&count, facets)) in answer.counts.iter().zip(&parts.possible).enumerate() {
         let sets = counted(count as usize, one, many);
         let choice = counted(facets.len(), "possible facet", "possible facets");
         let _ = writeln!(text, "  orbit {o}: {sets}, {choice}");
-        for (f, figure) in facets.iter().enumerate() {
-            let _ = writeln!(text, "    {o}.{f}  {}", facet(figure));
-        }
-    }
-}
-
-/// A possible facet by its edges, whose ends are the set's points; at rank 2 it is
-/// a single point, at rank 3 a single edge.
-fn facet(figure: &Figure) -> String {
-    let edges = figure.ranks.get(2).map_or(&[][..], Vec::as_slice);
-    match edges {
-        [ends] if ends.len() == 1 => format!("point {}", ends[0]),
-        [ends] => format!("edge {}", joined(ends, "-")),
-        _ => {
-            let names: Vec<String> = edges.iter().map(|ends| joined(ends, "-")).collect();
-            let count = counted(edges.len(), "edge", "edges");
-            format!("{count}: {}", names.join(" "))
+        for (f, &facet) in facets.iter().enumerate() {
+            let words = facet_words(&parts.shapes.facets[facet], parts);
+            let _ = writeln!(text, "    {o}.{f}  {words}");
         }
     }
 }
@@ -246,9 +237,4 @@ fn put_compounds(text: &mut String, answer: &Answer) {
             "  entry {whole} is made of entries {first} and {second}"
         );
     }
-}
-
-fn joined(numbers: &[u32], between: impl Display) -> String {
-    let words: Vec<String> = numbers.iter().map(u32::to_string).collect();
-    words.join(&between.to_string())
 }

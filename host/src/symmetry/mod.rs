@@ -21,11 +21,11 @@ use faceting_register::rows::closure;
 
 use crate::geometry::flattened;
 use chain::Chain;
-use distances::Distances;
 use orientation::Orientation;
 
 pub use carried::{carries, Carried};
 pub use comparison::{comparison, Comparison};
+pub use distances::Distances;
 pub use report::report;
 
 /// Which symmetries.
