@@ -6,6 +6,7 @@
 #![deny(missing_docs)]
 
 pub mod cases;
+pub mod catalogue;
 pub mod compare;
 pub mod engines;
 pub mod format;
@@ -14,3 +15,4 @@ pub mod measure;
 pub mod parts;
 pub mod report;
 pub mod symmetry;
+pub mod workshop;

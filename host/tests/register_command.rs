@@ -258,7 +258,7 @@ fn entry(value: &Value) -> Entry {
         _ => panic!("{pair:?} is no pair"),
     };
     let names = [
-        "edges", "facets", "figure", "look", "measured", "parts", "points",
+        "edges", "facets", "figure", "look", "measured", "number", "parts", "points",
     ];
     assert_eq!(value.names(), names);
     Entry {

@@ -192,7 +192,7 @@ fn every_option_of_the_help_is_one_of_the_command() {
 #[test]
 fn words_are_checked_before_anything_is_built_as_the_command_checks_them() {
     let place = repository("words", &[("rt", RT), ("cargo", CARGO)]);
-    let wrong: [&[&str]; 12] = [
+    let wrong: [&[&str]; 18] = [
         &[],
         &["--json"],
         &["--jsn", "a b.txt"],
@@ -205,6 +205,12 @@ fn words_are_checked_before_anything_is_built_as_the_command_checks_them() {
         &["--symmetry", "--json", "a b.txt"],
         &["--raw", "--symmetry", "a b.txt"],
         &["a b.txt", "-o", "x", "--symmetry"],
+        &["--off", "a b.txt"],
+        &["--off", "--json", "a b.txt"],
+        &["a b.txt", "--svg"],
+        &["--html", "a b.txt"],
+        &["--csv", "--html", "a b.txt"],
+        &["--jobs", "x", "a b.txt"],
     ];
     for words in wrong {
         let done = run(&place, words);

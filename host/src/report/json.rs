@@ -10,6 +10,7 @@ use super::margin::{Distance, Margin};
 use super::notes::Note;
 use super::parts::{entry_json, shapes_json};
 use super::{advice, Rejection, Report, Source, VERSION};
+use crate::catalogue::number::number as lasting;
 use crate::symmetry::{Carried, Kind};
 
 /// Just what is written.
@@ -245,6 +246,7 @@ fn one(report: &Report, e: usize) -> Json {
         ("facets", number(facets)),
         ("figure", figure(built)),
         ("look", seen(&report.looks[e])),
+        ("number", Json::Text(lasting(&report.job, built))),
         ("measured", entry_json(&report.parts.entries[e], built)),
     ])
 }

@@ -1,5 +1,7 @@
 //! The register's own command: a vertex set in, its page out.
 
+mod crew;
+mod gathered;
 mod inputs;
 mod options;
 mod order;
@@ -7,8 +9,11 @@ mod outcome;
 mod output;
 mod places;
 mod price;
+mod progress;
+mod resume;
 mod symmetry;
 mod work;
+mod works;
 
 use std::process::ExitCode;
 

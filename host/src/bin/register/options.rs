@@ -4,6 +4,7 @@ use std::ffi::OsString;
 use std::path::PathBuf;
 
 use faceting_register::request::LONGEST;
+use facetings_host::workshop::sheet::Size;
 
 /// What is written of an answer.
 #[derive(Clone, Copy, PartialEq, Eq)]
@@ -11,6 +12,35 @@ pub enum Form {
     Page,
     Json,
     Raw,
+    Off,
+    Svg,
+    Html,
+    Csv,
+    Sheet,
+}
+
+impl Form {
+    /// The option that asks for it.
+    pub fn option(self) -> &'static str {
+        match self {
+            Form::Page => "no option",
+            Form::Json => "--json",
+            Form::Raw => "--raw",
+            Form::Off => "--off",
+            Form::Svg => "--svg",
+            Form::Html => "--html",
+            Form::Csv => "--csv",
+            Form::Sheet => "--sheet",
+        }
+    }
+
+    /// Whether a set gets several files, so that they need a folder.
+    pub fn needs_folder(self) -> bool {
+        match self {
+            Form::Page | Form::Json | Form::Raw | Form::Csv => false,
+            Form::Off | Form::Svg | Form::Html | Form::Sheet => true,
+        }
+    }
 }
 
 /// What is told of the command itself, in place of an answer.
@@ -38,6 +68,14 @@ pub struct Options {
     pub price: Option<PathBuf>,
     /// Whether a note of weight counts in the exit status.
     pub strict: bool,
+    /// How large parts are cut.
+    pub size: Size,
+    /// How many sets are worked on at a time.
+    pub jobs: usize,
+    /// Whether sets whose results are there already are passed over.
+    pub resume: bool,
+    /// The older catalogue that the new one is compared with.
+    pub against: Option<PathBuf>,
     /// What is told of the command itself.
     pub told: Option<Told>,
     /// The files and folders that are named.
@@ -56,6 +94,13 @@ impl Options {
             symmetry: false,
             price: None,
             strict: false,
+            size: Size {
+                scale: 1.0,
+                flaps: 0.0,
+            },
+            jobs: cores(),
+            resume: false,
+            against: None,
             told: None,
             inputs: Vec::new(),
         };
@@ -81,6 +126,16 @@ impl Options {
         match option {
             "--json" => self.set_form(Form::Json)?,
             "--raw" => self.set_form(Form::Raw)?,
+            "--off" => self.set_form(Form::Off)?,
+            "--svg" => self.set_form(Form::Svg)?,
+            "--html" => self.set_form(Form::Html)?,
+            "--csv" => self.set_form(Form::Csv)?,
+            "--sheet" => {
+                self.set_form(Form::Sheet)?;
+                self.size.scale = millimetres(option, &value()?)?;
+            }
+            "--flaps" => self.size.flaps = millimetres(option, &value()?)?,
+            "--against" => self.against = Some(value()?.into()),
             "--original" => self.original = true,
             "--quiet" => self.quiet = true,
             "--symmetry" => self.symmetry = true,
@@ -91,7 +146,9 @@ impl Options {
             "--version" => self.told = self.told.or(Some(Told::Version)),
             "-o" if self.place.is_some() => return Err("'-o' was given before".into()),
             "-o" => self.place = Some(value()?.into()),
-            "--room" => self.room = bytes(&value()?)?,
+            "--room" => self.room = whole(option, &value()?)?,
+            "--jobs" => self.jobs = whole(option, &value()?)?.max(1),
+            "--resume" => self.resume = true,
             _ => return Err(format!("'{option}' is no option; see --help")),
         }
         Ok(())
@@ -99,7 +156,8 @@ impl Options {
 
     fn set_form(&mut self, form: Form) -> Result<(), String> {
         if self.form != Form::Page && self.form != form {
-            return Err("'--json' and '--raw' exclude each other".into());
+            let (earlier, later) = (self.form.option(), form.option());
+            return Err(format!("'{earlier}' and '{later}' exclude each other"));
         }
         self.form = form;
         Ok(())
@@ -107,7 +165,23 @@ impl Options {
 
     fn checked(self) -> Result<Options, String> {
         if self.symmetry && (self.form != Form::Page || self.place.is_some()) {
-            return Err("'--symmetry' goes with none of '--json', '--raw' and '-o'".into());
+            return Err("'--symmetry' goes with no other form and not with '-o'".into());
+        }
+        if self.size.flaps > 0.0 && self.form != Form::Sheet {
+            return Err("'--flaps' goes with '--sheet'".into());
+        }
+        if self.against.is_some() && self.form != Form::Csv {
+            return Err("'--against' goes with '--csv'".into());
+        }
+        let resumes = matches!(self.form, Form::Page | Form::Json) && self.place.is_some();
+        if self.resume && (!resumes || self.strict) {
+            return Err(
+                "'--resume' goes with pages or '--json' in a folder, without '--strict'".into(),
+            );
+        }
+        if self.form.needs_folder() && self.place.is_none() && self.told.is_none() {
+            let option = self.form.option();
+            return Err(format!("'{option}' writes files: name a folder with -o"));
         }
         let priced = self.price.is_some();
         if priced
@@ -124,15 +198,32 @@ impl Options {
     }
 }
 
+/// More than any sheet has.
+const MOST_MILLIMETRES: f64 = 1e6;
+
 /// A single hyphen names standard input.
 fn is_option(word: &str) -> bool {
     word.starts_with('-') && word != "-"
 }
 
-fn bytes(value: &OsString) -> Result<usize, String> {
+fn whole(option: &str, value: &OsString) -> Result<usize, String> {
     let read = value.to_str().and_then(|text| text.parse().ok());
     read.ok_or_else(|| {
         let value = value.to_string_lossy();
-        format!("'--room' takes a whole number, not '{value}'")
+        format!("'{option}' takes a whole number, not '{value}'")
     })
+}
+
+fn millimetres(option: &str, value: &OsString) -> Result<f64, String> {
+    let read = value.to_str().and_then(|text| text.parse().ok());
+    let sound = |&length: &f64| length > 0.0 && length <= MOST_MILLIMETRES;
+    read.filter(sound).ok_or_else(|| {
+        let value = value.to_string_lossy();
+        format!("'{option}' takes millimetres above 0, not '{value}'")
+    })
+}
+
+/// As many calls side by side as the machine has cores.
+fn cores() -> usize {
+    std::thread::available_parallelism().map_or(1, usize::from)
 }

@@ -32,20 +32,32 @@ pub enum Outcome {
 
 /// The engine's answer to a set, of no more bytes than there is room for.
 pub fn outcome(engine: &mut dyn Engine, set: &VertexSet, room: usize) -> Outcome {
+    let name = engine.name();
+    let job = set.job.as_ref();
+    outcome_from(name, set, || job.ok().map(|job| ask(engine, job, room)))
+}
+
+/// What came of a set whose job, if it has one, the named engine gave this result.
+pub fn outcome_from(
+    engine: &'static str,
+    set: &VertexSet,
+    result: impl FnOnce() -> Option<Result<Vec<u8>, Stop>>,
+) -> Outcome {
     let job = match &set.job {
         Ok(job) => job,
         Err(words) => return Outcome::Bad(words.clone()),
     };
-    let source = Source::of(engine.name(), job);
-    match ask(engine, job, room) {
-        Ok(bytes) => answered(set, source, job, bytes),
-        Err(Stop::Refused(refusal)) => Outcome::Refused(Box::new(Rejection {
+    let source = Source::of(engine, job);
+    match result() {
+        Some(Ok(bytes)) => answered(set, source, job, bytes),
+        Some(Err(Stop::Refused(refusal))) => Outcome::Refused(Box::new(Rejection {
             refusal,
             culprit: set.culprit(refusal),
             source,
             notes: notes(job),
         })),
-        Err(Stop::Broken(words)) => Outcome::Bad(words),
+        Some(Err(Stop::Broken(words))) => Outcome::Bad(words),
+        None => Outcome::Bad("no answer was given".into()),
     }
 }
 
@@ -82,6 +94,14 @@ impl Outcome {
                 advice::line(rejection.refusal, rejection.culprit.as_ref())
             }
             Outcome::Bad(words) => words.clone(),
+        }
+    }
+
+    /// What there is to tell of a set that was answered.
+    pub fn report(&self) -> Option<&Report> {
+        match self {
+            Outcome::Answered(report, _) => Some(report),
+            _ => None,
         }
     }
 

@@ -9,9 +9,12 @@ use facetings_host::format::vertex_set::{self, ENDINGS};
 use crate::inputs::{Input, Named};
 use crate::options::{Form, Options};
 
+/// The page of all sets, without its ending.
+pub const INDEX: &str = "index";
+
 /// The file of each set in the folder that was named.
 pub fn places(options: &Options, sets: &[Named]) -> Result<Option<Vec<PathBuf>>, String> {
-    let Some(folder) = &options.place else {
+    let Some(folder) = options.place.as_ref().filter(|_| options.form != Form::Csv) else {
         return match options.form {
             Form::Raw => Err("the bytes of several answers need a folder: -o PLACE".into()),
             _ => Ok(None),
@@ -20,7 +23,10 @@ pub fn places(options: &Options, sets: &[Named]) -> Result<Option<Vec<PathBuf>>,
     let ending = ending(options.form);
     let mut taken = HashSet::new();
     let names = names(sets).into_iter().map(|name| {
-        let name = format!("{name}.{ending}");
+        let name = format!("{name}{ending}");
+        if options.form == Form::Html && name == INDEX {
+            return Err("a page for 'index' would be written over by that of all sets".into());
+        }
         match taken.insert(name.clone()) {
             true => Ok(folder.join(name)),
             false => Err(format!("two sets would both be written to {name}")),
@@ -29,11 +35,13 @@ pub fn places(options: &Options, sets: &[Named]) -> Result<Option<Vec<PathBuf>>,
     names.collect::<Result<_, String>>().map(Some)
 }
 
+/// Of several files of a set each has its own ending.
 fn ending(form: Form) -> &'static str {
     match form {
-        Form::Page => "page",
-        Form::Json => "json",
-        Form::Raw => "answer",
+        Form::Page => ".page",
+        Form::Json => ".json",
+        Form::Raw => ".answer",
+        Form::Off | Form::Svg | Form::Html | Form::Csv | Form::Sheet => "",
     }
 }
 
@@ -87,6 +95,6 @@ pub fn spared(inputs: &[Input], places: &[PathBuf]) -> Result<(), String> {
 }
 
 /// A file that cannot be read is not known to be none.
-fn holds_vertex_set(place: &Path) -> bool {
+pub fn holds_vertex_set(place: &Path) -> bool {
     fs::read(place).map_or(true, |bytes| vertex_set::is_one(&bytes))
 }

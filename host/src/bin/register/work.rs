@@ -3,16 +3,19 @@
 use std::error::Error;
 use std::path::{Path, PathBuf};
 
+use faceting_register::batch::ask_all;
 use faceting_register::{Engine, Register};
 use facetings_host::engines::oracle::Oracle;
 use facetings_host::format::vertex_set::VertexSet;
 use facetings_host::report::label::{counted, Count};
 
+use crate::gathered::{is_catalogue, Catalogues, Gathered};
 use crate::inputs::{self, Named};
 use crate::options::{Form, Options};
-use crate::outcome::{outcome, Outcome, Status};
+use crate::outcome::{outcome, outcome_from, Outcome, Status};
 use crate::places::{make_folder, places, spared};
-use crate::{complain, output};
+use crate::progress::Progress;
+use crate::{complain, crew, output, resume, works};
 
 /// Answers what the options name, and says how that ended.
 pub fn run(options: &Options) -> Status {
@@ -26,16 +29,24 @@ pub fn run(options: &Options) -> Status {
 
 /// A single file with a single set by itself, anything else as several sets.
 fn answer(options: &Options, engine: &mut dyn Engine) -> Result<Status, String> {
-    let inputs = inputs::inputs(&options.inputs);
+    let catalogues = Catalogues::read(options)?;
+    let is_set = |file: &&PathBuf| options.form != Form::Csv || !is_catalogue(file);
+    let named: Vec<PathBuf> = options.inputs.iter().filter(is_set).cloned().collect();
+    let inputs = inputs::inputs(&named);
     let sets: Vec<Named> = inputs.iter().flat_map(inputs::read).collect();
     let single = inputs.len() == 1 && inputs[0].file == options.inputs[0];
+    let single = single && !options.form.needs_folder() && options.form != Form::Csv;
     if let ([named], true) = (&sets[..], single) {
         spared(&inputs, options.place.as_slice())?;
         return alone(options, engine, &named.set);
     }
     let places = places(options, &sets)?;
-    spared(&inputs, places.as_deref().unwrap_or_default())?;
-    many(options, engine, &sets, places)
+    let files = match &places {
+        Some(places) => places,
+        None => options.place.as_slice(),
+    };
+    spared(&inputs, files)?;
+    many(options, &sets, places, catalogues)
 }
 
 /// What answers: the proved library, or the original in its place.
@@ -48,6 +59,10 @@ fn open(original: bool) -> Result<Box<dyn Engine>, Box<dyn Error>> {
 
 /// One set: the result, and a line on standard error where there is no answer.
 fn alone(options: &Options, engine: &mut dyn Engine, set: &VertexSet) -> Result<Status, String> {
+    let place = options.place.as_deref();
+    if place.is_some_and(|place| resume::is_there(options, place, engine.name(), set)) {
+        return Ok(Status::Answered);
+    }
     let found = outcome(engine, set, options.room);
     if let Some(bytes) = found.result(options.form, set) {
         match &options.place {
@@ -62,51 +77,158 @@ fn alone(options: &Options, engine: &mut dyn Engine, set: &VertexSet) -> Result<
     })
 }
 
-/// Several sets: a line for each as it is done, and one for all of them.
+/// What came of one of several sets, as far as it is told.
+struct Done {
+    status: Status,
+    line: String,
+    count: Option<Count>,
+    kept: bool,
+    printed: Option<Vec<u8>>,
+    gathered: Gathered,
+}
+
+/// Several sets, some at a time: a line for each, and one for all of them.
 fn many(
     options: &Options,
-    engine: &mut dyn Engine,
     sets: &[Named],
     places: Option<Vec<PathBuf>>,
+    catalogues: Catalogues,
 ) -> Result<Status, String> {
-    if let Some(folder) = &options.place {
+    if let Some(folder) = options.place.as_ref().filter(|_| places.is_some()) {
         make_folder(folder)?;
     }
-    let mut sums = Sums::default();
-    let all = sets.len();
-    let width = all.to_string().len();
-    for (i, Named { set, .. }) in sets.iter().enumerate() {
-        let place = places.as_ref().map(|places| places[i].as_path());
-        let found = stored(options.form, place, set, outcome(engine, set, options.room));
-        sums.add(&found, options.strict);
-        let (number, name, line) = (i + 1, &set.subject.name, found.line());
-        match (options.quiet, found.status(options.strict)) {
-            (true, Status::Answered) => {}
-            (true, _) => output::tell(&format!("register: {name}: {line}\n")),
-            (false, _) => tell(
-                options,
-                &format!("[{number:>width$}/{all}] {name}: {line}\n"),
-            )?,
+    let place = |i: usize| places.as_ref().map(|places| places[i].as_path());
+    let calls: Vec<&[Named]> = sets.chunks(TOGETHER).collect();
+    let work = |engine: &mut Option<Box<dyn Engine>>, call: usize| {
+        let place = |i| place(call * TOGETHER + i);
+        some(options, engine.as_deref_mut(), place, calls[call])
+    };
+    let (mut sums, mut gathered) = (Sums::default(), Gathered::default());
+    let mut progress = Progress::of(sets.len(), options.quiet);
+    let tool = || open(options.original).ok();
+    crew::each(options.jobs, calls.len(), tool, work, |call, done| {
+        for (i, done) in done.into_iter().enumerate() {
+            sums.add(&done);
+            told(options, call * TOGETHER + i, sets, &done)?;
+            progress.step();
+            gathered.extend(done.gathered);
         }
-    }
-    if !options.quiet {
+        Ok(())
+    })?;
+    gathered.finish(options, catalogues)?;
+    if !options.quiet && !sets.is_empty() {
         tell(options, &sums.line())?;
     }
     Ok(sums.worst)
 }
 
-/// What came of a set after its result was put where it belongs: without a folder
-/// only JSON is written, and only the labels are told otherwise.
-fn stored(form: Form, place: Option<&Path>, set: &VertexSet, found: Outcome) -> Outcome {
+/// How many sets are answered in one call, so that lines come while others wait.
+const TOGETHER: usize = 16;
+
+/// Some of several sets: those that are there are passed over, the others answered
+/// together and stored.
+fn some<'a>(
+    options: &Options,
+    engine: Option<&mut (dyn Engine + 'static)>,
+    place: impl Fn(usize) -> Option<&'a Path>,
+    sets: &[Named],
+) -> Vec<Done> {
+    let Some(engine) = engine else {
+        let bad = |_: &Named| Outcome::Bad("nothing is there to answer it".into());
+        return sets.iter().map(|set| Done::of(options, bad(set))).collect();
+    };
+    let name = engine.name();
+    let there = |(i, Named { set, .. }): (usize, &Named)| {
+        place(i).is_some_and(|place| resume::is_there(options, place, name, set))
+    };
+    let there: Vec<bool> = sets.iter().enumerate().map(there).collect();
+    let due = sets.iter().zip(&there).filter(|(_, there)| !**there);
+    let jobs = due.filter_map(|(named, _)| named.set.job.as_ref().ok());
+    let jobs: Vec<&[u8]> = jobs.map(Vec::as_slice).collect();
+    let mut results = ask_all(engine, &jobs, options.room).into_iter();
+    let done = |(i, Named { set, .. }): (usize, &Named)| match there[i] {
+        true => Done::kept(),
+        false => {
+            let found = outcome_from(name, set, || results.next());
+            one(options, place(i), set, found)
+        }
+    };
+    sets.iter().enumerate().map(done).collect()
+}
+
+/// One of several sets, stored.
+fn one(options: &Options, place: Option<&Path>, set: &VertexSet, found: Outcome) -> Done {
+    let (found, printed) = stored(options, place, set, found);
+    let gathered = Gathered::of(options, place, &set.subject.name, &found);
+    Done {
+        printed,
+        gathered,
+        ..Done::of(options, found)
+    }
+}
+
+impl Done {
+    fn of(options: &Options, found: Outcome) -> Done {
+        Done {
+            status: found.status(options.strict),
+            line: found.line(),
+            count: found.report().map(|report| report.count),
+            kept: false,
+            printed: None,
+            gathered: Gathered::default(),
+        }
+    }
+
+    fn kept() -> Done {
+        Done {
+            status: Status::Answered,
+            line: "as before".into(),
+            count: None,
+            kept: true,
+            printed: None,
+            gathered: Gathered::default(),
+        }
+    }
+}
+
+/// The line of a set, and its result where that goes to standard output.
+fn told(options: &Options, i: usize, sets: &[Named], done: &Done) -> Result<(), String> {
+    if let Some(bytes) = &done.printed {
+        output::print(bytes)?;
+    }
+    let (all, number) = (sets.len(), i + 1);
+    let width = all.to_string().len();
+    let (name, line) = (&sets[i].set.subject.name, &done.line);
+    match (options.quiet, done.status) {
+        (true, Status::Answered) => {}
+        (true, _) => output::tell(&format!("register: {name}: {line}\n")),
+        (false, _) => tell(
+            options,
+            &format!("[{number:>width$}/{all}] {name}: {line}\n"),
+        )?,
+    }
+    Ok(())
+}
+
+/// What came of a set after its result was put where it belongs, and what is to be
+/// printed of it: without a folder only JSON is, and only the labels are told otherwise.
+fn stored(
+    options: &Options,
+    place: Option<&Path>,
+    set: &VertexSet,
+    found: Outcome,
+) -> (Outcome, Option<Vec<u8>>) {
+    let form = options.form;
     let written = match (found.result(form, set), place) {
+        (_, Some(place)) if form.needs_folder() => works::store(options, place, found.report()),
         (Some(bytes), Some(place)) => put(place, &bytes),
         (None, Some(place)) => output::remove(place),
-        (Some(bytes), None) if form == Form::Json => output::print(&bytes),
+        (Some(bytes), None) if form == Form::Json => return (found, Some(bytes)),
         _ => Ok(()),
     };
     match written {
-        Ok(()) => found,
-        Err(words) => Outcome::Bad(words),
+        Ok(()) => (found, None),
+        Err(words) => (Outcome::Bad(words), None),
     }
 }
 
@@ -118,7 +240,8 @@ fn put(place: &Path, bytes: &[u8]) -> Result<(), String> {
 
 /// Progress goes to standard output, unless the results themselves do.
 fn tell(options: &Options, line: &str) -> Result<(), String> {
-    if options.form == Form::Json && options.place.is_none() {
+    let results = matches!(options.form, Form::Json | Form::Csv) && options.place.is_none();
+    if results || options.against.is_some() {
         output::tell(line);
         return Ok(());
     }
@@ -130,27 +253,34 @@ struct Sums {
     answered: usize,
     refused: usize,
     bad: usize,
+    kept: usize,
     count: Count,
     worst: Status,
 }
 
 impl Sums {
-    fn add(&mut self, found: &Outcome, strict: bool) {
-        self.worst = self.worst.max(found.status(strict));
-        match found {
-            Outcome::Answered(report, _) => {
-                self.answered += 1;
-                self.count = self.count.plus(report.count);
-            }
-            Outcome::Refused(..) => self.refused += 1,
-            Outcome::Bad(_) => self.bad += 1,
-        }
+    fn add(&mut self, done: &Done) {
+        self.worst = self.worst.max(done.status);
+        let sum = match (done.kept, done.count, done.status) {
+            (true, ..) => &mut self.kept,
+            (_, Some(_), _) => &mut self.answered,
+            (_, None, Status::Refused) => &mut self.refused,
+            _ => &mut self.bad,
+        };
+        *sum += 1;
+        self.count = done
+            .count
+            .map_or(self.count, |count| self.count.plus(count));
     }
 
     fn line(&self) -> String {
         let (answered, refused, bad) = (self.answered, self.refused, self.bad);
-        let sets = counted(answered + refused + bad, "set", "sets");
+        let sets = counted(answered + refused + bad + self.kept, "set", "sets");
         let figures = self.count.words(None);
-        format!("{sets}: {answered} answered, {refused} refused, {bad} bad; {figures}\n")
+        let kept = match self.kept {
+            0 => "".into(),
+            kept => format!(", {kept} as before"),
+        };
+        format!("{sets}: {answered} answered, {refused} refused, {bad} bad{kept}; {figures}\n")
     }
 }
