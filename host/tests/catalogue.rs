@@ -8,7 +8,8 @@ use std::io::Write;
 use std::os::unix::fs::PermissionsExt;
 use std::path::{Path, PathBuf};
 
-use facetings_host::catalogue::csv::{self, Line, NUMBER};
+use faceting_register::quote::Counter;
+use facetings_host::catalogue::csv::{self, Line, NUMBER, PRICE};
 
 use common::place::{names, Done, Place};
 use common::ways::ways;
@@ -225,6 +226,69 @@ fn on_the_path(name: &str) -> Option<PathBuf> {
         let _ = std::io::stderr().write_all(line.as_bytes());
     }
     found
+}
+
+/// The tariff of examples/counter.tariff: a square at 150, a triangle at 120, a joint at
+/// 15, a twentieth off.
+const TARIFF: &str = include_str!("../../examples/counter.tariff");
+
+/// The cube, eight triangles more, and the triangles alone: 6 squares and 12 joints come to
+/// 1,080, all faces and 24 joints to 2,220, 8 triangles and 12 joints to 1,140.
+#[test]
+fn a_tariff_puts_prices_into_the_catalogue_and_on_the_sheet() {
+    if Counter::open().is_err() {
+        return println!("skipped: only the linked library quotes");
+    }
+    let place = Place::new("catalogue-priced");
+    place.write("cube.txt", CUBE);
+    place.write("square.txt", SQUARE);
+    place.write("counter.tariff", TARIFF);
+    let run = |words: &[&str]| place.run(COMMAND, words);
+    let priced = ["--csv", "--quiet", "--price", "counter.tariff"];
+    let lines = table(run(&[&priced[..], &["cube.txt", "square.txt"]].concat()));
+    let prices: Vec<&str> = lines.iter().map(|line| line[PRICE].as_str()).collect();
+    assert_eq!(prices[..3], ["1026", "2109", "1083"]);
+    assert!(prices.len() > 3 && prices[3..].iter().all(|price| price.is_empty()));
+    let plain = table(run(&["--csv", "--quiet", "cube.txt"]));
+    assert!(plain.iter().all(|line| line[PRICE].is_empty()));
+    run(&[
+        "--svg",
+        "--quiet",
+        "--price",
+        "counter.tariff",
+        "cube.txt",
+        "-o",
+        "out",
+    ])
+    .fine();
+    let sheet = String::from_utf8_lossy(&place.read("out/cube.svg")).into_owned();
+    for price in ["1026 pence", "2109 pence", "1083 pence"] {
+        assert!(sheet.contains(price), "{price}");
+    }
+}
+
+#[test]
+fn a_tariff_that_is_none_or_goes_with_nothing_is_told() {
+    if Counter::open().is_err() {
+        return println!("skipped: only the linked library quotes");
+    }
+    let place = Place::new("catalogue-no-tariff");
+    place.write("cube.txt", CUBE);
+    place.write("bad.tariff", "joint 1\n");
+    let run = |words: &[&str]| place.run(COMMAND, words);
+    let bad = run(&[
+        "--csv",
+        "--price",
+        "bad.tariff",
+        "cube.txt",
+        "-o",
+        "out.csv",
+    ]);
+    assert!(bad.complaint(2).contains("edge count 1 has no price"));
+    let absent = run(&["--svg", "--price", "none", "cube.txt", "-o", "out"]);
+    assert!(absent.complaint(2).contains("none"));
+    run(&["--json", "--price", "bad.tariff", "cube.txt"]).complaint(2);
+    assert_eq!(place.names(), ["bad.tariff", "cube.txt"]);
 }
 
 /// What stands for ssh: it notes the host and runs the rest here.

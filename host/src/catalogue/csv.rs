@@ -5,8 +5,8 @@ use crate::report::Report;
 use super::number::number;
 use crate::parts::names::words;
 
-/// The columns. Price is empty where there is no tariff; entry and job say where the
-/// figure stood when the line was written.
+/// The columns. Price is in pence, and empty where there is no tariff or the rank has no
+/// prices; entry and job say where the figure stood when the line was written.
 pub const COLUMNS: [&str; 11] = [
     "set", "number", "points", "edges", "facets", "pieces", "closes", "parts", "price", "entry",
     "job",
@@ -17,6 +17,9 @@ pub const SET: usize = 0;
 
 /// The column of the number that lasts.
 pub const NUMBER: usize = 1;
+
+/// The column of the price.
+pub const PRICE: usize = 8;
 
 /// The column of the entry's place in the list.
 pub const ENTRY: usize = 9;
@@ -50,7 +53,9 @@ fn line(report: &Report, e: usize) -> Line {
         look.pieces.to_string(),
         closes.into(),
         parts(report, e),
-        String::new(),
+        report
+            .price(e)
+            .map_or_else(String::new, |pence| pence.to_string()),
         e.to_string(),
         report.source.hash.clone(),
     ]

@@ -82,6 +82,8 @@ pub struct Report {
     pub notes: Notes,
     /// What the label counts.
     pub count: Count,
+    /// What each entry costs, in pence, where a tariff was given and the rank has prices.
+    pub prices: Option<Vec<u64>>,
 }
 
 impl Report {
@@ -105,7 +107,15 @@ impl Report {
             answer: read,
             length,
             looks,
+            prices: None,
         })
+    }
+
+    /// What an entry costs, in pence, or nothing.
+    pub fn price(&self, e: usize) -> Option<u64> {
+        self.prices
+            .as_ref()
+            .and_then(|prices| prices.get(e).copied())
     }
 
     /// The line that goes on the box.

@@ -1,4 +1,5 @@
-//! A contact sheet: every figure of a set small, with its number and parts.
+//! A contact sheet: every figure of a set small, with its number and parts, and its price
+//! where a tariff was given.
 
 use super::colour::{self, STYLE};
 use super::mark;
@@ -35,7 +36,7 @@ pub fn sheet(report: &Report, painter: &Painter) -> String {
     text += &words(16.0, 52.0, &label);
     for (e, entry) in entries.iter().enumerate() {
         let number = number(&report.job, &report.answer.entries[e].figure);
-        text += &cell(e, &number, entry, painter);
+        text += &cell(e, &number, entry, report.price(e), painter);
     }
     for shape in 0..report.parts.used {
         text += &key(report, shape, legend + LINE * (shape + 1) as f64);
@@ -56,13 +57,19 @@ fn key(report: &Report, shape: usize, y: f64) -> String {
     format!("<rect class=\"{class}\" {square}/>{told}\n")
 }
 
-/// A picture with the entry's numbers and parts below it. A price would stand beside the
-/// number; there is no tariff yet.
-fn cell(e: usize, lasting: &str, entry: &EntryParts, painter: &Painter) -> String {
+/// A picture with the entry's numbers, parts and price below it.
+fn cell(
+    e: usize,
+    lasting: &str,
+    entry: &EntryParts,
+    price: Option<u64>,
+    painter: &Painter,
+) -> String {
     let (column, row) = ((e % COLUMNS) as f64, (e / COLUMNS) as f64);
     let (x, y) = (column * CELL[0] + 15.0, TOP + row * CELL[1]);
     let number = words(0.0, SIZE + 16.0, &format!("entry {e}: {lasting}"));
-    let parts = words(0.0, SIZE + 34.0, &parts_in_short(entry));
+    let price = price.map_or_else(String::new, |pence| format!("; {pence} pence"));
+    let parts = words(0.0, SIZE + 34.0, &(parts_in_short(entry) + &price));
     let open = format!("g transform=\"translate({} {})\"", short(x), short(y));
     tag(&open, painter.strokes(e, SIZE) + &number + &parts) + "\n"
 }

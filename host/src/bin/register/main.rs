@@ -10,6 +10,7 @@ mod output;
 mod places;
 mod price;
 mod progress;
+mod quotes;
 mod resume;
 mod symmetry;
 mod work;
@@ -34,7 +35,7 @@ fn main() -> ExitCode {
             Some(Told::Help) => print(&format!("{ABOUT}{RULES}")),
             Some(Told::Version) => print(VERSION),
             None if options.symmetry => symmetry::run(&options),
-            None if options.price.is_some() => price::run(&options),
+            None if options.quotes_alone() => price::run(&options),
             None => work::run(&options),
         },
         Err(words) => complain(&words, Status::Bad),

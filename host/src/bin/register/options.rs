@@ -64,7 +64,7 @@ pub struct Options {
     pub quiet: bool,
     /// Whether symmetries are printed in place of answers.
     pub symmetry: bool,
-    /// The tariff to quote from, in place of answers.
+    /// The tariff to quote from: in place of answers, or for what shows prices.
     pub price: Option<PathBuf>,
     /// Whether a note of weight counts in the exit status.
     pub strict: bool,
@@ -163,6 +163,11 @@ impl Options {
         Ok(())
     }
 
+    /// Whether quotes are asked for in place of answers.
+    pub fn quotes_alone(&self) -> bool {
+        self.price.is_some() && self.form == Form::Page
+    }
+
     fn checked(self) -> Result<Options, String> {
         if self.symmetry && (self.form != Form::Page || self.place.is_some()) {
             return Err("'--symmetry' goes with no other form and not with '-o'".into());
@@ -183,12 +188,12 @@ impl Options {
             let option = self.form.option();
             return Err(format!("'{option}' writes files: name a folder with -o"));
         }
-        let priced = self.price.is_some();
-        if priced
-            && (self.symmetry || self.original || self.form != Form::Page || self.place.is_some())
-        {
+        let quoted = self.quotes_alone() && self.place.is_none();
+        let shown = self.price.is_some() && matches!(self.form, Form::Csv | Form::Svg);
+        if self.price.is_some() && (self.symmetry || self.original || !(quoted || shown)) {
             return Err(
-                "'--price' goes with none of '--json', '--raw', '-o', '--symmetry' and '--original'".into(),
+                "'--price' goes with '--csv', with '--svg' or by itself, and not with '--original'"
+                    .into(),
             );
         }
         if self.inputs.is_empty() && self.told.is_none() {

@@ -105,6 +105,14 @@ impl Outcome {
         }
     }
 
+    /// The same, to put more into it.
+    pub fn report_mut(&mut self) -> Option<&mut Report> {
+        match self {
+            Outcome::Answered(report, _) => Some(report),
+            _ => None,
+        }
+    }
+
     fn json(&self, set: &VertexSet) -> String {
         let name = &set.subject.name;
         let value = match self {

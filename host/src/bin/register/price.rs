@@ -34,7 +34,8 @@ pub fn run(options: &Options) -> Status {
     worst
 }
 
-fn read(file: &Path) -> Result<Tariff, String> {
+/// The tariff in a file, or what is wrong with it.
+pub fn read(file: &Path) -> Result<Tariff, String> {
     let name = file.display();
     let text = fs::read_to_string(file).map_err(|error| format!("{name}: {error}"))?;
     tariff::read(&text).map_err(|words| format!("{name}: {words}"))

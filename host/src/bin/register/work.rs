@@ -15,6 +15,7 @@ use crate::options::{Form, Options};
 use crate::outcome::{outcome, outcome_from, Outcome, Status};
 use crate::places::{make_folder, places, spared};
 use crate::progress::Progress;
+use crate::quotes::Quotes;
 use crate::{complain, crew, output, resume, works};
 
 /// Answers what the options name, and says how that ended.
@@ -30,6 +31,7 @@ pub fn run(options: &Options) -> Status {
 /// A single file with a single set by itself, anything else as several sets.
 fn answer(options: &Options, engine: &mut dyn Engine) -> Result<Status, String> {
     let catalogues = Catalogues::read(options)?;
+    options.price.as_deref().map(Quotes::open).transpose()?;
     let is_set = |file: &&PathBuf| options.form != Form::Csv || !is_catalogue(file);
     let named: Vec<PathBuf> = options.inputs.iter().filter(is_set).cloned().collect();
     let inputs = inputs::inputs(&named);
@@ -99,14 +101,14 @@ fn many(
     }
     let place = |i: usize| places.as_ref().map(|places| places[i].as_path());
     let calls: Vec<&[Named]> = sets.chunks(TOGETHER).collect();
-    let work = |engine: &mut Option<Box<dyn Engine>>, call: usize| {
+    let work = |tools: &mut Option<Tools>, call: usize| {
         let place = |i| place(call * TOGETHER + i);
-        some(options, engine.as_deref_mut(), place, calls[call])
+        some(options, tools.as_mut(), place, calls[call])
     };
     let (mut sums, mut gathered) = (Sums::default(), Gathered::default());
     let mut progress = Progress::of(sets.len(), options.quiet);
-    let tool = || open(options.original).ok();
-    crew::each(options.jobs, calls.len(), tool, work, |call, done| {
+    let tools = || Tools::open(options).ok();
+    crew::each(options.jobs, calls.len(), tools, work, |call, done| {
         for (i, done) in done.into_iter().enumerate() {
             sums.add(&done);
             told(options, call * TOGETHER + i, sets, &done)?;
@@ -122,6 +124,21 @@ fn many(
     Ok(sums.worst)
 }
 
+/// What a worker has: what answers, and what quotes where a tariff was given.
+struct Tools {
+    engine: Box<dyn Engine>,
+    quotes: Option<Quotes>,
+}
+
+impl Tools {
+    fn open(options: &Options) -> Result<Tools, Box<dyn Error>> {
+        Ok(Tools {
+            engine: open(options.original)?,
+            quotes: options.price.as_deref().map(Quotes::open).transpose()?,
+        })
+    }
+}
+
 /// How many sets are answered in one call, so that lines come while others wait.
 const TOGETHER: usize = 16;
 
@@ -129,11 +146,11 @@ const TOGETHER: usize = 16;
 /// together and stored.
 fn some<'a>(
     options: &Options,
-    engine: Option<&mut (dyn Engine + 'static)>,
+    tools: Option<&mut Tools>,
     place: impl Fn(usize) -> Option<&'a Path>,
     sets: &[Named],
 ) -> Vec<Done> {
-    let Some(engine) = engine else {
+    let Some(Tools { engine, quotes }) = tools else {
         let bad = |_: &Named| Outcome::Bad("nothing is there to answer it".into());
         return sets.iter().map(|set| Done::of(options, bad(set))).collect();
     };
@@ -145,11 +162,14 @@ fn some<'a>(
     let due = sets.iter().zip(&there).filter(|(_, there)| !**there);
     let jobs = due.filter_map(|(named, _)| named.set.job.as_ref().ok());
     let jobs: Vec<&[u8]> = jobs.map(Vec::as_slice).collect();
-    let mut results = ask_all(engine, &jobs, options.room).into_iter();
+    let mut results = ask_all(engine.as_mut(), &jobs, options.room).into_iter();
     let done = |(i, Named { set, .. }): (usize, &Named)| match there[i] {
         true => Done::kept(),
         false => {
-            let found = outcome_from(name, set, || results.next());
+            let mut found = outcome_from(name, set, || results.next());
+            if let Some(quotes) = quotes {
+                quotes.add(set, &mut found);
+            }
             one(options, place(i), set, found)
         }
     };
