@@ -8,7 +8,10 @@ has proved (docs/FORMAT.md has the bytes, include/register.h every promise):
     answer = Register().answer(job(square))
     print(len(answer.entries), "figures")
 
-A refused job raises Refused, with the refusal's number.
+A refused job raises Refused, with the refusal's number. What an entry of rank 4 costs:
+
+    prices = [500] * MOST_EDGES
+    pence = Register().price(job(points), 0, tariff(prices, joint=15, discount=50))
 """
 
 import ctypes
@@ -23,6 +26,7 @@ WORKSPACE = 4_194_304
 USUAL_ROOM = 1 << 20
 LONGEST = 1 << 30
 ROOM = 17  # the refusal of a buffer that is too short
+MOST_EDGES = 190  # edge counts from 1 to this one have a price
 
 REFUSALS = {
     1: "under 11 bytes, or does not begin with FCT",
@@ -42,6 +46,9 @@ REFUSALS = {
     15: "a 1,025th possible facet or entry in some call",
     16: "the budget is used up",
     17: "the answer buffer is shorter than the answer",
+    19: "a tariff of another length, or with a number above its bound",
+    20: "only entries of rank 4 have a price",
+    21: "no entry of that number",
     22: "a tolerance outside its range",
 }
 
@@ -98,6 +105,12 @@ def job(points, rows=None, rank=None, *, low=None, high=None, limit=None, tolera
     numbers = [*offset, *(x for vector in basis for x in vector), *(x for p in points for x in p)]
     body = struct.pack(f"<I{len(numbers)}d", budget, *numbers)
     return head + limits + body + b"".join(bytes(row) for row in rows)
+
+
+def tariff(prices, joint, discount=0):
+    """The bytes of a tariff: a price in pence for each edge count from 1 up, that of a joint,
+    and the discount in thousandths."""
+    return struct.pack(f"<{len(prices) + 2}I", *prices, joint, discount)
 
 
 class _Words:
@@ -162,10 +175,15 @@ class Register:
     nothing else; two threads need a Register each."""
 
     def __init__(self, library=None):
-        self._function = ctypes.CDLL(library or _library()).register_answer
+        linked = ctypes.CDLL(library or _library())
+        self._function = linked.register_answer
         self._function.restype = ctypes.c_int64
         self._function.argtypes = [ctypes.c_char_p, ctypes.c_size_t, ctypes.c_char_p,
                                    ctypes.c_size_t, ctypes.c_char_p, ctypes.c_size_t]
+        self._price = linked.register_price
+        self._price.restype = ctypes.c_int64
+        self._price.argtypes = [ctypes.c_char_p, ctypes.c_size_t, ctypes.c_char_p, ctypes.c_size_t,
+                                ctypes.c_uint64, ctypes.c_char_p, ctypes.c_size_t]
         self._workspace = ctypes.create_string_buffer(WORKSPACE)
 
     def answer_bytes(self, asked, longest=LONGEST):
@@ -183,3 +201,10 @@ class Register:
     def answer(self, asked, longest=LONGEST):
         """The answer to a job's bytes."""
         return read_answer(self.answer_bytes(asked, longest))
+
+    def price(self, asked, entry, costs):
+        """What an entry of a job of rank 4 costs at a tariff, in pence; entries count from 0."""
+        code = self._price(asked, len(asked), self._workspace, WORKSPACE, entry, costs, len(costs))
+        if code < 0:
+            raise Refused(-code)
+        return code

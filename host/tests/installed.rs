@@ -270,6 +270,40 @@ fn python_comes_to_the_same_as_rust() {
     }
 }
 
+/// The tetrahedron and a square at the example's tariff, and what is refused.
+const PRICED: &str = r#"
+from faceting_register import MOST_EDGES, Refused, Register, job, tariff
+register = Register()
+corner = job([(0, 0, 0), (1, 0, 0), (0, 1, 0), (0, 0, 1)])
+square = job([(0, 0), (1, 0), (1, 1), (0, 1)])
+prices = [500, 500, 120, 150, 180] + [500] * (MOST_EDGES - 5)
+print(register.price(corner, 0, tariff(prices, joint=15, discount=50)))
+for asked, entry, costs in (
+    (corner, 1, tariff(prices, 15)),
+    (square, 0, tariff(prices, 15)),
+    (corner, 0, tariff(prices[1:], 15)),
+    (square[:-1], 0, b""),
+):
+    try:
+        print(register.price(asked, entry, costs))
+    except Refused as refused:
+        print(refused)
+"#;
+
+#[test]
+fn python_prices_entries() {
+    let place = Place::new("installed-priced");
+    let Some(usr) = installed(&place) else { return };
+    if let Some(done) = python(&usr, &["-c", PRICED]) {
+        let wanted = "542\n\
+            refused 21: no entry of that number\n\
+            refused 20: only entries of rank 4 have a price\n\
+            refused 19: a tariff of another length, or with a number above its bound\n\
+            refused 8: longer or shorter than the fields say\n";
+        assert_eq!(done.fine(), wanted);
+    }
+}
+
 fn summary(bytes: &[u8]) -> String {
     let (answer, _) = Answer::read(bytes).expect("an answer");
     let edges: Vec<u32> = answer.summaries.iter().map(|summary| summary[1]).collect();

@@ -14,7 +14,10 @@ use facetings_host::cases::generator::case;
 use facetings_host::compare::pricing::total;
 use facetings_host::format::text::encode;
 
+use common::place::Place;
 use common::WORKSPACE;
+
+const COMMAND: &str = env!("CARGO_BIN_EXE_register");
 
 /// Generated jobs whose entries are all quoted in every run of the tests.
 const COUNT: usize = 600;
@@ -237,4 +240,33 @@ fn refusals_come_in_their_order() {
     assert_eq!(code(&square.write(), 99, &longer), -16);
     assert_eq!(counter.code(&job, WORKSPACE - 1, 99, &longer), -12);
     assert_eq!(counter.code(&[], 0, 99, &longer), -1);
+}
+
+/// A file of the examples.
+fn example(name: &str) -> String {
+    format!("{}/../examples/{name}", env!("CARGO_MANIFEST_DIR"))
+}
+
+#[test]
+fn the_command_prints_a_quote_for_each_entry() {
+    if linked().is_none() {
+        return;
+    }
+    let place = Place::new("quotes");
+    let (tariff, corner) = (example("counter.tariff"), example("tetrahedron.txt"));
+    let printed = place.run(COMMAND, &["--price", &tariff, &corner]).fine();
+    // Four triangles at 120 and six joints at 15 are 570, and 541.5 without the discount.
+    let wanted = "tetrahedron.txt: entry 0: 542 pence\ntetrahedron.txt: 1 entry\n";
+    assert_eq!(printed, wanted);
+    let cube = example("cube.txt");
+    let printed = place.run(COMMAND, &["--price", &tariff, &cube]).fine();
+    assert_eq!(printed.lines().count(), 4);
+    let square = example("square.txt");
+    let told = place.run(COMMAND, &["--price", &tariff, &square]);
+    assert!(told.complaint(1).contains("refused 20"));
+    place.write("bad.tariff", "1-190 5\n");
+    let told = place.run(COMMAND, &["--price", "bad.tariff", &cube]);
+    assert!(told
+        .complaint(2)
+        .contains("bad.tariff: the joint has no price"));
 }
