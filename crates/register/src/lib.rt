@@ -2,6 +2,7 @@
 use answering::Written;
 use quotes::Quoted;
 ghost use mathlib.Core.Path.{_≡_};
+ghost use Prim.Native.Nat.{_≤_};
 ghost use lib.IntN.{pos, negℤ};
 ghost use lib.ListN.{length, take};
 ghost use Rattle.definitions.specs.Outcome.{answered};
@@ -9,7 +10,7 @@ ghost use Rattle.definitions.specs.Job.{Bytes, outcome, codeOf, bufferOf};
 ghost use Rattle.definitions.specs.Demands.{Demand1, Demand2, Demand3};
 ghost use Rattle.definitions.specs.Symmetry.{Symmetric};
 ghost use Rattle.definitions.specs.Batch.{batch, Batched};
-ghost use Rattle.definitions.specs.Prices.{quote, quoteCode};
+ghost use Rattle.definitions.specs.Prices.{quote, quoteCode, slipLength, slip, withRoom};
 ghost use Rattle.register.specs.Reading.{entriesRead};
 ghost use Rattle.register.specs.Batches.{Promised};
 
@@ -51,13 +52,22 @@ pub extern "C" fn register_batch(row: &[u8], workspace: &mut [u8], answer: &mut 
     batches::answer_row(row, workspace, answer)
 }
 
-// The quote of an entry of a job of rank 4, counted from 0, at a tariff: its total in pence, or minus the number of the refusal. It is the definition's quote [16.4], whose figure is the
-// definition's entry, whatever the slices are; nothing is written but the workspace.
+// The quote of an entry of a job of rank 4, counted from 0, at a tariff: its total in pence, or minus the number of the refusal. The slip stands at the front of the buffer, which is zero behind it, and
+// zero throughout after a refusal. Code and buffer are the definition's [16.4] [16.6], at the figure of the definition's entry, whatever the slices are. The total is the quote's, which asks for no
+// room: 17 is laid around it, last.
 #[no_mangle]
-pub extern "C" fn register_price(job: &[u8], workspace: &mut [u8], entry: u64, tariff: &[u8]) -> i64
-    ensures code { λ r. ⌜ r ≡ quoteCode (quote (now (job .entry)) (length (now (workspace .entry))) entry (now (tariff .entry))) ⌝ }
+pub extern "C" fn register_price(
+    job: &[u8],
+    workspace: &mut [u8],
+    entry: u64,
+    tariff: &[u8],
+    answer: &mut [u8],
+) -> i64
+    ensures code { λ r. ⌜ r ≡ quoteCode (withRoom (length (now (answer .entry))) (quote (now (job .entry)) (length (now (workspace .entry))) entry (now (tariff .entry)))) ⌝ }
+    ensures total { λ r. ⌜ (slipLength ≤ length (now (answer .entry)) → r ≡ quoteCode (quote (now (job .entry)) (length (now (workspace .entry))) entry (now (tariff .entry)))) ⌝ }
+    ensures buffer { λ _. ⌜ now (answer .exit) ≡ bufferOf (length (now (answer .entry))) (withRoom (length (now (answer .entry))) (slip (now (job .entry)) (length (now (workspace .entry))) entry (now (tariff .entry)))) ⌝ }
 {
-    match quotes::quote_job(job, workspace, entry, tariff) {
+    match quotes::quote_job(job, workspace, entry, tariff, answer) {
         Quoted::Refused(number) => refusal(number),
         Quoted::Total(total) => total as i64,
     }
