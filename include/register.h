@@ -135,16 +135,19 @@ int64_t register_batch(const uint8_t *row, size_t row_length,
                        uint8_t *workspace, size_t workspace_length,
                        uint8_t *answer, size_t answer_length);
 
-/* The bytes of a tariff. */
+/* The bytes of a tariff, and of a slip. */
 #define REGISTER_TARIFF_LENGTH ((size_t)768)
+#define REGISTER_SLIP_LENGTH ((size_t)1520)
 
-/* Why there is no quote, behind all refusals of the job but 17 [16.4]. */
+/* Why there is no quote, behind all refusals of the job but 17, which comes last [16.4]
+ * [16.6]. */
 #define REGISTER_TARIFF 19 /* tariff of another length, or with a number above its bound */
 #define REGISTER_SOLIDS 20 /* rank other than 4 */
 #define REGISTER_ENTRY 21  /* not so many entries */
 
 /*
- * What an entry of a job of rank 4 costs at a tariff, in pence.
+ * What an entry of a job of rank 4 costs at a tariff, in pence, and the slip: what its
+ * polygons of each edge count cost.
  *
  * Entries are counted from 0, as the answer has them. A tariff is 192 uint32_t, each
  * in four bytes, the lowest first: the price of a polygon of 1 edge, of 2, .., of 190;
@@ -153,19 +156,27 @@ int64_t register_batch(const uint8_t *row, size_t row_length,
  *
  * S is the price of each polygon of the entry's figure, by its edges, and of a joint
  * for each edge of the figure. Returns floor((S * (1000 - discount) + 500) / 1000), or
- * minus the number of a refusal: those of register_answer but 17, then 19, 20, 21 in
- * this order. Nothing else is returned, and every call ends.
+ * minus the number of a refusal: those of register_answer but 17, then 19, 20, 21, and
+ * 17 last, if the buffer is shorter than a slip. Nothing else is returned, and every
+ * call ends.
  *
- * What is promised, for all bytes in the three slices: the value is the definition's
- * quote [16.4], at the figure of the definition's entry. Every polygon has a price
- * (sizes-priced), and no total overflows (never-overflows). Nothing is written but the
- * workspace; its contents before make no difference and mean nothing afterwards. The
- * caller owes what register_answer's owes.
+ * The slip is 190 uint64_t, each in eight bytes, the lowest first: for each edge count
+ * from 1 up the price times the figure's polygons of that size, without joints and
+ * before the discount. It stands at the front of the buffer, with zeros behind it;
+ * after a refusal the whole buffer is zero.
+ *
+ * What is promised, for all bytes in the slices: value and buffer are the definition's
+ * quote [16.4] and slip [16.6], at the figure of the definition's entry. Every polygon
+ * has a price (sizes-priced), no total overflows (never-overflows), and the total is
+ * that of the slip's numbers and the joints (adds-up). The workspace's contents before
+ * make no difference and mean nothing afterwards. The caller owes what
+ * register_answer's owes.
  */
 int64_t register_price(const uint8_t *job, size_t job_length,
                        uint8_t *workspace, size_t workspace_length,
                        uint64_t entry,
-                       const uint8_t *tariff, size_t tariff_length);
+                       const uint8_t *tariff, size_t tariff_length,
+                       uint8_t *answer, size_t answer_length);
 
 #ifdef __cplusplus
 }

@@ -11,7 +11,8 @@ has proved (docs/FORMAT.md has the bytes, include/register.h every promise):
 A refused job raises Refused, with the refusal's number. What an entry of rank 4 costs:
 
     prices = [500] * MOST_EDGES
-    pence = Register().price(job(points), 0, tariff(prices, joint=15, discount=50))
+    quote = Register().price(job(points), 0, tariff(prices, joint=15, discount=50))
+    print(quote.total, "pence,", quote.subtotals[2], "of them for triangles before the discount")
 """
 
 import ctypes
@@ -27,6 +28,7 @@ USUAL_ROOM = 1 << 20
 LONGEST = 1 << 30
 ROOM = 17  # the refusal of a buffer that is too short
 MOST_EDGES = 190  # edge counts from 1 to this one have a price
+SLIP = 8 * MOST_EDGES  # the bytes of a slip
 
 REFUSALS = {
     1: "under 11 bytes, or does not begin with FCT",
@@ -83,6 +85,15 @@ class Answer:
     entries: list
     facets: list
     compounds: list
+
+
+@dataclass(frozen=True)
+class Quote:
+    """What an entry costs, in pence: less the discount; and all polygons of one edge, of two,
+    and so on, without joints and before the discount."""
+
+    total: int
+    subtotals: list
 
 
 def job(points, rows=None, rank=None, *, low=None, high=None, limit=None, tolerance=None,
@@ -183,7 +194,8 @@ class Register:
         self._price = linked.register_price
         self._price.restype = ctypes.c_int64
         self._price.argtypes = [ctypes.c_char_p, ctypes.c_size_t, ctypes.c_char_p, ctypes.c_size_t,
-                                ctypes.c_uint64, ctypes.c_char_p, ctypes.c_size_t]
+                                ctypes.c_uint64, ctypes.c_char_p, ctypes.c_size_t,
+                                ctypes.c_char_p, ctypes.c_size_t]
         self._workspace = ctypes.create_string_buffer(WORKSPACE)
 
     def answer_bytes(self, asked, longest=LONGEST):
@@ -203,8 +215,10 @@ class Register:
         return read_answer(self.answer_bytes(asked, longest))
 
     def price(self, asked, entry, costs):
-        """What an entry of a job of rank 4 costs at a tariff, in pence; entries count from 0."""
-        code = self._price(asked, len(asked), self._workspace, WORKSPACE, entry, costs, len(costs))
+        """What an entry of a job of rank 4 costs at a tariff; entries count from 0."""
+        slip = ctypes.create_string_buffer(SLIP)
+        code = self._price(asked, len(asked), self._workspace, WORKSPACE, entry,
+                           costs, len(costs), slip, SLIP)
         if code < 0:
             raise Refused(-code)
-        return code
+        return Quote(code, list(struct.unpack(f"<{MOST_EDGES}Q", slip.raw)))

@@ -277,7 +277,8 @@ register = Register()
 corner = job([(0, 0, 0), (1, 0, 0), (0, 1, 0), (0, 0, 1)])
 square = job([(0, 0), (1, 0), (1, 1), (0, 1)])
 prices = [500, 500, 120, 150, 180] + [500] * (MOST_EDGES - 5)
-print(register.price(corner, 0, tariff(prices, joint=15, discount=50)))
+quote = register.price(corner, 0, tariff(prices, joint=15, discount=50))
+print(quote.total, quote.subtotals[:4], sum(quote.subtotals), len(quote.subtotals))
 for asked, entry, costs in (
     (corner, 1, tariff(prices, 15)),
     (square, 0, tariff(prices, 15)),
@@ -295,7 +296,7 @@ fn python_prices_entries() {
     let place = Place::new("installed-priced");
     let Some(usr) = installed(&place) else { return };
     if let Some(done) = python(&usr, &["-c", PRICED]) {
-        let wanted = "542\n\
+        let wanted = "542 [0, 0, 480, 0] 480 190\n\
             refused 21: no entry of that number\n\
             refused 20: only entries of rank 4 have a price\n\
             refused 19: a tariff of another length, or with a number above its bound\n\

@@ -1,5 +1,5 @@
-//! Quotes beside a second pricing of the answer's own bytes, where the register is
-//! linked; and the command that prints them.
+//! Quotes and slips beside a second pricing of the answer's own bytes, where the register
+//! is linked; and the command that prints them.
 
 mod common;
 
@@ -7,11 +7,13 @@ use std::time::{Duration, Instant};
 
 use faceting_register::bounds::WORKSPACE as LARGEST;
 use faceting_register::job::rank_of;
-use faceting_register::quote::{Counter, Tariff, MOST_EDGES, TARIFF_LENGTH};
+use faceting_register::quote::{
+    subtotals, Counter, Made, Tariff, MOST_EDGES, SLIP_LENGTH, TARIFF_LENGTH,
+};
 use faceting_register::request::USUAL_ROOM;
-use faceting_register::{Answer, Engine, Job, Register};
+use faceting_register::{Answer, Engine, Entry, Job, Register};
 use facetings_host::cases::generator::case;
-use facetings_host::compare::pricing::total;
+use facetings_host::compare::pricing::{by_size, total};
 use facetings_host::format::text::encode;
 
 use common::place::Place;
@@ -71,6 +73,40 @@ fn answered(register: &mut Register, job: &[u8]) -> (i64, Option<Answer>) {
     (code, read)
 }
 
+/// A buffer of so many bytes that holds anything but zeros.
+fn poisoned(length: usize) -> Vec<u8> {
+    (0..length).map(|at| 1 + (at % 255) as u8).collect()
+}
+
+/// Lengths of a buffer, on both sides of a slip's.
+const ROOMS: [usize; 5] = [SLIP_LENGTH, 0, SLIP_LENGTH - 1, SLIP_LENGTH + 9, 1];
+
+/// What a quote is refused with, in a buffer of one length or another: it is zero throughout.
+fn refuses(counter: &mut Counter, asked: (&[u8], u64, &[u8]), seed: u64, code: i64) {
+    let (job, entry, tariff) = asked;
+    let room = ROOMS[seed as usize % ROOMS.len()];
+    let mut answer = poisoned(room);
+    assert_eq!(counter.slip(job, LARGEST, entry, tariff, &mut answer), code);
+    assert!(answer.iter().all(|&byte| byte == 0), "{room} bytes");
+}
+
+/// Total and slip of an entry, in a buffer of just the length or in a longer one; for some
+/// entries one byte less is tried too, and refused with 17.
+fn agrees(counter: &mut Counter, job: &[u8], number: u64, entry: &Entry, tariff: &Tariff) {
+    let bytes = tariff.bytes();
+    let mut answer = poisoned(SLIP_LENGTH + [0, 1, 77][number as usize % 3]);
+    let code = counter.slip(job, LARGEST, number, &bytes, &mut answer);
+    assert_eq!(code as i128, total(entry, tariff) as i128, "entry {number}");
+    let slip: Vec<u128> = subtotals(&answer).into_iter().map(u128::from).collect();
+    assert_eq!(slip, by_size(&entry.figure, tariff, MOST_EDGES));
+    assert!(answer[SLIP_LENGTH..].iter().all(|&byte| byte == 0));
+    if number % 16 == 0 {
+        let mut short = poisoned(SLIP_LENGTH - 1);
+        assert_eq!(counter.slip(job, LARGEST, number, &bytes, &mut short), -17);
+        assert!(short.iter().all(|&byte| byte == 0));
+    }
+}
+
 /// Quotes every entry of a job and the first that is not there, and says how many.
 fn quoted(register: &mut Register, counter: &mut Counter, job: &[u8], seed: u64) -> usize {
     let (code, answer) = answered(register, job);
@@ -79,27 +115,22 @@ fn quoted(register: &mut Register, counter: &mut Counter, job: &[u8], seed: u64)
     let four = rank_of(job) == 4;
     let Some(answer) = answer else {
         if code != -17 {
-            assert_eq!(counter.code(job, LARGEST, 0, &bytes), code);
-            assert_eq!(counter.code(job, LARGEST, 0, &bytes[1..]), code);
+            refuses(counter, (job, 0, &bytes), seed, code);
+            refuses(counter, (job, 0, &bytes[1..]), seed + 1, code);
         }
         return 0;
     };
-    assert_eq!(counter.code(job, LARGEST, seed, &bytes[1..]), -19);
+    refuses(counter, (job, seed, &bytes[1..]), seed, -19);
     if !four {
-        assert_eq!(counter.code(job, LARGEST, 0, &bytes), -20);
+        refuses(counter, (job, 0, &bytes), seed, -20);
         return 0;
     }
     for (number, entry) in answer.entries.iter().enumerate() {
-        let code = counter.code(job, LARGEST, number as u64, &bytes);
-        assert_eq!(
-            code as i128,
-            total(entry, &tariff) as i128,
-            "entry {number}"
-        );
+        agrees(counter, job, number as u64, entry, &tariff);
     }
     let many = answer.entries.len() as u64;
     for beyond in [many, many + 1, u64::from(u32::MAX) + 1, u64::MAX] {
-        assert_eq!(counter.code(job, LARGEST, beyond, &bytes), -21);
+        refuses(counter, (job, beyond, &bytes), seed ^ beyond, -21);
     }
     answer.entries.len()
 }
@@ -205,6 +236,42 @@ fn the_tetrahedron_costs_four_triangles_and_six_joints() {
     }
 }
 
+/// A pyramid over a square: an entry with triangles and a square, whose slip adds up.
+#[test]
+fn a_slip_of_two_sizes_adds_up() {
+    let Some((mut register, mut counter)) = linked() else {
+        return;
+    };
+    let points = [[0, 0, 0], [2, 0, 0], [2, 2, 0], [0, 2, 0], [1, 1, 1]];
+    let points = points.map(|point| point.map(f64::from).to_vec()).to_vec();
+    let turned: Vec<Vec<f64>> = points.iter().rev().cloned().collect();
+    let tariff = by_edges(7, 125);
+    let mut slips = Vec::new();
+    for points in [points, turned] {
+        let job = Job::usual(4, points).write();
+        let (_, answer) = answered(&mut register, &job);
+        let mut own = Vec::new();
+        for (number, entry) in answer.expect("an answer").entries.iter().enumerate() {
+            agrees(&mut counter, &job, number as u64, entry, &tariff);
+            let quote = counter
+                .quote(&job, number as u64, &tariff)
+                .expect("a quote");
+            let Made { polygons, joints } = counter.made(&job, number as u64).expect("a count");
+            let sizes = (1..).zip(&polygons);
+            let priced: Vec<u64> = sizes.map(|(size, many)| size * many).collect();
+            assert_eq!(quote.subtotals, priced);
+            let before = priced.iter().sum::<u64>() + 7 * joints;
+            assert_eq!(quote.total, (before * 875 + 500) / 1_000);
+            own.push((quote.total, quote.subtotals));
+        }
+        own.sort();
+        slips.push(own);
+    }
+    // The points in another order: the same totals and slips.
+    assert_eq!(slips[0], slips[1]);
+    assert!(slips[0].iter().any(|(_, slip)| slip[2] > 0 && slip[3] > 0));
+}
+
 #[test]
 fn refusals_come_in_their_order() {
     let Some((_, mut counter)) = linked() else {
@@ -219,6 +286,13 @@ fn refusals_come_in_their_order() {
         bytes[4 * at..4 * at + 4].copy_from_slice(&number.to_le_bytes());
         bytes
     };
+    // Behind all others comes 17; a longer buffer changes nothing but that.
+    for (entry, tariff, wanted) in [(0, &good, -17), (1, &good, -21), (0, &longer, -19)] {
+        let code = counter.slip(&job, WORKSPACE, entry, tariff, &mut [9; SLIP_LENGTH - 1]);
+        assert_eq!(code, wanted);
+    }
+    assert_eq!(counter.slip(&job, WORKSPACE, 0, &good, &mut []), -17);
+    assert_eq!(counter.slip(&job, WORKSPACE, 0, &good, &mut [9; 5_000]), 18);
     let mut code =
         |job: &[u8], entry: u64, tariff: &[u8]| counter.code(job, WORKSPACE, entry, tariff);
     for tariff in [&good[..767], &longer, &[]] {
@@ -256,11 +330,25 @@ fn the_command_prints_a_quote_for_each_entry() {
     let (tariff, corner) = (example("counter.tariff"), example("tetrahedron.txt"));
     let printed = place.run(COMMAND, &["--price", &tariff, &corner]).fine();
     // Four triangles at 120 and six joints at 15 are 570, and 541.5 without the discount.
-    let wanted = "tetrahedron.txt: entry 0: 542 pence\ntetrahedron.txt: 1 entry\n";
+    let wanted = [
+        "tetrahedron.txt: entry 0: 542 pence",
+        "  4 polygons of 3 edges at 120: 480",
+        "  6 joints at 15: 90",
+        "  discount: 50 thousandths of 570",
+        "tetrahedron.txt: 1 entry",
+        "",
+    ]
+    .join("\n");
     assert_eq!(printed, wanted);
+    // A price of nothing is told of too, where the size occurs.
+    place.write("free.tariff", "1-190 0\njoint 0\n");
     let cube = example("cube.txt");
-    let printed = place.run(COMMAND, &["--price", &tariff, &cube]).fine();
-    assert_eq!(printed.lines().count(), 4);
+    let printed = place
+        .run(COMMAND, &["--price", "free.tariff", &cube])
+        .fine();
+    assert!(printed.starts_with("cube.txt: entry 0: 0 pence\n  "));
+    assert!(printed.contains("edges at 0: 0\n"));
+    assert_eq!(printed.matches("pence\n").count(), 3);
     let square = example("square.txt");
     let told = place.run(COMMAND, &["--price", &tariff, &square]);
     assert!(told.complaint(1).contains("refused 20"));

@@ -1,4 +1,5 @@
-//! Quotes: a tariff, and what an entry of rank 4 costs at it, by the proved function.
+//! Quotes: a tariff, and what an entry of rank 4 costs at it, size by size, by the proved
+//! function.
 
 use std::fmt;
 
@@ -18,6 +19,9 @@ pub const WHOLE_DISCOUNT: u32 = 1_000;
 /// The bytes of a tariff.
 pub const TARIFF_LENGTH: usize = 4 * (MOST_EDGES + 2);
 
+/// The bytes of a slip: a u64 for each edge count that has a price.
+pub const SLIP_LENGTH: usize = 8 * MOST_EDGES;
+
 /// What polygons and joints cost, and how much is taken off.
 #[derive(Clone, Debug, PartialEq, Eq)]
 pub struct Tariff {
@@ -30,11 +34,51 @@ pub struct Tariff {
 }
 
 impl Tariff {
+    /// A penny for each polygon and for each joint: its slips count polygons.
+    pub fn counting() -> Tariff {
+        Tariff {
+            prices: vec![1; MOST_EDGES],
+            joint: 1,
+            discount: 0,
+        }
+    }
+
     /// The tariff's bytes, as the function takes them.
     pub fn bytes(&self) -> Vec<u8> {
         let numbers = self.prices.iter().chain([&self.joint, &self.discount]);
         numbers.flat_map(|number| number.to_le_bytes()).collect()
     }
+}
+
+/// What an entry costs.
+#[derive(Clone, Debug, PartialEq, Eq)]
+pub struct Quote {
+    /// In pence, less the discount.
+    pub total: u64,
+    /// In pence, of all polygons with one edge, with two, and so on to `MOST_EDGES`;
+    /// without joints and before the discount.
+    pub subtotals: Vec<u64>,
+}
+
+/// What an entry is made of.
+#[derive(Clone, Debug, PartialEq, Eq)]
+pub struct Made {
+    /// How many polygons have one edge, two, and so on to `MOST_EDGES`.
+    pub polygons: Vec<u64>,
+    /// How many joints there are: as many as edges.
+    pub joints: u64,
+}
+
+/// The numbers of a slip.
+pub fn subtotals(slip: &[u8]) -> Vec<u64> {
+    let numbers = slip.chunks_exact(8).take(MOST_EDGES);
+    let number = |bytes: &[u8]| {
+        bytes
+            .iter()
+            .rev()
+            .fold(0, |n, &byte| n << 8 | u64::from(byte))
+    };
+    numbers.map(number).collect()
 }
 
 /// Why there is no quote.
@@ -89,6 +133,8 @@ pub type Exported = unsafe extern "C" fn(
     entry: u64,
     tariff: *const u8,
     tariff_length: usize,
+    answer: *mut u8,
+    answer_length: usize,
 ) -> i64;
 
 #[cfg(has_register)]
@@ -102,6 +148,8 @@ mod linked {
             entry: u64,
             tariff: *const u8,
             tariff_length: usize,
+            answer: *mut u8,
+            answer_length: usize,
         ) -> i64;
     }
 }
@@ -133,14 +181,22 @@ impl Counter {
         })
     }
 
-    /// What the function returns, with so many bytes of workspace.
-    pub fn code(&mut self, job: &[u8], workspace: usize, entry: u64, tariff: &[u8]) -> i64 {
+    /// What the function returns, with so many bytes of workspace; the slip goes into the
+    /// buffer.
+    pub fn slip(
+        &mut self,
+        job: &[u8],
+        workspace: usize,
+        entry: u64,
+        tariff: &[u8],
+        answer: &mut [u8],
+    ) -> i64 {
         if self.workspace.len() < workspace {
             self.workspace.resize(workspace, 0);
         }
         let lent = &mut self.workspace[..workspace];
-        // The linked function reads job and tariff and writes the workspace, each over its
-        // own length; they do not overlap, and it keeps none of them.
+        // The linked function reads job and tariff and writes workspace and buffer, each over
+        // its own length; they do not overlap, and it keeps none of them.
         unsafe {
             (self.function)(
                 job.as_ptr(),
@@ -150,13 +206,31 @@ impl Counter {
                 entry,
                 tariff.as_ptr(),
                 tariff.len(),
+                answer.as_mut_ptr(),
+                answer.len(),
             )
         }
     }
 
-    /// The total of an entry of a job, in pence.
-    pub fn quote(&mut self, job: &[u8], entry: u64, tariff: &Tariff) -> Result<u64, NoQuote> {
-        let code = self.code(job, WORKSPACE, entry, &tariff.bytes());
-        u64::try_from(code).map_err(|_| NoQuote::from_code(code))
+    /// What the function returns, with so many bytes of workspace.
+    pub fn code(&mut self, job: &[u8], workspace: usize, entry: u64, tariff: &[u8]) -> i64 {
+        self.slip(job, workspace, entry, tariff, &mut [0; SLIP_LENGTH])
+    }
+
+    /// What an entry of a job costs.
+    pub fn quote(&mut self, job: &[u8], entry: u64, tariff: &Tariff) -> Result<Quote, NoQuote> {
+        let mut slip = [0; SLIP_LENGTH];
+        let code = self.slip(job, WORKSPACE, entry, &tariff.bytes(), &mut slip);
+        let total = u64::try_from(code).map_err(|_| NoQuote::from_code(code))?;
+        let subtotals = subtotals(&slip);
+        Ok(Quote { total, subtotals })
+    }
+
+    /// What an entry of a job is made of, by its quote at a penny for each piece.
+    pub fn made(&mut self, job: &[u8], entry: u64) -> Result<Made, NoQuote> {
+        let quote = self.quote(job, entry, &Tariff::counting())?;
+        let polygons = quote.subtotals;
+        let joints = quote.total - polygons.iter().sum::<u64>();
+        Ok(Made { polygons, joints })
     }
 }

@@ -30,7 +30,8 @@ impl Quotes {
             return;
         };
         let entries = 0..report.answer.entries.len() as u64;
-        let price = |entry| self.counter.quote(job, entry, &self.tariff).ok();
+        let mut quote = |entry| self.counter.quote(job, entry, &self.tariff);
+        let price = |entry| quote(entry).map(|quote| quote.total).ok();
         report.prices = entries.map(price).collect();
     }
 }
