@@ -35,7 +35,7 @@ use Rattle.answering.specs.Said.{Said}
 
 -- the definition's rules, from the fields of a job
 unfoldable pub jobRules : Fields → recursion.Rules
-jobRules f = record { tolerance = f .tolerance; lengths = limitsOf (f .min) (f .max); entryLimit = limitNumber (f .entries); bounds = bounds1 }
+jobRules f = record { tolerance = f .tolerance; lengths = limitsOf (f .min) (f .max); entryLimit = limitNumber (f .entries); bounds = bounds1; rule = f .rule }
 
 -- a job as a call takes it
 pub record Loaded (bytes : Bytes) (f : Fields) (plane : Subspace) (points : Points) (rows : List ℕ) (rules : Rules) : Type 0 where
@@ -120,7 +120,7 @@ module _ (bytes : Bytes) (workspace : ℕ) (f : Fields) (passed : Passed f ≡ c
     -- the rules are the job's
     rules-job : callRules rules ≡ job.rulesOf bounds1 (readJob bytes)
     unfolding jobRules job.rulesOf limitsOf
-    rules-job = l .rules-are ∙ (λ i. record { tolerance = counts .tolerance-is i; lengths = record { shortest = counts .min-is i; longest = counts .max-is i }; entryLimit = counts .entries-is i; bounds = bounds1 })
+    rules-job = l .rules-are ∙ (λ i. record { tolerance = counts .tolerance-is i; lengths = record { shortest = counts .min-is i; longest = counts .max-is i }; entryLimit = counts .entries-is i; bounds = bounds1; rule = counts .rule-is i })
 
     -- what the call on what is loaded says
     call-said : (called : Called) (s : List ℕ) → length s ≡ workspace

@@ -38,7 +38,7 @@ fn limit_of(entries: EntryLimit) -> Limit
     }
 }
 
-// What is alike at every depth of a job's call: the job's own tolerance and limits, and the bounds of [12.2].
+// What is alike at every depth of a job's call: the job's own tolerance, limits and rule, and the bounds of [12.2].
 fn rules_of(fields: Fields) -> Rules
     ensures { λ r. ⌜ callRules r ≡ jobRules fields ⌝ }
 {
@@ -53,6 +53,7 @@ fn rules_of(fields: Fields) -> Rules
         orbits: 256,
         facets: 1024,
         entries: 1024,
+        rule: fields.rule,
     }
 }
 

@@ -12,7 +12,7 @@ use Rattle.definitions.specs.Lists.{Pair, compareNats, anyOf, fresh, countFrom}
 use Rattle.definitions.specs.Outcome.{Outcome, andThen}
 use Rattle.definitions.specs.Vectors.{Vec, minus}
 use Rattle.definitions.specs.Subspace.{Subspace, residual, isHyperplane, flatten}
-use Rattle.definitions.specs.Orbits.{Row, Limits, Orbit, pointAt, vertexOpeners, tooShort, tooLong, pairOpeners, pairsFrom, tuples, setImage}
+use Rattle.definitions.specs.Orbits.{Row, Limits, Orbit, pointAt, vertexOpeners, tooShort, tooLong, pairOpeners, pairsFrom, tuples, setImage, mostVertices}
 use Rattle.definitions.specs.Recursion.{Rules, Bounds, Answer, Call, Inner, edgeCall, callOnSet}
 use Rattle.definitions.specs.Faceting.{Prepared, prepareFrom, answerFrom}
 use Rattle.definitions.specs.Job.{Bytes, Job, readJob, tests, passAll, rulesOf, planeOf, answerBytes, fitting}
@@ -55,23 +55,23 @@ module _ (norm : Vec → Float) where
       let rest = pointsNearBy tolerance s ps (suc v) in
       cond (lt (distanceBy s p) tolerance) (v ∷ rest) rest
 
-  unfoldable pub hyperplanesBy : Float → List Vec → List Row → List (List ℕ) → List (List ℕ) → List Orbit
-  hyperplanesBy tolerance flat rows seen [] = []
-  hyperplanesBy tolerance flat rows seen (tuple ∷ ts) =
+  unfoldable pub hyperplanesBy : Float → ℕ → List Vec → List Row → List (List ℕ) → List (List ℕ) → List Orbit
+  hyperplanesBy tolerance most flat rows seen [] = []
+  hyperplanesBy tolerance most flat rows seen (tuple ∷ ts) =
       let s = fromPointsBy tolerance (map (pointAt flat) tuple) in
       let set = pointsNearBy tolerance s flat 0 in
       let joined = fresh compareNats seen (map (setImage set) rows) in
       let orbit : Orbit = record { vertices = set; count = length joined } in
-      let old = hyperplanesBy tolerance flat rows seen ts in
-      let new = orbit ∷ hyperplanesBy tolerance flat rows (joined ++ seen) ts in
-      cond (isHyperplane s && not (anyOf (λ (q : List ℕ). isEq (compareNats set q)) seen)) new old
+      let old = hyperplanesBy tolerance most flat rows seen ts in
+      let new = orbit ∷ hyperplanesBy tolerance most flat rows (joined ++ seen) ts in
+      cond (isHyperplane s && not (anyOf (λ (q : List ℕ). isEq (compareNats set q)) seen) && leb (length set) most) new old
 
-  unfoldable pub hyperplaneOrbitsBy : Float → Limits → ℕ → List Vec → List Vec → List Row → List Orbit
-  hyperplaneOrbitsBy tolerance limits more points flat rows =
+  unfoldable pub hyperplaneOrbitsBy : Float → Limits → ℕ → ℕ → List Vec → List Vec → List Row → List Orbit
+  hyperplaneOrbitsBy tolerance limits rule more points flat rows =
       let n = length points in
       let breaks = breaksLimitBy tolerance limits points in
       let pairs = pairOpeners (λ (p : Pair). breaks (p .0) (p .1)) rows [] (pairsFrom n (vertexOpeners rows [] (countFrom 0 n))) in
-      hyperplanesBy tolerance flat rows [] (flatMap (tuples breaks n more) pairs)
+      hyperplanesBy tolerance (mostVertices rule more n) flat rows [] (flatMap (tuples breaks n more) pairs)
 
   -- ---- Recursion and Faceting
 
@@ -83,7 +83,7 @@ module _ (norm : Vec → Float) where
   unfoldable pub prepareBy : ℕ → Rules → Call → Subspace → List Vec → List Row → ℕ → Outcome Prepared
   prepareBy more rules call plane points rows =
       let flat = map (flatten plane) points in
-      let orbits = hyperplaneOrbitsBy (rules .tolerance) (rules .lengths) more points flat rows in
+      let orbits = hyperplaneOrbitsBy (rules .tolerance) (rules .lengths) (rules .rule) more points flat rows in
       prepareFrom orbits (innerCallBy (suc more) rules call flat rows) more rules (length points) rows
 
   unfoldable pub facetingBy : ℕ → Rules → Call

@@ -11,7 +11,7 @@ use Rattle.definitions.specs.Lists.{Pair, compareNats, anyOf, fresh, countFrom}
 use Rattle.definitions.specs.Outcome.{Outcome, answered, andThen, refuseIf}
 use Rattle.definitions.specs.Vectors.{Vec, norm, normalised, minus}
 use Rattle.definitions.specs.Subspace.{Subspace, residual, distance, addPoint, addPoints, fromPoints, isHyperplane}
-use Rattle.definitions.specs.Orbits.{Row, Limits, Orbit, pointAt, vertexOpeners, tooShort, tooLong, breaksLimit, pairOpeners, pairsFrom, tuples, pointsNear, setImage, hyperplanes, hyperplaneOrbits}
+use Rattle.definitions.specs.Orbits.{Row, Limits, Orbit, pointAt, vertexOpeners, tooShort, tooLong, breaksLimit, pairOpeners, pairsFrom, tuples, pointsNear, setImage, mostVertices, hyperplanes, hyperplaneOrbits}
 use Rattle.definitions.specs.Recursion.{Rules, Answer, Call, Inner, callOnSet, innerCall, rowsWithin}
 use Rattle.definitions.specs.Faceting.{Prepared, orbitsOf, prepareFrom, prepare, answerFrom, faceting}
 use Rattle.bounds.specs.Sizes.{Each}
@@ -25,11 +25,11 @@ each-of-places P [] other h = tt
 each-of-places P (x ∷ xs) other h = (h 0, each-of-places P xs other (λ i. h (suc i)))
 
 -- what `hyperplanes` makes of one tuple's subspace and set, given what it makes of the later tuples
-abbrev withTuple : List Row → List (List ℕ) → Subspace → List ℕ → (List (List ℕ) → List Orbit) → List Orbit
-withTuple rows seen s set later =
+abbrev withTuple : ℕ → List Row → List (List ℕ) → Subspace → List ℕ → (List (List ℕ) → List Orbit) → List Orbit
+withTuple most rows seen s set later =
     let joined = fresh compareNats seen (map (setImage set) rows) in
     let orbit : Orbit = record { vertices = set; count = length joined } in
-    cond (isHyperplane s && not (anyOf (λ (q : List ℕ). isEq (compareNats set q)) seen)) (orbit ∷ later (joined ++ seen)) (later seen)
+    cond (isHyperplane s && not (anyOf (λ (q : List ℕ). isEq (compareNats set q)) seen) && leb (length set) most) (orbit ∷ later (joined ++ seen)) (later seen)
 
 module _ (other : Vec → Float) where
   -- ---- fits
@@ -88,27 +88,27 @@ module _ (other : Vec → Float) where
         near-same tolerance s (flattened plane points) 0
         (each-of-places (λ (p : Vec). other (residual s p) ≡ norm (residual s p)) (flattened plane points) [] (λ u. agree (residual s (pointAt (flattened plane points) u)) (in-distance vertices u)))
 
-    hyperplanes-same : (rows : List Row) (seen ts : List (List ℕ)) → hyperplanesBy other tolerance (flattened plane points) rows seen ts ≡ hyperplanes tolerance (flattened plane points) rows seen ts
+    hyperplanes-same : (most : ℕ) (rows : List Row) (seen ts : List (List ℕ)) → hyperplanesBy other tolerance most (flattened plane points) rows seen ts ≡ hyperplanes tolerance most (flattened plane points) rows seen ts
     unfolding hyperplanesBy hyperplanes chosen through
-    hyperplanes-same rows seen [] = refl
-    hyperplanes-same rows seen (tuple ∷ ts) =
+    hyperplanes-same most rows seen [] = refl
+    hyperplanes-same most rows seen (tuple ∷ ts) =
         let flat = flattened plane points in
-        let laterBy : List (List ℕ) → List Orbit = λ known. hyperplanesBy other tolerance flat rows known ts in
+        let laterBy : List (List ℕ) → List Orbit = λ known. hyperplanesBy other tolerance most flat rows known ts in
         let s = through tolerance plane points tuple in
-        ap (λ (z : Subspace). withTuple rows seen z (pointsNearBy other tolerance z flat 0) laterBy) (through-same tuple)
-        ∙ ap (λ (set : List ℕ). withTuple rows seen s set laterBy) (sets-same tuple)
-        ∙ ap (withTuple rows seen s (pointsNear tolerance s flat 0)) (fun-ext (λ known. hyperplanes-same rows known ts))
+        ap (λ (z : Subspace). withTuple most rows seen z (pointsNearBy other tolerance z flat 0) laterBy) (through-same tuple)
+        ∙ ap (λ (set : List ℕ). withTuple most rows seen s set laterBy) (sets-same tuple)
+        ∙ ap (withTuple most rows seen s (pointsNear tolerance s flat 0)) (fun-ext (λ known. hyperplanes-same most rows known ts))
 
-    orbits-same : (limits : Limits) (more : ℕ) (rows : List Row)
-        → hyperplaneOrbitsBy other tolerance limits more points (flattened plane points) rows ≡ hyperplaneOrbits tolerance limits more points (flattened plane points) rows
+    orbits-same : (limits : Limits) (rule more : ℕ) (rows : List Row)
+        → hyperplaneOrbitsBy other tolerance limits rule more points (flattened plane points) rows ≡ hyperplaneOrbits tolerance limits rule more points (flattened plane points) rows
     unfolding hyperplaneOrbitsBy hyperplaneOrbits
-    orbits-same limits more rows =
+    orbits-same limits rule more rows =
         let n = length points in
         let breaks : breaksLimitBy other tolerance limits points ≡ breaksLimit tolerance limits points =
         fun-ext (λ v. fun-ext (λ w. breaks-same tolerance limits points v w (agree (minus (pointAt points w) (pointAt points v)) (in-length v w)))) in
         let pairs : (ℕ → ℕ → Bool) → List Pair = λ b. pairOpeners (λ (p : Pair). b (p .0) (p .1)) rows [] (pairsFrom n (vertexOpeners rows [] (countFrom 0 n))) in
-        ap (λ (b : ℕ → ℕ → Bool). hyperplanesBy other tolerance (flattened plane points) rows [] (flatMap (tuples b n more) (pairs b))) breaks
-        ∙ hyperplanes-same rows [] (flatMap (tuples (breaksLimit tolerance limits points) n more) (pairs (breaksLimit tolerance limits points)))
+        ap (λ (b : ℕ → ℕ → Bool). hyperplanesBy other tolerance (mostVertices rule more n) (flattened plane points) rows [] (flatMap (tuples b n more) (pairs b))) breaks
+        ∙ hyperplanes-same (mostVertices rule more n) rows [] (flatMap (tuples (breaksLimit tolerance limits points) n more) (pairs (breaksLimit tolerance limits points)))
 
   -- ---- every call
 
@@ -148,8 +148,8 @@ module _ (other : Vec → Float) where
         let flat = flattened plane points in
         let prepared : List Orbit → (Orbit → ℕ → Outcome Inner) → Outcome Prepared = λ orbits one. prepareFrom orbits one more rules (length points) rows budget in
         ap (λ (orbits : List Orbit). prepared orbits (innerCallBy other (suc more) rules callBy flat rows))
-        (orbits-same (rules .tolerance) plane points (λ v k. agree .at c k) (rules .lengths) more rows)
-        ∙ ap (prepared (hyperplaneOrbits (rules .tolerance) (rules .lengths) more points flat rows)) (fun-ext (λ orbit. fun-ext (λ left. inner-same c callBy call same rows orbit left)))
+        (orbits-same (rules .tolerance) plane points (λ v k. agree .at c k) (rules .lengths) (rules .rule) more rows)
+        ∙ ap (prepared (hyperplaneOrbits (rules .tolerance) (rules .lengths) (rules .rule) more points flat rows)) (fun-ext (λ orbit. fun-ext (λ left. inner-same c callBy call same rows orbit left)))
 
     -- a call that occurs is the same with either norm
     pub call-same : (more : ℕ) {depth : ℕ} {plane : Subspace} {points : List Vec} → Occurs (rules .tolerance) top outer given depth more plane points → (rows : List Row) (budget : ℕ)

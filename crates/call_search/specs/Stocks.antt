@@ -38,6 +38,7 @@ callRules rules = record {
   lengths = space.limitsOf (rules .min) (rules .max);
   entryLimit = searchLimit (rules .limit);
   bounds = record { orbits = rules .orbits; facets = rules .facets; entries = rules .entries };
+  rule = rules .rule;
 }
 
 -- a call of rank 3 + more before its search

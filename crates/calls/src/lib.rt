@@ -10,7 +10,7 @@ ghost use Rattle.calls.specs.Layouts.{shelfFor};
 use shelf::Level;
 use shelf::Shelf;
 
-// What is alike at every depth: the tolerance, the limits on lengths and on entries, and how many hyperplane orbits, possible facets and entries a call may have.
+// What is alike at every depth: the tolerance, the limits on lengths and on entries, how many hyperplane orbits, possible facets and entries a call may have, and the rule of crowded lines.
 pub struct Rules {
     pub tolerance: f64,
     pub min: space::Limit,
@@ -19,6 +19,7 @@ pub struct Rules {
     pub orbits: usize,
     pub facets: usize,
     pub entries: usize,
+    pub rule: usize,
 }
 
 // What a call answers. At rank 2: whether some row swaps the ends. Above: where its answer stands in the workspace. Both with what is left of the budget.

@@ -14,7 +14,7 @@ use Rattle.definitions.specs.Job.{Bytes, Job, Test, between, readJob, workspace
 use Rattle.laws.specs.Bools.{false→fails, true→holds, holds→true}
 use Rattle.laws.specs.Outcomes.{answered-before, not-refused-if}
 use Rattle.laws.specs.Refusals.{pass-all-append}
-use Rattle.completeness.specs.Refusals.{RefusedBy, RefusedWithin, isTest, same-number, answer-is-no-refusal, by-answer, by-then, by-tests, wider, call-refusals, test-number}
+use Rattle.completeness.specs.Refusals.{RefusedBy, RefusedWithin, isTest, isVersionTest, same-number, answer-is-no-refusal, by-answer, by-then, by-tests, wider, call-refusals, test-number}
 
 -- ---- the outcome before the buffer
 
@@ -50,7 +50,7 @@ outcome-alone bytes workspace room =
 
 -- and it is never 17 itself
 pub never-17 : (bytes : Bytes) (workspace : ℕ) → RefusedBy (λ (n : ℕ). n ≡ 17 → ⊥) (alone bytes workspace)
-unfolding alone isTest between
+unfolding alone isTest isVersionTest between
 never-17 bytes workspace =
     by-tests (tests bytes workspace) _ (λ t i e. subst (λ (n : ℕ). T (isTest n)) e (test-number bytes workspace t i))
     (wider _ _ (λ n h e. omega (arith, h .1)) (job-call-refusals (readJob bytes)))

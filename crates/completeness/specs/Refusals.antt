@@ -1,4 +1,4 @@
--- Which numbers a refusal has: a call's are 13 to 16, at every rank; a job's 1 to 17 and 22. So a return code below 0 is minus one of these, and a code of 0 or more is an answer's length. Leans on Jobs.
+-- Which numbers a refusal has: a call's are 13 to 16, at every rank; a job's 1 to 17, 22 and 25. So a return code below 0 is minus one of these, and a code of 0 or more is an answer's length. Leans on Jobs.
 use mathlib.Core.Path.{_≡_, refl, sym, ap, subst}
 use mathlib.Core.Logic.{_⊎_, inl, inr}
 use mathlib.Core.Bool.{Bool, true, false, not, _&&_, _||_}
@@ -136,18 +136,22 @@ call-refusals (suc more) rules plane points rows budget =
     (inner-within (innerCall (suc more) rules call flat rows) (rules .bounds .facets) (refit-within (suc more) rules call (call-refusals more rules) flat rows) orbits 0 budget) (λ done. by-answer)))
     (λ p. by-then (searchFrom rules p) _ (wider _ _ (λ n h. (omega arith, h .1)) (search-refusals _ _ _)) (λ found. by-answer))
 
--- ---- a job: 1 to 17, and 22
+-- ---- a job: 1 to 17, 22 and 25
+
+-- the tests of what versions 2 and 3 brought: the tolerance and the rule
+unfoldable pub isVersionTest : ℕ → Bool
+isVersionTest number = eqb number 22 || eqb number 25
 
 -- the numbers of the tests before the call
 unfoldable pub isTest : ℕ → Bool
-isTest number = between 1 12 number || eqb number 22
+isTest number = between 1 12 number || isVersionTest number
 
 -- all numbers of refusals
 unfoldable pub isRefusal : ℕ → Bool
-isRefusal number = between 1 17 number || eqb number 22
+isRefusal number = between 1 17 number || isVersionTest number
 
 numbered : (bytes : Bytes) (workspace : ℕ) → T (allOf (λ (t : Test). isTest (t .number)) (tests bytes workspace))
-unfolding allOf isTest between tests jobTests headerTests valueTests workspaceTests
+unfolding allOf isTest isVersionTest between tests jobTests headerTests valueTests workspaceTests
 numbered bytes workspace = tt
 
 pub test-number : (bytes : Bytes) (workspace : ℕ) (t : Test) → Mem t (tests bytes workspace) → T (isTest (t .number))
@@ -155,15 +159,15 @@ test-number bytes workspace t i = all-of (λ (s : Test). isTest (s .number)) (te
 
 within-refusals : (low high n : ℕ) → 1 ≤ low → high ≤ 17 → low ≤ n → n ≤ high → T (isRefusal n)
 unfolding isRefusal between
-within-refusals low high n l h a b = left-of (leb 1 n && leb n 17) (eqb n 22) (both (leb 1 n) (leb n 17) (le→leb 1 n (omega arith)) (le→leb n 17 (omega arith)))
+within-refusals low high n l h a b = left-of (leb 1 n && leb n 17) (isVersionTest n) (both (leb 1 n) (leb n 17) (le→leb 1 n (omega arith)) (le→leb n 17 (omega arith)))
 
 test-is-refusal : (n : ℕ) → T (isTest n) → T (isRefusal n)
 unfolding isTest isRefusal between
-test-is-refusal n h = go (either (leb 1 n && leb n 12) (eqb n 22) h)
+test-is-refusal n h = go (either (leb 1 n && leb n 12) (isVersionTest n) h)
   where
-    go : T (leb 1 n && leb n 12) ⊎ T (eqb n 22) → T ((leb 1 n && leb n 17) || eqb n 22)
+    go : T (leb 1 n && leb n 12) ⊎ T (isVersionTest n) → T ((leb 1 n && leb n 17) || isVersionTest n)
     go (inl k) = within-refusals 1 12 n (omega arith) (omega arith) (leb→le 1 n (first (leb 1 n) (leb n 12) k)) (leb→le n 12 (second (leb 1 n) (leb n 12) k))
-    go (inr k) = right-of (leb 1 n && leb n 17) (eqb n 22) k
+    go (inr k) = right-of (leb 1 n && leb n 17) (isVersionTest n) k
 
 pub refusal-numbers : (bytes : Bytes) (workspace room : ℕ) → RefusedBy (λ (n : ℕ). T (isRefusal n)) (outcome bytes workspace room)
 unfolding outcome outcomeWithin callOf fitting isRefusal between
@@ -173,13 +177,13 @@ refusal-numbers bytes workspace room =
 
 -- ---- the return code
 
--- What a return code says: 0 or more is an answer's length, less is minus the number of a refusal, one of 1 to 17 or 22.
+-- What a return code says: 0 or more is an answer's length, less is minus the number of a refusal, one of 1 to 17, 22 or 25.
 pub record CodeSays (o : Outcome Bytes) (code : ℤ) : Type 0 where
   pub an-answer : (many : ℕ) → code ≡ pos many → (answer : Bytes) × (o ≡ answered answer) × (length answer ≡ many)
   pub a-refusal : (less : ℕ) → code ≡ negsuc less → (o ≡ refused (suc less)) × T (isRefusal (suc less))
 
 pub code-says : (bytes : Bytes) (workspace room : ℕ) → CodeSays (outcome bytes workspace room) (codeOf (outcome bytes workspace room))
-unfolding codeOf isRefusal between
+unfolding codeOf isRefusal isVersionTest between
 code-says bytes workspace room = go (outcome bytes workspace room) (refusal-numbers bytes workspace room)
   where
     no-length : (n many : ℕ) → negsuc n ≡ pos many → ⊥

@@ -67,6 +67,10 @@ withEntryLimit rank m = record { version = 1; rank = rank; flags = 4; present = 
 unfoldable pub withinTolerance : ℕ → ℕ → Terms
 withinTolerance rank tolerance = record { version = 2; rank = rank; flags = 0; present = bytesOf 8 tolerance; budget = 1000000 }
 
+-- version 3 with a tolerance, as a bit pattern, and a rule
+unfoldable pub underRule : ℕ → ℕ → ℕ → Terms
+underRule rank tolerance rule = record { version = 3; rank = rank; flags = 0; present = bytesOf 8 tolerance ++ (rule ∷ []); budget = 1000000 }
+
 -- the identity alone
 unfoldable pub identity : ℕ → List (List ℕ)
 identity n = countFrom 0 n ∷ []
@@ -181,5 +185,5 @@ refusedWith number workspace job = record { job = job; workspace = workspace; ro
 
 -- `open-examples` on an `unfolding` line opens the words of this file
 unfoldable pub open-examples : Unit {0}
-unfolding bytesOf whole wholePoints vectorBytes unitVectors jobWith plain withBudget withMin withMax withEntryLimit withinTolerance identity square squareRows squareJob symmetricJob cornerJob segmentJob threePoints expectedCode expectedBuffer sameCode passesWithin passes answers refusedWith
+unfolding bytesOf whole wholePoints vectorBytes unitVectors jobWith plain withBudget withMin withMax withEntryLimit withinTolerance underRule identity square squareRows squareJob symmetricJob cornerJob segmentJob threePoints expectedCode expectedBuffer sameCode passesWithin passes answers refusedWith
 open-examples = tt

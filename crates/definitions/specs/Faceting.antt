@@ -24,7 +24,7 @@ pub record Prepared : Type 0 where
 
 -- [9.1] the hyperplane orbits of a call above rank 2, whose points are flattened by its plane
 unfoldable pub orbitsOf : ℕ → Rules → Subspace → List Vec → List Row → List Orbit
-orbitsOf more rules plane points rows = hyperplaneOrbits (rules .tolerance) (rules .lengths) more points (map (flatten plane) points) rows
+orbitsOf more rules plane points rows = hyperplaneOrbits (rules .tolerance) (rules .lengths) (rules .rule) more points (map (flatten plane) points) rows
 
 -- [9.1] From the orbits on: not more than the bound, or 13, and the inner calls made. `inner` makes one of them.
 unfoldable pub prepareFrom : List Orbit → (Orbit → ℕ → Outcome Inner) → ℕ → Rules → ℕ → List Row → ℕ → Outcome Prepared

@@ -72,6 +72,7 @@ pub record Job : Type 0 where
   pub longest : Option Float
   pub entryLimit : Option ℕ
   pub tolerance : Float
+  pub rule : ℕ
   pub budget : ℕ
   pub offset : Vec
   pub basis : List Vec
@@ -89,7 +90,7 @@ present true a = some a
 present false a = none
 
 -- [10.2] each field behind the one before; `size` is where the last row ends. The tolerance is there from version 2
--- on, and is 1e-7 before.
+-- on, and is 1e-7 before; the rule is there from version 3 on, and is 1 before.
 unfoldable pub readJob : Bytes → Job
 readJob bytes =
     let version = numberAt bytes 3 2 in
@@ -102,10 +103,12 @@ readJob bytes =
     let hasMax = flagSet flags 2 in
     let hasLimit = flagSet flags 4 in
     let hasTolerance = leb 2 version in
+    let hasRule = leb 3 version in
     let maxAt = 11 + cond hasMin 8 0 in
     let limitAt = maxAt + cond hasMax 8 0 in
     let toleranceAt = limitAt + cond hasLimit 4 0 in
-    let budgetAt = toleranceAt + cond hasTolerance 8 0 in
+    let ruleAt = toleranceAt + cond hasTolerance 8 0 in
+    let budgetAt = ruleAt + cond hasRule 1 0 in
     let offsetAt = budgetAt + 4 in
     let basisAt = offsetAt + 8 * d in
     let pointsAt = basisAt + 8 * d * (rank - 1) in
@@ -121,6 +124,7 @@ readJob bytes =
       longest = present hasMax (floatAt bytes maxAt);
       entryLimit = present hasLimit (numberAt bytes limitAt 4);
       tolerance = cond hasTolerance (floatAt bytes toleranceAt) tolerance1;
+      rule = cond hasRule (getD bytes ruleAt 0) 1;
       budget = numberAt bytes budgetAt 4;
       offset = floatsAt bytes offsetAt d;
       basis = vectorsAt bytes basisAt d (rank - 1);
@@ -142,6 +146,10 @@ inVersion version at more bytes = take 3 bytes ++ (version ∷ 0 ∷ []) ++ take
 -- [10.3] a job of version 1 as one of version 2: the bytes of a tolerance stand before its budget
 unfoldable pub withTolerance : Bytes → Bytes → Bytes
 withTolerance tolerance bytes = inVersion 2 (flaggedEnd (getD bytes 10 0)) tolerance bytes
+
+-- [10.3] a job of version 2 as one of version 3: the byte of a rule stands behind its tolerance
+unfoldable pub withRule : ℕ → Bytes → Bytes
+withRule rule bytes = inVersion 3 (flaggedEnd (getD bytes 10 0) + 8) (rule ∷ []) bytes
 
 -- ---- refusals
 
@@ -202,7 +210,7 @@ unfoldable pub headerTests : Bytes → List Test
 headerTests bytes =
     let job = readJob bytes in
     record { number = 1; passes = λ u. leb 11 (length bytes) && sameNats (take 3 bytes) (70 ∷ 67 ∷ 84 ∷ []) }
-    ∷ record { number = 2; passes = λ u. between 1 2 (job .version) }
+    ∷ record { number = 2; passes = λ u. between 1 3 (job .version) }
     ∷ record { number = 3; passes = λ u. between 2 4 (job .rank) }
     ∷ record { number = 4; passes = λ u. between (job .rank - 1) 4 (job .d) }
     ∷ record { number = 5; passes = λ u. between 2 20 (job .n) }
@@ -211,12 +219,13 @@ headerTests bytes =
     ∷ record { number = 8; passes = λ u. eqb (length bytes) (job .size) }
     ∷ []
 
--- [11.1] 9, 22, 10 and 11: the floats, the tolerance and the rows
+-- [11.1] 9, 22, 25, 10 and 11: the floats, the tolerance, the rule and the rows
 unfoldable pub valueTests : Bytes → List Test
 valueTests bytes =
     let job = readJob bytes in
     record { number = 9; passes = λ u. floatsGood job }
     ∷ record { number = 22; passes = λ u. toleranceGood (job .tolerance) }
+    ∷ record { number = 25; passes = λ u. between 1 2 (job .rule) }
     ∷ record { number = 10; passes = λ u. sameNats (getD (job .rows) 0 []) (countFrom 0 (job .n)) }
     ∷ record { number = 11; passes = λ u. allOf (isPermutation (job .n)) (job .rows) }
     ∷ []
@@ -251,6 +260,7 @@ rulesOf bounds job = record {
   lengths = record { shortest = job .shortest; longest = job .longest };
   entryLimit = job .entryLimit;
   bounds = bounds;
+  rule = job .rule;
 }
 
 -- [12.1] the plane of the outermost call

@@ -22,6 +22,7 @@ pub mod Roots
 pub mod KnownJobs
 pub mod Refusals
 pub mod Tolerances
+pub mod CrowdedLines
 pub mod PortersErrors
 pub mod RuledOut
 pub mod Carried

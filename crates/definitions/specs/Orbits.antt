@@ -3,7 +3,7 @@ use mathlib.Core.Bool.{Bool, true, false, cond, not, _&&_, _||_}
 use mathlib.Core.List.{List, [], _∷_, _++_, map, flatMap}
 use mathlib.Core.Option.{Option, some, none}
 use Prim.Native.Nat.{ℕ, zero, suc, _-_, min, max}
-use lib.Dec.{isEq}
+use lib.Dec.{leb, eqb, isEq}
 use lib.ListN.{length, getD}
 use lib.Ieee.{Float, binary64, add, sub, lt}
 use Rattle.definitions.specs.Lists.{Pair, memberNat, memberPair, sortNats, anyOf, allOf, keep, choose, countFrom, fresh, compareNats}
@@ -100,23 +100,28 @@ pub record Orbit : Type 0 where
   pub vertices : List ℕ
   pub count : ℕ
 
--- [5.6] [5.7] A tuple that makes no hyperplane, or whose set is seen, is passed over. Any other opens an orbit; its
--- images that are new join it and are seen from then on.
-unfoldable pub hyperplanes : Float → List Vec → List Row → List (List ℕ) → List (List ℕ) → List Orbit
-hyperplanes tolerance flat rows seen [] = []
-hyperplanes tolerance flat rows seen (tuple ∷ ts) =
+-- [5.8] The most vertices that a set may have to open an orbit. Under rule 2 a line of a rank 3 call may have two;
+-- elsewhere a set may have all n. `more` is rank − 3.
+unfoldable pub mostVertices : ℕ → ℕ → ℕ → ℕ
+mostVertices rule more n = cond (eqb rule 2 && eqb more 0) 2 n
+
+-- [5.6] [5.7] [5.8] A tuple that makes no hyperplane, or whose set is seen or has more than `most` vertices, is passed
+-- over. Any other opens an orbit; its images that are new join it and are seen from then on.
+unfoldable pub hyperplanes : Float → ℕ → List Vec → List Row → List (List ℕ) → List (List ℕ) → List Orbit
+hyperplanes tolerance most flat rows seen [] = []
+hyperplanes tolerance most flat rows seen (tuple ∷ ts) =
     let s = fromPoints tolerance (map (pointAt flat) tuple) in
     let set = pointsNear tolerance s flat 0 in
     let joined = fresh compareNats seen (map (setImage set) rows) in
     let orbit : Orbit = record { vertices = set; count = length joined } in
-    let old = hyperplanes tolerance flat rows seen ts in
-    let new = orbit ∷ hyperplanes tolerance flat rows (joined ++ seen) ts in
-    cond (isHyperplane s && not (anyOf (λ (q : List ℕ). isEq (compareNats set q)) seen)) new old
+    let old = hyperplanes tolerance most flat rows seen ts in
+    let new = orbit ∷ hyperplanes tolerance most flat rows (joined ++ seen) ts in
+    cond (isHyperplane s && not (anyOf (λ (q : List ℕ). isEq (compareNats set q)) seen) && leb (length set) most) new old
 
 -- [5.7] all hyperplane orbits of a call, from its points as passed and its flattened points
-unfoldable pub hyperplaneOrbits : Float → Limits → ℕ → List Vec → List Vec → List Row → List Orbit
-hyperplaneOrbits tolerance limits more points flat rows =
+unfoldable pub hyperplaneOrbits : Float → Limits → ℕ → ℕ → List Vec → List Vec → List Row → List Orbit
+hyperplaneOrbits tolerance limits rule more points flat rows =
     let n = length points in
     let breaks = breaksLimit tolerance limits points in
     let pairs = pairOpeners (λ (p : Pair). breaks (p .0) (p .1)) rows [] (pairsFrom n (vertexOpeners rows [] (countFrom 0 n))) in
-    hyperplanes tolerance flat rows [] (flatMap (tuples breaks n more) pairs)
+    hyperplanes tolerance (mostVertices rule more n) flat rows [] (flatMap (tuples breaks n more) pairs)

@@ -25,12 +25,13 @@ pub record Bounds : Type 0 where
   pub facets : ℕ
   pub entries : ℕ
 
--- [6.2] what is alike in all calls of a job
+-- [6.2] what is alike in all calls of a job; `rule` is that of crowded lines [5.8]
 pub record Rules : Type 0 where
   pub tolerance : Float
   pub lengths : Limits
   pub entryLimit : Option ℕ
   pub bounds : Bounds
+  pub rule : ℕ
 
 -- [6.1] an entry: its split list and its figure
 pub record Entry : Type 0 where

@@ -8,7 +8,7 @@ use Rattle.definitions.specs.Lists.{allOf, countFrom}
 use Rattle.definitions.specs.Recursion.{Bounds}
 use Rattle.definitions.specs.Job.{Bytes}
 use Rattle.definitions.specs.Open.{open-all}
-use Rattle.definitions.specs.Examples.{Case, gives, refuses, open-examples, passes, passesWithin, answers, refusedWith, bytesOf, whole, jobWith, plain, withBudget, withMin, withMax, withEntryLimit, withinTolerance, identity, square, wholePoints, thousandth, fiveE-8, oneE-7, oneE-9, segmentJob, squareJob, symmetricJob, cornerJob, threePoints}
+use Rattle.definitions.specs.Examples.{Case, gives, refuses, open-examples, passes, passesWithin, answers, refusedWith, bytesOf, whole, jobWith, plain, withBudget, withMin, withMax, withEntryLimit, withinTolerance, underRule, identity, square, wholePoints, thousandth, fiveE-8, oneE-7, oneE-9, segmentJob, squareJob, symmetricJob, cornerJob, threePoints}
 use Rattle.definitions.specs.KnownJobs.{twoPoints-answer, symmetricSquare-answer, plainSquare-answer, corner-answer}
 
 -- ---- the order: each job breaks one rule and all that come after it
@@ -17,9 +17,10 @@ use Rattle.definitions.specs.KnownJobs.{twoPoints-answer, symmetricSquar
 unfoldable pub header : ℕ → ℕ → ℕ → ℕ → ℕ → ℕ → Bytes
 header version rank d n rowCount flags = (70 ∷ 67 ∷ 84 ∷ []) ++ bytesOf 2 version ++ (rank ∷ d ∷ n ∷ []) ++ bytesOf 2 rowCount ++ (flags ∷ [])
 
--- the square of version 2 with a tolerance and another first coordinate, both given as bit patterns, and other rows
-unfoldable pub squareWith : ℕ → ℕ → List (List ℕ) → Bytes
-squareWith tolerance bits rows = let job = jobWith (withinTolerance 3 tolerance) 2 square rows in take 71 job ++ bytesOf 8 bits ++ drop 79 job
+-- the square of version 3 with a tolerance and another first coordinate, both given as bit patterns, a rule and other
+-- rows
+unfoldable pub squareWith : ℕ → ℕ → ℕ → List (List ℕ) → Bytes
+squareWith tolerance rule bits rows = let job = jobWith (underRule 3 tolerance rule) 2 square rows in take 72 job ++ bytesOf 8 bits ++ drop 80 job
 
 abbrev pub notANumber : ℕ
 notANumber = 0x7ff8000000000000
@@ -27,19 +28,20 @@ notANumber = 0x7ff8000000000000
 unfoldable pub inOrder : List Case
 inOrder =
     refusedWith 1 0 (take 10 (header 1 3 2 4 1 0))
-    ∷ refusedWith 1 0 (70 ∷ 67 ∷ 85 ∷ drop 3 (header 3 9 9 99 0 255))
-    ∷ refusedWith 2 0 (header 3 9 9 99 0 255)
-    ∷ refusedWith 3 0 (header 2 9 9 99 0 255)
-    ∷ refusedWith 4 0 (header 2 3 9 99 0 255)
-    ∷ refusedWith 5 0 (header 2 3 2 99 0 255)
-    ∷ refusedWith 6 0 (header 2 3 2 4 0 255)
-    ∷ refusedWith 7 0 (header 2 3 2 4 2 255)
-    ∷ refusedWith 8 0 (header 2 3 2 4 2 7)
-    ∷ refusedWith 9 0 (squareWith (whole 1) notANumber ((1 ∷ 0 ∷ 2 ∷ 3 ∷ []) ∷ (0 ∷ 0 ∷ 2 ∷ 4 ∷ []) ∷ []))
-    ∷ refusedWith 22 0 (squareWith (whole 1) 0 ((1 ∷ 0 ∷ 2 ∷ 3 ∷ []) ∷ (0 ∷ 0 ∷ 2 ∷ 4 ∷ []) ∷ []))
-    ∷ refusedWith 10 0 (squareWith thousandth 0 ((1 ∷ 0 ∷ 2 ∷ 3 ∷ []) ∷ (0 ∷ 0 ∷ 2 ∷ 4 ∷ []) ∷ []))
-    ∷ refusedWith 11 0 (squareWith thousandth 0 ((0 ∷ 1 ∷ 2 ∷ 3 ∷ []) ∷ (0 ∷ 0 ∷ 2 ∷ 4 ∷ []) ∷ []))
-    ∷ refusedWith 12 0 (squareWith thousandth 0 ((0 ∷ 1 ∷ 2 ∷ 3 ∷ []) ∷ (1 ∷ 0 ∷ 2 ∷ 3 ∷ []) ∷ []))
+    ∷ refusedWith 1 0 (70 ∷ 67 ∷ 85 ∷ drop 3 (header 4 9 9 99 0 255))
+    ∷ refusedWith 2 0 (header 4 9 9 99 0 255)
+    ∷ refusedWith 3 0 (header 3 9 9 99 0 255)
+    ∷ refusedWith 4 0 (header 3 3 9 99 0 255)
+    ∷ refusedWith 5 0 (header 3 3 2 99 0 255)
+    ∷ refusedWith 6 0 (header 3 3 2 4 0 255)
+    ∷ refusedWith 7 0 (header 3 3 2 4 2 255)
+    ∷ refusedWith 8 0 (header 3 3 2 4 2 7)
+    ∷ refusedWith 9 0 (squareWith (whole 1) 3 notANumber ((1 ∷ 0 ∷ 2 ∷ 3 ∷ []) ∷ (0 ∷ 0 ∷ 2 ∷ 4 ∷ []) ∷ []))
+    ∷ refusedWith 22 0 (squareWith (whole 1) 3 0 ((1 ∷ 0 ∷ 2 ∷ 3 ∷ []) ∷ (0 ∷ 0 ∷ 2 ∷ 4 ∷ []) ∷ []))
+    ∷ refusedWith 25 0 (squareWith thousandth 3 0 ((1 ∷ 0 ∷ 2 ∷ 3 ∷ []) ∷ (0 ∷ 0 ∷ 2 ∷ 4 ∷ []) ∷ []))
+    ∷ refusedWith 10 0 (squareWith thousandth 2 0 ((1 ∷ 0 ∷ 2 ∷ 3 ∷ []) ∷ (0 ∷ 0 ∷ 2 ∷ 4 ∷ []) ∷ []))
+    ∷ refusedWith 11 0 (squareWith thousandth 2 0 ((0 ∷ 1 ∷ 2 ∷ 3 ∷ []) ∷ (0 ∷ 0 ∷ 2 ∷ 4 ∷ []) ∷ []))
+    ∷ refusedWith 12 0 (squareWith thousandth 2 0 ((0 ∷ 1 ∷ 2 ∷ 3 ∷ []) ∷ (1 ∷ 0 ∷ 2 ∷ 3 ∷ []) ∷ []))
     ∷ []
 
 -- ---- both sides of the bounds. A job of rank 2 answers from its rows alone, so it shows what is let pass.
@@ -102,9 +104,21 @@ tolerances =
     ∷ refusedWith 22 0 (segmentTolerance 0) ∷ refusedWith 22 0 (segmentTolerance 0x8000000000000000) ∷ refusedWith 22 0 (segmentTolerance (0x8000000000000000 + oneE-7))
     -- an infinity, either way, and not a number
     ∷ refusedWith 9 0 (segmentTolerance 0x7ff0000000000000) ∷ refusedWith 9 0 (segmentTolerance 0xfff0000000000000) ∷ refusedWith 9 0 (segmentTolerance notANumber)
-    -- versions 0, 3 and 257; version 2 without a tolerance, and version 1 with one
-    ∷ refusedWith 2 0 (header 0 2 1 2 1 0) ∷ refusedWith 2 0 (header 3 2 1 2 1 0) ∷ refusedWith 2 0 (header 257 2 1 2 1 0)
+    -- versions 0, 4 and 257; version 2 without a tolerance, and version 1 with one
+    ∷ refusedWith 2 0 (header 0 2 1 2 1 0) ∷ refusedWith 2 0 (header 4 2 1 2 1 0) ∷ refusedWith 2 0 (header 257 2 1 2 1 0)
     ∷ refusedWith 8 0 (header 2 2 1 2 1 0 ++ drop 11 (segmentJob (identity 2))) ∷ refusedWith 8 0 (header 1 2 1 2 1 0 ++ drop 11 (segmentTolerance oneE-7))
+    ∷ []
+
+-- two points at rank 2 in version 3, with a rule
+unfoldable pub segmentRule : ℕ → Bytes
+segmentRule rule = jobWith (underRule 2 oneE-7 rule) 1 (wholePoints ((0 ∷ []) ∷ (1 ∷ []) ∷ [])) (identity 2)
+
+unfoldable pub rules : List Case
+rules =
+    answers 0 (segmentRule 1) twoPoints-answer ∷ answers 0 (segmentRule 2) twoPoints-answer
+    ∷ refusedWith 25 0 (segmentRule 0) ∷ refusedWith 25 0 (segmentRule 3) ∷ refusedWith 25 0 (segmentRule 255)
+    -- version 3 without a rule, and version 2 with one
+    ∷ refusedWith 8 0 (header 3 2 1 2 1 0 ++ drop 11 (segmentTolerance oneE-7)) ∷ refusedWith 8 0 (header 2 2 1 2 1 0 ++ drop 11 (segmentRule 1))
     ∷ []
 
 -- workspace, budget and room
@@ -123,8 +137,8 @@ buffers =
     ∷ record { job = symmetricJob (plain 3); workspace = 524288; room = 0; expected = refuses 17 }
     ∷ []
 
-pub refusals : T (allOf passes (inOrder ++ counts ++ floats ++ tolerances ++ buffers))
-unfolding open-all open-examples header squareWith inOrder line counts segmentWith segmentMin segmentMax floats segmentTolerance tolerances buffers twoPoints-answer symmetricSquare-answer
+pub refusals : T (allOf passes (inOrder ++ counts ++ floats ++ tolerances ++ rules ++ buffers))
+unfolding open-all open-examples header squareWith inOrder line counts segmentWith segmentMin segmentMax floats segmentTolerance tolerances segmentRule rules buffers twoPoints-answer symmetricSquare-answer
 refusals = tt
 
 -- ---- small bounds: the square has 6 hyperplane orbits, 6 possible facets and 7 entries

@@ -146,11 +146,11 @@ module _ (rank : ℕ) (plane : stored.Subspace) (points : Points) (rows : List �
   )
 
   module _ (r : Answer) (u : List ℕ)
-      (answers : answerIn (flat .n) r u ≡ orbitsOrRefusal (rules .orbits) (hyperplaneOrbits (rules .tolerance) (limitsOf (rules .min) (rules .max)) (rank - 3) (pointsOf points) (pointsOf flat) (rowsIn (flat .n) m rows))) where
+      (answers : answerIn (flat .n) r u ≡ orbitsOrRefusal (rules .orbits) (hyperplaneOrbits (rules .tolerance) (limitsOf (rules .min) (rules .max)) (rules .rule) (rank - 3) (pointsOf points) (pointsOf flat) (rowsIn (flat .n) m rows))) where
     found-for : answerIn (flat .n) r u ≡ orbitsOrRefusal (callRules rules .bounds .orbits) (siteOrbits called)
     unfolding callRules orbitsOf
     found-for =
-        subst (λ (ps : List Vec). answerIn (flat .n) r u ≡ orbitsOrRefusal (rules .orbits) (hyperplaneOrbits (rules .tolerance) (limitsOf (rules .min) (rules .max)) (rank - 3) (pointsOf points) ps (rowsIn (flat .n) m rows))) (holds .means) answers
+        subst (λ (ps : List Vec). answerIn (flat .n) r u ≡ orbitsOrRefusal (rules .orbits) (hyperplaneOrbits (rules .tolerance) (limitsOf (rules .min) (rules .max)) (rules .rule) (rank - 3) (pointsOf points) ps (rowsIn (flat .n) m rows))) (holds .means) answers
 
     -- refusal 13
     pub start-refused : r ≡ RefusedAnswer → SaysOf (rank - 2) rules (subspaceOf plane) (pointsOf points) (rowsIn (points .n) m rows) budget (Refused 13) u

@@ -40,11 +40,12 @@ fn start_call(
     rules: Rules,
 ) -> Answer
     requires { ⌜ CallFits points flat m (now rows) × (rules .orbits ≤ 256) × (124928 ≤ length (now ws)) × ShelfFits (shelfFor rank) (length (now ws)) × (3 ≤ rank) ⌝ }
-    ensures { λ r. ⌜ (answerIn (flat .n) r (now (ws .exit)) ≡ orbitsOrRefusal (rules .orbits) (hyperplaneOrbits (rules .tolerance) (limitsOf (rules .min) (rules .max)) (rank - 3) (pointsOf points) (pointsOf flat) (rowsIn (flat .n) m (now (rows .entry))))) × ((k : ℕ) → Keeps k (shelfFor rank) [] (now (ws .exit)) × Ridges (shelfFor rank) [] (now (ws .exit))) ⌝ }
+    ensures { λ r. ⌜ (answerIn (flat .n) r (now (ws .exit)) ≡ orbitsOrRefusal (rules .orbits) (hyperplaneOrbits (rules .tolerance) (limitsOf (rules .min) (rules .max)) (rules .rule) (rank - 3) (pointsOf points) (pointsOf flat) (rowsIn (flat .n) m (now (rows .entry))))) × ((k : ℕ) → Keeps k (shelfFor rank) [] (now (ws .exit)) × Ridges (shelfFor rank) [] (now (ws .exit))) ⌝ }
 {
     let min = rules.min;
     let max = rules.max;
     let tolerance = rules.tolerance;
+    let rule = rules.rule;
     let bound = rules.orbits;
     let answer = orbits::find_orbits(
         points,
@@ -55,6 +56,7 @@ fn start_call(
         min,
         max,
         tolerance,
+        rule,
         bound,
         ws,
     );

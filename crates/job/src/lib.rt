@@ -210,7 +210,7 @@ fn check_header(job: &[u8]) -> Checked
         return Checked::Refused(1);
     }
     let h = load::header_of(job);
-    if !between(1, 2, h.version) {
+    if !between(1, 3, h.version) {
         return Checked::Refused(2);
     }
     if !between(2, 4, h.rank) {
@@ -235,7 +235,7 @@ fn check_header(job: &[u8]) -> Checked
     Checked::Passed(load::fields_of(job))
 }
 
-// Refusals 9, 22, 10 and 11, of a job whose header passes: its floats, its tolerance and its rows.
+// Refusals 9, 22, 25, 10 and 11, of a job whose header passes: its floats, its tolerance, its rule and its rows.
 fn check_values(job: &[u8], fields: Fields) -> Checked
     requires { ⌜ Exact (now job) × (fields ≡ fieldsOf (now job)) ⌝ }
     ensures { λ r. ⌜ r ≡ checkedBy (valueTests (now (job .entry))) (now (job .entry)) ⌝ }
@@ -245,6 +245,9 @@ fn check_values(job: &[u8], fields: Fields) -> Checked
     }
     if !tolerance_good(fields.tolerance) {
         return Checked::Refused(22);
+    }
+    if !between(1, 2, fields.rule) {
+        return Checked::Refused(25);
     }
     if !is_identity(job, fields.rows, fields.n) {
         return Checked::Refused(10);

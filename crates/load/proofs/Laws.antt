@@ -6,7 +6,7 @@ use Prim.Native.Nat.{ℕ, _+_, _-_, _*_, _/_, _%_, _≤_, _<_}
 use native.Mathlib.Omega.{arith}
 use borrow.Author.Tests.{eq-eqb, ne-eqb, le-leb, lt-leb}
 use lib.Dec.{leb}
-use lib.ListN.{length, take, drop, length-drop, length-map}
+use lib.ListN.{length, getD, take, drop, length-drop, length-map}
 use lib.Seq.{paste, length-paste, length-take-le, take-all, sets, sets-eq}
 use lib.Ieee.{Float, nan, inf, fin, binary64, ofBits, div}
 use Rattle.definitions.specs.Job.{Bytes, tolerance1, flagSet, present, floatAt, floatsAt, vectorsAt, numberAt, readJob, planeOf}
@@ -111,6 +111,7 @@ pub record Fitting (bytes : Bytes) (h : Header) (p : Places) : Type 0 where
   pub max : p .max + 8 ≤ length bytes
   pub limit : p .limit + 4 ≤ length bytes
   pub tolerance : p .tolerance + 8 ≤ length bytes
+  pub rule : p .rule < length bytes
   pub budget : p .budget + 4 ≤ length bytes
 
 fitting-own : (bytes : Bytes) → Exact bytes → Fitting bytes (headerOf bytes) (placesOf (headerOf bytes))
@@ -118,17 +119,18 @@ unfolding headerOf placesOf
 fitting-own bytes k =
     let h = k .counted in
     let long = k .long in
-    record { counted = h; min = omega arith; max = omega arith; limit = omega arith; tolerance = omega arith; budget = omega arith }
+    record { counted = h; min = omega arith; max = omega arith; limit = omega arith; tolerance = omega arith; rule = omega arith; budget = omega arith }
 
 pub fitting : (bytes : Bytes) (h : Header) (p : Places) → Exact bytes → h ≡ headerOf bytes → p ≡ placesOf h → Fitting bytes h p
 fitting bytes h p k e q = rw (q, e) (fitting-own bytes k)
 
-pub fields-are : (bytes : Bytes) (h : Header) (p : Places) (min max : Limit) (entries : EntryLimit) (tolerance : Float) (budget : ℕ)
+pub fields-are : (bytes : Bytes) (h : Header) (p : Places) (min max : Limit) (entries : EntryLimit) (tolerance : Float) (rule budget : ℕ)
     → h ≡ headerOf bytes → p ≡ placesOf h
     → min ≡ lengthLimit (present (flagSet (h .flags) 1) (floatAt bytes 11))
     → max ≡ lengthLimit (present (flagSet (h .flags) 2) (floatAt bytes (p .max)))
     → entries ≡ entryLimitOf (present (flagSet (h .flags) 4) (numberAt bytes (p .limit) 4))
     → tolerance ≡ cond (leb 2 (h .version)) (floatAt bytes (p .tolerance)) tolerance1
+    → rule ≡ cond (leb 3 (h .version)) (getD bytes (p .rule) 0) 1
     → budget ≡ numberAt bytes (p .budget) 4
     → _≡_ {A = Fields}
     record {
@@ -140,6 +142,7 @@ pub fields-are : (bytes : Bytes) (h : Header) (p : Places) (min max : Limit) (en
       max = max;
       entries = entries;
       tolerance = tolerance;
+      rule = rule;
       budget = budget;
       offset = p .offset;
       basis = p .basis;
@@ -148,7 +151,7 @@ pub fields-are : (bytes : Bytes) (h : Header) (p : Places) (min max : Limit) (en
     }
     (fieldsOf bytes)
 unfolding fieldsOf readJob headerOf placesOf
-fields-are bytes h p min max entries tolerance budget e q a b c t d = rw (a, b, c, t, d, q, e) refl
+fields-are bytes h p min max entries tolerance rule budget e q a b c t u d = rw (a, b, c, t, u, d, q, e) refl
 
 -- ---- what grows by one
 

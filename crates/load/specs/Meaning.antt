@@ -59,6 +59,7 @@ fieldsOf bytes =
       max = lengthLimit (job .longest);
       entries = entryLimitOf (job .entryLimit);
       tolerance = job .tolerance;
+      rule = job .rule;
       budget = job .budget;
       offset = places .offset;
       basis = places .basis;
@@ -84,6 +85,7 @@ pub record Loadable (bytes : Bytes) (f : Fields) : Type 0 where
   pub max-is : lengthOf (f .max) ≡ readJob bytes .longest
   pub entries-is : limitNumber (f .entries) ≡ readJob bytes .entryLimit
   pub tolerance-is : f .tolerance ≡ readJob bytes .tolerance
+  pub rule-is : f .rule ≡ readJob bytes .rule
   pub budget-is : f .budget ≡ readJob bytes .budget
   pub rank-least : 2 ≤ f .rank
   pub rank-most : f .rank ≤ 4
@@ -116,6 +118,7 @@ own bytes k =
       max-is = length-of-limit (readJob bytes .longest);
       entries-is = number-of-limit (readJob bytes .entryLimit);
       tolerance-is = refl;
+      rule-is = refl;
       budget-is = refl;
       rank-least = h .rank-least;
       rank-most = h .rank-most;

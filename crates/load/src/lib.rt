@@ -8,7 +8,7 @@ ghost use mathlib.Core.Path.{_≡_};
 ghost use mathlib.Core.Bool.{cond};
 ghost use Prim.Native.Nat.{_+_, _-_, _*_, _≤_, _<_};
 ghost use lib.Dec.{leb};
-ghost use lib.ListN.{length};
+ghost use lib.ListN.{length, getD};
 ghost use Rattle.definitions.specs.Job.{tolerance1, flagSet, present, numberAt, floatAt, floatsAt, readJob, planeOf};
 ghost use Rattle.vectors.specs.Meaning.{five};
 ghost use Rattle.space.specs.Meaning.{HoldsSubspace, HoldsPoints};
@@ -49,6 +49,7 @@ pub struct Places {
     pub max: usize,
     pub limit: usize,
     pub tolerance: usize,
+    pub rule: usize,
     pub budget: usize,
     pub offset: usize,
     pub basis: usize,
@@ -80,7 +81,8 @@ pub fn places_of(h: Header) -> Places
     let max = 11 + room(flags, 1, 8);
     let limit = max + room(flags, 2, 8);
     let tolerance = limit + room(flags, 4, 4);
-    let budget = tolerance + room_from(h.version, 2, 8);
+    let rule = tolerance + room_from(h.version, 2, 8);
+    let budget = rule + room_from(h.version, 3, 1);
     let offset = budget + 4;
     let vector = 8 * h.d;
     let basis = offset + vector;
@@ -90,6 +92,7 @@ pub fn places_of(h: Header) -> Places
         max: max,
         limit: limit,
         tolerance: tolerance,
+        rule: rule,
         budget: budget,
         offset: offset,
         basis: basis,
@@ -153,9 +156,21 @@ fn tolerance_at(job: &[u8], version: usize, at: usize) -> f64
     }
 }
 
+// The rule of crowded lines is 1 where the version has no field for it.
+fn rule_at(job: &[u8], version: usize, at: usize) -> usize
+    requires { ⌜ at < length (now job) ⌝ }
+    ensures { λ r. ⌜ r ≡ cond (leb 3 version) (getD (now (job .entry)) at 0) 1 ⌝ }
+{
+    if 3 <= version {
+        words::wide(job[at])
+    } else {
+        1
+    }
+}
+
 // ---- all fields
 
-// The counts, the limits, the tolerance and the budget by value; the last four are the places in the job where offset, basis, points and rows begin.
+// The counts, the limits, the tolerance, the rule and the budget by value; the last four are the places in the job where offset, basis, points and rows begin.
 pub struct Fields {
     pub rank: usize,
     pub d: usize,
@@ -165,6 +180,7 @@ pub struct Fields {
     pub max: Limit,
     pub entries: EntryLimit,
     pub tolerance: f64,
+    pub rule: usize,
     pub budget: u32,
     pub offset: usize,
     pub basis: usize,
@@ -188,6 +204,7 @@ pub fn fields_of(job: &[u8]) -> Fields
         max: limit_at(job, flags, 2, p.max),
         entries: entry_limit_at(job, flags, p.limit),
         tolerance: tolerance_at(job, h.version, p.tolerance),
+        rule: rule_at(job, h.version, p.rule),
         budget: words::get_u32(job, p.budget),
         offset: p.offset,
         basis: p.basis,

@@ -167,6 +167,7 @@ fn list_call(job: &[u8], fields: Fields, ws: &mut [u8])
     let min = fields.min;
     let max = fields.max;
     let tolerance = fields.tolerance;
+    let rule = fields.rule;
     let mut rows = [0; 3840];
     load::load_rows(job, fields, &mut rows);
     match orbits::find_orbits(
@@ -178,6 +179,7 @@ fn list_call(job: &[u8], fields: Fields, ws: &mut [u8])
         min,
         max,
         tolerance,
+        rule,
         256,
         ws,
     ) {

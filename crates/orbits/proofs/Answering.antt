@@ -7,7 +7,7 @@ use lib.ListN.{length}
 use lib.Ieee.{Float}
 use Rattle.definitions.specs.Lists.{Pair, countFrom}
 use Rattle.definitions.specs.Vectors.{Vec}
-use Rattle.definitions.specs.Orbits.{Row, Limits, pairOpeners, pairsFrom, vertexOpeners, hyperplaneOrbits}
+use Rattle.definitions.specs.Orbits.{Row, Limits, pairOpeners, pairsFrom, vertexOpeners, mostVertices, hyperplaneOrbits}
 use Rattle.laws.specs.Lists.{Mem}
 use Rattle.words.specs.Words.{words}
 use Rattle.sorted.specs.Ascending.{Ascending, ascending-nil}
@@ -41,15 +41,17 @@ pub openers-same : (tolerance : Float) (limits : Limits) (points : List Vec) (m 
 openers-same tolerance limits points m s ps n k e h =
     subst (λ (j : ℕ). ps ≡ pairOpeners (breaks tolerance limits points) (rowsIn j m s) [] (pairsFrom j (vertexOpeners (rowsIn j m s) [] (countFrom 0 j)))) e h
 
-module _ (tolerance : Float) (limits : Limits) (more : ℕ) (points flat : List Vec) (rows : List Row) (bound : ℕ) (ps : List Pair) (ws : List ℕ) (r : Progress) (after : List ℕ) where
+module _ (tolerance : Float) (limits : Limits) (rule more : ℕ) (points flat : List Vec) (rows : List Row) (bound : ℕ) (ps : List Pair) (ws : List ℕ) (r : Progress) (after : List ℕ) where
   abbrev whole : ℕ → Type 0
-  whole n = (r .walk ≡ Going → answerIn n (Orbits (r .count)) after ≡ orbitsOrRefusal bound (hyperplaneOrbits tolerance limits more points flat rows))
-      × (r .walk ≡ Refused → answerIn n RefusedAnswer after ≡ orbitsOrRefusal bound (hyperplaneOrbits tolerance limits more points flat rows))
+  whole n = (r .walk ≡ Going → answerIn n (Orbits (r .count)) after ≡ orbitsOrRefusal bound (hyperplaneOrbits tolerance limits rule more points flat rows))
+      × (r .walk ≡ Refused → answerIn n RefusedAnswer after ≡ orbitsOrRefusal bound (hyperplaneOrbits tolerance limits rule more points flat rows))
 
-  pub answers : (n : ℕ) → length flat ≡ n → length points ≡ n → ((row : Row) → Mem row rows → Permutes n row)
+  pub answers : (n most : ℕ) → length flat ≡ n → most ≡ mostVertices rule more n → length points ≡ n → ((row : Row) → Mem row rows → Permutes n row)
       → ps ≡ pairOpeners (breaks tolerance limits points) rows [] (pairsFrom n (vertexOpeners rows [] (countFrom 0 n)))
-      → Walked tolerance flat rows bound (going 0 0) ws (pairTuples tolerance limits points flat n more ps) r after → whole n
-  answers n e =
-      subst (λ (k : ℕ). length points ≡ k → ((row : Row) → Mem row rows → Permutes k row) → ps ≡ pairOpeners (breaks tolerance limits points) rows [] (pairsFrom k (vertexOpeners rows [] (countFrom 0 k)))
-      → Walked tolerance flat rows bound (going 0 0) ws (pairTuples tolerance limits points flat k more ps) r after → whole k) e
-      (λ same permute openers walk. (all-found tolerance limits more points flat rows bound same permute ps openers ws r after walk, too-many tolerance limits more points flat rows bound same permute ps openers ws r after walk))
+      → Walked tolerance most flat rows bound (going 0 0) ws (pairTuples tolerance limits points flat n more ps) r after → whole n
+  answers n most e =
+      subst (λ (k : ℕ). most ≡ mostVertices rule more k → length points ≡ k → ((row : Row) → Mem row rows → Permutes k row) → ps ≡ pairOpeners (breaks tolerance limits points) rows [] (pairsFrom k (vertexOpeners rows [] (countFrom 0 k)))
+      → Walked tolerance most flat rows bound (going 0 0) ws (pairTuples tolerance limits points flat k more ps) r after → whole k) e
+      (λ most-is same permute openers walk.
+      let by-rule = subst (λ (many : ℕ). Walked tolerance many flat rows bound (going 0 0) ws (pairTuples tolerance limits points flat (length flat) more ps) r after) most-is walk in
+      (all-found tolerance limits rule more points flat rows bound same permute ps openers ws r after by-rule, too-many tolerance limits rule more points flat rows bound same permute ps openers ws r after by-rule))

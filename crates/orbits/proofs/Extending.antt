@@ -13,28 +13,28 @@ use Rattle.orbits.specs.Walks.{keepsLimits, Walked, walked-none, walked-
 use Rattle.orbits.specs.declared.Progress.{Progress}
 
 -- some of the tuples were walked along, and the rest is left
-pub record Extending (tolerance : Float) (flat : List Vec) (rows : List Row) (bound : ℕ) (state : Progress) (ws : List ℕ) (all rest : List (List Vec)) (reached : Progress) (now : List ℕ) : Type 0 where
+pub record Extending (tolerance : Float) (most : ℕ) (flat : List Vec) (rows : List Row) (bound : ℕ) (state : Progress) (ws : List ℕ) (all rest : List (List Vec)) (reached : Progress) (now : List ℕ) : Type 0 where
   pub done : List (List Vec)
   pub whole : done ++ rest ≡ all
-  pub walked : Walked tolerance flat rows bound state ws done reached now
+  pub walked : Walked tolerance most flat rows bound state ws done reached now
 
-module _ (tolerance : Float) (flat : List Vec) (rows : List Row) (bound : ℕ) (state : Progress) (ws : List ℕ) where
-  pub extend-start : (all : List (List Vec)) → OrbitsRoom bound (state .known) (state .count) ws → Extending tolerance flat rows bound state ws all all state ws
-  extend-start all room = record { done = []; whole = refl; walked = walked-none tolerance flat rows bound state ws room }
+module _ (tolerance : Float) (most : ℕ) (flat : List Vec) (rows : List Row) (bound : ℕ) (state : Progress) (ws : List ℕ) where
+  pub extend-start : (all : List (List Vec)) → OrbitsRoom bound (state .known) (state .count) ws → Extending tolerance most flat rows bound state ws all all state ws
+  extend-start all room = record { done = []; whole = refl; walked = walked-none tolerance most flat rows bound state ws room }
 
   -- more of them are walked along
-  pub extend-turn : (all rest ts later : List (List Vec)) (reached : Progress) (now : List ℕ) (next : Progress) (after : List ℕ) → Extending tolerance flat rows bound state ws all rest reached now
-      → rest ≡ ts ++ later → Walked tolerance flat rows bound reached now ts next after → Extending tolerance flat rows bound state ws all later next after
+  pub extend-turn : (all rest ts later : List (List Vec)) (reached : Progress) (now : List ℕ) (next : Progress) (after : List ℕ) → Extending tolerance most flat rows bound state ws all rest reached now
+      → rest ≡ ts ++ later → Walked tolerance most flat rows bound reached now ts next after → Extending tolerance most flat rows bound state ws all later next after
   extend-turn all rest ts later reached now next after x e w = record {
     done = x .done ++ ts;
     whole = append-assoc (x .done) ts later ∙ (ap (λ (l : List (List Vec)). x .done ++ l) (sym e) ∙ x .whole);
-    walked = walked-append tolerance flat rows bound state ws (x .done) reached now ts next after (x .walked) w;
+    walked = walked-append tolerance most flat rows bound state ws (x .done) reached now ts next after (x .walked) w;
   }
 
-  pub extend-end : (all rest : List (List Vec)) (reached : Progress) (now : List ℕ) → Extending tolerance flat rows bound state ws all rest reached now → rest ≡ [] → Walked tolerance flat rows bound state ws all reached now
+  pub extend-end : (all rest : List (List Vec)) (reached : Progress) (now : List ℕ) → Extending tolerance most flat rows bound state ws all rest reached now → rest ≡ [] → Walked tolerance most flat rows bound state ws all reached now
   extend-end all rest reached now x e =
       let done : x .done ≡ all = sym (append-nil (x .done)) ∙ (ap (λ (l : List (List Vec)). x .done ++ l) (sym e) ∙ x .whole) in
-      subst (λ (l : List (List Vec)). Walked tolerance flat rows bound state ws l reached now) done (x .walked)
+      subst (λ (l : List (List Vec)). Walked tolerance most flat rows bound state ws l reached now) done (x .walked)
 
 module _ (passes : ℕ → Bool) (flat tuple : List Vec) (n : ℕ) where
   pub none-added : (from more : ℕ) → more ≡ 0 → extensions passes flat tuple n from more ≡ tuple ∷ []

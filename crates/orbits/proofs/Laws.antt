@@ -8,7 +8,7 @@ use native.Mathlib.Omega.{arith}
 use native.Mathlib.Numerals.{add-one}
 use lib.ListN.{length, getD, take, drop, length-append, length-drop, length-take}
 use lib.Seq.{length-take-le, take-at, drop-at, take-take}
-use Rattle.definitions.specs.Lists.{Pair, memberNat}
+use Rattle.definitions.specs.Lists.{Pair}
 use lib.Ieee.{Float}
 use Rattle.definitions.specs.Job.{numberAt}
 use Rattle.definitions.specs.Vectors.{Vec}
@@ -22,7 +22,7 @@ use Rattle.sorted.specs.Ascending.{Ascending, insertNew, union, length-insert}
 use Rattle.sorted.specs.Gathering.{added, gathered, gathered-few, Fresh, Gathering, gathering-none, gathering-more, ascending-added}
 use Rattle.sorted.specs.Merging.{New, Merged}
 use Rattle.openers.specs.Rows.{rowsIn, rowAt}
-use Rattle.orbits.specs.Numbers.{imageNumbers, nearNumber, opensOrbit, orbitsFrom, seenAfter}
+use Rattle.orbits.specs.Numbers.{imageNumbers, mayOpen, nearNumber, opensOrbit, orbitsFrom, seenAfter}
 use Rattle.orbits.specs.Walks.{going, Walked}
 use Rattle.orbits.specs.Workspace.{seenIn, orbitsIn, OrbitsRoom, HoldsOrbits, ReachedBy, Reached, Opened, orbits-length, orbits-front}
 use Rattle.orbits.specs.declared.Progress.{Progress}
@@ -176,34 +176,34 @@ lent-room known ws h = rw (length-take-le (length ws - 2048) (drop 2048 ws) (ome
 
 -- ---- one tuple
 
-module _ (tolerance : Float) (flat : List Vec) (rows : List Row) (seen : List ℕ) (points : List Vec) where
-  pub no-plane : isHyperplane (fromPoints tolerance points) ≡ false → opensOrbit tolerance flat rows seen points ≡ false
+module _ (tolerance : Float) (most : ℕ) (flat : List Vec) (rows : List Row) (seen : List ℕ) (points : List Vec) where
+  pub no-plane : isHyperplane (fromPoints tolerance points) ≡ false → opensOrbit tolerance most flat rows seen points ≡ false
   unfolding opensOrbit
   no-plane e = rw e refl
 
-  pub seen-before : isHyperplane (fromPoints tolerance points) ≡ true → memberNat (nearNumber tolerance flat rows points) seen ≡ true → opensOrbit tolerance flat rows seen points ≡ false
+  pub passed-over : isHyperplane (fromPoints tolerance points) ≡ true → mayOpen (length flat) most seen (nearNumber tolerance most flat rows points) ≡ false → opensOrbit tolerance most flat rows seen points ≡ false
   unfolding opensOrbit
-  seen-before e f = rw (e, f) refl
+  passed-over e f = rw (e, f) refl
 
-  pub opens-now : isHyperplane (fromPoints tolerance points) ≡ true → memberNat (nearNumber tolerance flat rows points) seen ≡ false → opensOrbit tolerance flat rows seen points ≡ true
+  pub opens-now : isHyperplane (fromPoints tolerance points) ≡ true → mayOpen (length flat) most seen (nearNumber tolerance most flat rows points) ≡ true → opensOrbit tolerance most flat rows seen points ≡ true
   unfolding opensOrbit
   opens-now e f = rw (e, f) refl
 
-  pub near-is : (set : ℕ) (plane : Subspace) → plane ≡ fromPoints tolerance points → set ≡ setNumber (pointsNear tolerance plane flat 0) → set ≡ nearNumber tolerance flat rows points
+  pub near-is : (set : ℕ) (plane : Subspace) → plane ≡ fromPoints tolerance points → set ≡ setNumber (pointsNear tolerance plane flat 0) → set ≡ nearNumber tolerance most flat rows points
   unfolding nearNumber
   near-is set plane e f = f ∙ ap (λ (s : Subspace). setNumber (pointsNear tolerance s flat 0)) e
 
-module _ (tolerance : Float) (flat : List Vec) (rows : List Row) (bound : ℕ) (state : Progress) (ws : List ℕ) (ts : List (List Vec)) where
-  pub stays-refused : state .walk ≡ Refused → OrbitsRoom bound (state .known) (state .count) ws → Walked tolerance flat rows bound state ws ts state ws
+module _ (tolerance : Float) (most : ℕ) (flat : List Vec) (rows : List Row) (bound : ℕ) (state : Progress) (ws : List ℕ) (ts : List (List Vec)) where
+  pub stays-refused : state .walk ≡ Refused → OrbitsRoom bound (state .known) (state .count) ws → Walked tolerance most flat rows bound state ws ts state ws
   stays-refused e room = record {
     room = room;
     reached = λ seen orbits h.
         let over : bound < length orbits = subst (λ (v : Walk). ReachedBy v bound (state .known) (state .count) ws seen orbits) e h in
-        let more = orbits ++ orbitsFrom tolerance flat rows seen ts in
-        subst (λ (v : Walk). ReachedBy v bound (state .known) (state .count) ws (seenAfter tolerance flat rows seen ts) more) (sym e) (omega (arith, length-append orbits (orbitsFrom tolerance flat rows seen ts)));
+        let more = orbits ++ orbitsFrom tolerance most flat rows seen ts in
+        subst (λ (v : Walk). ReachedBy v bound (state .known) (state .count) ws (seenAfter tolerance most flat rows seen ts) more) (sym e) (omega (arith, length-append orbits (orbitsFrom tolerance most flat rows seen ts)));
   }
 
-  pub goes-on : (r : Progress) (after : List ℕ) → state .walk ≡ Going → Walked tolerance flat rows bound (going (state .known) (state .count)) ws ts r after → Walked tolerance flat rows bound state ws ts r after
+  pub goes-on : (r : Progress) (after : List ℕ) → state .walk ≡ Going → Walked tolerance most flat rows bound (going (state .known) (state .count)) ws ts r after → Walked tolerance most flat rows bound state ws ts r after
   goes-on r after e w = record {
     room = w .room;
     reached = λ seen orbits h. w .reached seen orbits (subst (λ (v : Walk). ReachedBy v bound (state .known) (state .count) ws seen orbits) e h);

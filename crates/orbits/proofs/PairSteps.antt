@@ -32,10 +32,10 @@ module _ (pairs : Pairs) (fits : pairs .count ≤ 190) (long : length (pairs .co
   pub pair-in : (k : ℕ) → k < pairs .count → Mem (getD (pairs .codes) k 0 / 20, getD (pairs .codes) k 0 % 20) (pairsIn pairs)
   pair-in k h = subst (λ (p : Pair). Mem p (pairsIn pairs)) (pair-at k h) (member-at (pairsIn pairs) k (0, 0) (omega (arith, pairs-count)))
 
-module _ (tolerance : Float) (limits : Limits) (points flat : List Vec) (n more : ℕ) (rows : List Row) (bound : ℕ) (state : Progress) (ws : List ℕ) where
-  pub walk-start : (l : List Pair) → OrbitsRoom bound (state .known) (state .count) ws → Walked tolerance flat rows bound state ws (pairTuples tolerance limits points flat n more (take 0 l)) state ws
+module _ (tolerance : Float) (most : ℕ) (limits : Limits) (points flat : List Vec) (n more : ℕ) (rows : List Row) (bound : ℕ) (state : Progress) (ws : List ℕ) where
+  pub walk-start : (l : List Pair) → OrbitsRoom bound (state .known) (state .count) ws → Walked tolerance most flat rows bound state ws (pairTuples tolerance limits points flat n more (take 0 l)) state ws
   unfolding pairTuples flatMap
-  walk-start l room = walked-none tolerance flat rows bound state ws room
+  walk-start l room = walked-none tolerance most flat rows bound state ws room
 
   next-pair : (l : List Pair) (k : ℕ) → k < length l
       → pairTuples tolerance limits points flat n more (take (k + 1) l) ≡ pairTuples tolerance limits points flat n more (take k l) ++ tuplesOf tolerance limits points flat n more (getD l k (0, 0))
@@ -46,11 +46,11 @@ module _ (tolerance : Float) (limits : Limits) (points flat : List Vec) (n more 
 
   pub walk-turn : (l : List Pair) (k v w : ℕ) (tuple : List Vec) (reached : Progress) (now : List ℕ) (next : Progress) (after : List ℕ) → k < length l → getD l k (0, 0) ≡ (v, w)
       → tuple ≡ pointAt flat v ∷ pointAt flat w ∷ []
-      → Walked tolerance flat rows bound state ws (pairTuples tolerance limits points flat n more (take k l)) reached now
-      → Walked tolerance flat rows bound reached now (extensions (keepsLimits tolerance limits points v) flat tuple n (w + 1) more) next after
-      → Walked tolerance flat rows bound state ws (pairTuples tolerance limits points flat n more (take (k + 1) l)) next after
+      → Walked tolerance most flat rows bound state ws (pairTuples tolerance limits points flat n more (take k l)) reached now
+      → Walked tolerance most flat rows bound reached now (extensions (keepsLimits tolerance limits points v) flat tuple n (w + 1) more) next after
+      → Walked tolerance most flat rows bound state ws (pairTuples tolerance limits points flat n more (take (k + 1) l)) next after
   unfolding tuplesOf
   walk-turn l k v w tuple reached now next after h e t a b =
       let here : tuplesOf tolerance limits points flat n more (getD l k (0, 0)) ≡ extensions (keepsLimits tolerance limits points v) flat tuple n (w + 1) more =
       ap (tuplesOf tolerance limits points flat n more) e ∙ ap (λ (x : List Vec). extensions (keepsLimits tolerance limits points v) flat x n (w + 1) more) (sym t) in
-      rw (next-pair l k h, here) (walked-append tolerance flat rows bound state ws _ reached now _ next after a b)
+      rw (next-pair l k h, here) (walked-append tolerance most flat rows bound state ws _ reached now _ next after a b)

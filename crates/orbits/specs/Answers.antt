@@ -12,7 +12,7 @@ use lib.Ieee.{Float}
 use Rattle.definitions.specs.Lists.{Pair, memberPair, keep, allOf, choose, countFrom, memberNat}
 use Rattle.definitions.specs.Outcome.{Outcome, refused, answered, refuseIf}
 use Rattle.definitions.specs.Vectors.{Vec}
-use Rattle.definitions.specs.Orbits.{Row, Limits, Orbit, image, pointAt, breaksLimit, above, pairImage, pairOpeners, pairsFrom, vertexOpeners, tuples, hyperplanes, hyperplaneOrbits}
+use Rattle.definitions.specs.Orbits.{Row, Limits, Orbit, image, pointAt, breaksLimit, above, pairImage, pairOpeners, pairsFrom, vertexOpeners, tuples, mostVertices, hyperplanes, hyperplaneOrbits}
 use Rattle.laws.specs.Lists.{Mem, here, there, of-map, of-flatMap, at-member, of-count}
 use Rattle.laws.specs.Parts.{rows, getD-rows, length-rows}
 use Rattle.space.specs.declared.Points.{Points}
@@ -130,7 +130,7 @@ rows-permute {n} {m} {s} fits row h =
 
 -- ---- where the walk along the tuples of all pair openers ends
 
-module _ (tolerance : Float) (limits : Limits) (more : ℕ) (points flat : List Vec) (rows : List Row) (bound : ℕ) (same-n : length points ≡ length flat)
+module _ (tolerance : Float) (limits : Limits) (rule more : ℕ) (points flat : List Vec) (rows : List Row) (bound : ℕ) (same-n : length points ≡ length flat)
     (permute : (row : Row) → Mem row rows → Permutes (length flat) row) (ps : List Pair)
     (openers : ps ≡ pairOpeners (breaks tolerance limits points) rows [] (pairsFrom (length flat) (vertexOpeners rows [] (countFrom 0 (length flat))))) where
   none-seen : SeenAs (length flat) [] []
@@ -138,31 +138,34 @@ module _ (tolerance : Float) (limits : Limits) (more : ℕ) (points flat : List 
   none-seen = record { sets = λ q h. elim h [ ]; ascends = ascending-nil; agrees = λ x. refl }
 
   abbrev pub whole : List Orbit
-  whole = hyperplaneOrbits tolerance limits more points flat rows
+  whole = hyperplaneOrbits tolerance limits rule more points flat rows
+
+  abbrev pub most : ℕ
+  most = mostVertices rule more (length flat)
 
   abbrev pub all : List (List Vec)
   all = pairTuples tolerance limits points flat (length flat) more ps
 
-  found : map (orbitOf (length flat)) (orbitsFrom tolerance flat rows [] all) ≡ whole
+  found : map (orbitOf (length flat)) (orbitsFrom tolerance most flat rows [] all) ≡ whole
   unfolding hyperplaneOrbits breaks
   found =
-      ap (λ (l : List (List Vec)). map (orbitOf (length flat)) (orbitsFrom tolerance flat rows [] l)) (sym (all-tuples tolerance limits points flat (length flat) more ps))
-      ∙ (orbits-are tolerance flat rows permute (flatMap (tuples (breaksLimit tolerance limits points) (length flat) more) ps) [] [] none-seen
+      ap (λ (l : List (List Vec)). map (orbitOf (length flat)) (orbitsFrom tolerance most flat rows [] l)) (sym (all-tuples tolerance limits points flat (length flat) more ps))
+      ∙ (orbits-are tolerance most flat rows permute (flatMap (tuples (breaksLimit tolerance limits points) (length flat) more) ps) [] [] none-seen
       ∙ (rw (same-n, openers) refl))
 
-  found-length : length (orbitsFrom tolerance flat rows [] all) ≡ length whole
-  found-length = sym (length-map (orbitsFrom tolerance flat rows [] all) (orbitOf (length flat))) ∙ ap length found
+  found-length : length (orbitsFrom tolerance most flat rows [] all) ≡ length whole
+  found-length = sym (length-map (orbitsFrom tolerance most flat rows [] all) (orbitOf (length flat))) ∙ ap length found
 
-  module _ (ws : List ℕ) (r : Progress) (after : List ℕ) (walk : Walked tolerance flat rows bound (going 0 0) ws all r after) where
-    end : ReachedBy (r .walk) bound (r .known) (r .count) after (seenAfter tolerance flat rows [] all) (orbitsFrom tolerance flat rows [] all)
+  module _ (ws : List ℕ) (r : Progress) (after : List ℕ) (walk : Walked tolerance most flat rows bound (going 0 0) ws all r after) where
+    end : ReachedBy (r .walk) bound (r .known) (r .count) after (seenAfter tolerance most flat rows [] all) (orbitsFrom tolerance most flat rows [] all)
     unfolding seenIn words orbitsIn
     end = walk .reached [] [] (record { seen-are = refl; orbits-are = refl })
 
     pub all-found : r .walk ≡ Going → answerIn (length flat) (Orbits (r .count)) after ≡ orbitsOrRefusal bound whole
     unfolding answerIn orbitsOrRefusal refuseIf
     all-found e =
-        let held : HoldsOrbits (r .known) (r .count) after (seenAfter tolerance flat rows [] all) (orbitsFrom tolerance flat rows [] all) =
-        subst (λ (v : Walk). ReachedBy v bound (r .known) (r .count) after (seenAfter tolerance flat rows [] all) (orbitsFrom tolerance flat rows [] all)) e end in
+        let held : HoldsOrbits (r .known) (r .count) after (seenAfter tolerance most flat rows [] all) (orbitsFrom tolerance most flat rows [] all) =
+        subst (λ (v : Walk). ReachedBy v bound (r .known) (r .count) after (seenAfter tolerance most flat rows [] all) (orbitsFrom tolerance most flat rows [] all)) e end in
         let count : r .count ≡ length whole = sym (orbits-length after (r .count)) ∙ (ap length (held .orbits-are) ∙ found-length) in
         let is : map (orbitOf (length flat)) (orbitsIn after (r .count)) ≡ whole = ap (map (orbitOf (length flat))) (held .orbits-are) ∙ found in
         rw (is, le-ltb bound (length whole) (omega (arith, walk .room .count-fits))) refl
@@ -170,6 +173,6 @@ module _ (tolerance : Float) (limits : Limits) (more : ℕ) (points flat : List 
     pub too-many : r .walk ≡ Refused → answerIn (length flat) RefusedAnswer after ≡ orbitsOrRefusal bound whole
     unfolding answerIn orbitsOrRefusal refuseIf
     too-many e =
-        let over : bound < length (orbitsFrom tolerance flat rows [] all) =
-        subst (λ (v : Walk). ReachedBy v bound (r .known) (r .count) after (seenAfter tolerance flat rows [] all) (orbitsFrom tolerance flat rows [] all)) e end in
+        let over : bound < length (orbitsFrom tolerance most flat rows [] all) =
+        subst (λ (v : Walk). ReachedBy v bound (r .known) (r .count) after (seenAfter tolerance most flat rows [] all) (orbitsFrom tolerance most flat rows [] all)) e end in
         rw (lt-ltb bound (length whole) (omega (arith, found-length))) refl

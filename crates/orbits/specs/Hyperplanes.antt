@@ -4,7 +4,7 @@ use mathlib.Core.Bool.{Bool, true, false, cond, not, _&&_, _||_}
 use mathlib.Core.List.{List, [], _∷_, _++_, map, List·Memᴰ}
 use Prim.Native.Nat.{ℕ, suc, _+_, _-_, _<_}
 use native.Mathlib.Omega.{arith}
-use lib.Dec.{eqb, isEq}
+use lib.Dec.{leb, eqb, isEq}
 use lib.ListN.{length}
 use lib.Ieee.{Float}
 use Rattle.definitions.specs.Lists.{Pair, anyOf, memberNat, fresh, compareNats}
@@ -14,11 +14,11 @@ use Rattle.definitions.specs.Orbits.{Row, image, pointAt, pointsNear, setImage,
 use Rattle.laws.specs.Bools.{or-swap}
 use Rattle.laws.specs.Segments.{cons-same}
 use Rattle.laws.specs.Lists.{Mem, here, there, of-map, any-append}
-use Rattle.laws.specs.Sets.{setNumber, SetFrom, compare-sets, image-set, vertices-number}
+use Rattle.laws.specs.Sets.{setNumber, verticesOf, SetFrom, compare-sets, image-set, vertices-number}
 use Rattle.sets.specs.Steps.{near-set}
 use Rattle.sorted.specs.Ascending.{Ascending, insertNew, ascending-insert, member-insert, length-insert, insert-member}
 use Rattle.sorted.specs.Gathering.{added}
-use Rattle.orbits.specs.Numbers.{imageNumbers, orbitOf, nearNumber, opensOrbit, withImages, orbitsFrom}
+use Rattle.orbits.specs.Numbers.{imageNumbers, orbitOf, mayOpen, nearNumber, opensOrbit, withImages, orbitsFrom}
 
 -- a row sends vertices below n to such, no two to one
 pub record Permutes (n : ℕ) (row : Row) : Type 0 where
@@ -109,7 +109,7 @@ joined n (q ∷ images) seen numbers r h =
 
 -- ---- the orbits
 
-module _ (tolerance : Float) (flat : List Vec) (rows : List Row) (permute : (row : Row) → Mem row rows → Permutes (length flat) row) where
+module _ (tolerance : Float) (most : ℕ) (flat : List Vec) (rows : List Row) (permute : (row : Row) → Mem row rows → Permutes (length flat) row) where
   near : List ℕ → List ℕ
   near tuple = pointsNear tolerance (fromPoints tolerance (map (pointAt flat) tuple)) flat 0
 
@@ -134,6 +134,10 @@ module _ (tolerance : Float) (flat : List Vec) (rows : List Row) (permute : (row
   same-cond : {A : Type 0} {a b : Bool} {x y z w : A} → a ≡ b → x ≡ z → y ≡ w → cond a x y ≡ cond b z w
   same-cond p q r = rw (p, q, r) refl
 
+  and-first : (a b c : Bool) → (a && (b && c)) ≡ (a && b && c)
+  and-first true b c = refl
+  and-first false b c = refl
+
   map-cond : (b : Bool) (x y : List Pair) → map (orbitOf (length flat)) (cond b x y) ≡ cond b (map (orbitOf (length flat)) x) (map (orbitOf (length flat)) y)
   map-cond true x y = refl
   map-cond false x y = refl
@@ -143,8 +147,8 @@ module _ (tolerance : Float) (flat : List Vec) (rows : List Row) (permute : (row
   orbit-same set a b s e = let f = vertices-number s in λ i. record { vertices = f i; count = e i }
 
   pub orbits-are : (tuples seen : List (List ℕ)) (numbers : List ℕ) → SeenAs (length flat) seen numbers
-      → map (orbitOf (length flat)) (orbitsFrom tolerance flat rows numbers (map (map (pointAt flat)) tuples)) ≡ hyperplanes tolerance flat rows seen tuples
-  unfolding orbitsFrom hyperplanes opensOrbit withImages nearNumber
+      → map (orbitOf (length flat)) (orbitsFrom tolerance most flat rows numbers (map (map (pointAt flat)) tuples)) ≡ hyperplanes tolerance most flat rows seen tuples
+  unfolding orbitsFrom hyperplanes opensOrbit mayOpen withImages nearNumber
   orbits-are [] seen numbers r = refl
   orbits-are (tuple ∷ ts) seen numbers r =
       let s = fromPoints tolerance (map (pointAt flat) tuple) in
@@ -155,8 +159,10 @@ module _ (tolerance : Float) (flat : List Vec) (rows : List Row) (permute : (row
       let after = added numbers (imageNumbers (length flat) (setNumber set) rows) in
       let join : Joined (length flat) seen new numbers after = subst (λ (l : List ℕ). Joined (length flat) seen new numbers (added numbers l)) (sym (image-numbers set own)) (joined (length flat) images seen numbers r (moved-sets set own)) in
       let count : length after - length numbers ≡ length new = omega (arith, join .counted) in
-      let test : memberNat (setNumber set) numbers ≡ anyOf (λ (q : List ℕ). isEq (compareNats set q)) seen = r .agrees (setNumber set) ∙ sym (any-number (length flat) set seen own (r .sets)) in
-      map-cond (opensOrbit tolerance flat rows numbers (map (pointAt flat) tuple)) _ _
-      ∙ same-cond (ap (λ (b : Bool). isHyperplane s && not b) test)
+      let known : memberNat (setNumber set) numbers ≡ anyOf (λ (q : List ℕ). isEq (compareNats set q)) seen = r .agrees (setNumber set) ∙ sym (any-number (length flat) set seen own (r .sets)) in
+      let test : (isHyperplane s && (not (memberNat (setNumber set) numbers) && leb (length (verticesOf (length flat) (setNumber set))) most)) ≡ (isHyperplane s && not (anyOf (λ (q : List ℕ). isEq (compareNats set q)) seen) && leb (length set) most) =
+      rw (known, vertices-number own) (and-first (isHyperplane s) _ _) in
+      map-cond (opensOrbit tolerance most flat rows numbers (map (pointAt flat) tuple)) _ _
+      ∙ same-cond test
       (cons-same (orbit-same set (length after - length numbers) (length new) own count) (orbits-are ts (new ++ seen) after (join .known)))
       (orbits-are ts seen numbers r)

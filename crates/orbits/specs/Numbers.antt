@@ -3,6 +3,7 @@ use mathlib.Core.Path.{_≡_, refl, ap}
 use mathlib.Core.Bool.{Bool, true, false, cond, not, _&&_}
 use mathlib.Core.List.{List, [], _∷_, _++_, map}
 use Prim.Native.Nat.{ℕ, _+_, _-_}
+use lib.Dec.{leb}
 use lib.ListN.{length}
 use lib.Ieee.{Float}
 use Rattle.definitions.specs.Lists.{Pair, memberNat}
@@ -20,14 +21,18 @@ imageNumbers n set rows = map (λ (row : Row). setNumber (setImage (verticesOf n
 unfoldable pub orbitOf : ℕ → Pair → Orbit
 orbitOf n p = record { vertices = verticesOf n (p .0); count = p .1 }
 
-module _ (tolerance : Float) (flat : List Vec) (rows : List Row) where
+-- a set, as its number, opens an orbit where it was not seen and has not more than `most` of n vertices
+unfoldable pub mayOpen : ℕ → ℕ → List ℕ → ℕ → Bool
+mayOpen n most seen set = not (memberNat set seen) && leb (length (verticesOf n set)) most
+
+module _ (tolerance : Float) (most : ℕ) (flat : List Vec) (rows : List Row) where
   -- the number of the set of points near the plane that some points fit
   unfoldable pub nearNumber : List Vec → ℕ
   nearNumber points = setNumber (pointsNear tolerance (fromPoints tolerance points) flat 0)
 
-  -- the points fit a hyperplane whose set was not seen
+  -- the points fit a hyperplane whose set may open an orbit
   unfoldable pub opensOrbit : List ℕ → List Vec → Bool
-  opensOrbit seen points = isHyperplane (fromPoints tolerance points) && not (memberNat (nearNumber points) seen)
+  opensOrbit seen points = isHyperplane (fromPoints tolerance points) && mayOpen (length flat) most seen (nearNumber points)
 
   -- what was seen, with the images of the set of some points
   unfoldable pub withImages : List ℕ → List Vec → List ℕ

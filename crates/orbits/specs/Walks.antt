@@ -33,9 +33,9 @@ pub record TupleFits (flat tuple : Points) (m : ℕ) (rows : List ℕ) : Type 0 
   pub few : m ≤ 120
 
 -- a walk along tuples of points, from a state on
-pub record Walked (tolerance : Float) (flat : List Vec) (rows : List Row) (bound : ℕ) (state : Progress) (ws : List ℕ) (tuples : List (List Vec)) (r : Progress) (after : List ℕ) : Type 0 where
+pub record Walked (tolerance : Float) (most : ℕ) (flat : List Vec) (rows : List Row) (bound : ℕ) (state : Progress) (ws : List ℕ) (tuples : List (List Vec)) (r : Progress) (after : List ℕ) : Type 0 where
   pub room : OrbitsRoom bound (r .known) (r .count) after
-  pub reached : (seen : List ℕ) (orbits : List Pair) → Reached bound state ws seen orbits → Reached bound r after (seenAfter tolerance flat rows seen tuples) (orbits ++ orbitsFrom tolerance flat rows seen tuples)
+  pub reached : (seen : List ℕ) (orbits : List Pair) → Reached bound state ws seen orbits → Reached bound r after (seenAfter tolerance most flat rows seen tuples) (orbits ++ orbitsFrom tolerance most flat rows seen tuples)
 
 -- [5.5] an added vertex that breaks a limit takes its tuples with it
 unfoldable pub keepsLimits : Float → Limits → List Vec → ℕ → ℕ → Bool
@@ -47,41 +47,41 @@ extensions passes flat tuple n from more = map (λ (joining : List ℕ). tuple +
 
 -- ---- walks
 
-module _ (tolerance : Float) (flat : List Vec) (rows : List Row) (bound : ℕ) where
-  pub walked-none : (state : Progress) (ws : List ℕ) → OrbitsRoom bound (state .known) (state .count) ws → Walked tolerance flat rows bound state ws [] state ws
+module _ (tolerance : Float) (most : ℕ) (flat : List Vec) (rows : List Row) (bound : ℕ) where
+  pub walked-none : (state : Progress) (ws : List ℕ) → OrbitsRoom bound (state .known) (state .count) ws → Walked tolerance most flat rows bound state ws [] state ws
   unfolding seenAfter orbitsFrom
   walked-none state ws room = record { room = room; reached = λ seen orbits h. rw append-nil h }
 
   pub walked-append : (s₀ : Progress) (w₀ : List ℕ) (ts : List (List Vec)) (s₁ : Progress) (w₁ : List ℕ) (us : List (List Vec)) (s₂ : Progress) (w₂ : List ℕ)
-      → Walked tolerance flat rows bound s₀ w₀ ts s₁ w₁ → Walked tolerance flat rows bound s₁ w₁ us s₂ w₂ → Walked tolerance flat rows bound s₀ w₀ (ts ++ us) s₂ w₂
+      → Walked tolerance most flat rows bound s₀ w₀ ts s₁ w₁ → Walked tolerance most flat rows bound s₁ w₁ us s₂ w₂ → Walked tolerance most flat rows bound s₀ w₀ (ts ++ us) s₂ w₂
   walked-append s₀ w₀ ts s₁ w₁ us s₂ w₂ a b = record {
     room = b .room;
     reached = λ seen orbits h.
-        rw (orbits-append tolerance flat rows seen ts us, seen-append tolerance flat rows seen ts us, ← (append-assoc orbits (orbitsFrom tolerance flat rows seen ts) (orbitsFrom tolerance flat rows (seenAfter tolerance flat rows seen ts) us)))
-        (b .reached (seenAfter tolerance flat rows seen ts) (orbits ++ orbitsFrom tolerance flat rows seen ts) (a .reached seen orbits h));
+        rw (orbits-append tolerance most flat rows seen ts us, seen-append tolerance most flat rows seen ts us, ← (append-assoc orbits (orbitsFrom tolerance most flat rows seen ts) (orbitsFrom tolerance most flat rows (seenAfter tolerance most flat rows seen ts) us)))
+        (b .reached (seenAfter tolerance most flat rows seen ts) (orbits ++ orbitsFrom tolerance most flat rows seen ts) (a .reached seen orbits h));
   }
 
   -- a tuple that opens nothing
-  pub walked-closed : (known count : ℕ) (ws : List ℕ) (points : List Vec) → OrbitsRoom bound known count ws → opensOrbit tolerance flat rows (seenIn known ws) points ≡ false
-      → Walked tolerance flat rows bound (going known count) ws (points ∷ []) (going known count) ws
+  pub walked-closed : (known count : ℕ) (ws : List ℕ) (points : List Vec) → OrbitsRoom bound known count ws → opensOrbit tolerance most flat rows (seenIn known ws) points ≡ false
+      → Walked tolerance most flat rows bound (going known count) ws (points ∷ []) (going known count) ws
   walked-closed known count ws points room e = record {
     room = room;
     reached = λ seen orbits h.
-        let shut : opensOrbit tolerance flat rows seen points ≡ false = ap (λ (l : List ℕ). opensOrbit tolerance flat rows l points) (sym (h .seen-are)) ∙ e in
-        let one = one-closed tolerance flat rows seen points shut in
+        let shut : opensOrbit tolerance most flat rows seen points ≡ false = ap (λ (l : List ℕ). opensOrbit tolerance most flat rows l points) (sym (h .seen-are)) ∙ e in
+        let one = one-closed tolerance most flat rows seen points shut in
         rw (one .0, one .1, append-nil) h;
   }
 
   -- one that opens an orbit
-  pub walked-opened : (known count : ℕ) (ws : List ℕ) (points : List Vec) (r : Progress) (after : List ℕ) → opensOrbit tolerance flat rows (seenIn known ws) points ≡ true
-      → Opened bound known count ws (nearNumber tolerance flat rows points) (imageNumbers (length flat) (nearNumber tolerance flat rows points) rows) r after
-      → Walked tolerance flat rows bound (going known count) ws (points ∷ []) r after
+  pub walked-opened : (known count : ℕ) (ws : List ℕ) (points : List Vec) (r : Progress) (after : List ℕ) → opensOrbit tolerance most flat rows (seenIn known ws) points ≡ true
+      → Opened bound known count ws (nearNumber tolerance most flat rows points) (imageNumbers (length flat) (nearNumber tolerance most flat rows points) rows) r after
+      → Walked tolerance most flat rows bound (going known count) ws (points ∷ []) r after
   unfolding withImages
   walked-opened known count ws points r after e o = record {
     room = o .room;
     reached = λ seen orbits h.
-        let opens : opensOrbit tolerance flat rows seen points ≡ true = ap (λ (l : List ℕ). opensOrbit tolerance flat rows l points) (sym (h .seen-are)) ∙ e in
-        let one = one-opened tolerance flat rows seen points opens in
+        let opens : opensOrbit tolerance most flat rows seen points ≡ true = ap (λ (l : List ℕ). opensOrbit tolerance most flat rows l points) (sym (h .seen-are)) ∙ e in
+        let one = one-opened tolerance most flat rows seen points opens in
         rw (one .0, one .1) (o .reached seen orbits h);
   }
 

@@ -14,7 +14,7 @@ ghost use Prim.Native.Nat.{ℕ, _+_, _*_, _-_, _%_, _^_, _≤_, _<_};
 ghost use lib.ListN.{length, getD, take, drop};
 ghost use Rattle.definitions.specs.Lists.{memberNat};
 ghost use Rattle.definitions.specs.Job.{numberAt};
-ghost use Rattle.definitions.specs.Orbits.{pointAt, hyperplaneOrbits};
+ghost use Rattle.definitions.specs.Orbits.{pointAt, mostVertices, hyperplaneOrbits};
 ghost use Rattle.space.specs.Meaning.{PointsFit, pointsOf, HoldsPoints, limitsOf};
 ghost use Rattle.words.specs.Words.{words};
 ghost use Rattle.sorted.specs.Ascending.{Ascending};
@@ -22,7 +22,7 @@ ghost use Rattle.sorted.specs.Gathering.{added, Gathering};
 ghost use Rattle.openers.specs.Rows.{rowsIn};
 ghost use Rattle.openers.specs.Meaning.{pairsIn};
 ghost use Rattle.stabilizers.specs.Permutations.{Permutations};
-ghost use Rattle.orbits.specs.Numbers.{imageNumbers, nearNumber, orbitsFrom, seenAfter};
+ghost use Rattle.orbits.specs.Numbers.{imageNumbers, mayOpen, nearNumber, orbitsFrom, seenAfter};
 ghost use Rattle.orbits.specs.Workspace.{seenIn, OrbitsRoom, Opened};
 ghost use Rattle.orbits.specs.Walks.{going, Walked, TupleFits, extensions, keepsLimits};
 ghost use Rattle.orbits.specs.Answers.{CallFits, PairsRise, pairTuples, answerIn, orbitsOrRefusal};
@@ -51,6 +51,17 @@ fn is_seen(ws: &[u8], known: usize, set: u32) -> bool
         Found::At(_) => true,
         Found::Absent => false,
     }
+}
+
+// [5.7] [5.8] Whether a set opens an orbit: it was not seen, and has not more than so many of n vertices.
+fn may_open(ws: &[u8], known: usize, set: u32, n: usize, most: usize) -> bool
+    requires { ⌜ (2048 + 4 * known ≤ length (now ws)) × Ascending (seenIn known (now ws)) × (n ≤ 20) ⌝ }
+    ensures { λ r. ⌜ r ≡ mayOpen n most (seenIn known (now (ws .entry))) set ⌝ }
+{
+    if is_seen(ws, known, set) {
+        return false;
+    }
+    stabilizers::place_in(set, n) <= most
 }
 
 // The images of a set that were not seen, gathered in ascending order; returns how many there are.
@@ -111,20 +122,21 @@ fn open_orbit(
 
 // ---- tuples
 
-// [5.6] [5.7] A tuple opens an orbit where it makes a hyperplane whose set was not seen.
+// [5.6] [5.7] A tuple opens an orbit where it makes a hyperplane whose set may open one.
 fn fit_tuple(
     flat: Points,
     tuple: Points,
     rows: &[u8],
     m: usize,
     tolerance: f64,
+    most: usize,
     bound: usize,
     known: usize,
     count: usize,
     ws: &mut [u8],
 ) -> Progress
     requires { ⌜ TupleFits flat tuple m (now rows) × OrbitsRoom bound known count (now ws) ⌝ }
-    ensures { λ r. ⌜ Walked tolerance (pointsOf flat) (rowsIn (flat .n) m (now (rows .entry))) bound (going known count) (now (ws .entry)) (pointsOf tuple ∷ []) r (now (ws .exit)) ⌝ }
+    ensures { λ r. ⌜ Walked tolerance most (pointsOf flat) (rowsIn (flat .n) m (now (rows .entry))) bound (going known count) (now (ws .entry)) (pointsOf tuple ∷ []) r (now (ws .exit)) ⌝ }
 {
     let plane = Subspace::from_points(tuple, tolerance);
     if !plane.is_hyperplane() {
@@ -135,7 +147,7 @@ fn fit_tuple(
         };
     }
     let set = points_near(flat, plane, tolerance);
-    if is_seen(ws, known, set) {
+    if !may_open(ws, known, set, flat.n, most) {
         return Progress {
             known: known,
             count: count,
@@ -152,12 +164,13 @@ fn try_tuple(
     rows: &[u8],
     m: usize,
     tolerance: f64,
+    most: usize,
     bound: usize,
     state: Progress,
     ws: &mut [u8],
 ) -> Progress
     requires { ⌜ TupleFits flat tuple m (now rows) × OrbitsRoom bound (state .known) (state .count) (now ws) ⌝ }
-    ensures { λ r. ⌜ Walked tolerance (pointsOf flat) (rowsIn (flat .n) m (now (rows .entry))) bound state (now (ws .entry)) (pointsOf tuple ∷ []) r (now (ws .exit)) ⌝ }
+    ensures { λ r. ⌜ Walked tolerance most (pointsOf flat) (rowsIn (flat .n) m (now (rows .entry))) bound state (now (ws .entry)) (pointsOf tuple ∷ []) r (now (ws .exit)) ⌝ }
 {
     let walk = state.walk;
     match walk {
@@ -168,6 +181,7 @@ fn try_tuple(
             rows,
             m,
             tolerance,
+            most,
             bound,
             state.known,
             state.count,
@@ -189,15 +203,16 @@ fn extend(
     min: Limit,
     max: Limit,
     tolerance: f64,
+    most: usize,
     bound: usize,
     state: Progress,
     ws: &mut [u8],
 ) -> Progress
     requires { ⌜ TupleFits flat tuple m (now rows) × OrbitsRoom bound (state .known) (state .count) (now ws) × PointsFit points × (v < points .n) × (points .n ≡ flat .n) × (tuple .n ≤ from) ⌝ }
-    ensures { λ r. ⌜ Walked tolerance (pointsOf flat) (rowsIn (flat .n) m (now (rows .entry))) bound state (now (ws .entry)) (extensions (keepsLimits tolerance (limitsOf min max) (pointsOf points) v) (pointsOf flat) (pointsOf tuple) (flat .n) from more) r (now (ws .exit)) ⌝ }
+    ensures { λ r. ⌜ Walked tolerance most (pointsOf flat) (rowsIn (flat .n) m (now (rows .entry))) bound state (now (ws .entry)) (extensions (keepsLimits tolerance (limitsOf min max) (pointsOf points) v) (pointsOf flat) (pointsOf tuple) (flat .n) from more) r (now (ws .exit)) ⌝ }
 {
     if more == 0 {
-        return try_tuple(flat, tuple, rows, m, tolerance, bound, state, ws);
+        return try_tuple(flat, tuple, rows, m, tolerance, most, bound, state, ws);
     }
     let n = points.n;
     let mut reached = state;
@@ -220,6 +235,7 @@ fn extend(
             min,
             max,
             tolerance,
+            most,
             bound,
             reached,
             ws,
@@ -252,12 +268,13 @@ fn walk_pairs(
     min: Limit,
     max: Limit,
     tolerance: f64,
+    most: usize,
     bound: usize,
     state: Progress,
     ws: &mut [u8],
 ) -> Progress
     requires { ⌜ CallFits points flat m (now rows) × PairsRise (flat .n) (pairsIn pairs) × (pairs .count ≤ 190) × OrbitsRoom bound (state .known) (state .count) (now ws) ⌝ }
-    ensures { λ r. ⌜ Walked tolerance (pointsOf flat) (rowsIn (flat .n) m (now (rows .entry))) bound state (now (ws .entry)) (pairTuples tolerance (limitsOf min max) (pointsOf points) (pointsOf flat) (flat .n) more (pairsIn pairs)) r (now (ws .exit)) ⌝ }
+    ensures { λ r. ⌜ Walked tolerance most (pointsOf flat) (rowsIn (flat .n) m (now (rows .entry))) bound state (now (ws .entry)) (pairTuples tolerance (limitsOf min max) (pointsOf points) (pointsOf flat) (flat .n) more (pairsIn pairs)) r (now (ws .exit)) ⌝ }
 {
     let count = pairs.count;
     let mut reached = state;
@@ -278,6 +295,7 @@ fn walk_pairs(
             min,
             max,
             tolerance,
+            most,
             bound,
             reached,
             ws,
@@ -294,6 +312,16 @@ pub enum Answer {
     Refused,
 }
 
+// [5.8] The most vertices of a set that opens an orbit: two on a line of a rank 3 call under rule 2.
+fn most_vertices(rule: usize, more: usize, n: usize) -> usize
+    ensures { λ r. ⌜ r ≡ mostVertices rule more n ⌝ }
+{
+    if rule != 2 {
+        return n;
+    }
+    if more == 0 { 2 } else { n }
+}
+
 pub fn find_orbits(
     points: Points,
     flat: Points,
@@ -303,11 +331,12 @@ pub fn find_orbits(
     min: Limit,
     max: Limit,
     tolerance: f64,
+    rule: usize,
     bound: usize,
     ws: &mut [u8],
 ) -> Answer
     requires { ⌜ CallFits points flat m (now rows) × (bound ≤ 256) × (124928 ≤ length (now ws)) ⌝ }
-    ensures { λ r. ⌜ answerIn (flat .n) r (now (ws .exit)) ≡ orbitsOrRefusal bound (hyperplaneOrbits tolerance (limitsOf min max) more (pointsOf points) (pointsOf flat) (rowsIn (flat .n) m (now (rows .entry)))) ⌝ }
+    ensures { λ r. ⌜ answerIn (flat .n) r (now (ws .exit)) ≡ orbitsOrRefusal bound (hyperplaneOrbits tolerance (limitsOf min max) rule more (pointsOf points) (pointsOf flat) (rowsIn (flat .n) m (now (rows .entry)))) ⌝ }
 {
     let pairs = pair_openers(points, rows, m, min, max, tolerance);
     let state = Progress {
@@ -315,6 +344,7 @@ pub fn find_orbits(
         count: 0,
         walk: Walk::Going,
     };
+    let most = most_vertices(rule, more, flat.n);
     let done = walk_pairs(
         points,
         flat,
@@ -325,6 +355,7 @@ pub fn find_orbits(
         min,
         max,
         tolerance,
+        most,
         bound,
         state,
         ws,

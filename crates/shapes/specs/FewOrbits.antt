@@ -12,7 +12,7 @@ use lib.Ieee.{Float}
 use Rattle.definitions.specs.Lists.{Pair, compareNats, memberNat, memberPair, anyOf, allOf, keep, choose, fresh, countFrom}
 use Rattle.definitions.specs.Vectors.{Vec}
 use Rattle.definitions.specs.Subspace.{fromPoints, isHyperplane}
-use Rattle.definitions.specs.Orbits.{Row, Limits, Orbit, image, pairImage, vertexOpeners, breaksLimit, pairOpeners, above, pairsFrom, tuples, pointAt, pointsNear, setImage, hyperplanes, hyperplaneOrbits}
+use Rattle.definitions.specs.Orbits.{Row, Limits, Orbit, image, pairImage, vertexOpeners, breaksLimit, pairOpeners, above, pairsFrom, tuples, pointAt, pointsNear, setImage, mostVertices, hyperplanes, hyperplaneOrbits}
 use Rattle.laws.specs.Lists.{all-of, flatMap-append, in-count, keep-few}
 use Rattle.shapes.specs.Sizes.{edges-few}
 use Rattle.shapes.specs.AllPairs.{allPairs, of-all-pairs, all-pairs-ascend}
@@ -84,25 +84,25 @@ pairs-tuples n = ones (allPairs n)
 
 -- ---- orbits
 
-hyperplanes-few : (tolerance : Float) (flat : List Vec) (rows : List Row) (seen ts : List (List ℕ)) → length (hyperplanes tolerance flat rows seen ts) ≤ length ts
+hyperplanes-few : (tolerance : Float) (most : ℕ) (flat : List Vec) (rows : List Row) (seen ts : List (List ℕ)) → length (hyperplanes tolerance most flat rows seen ts) ≤ length ts
 unfolding hyperplanes
-hyperplanes-few tolerance flat rows seen [] = omega arith
-hyperplanes-few tolerance flat rows seen (tuple ∷ ts) =
+hyperplanes-few tolerance most flat rows seen [] = omega arith
+hyperplanes-few tolerance most flat rows seen (tuple ∷ ts) =
     let s = fromPoints tolerance (map (pointAt flat) tuple) in
     let set = pointsNear tolerance s flat 0 in
     let joined = fresh compareNats seen (map (setImage set) rows) in
-    go (isHyperplane s && not (anyOf (λ (q : List ℕ). isEq (compareNats set q)) seen)) (record { vertices = set; count = length joined })
-    (hyperplanes tolerance flat rows seen ts) (hyperplanes tolerance flat rows (joined ++ seen) ts) (hyperplanes-few tolerance flat rows seen ts) (hyperplanes-few tolerance flat rows (joined ++ seen) ts)
+    go (isHyperplane s && not (anyOf (λ (q : List ℕ). isEq (compareNats set q)) seen) && leb (length set) most) (record { vertices = set; count = length joined })
+    (hyperplanes tolerance most flat rows seen ts) (hyperplanes tolerance most flat rows (joined ++ seen) ts) (hyperplanes-few tolerance most flat rows seen ts) (hyperplanes-few tolerance most flat rows (joined ++ seen) ts)
   where
     go : (b : Bool) (o : Orbit) (old new : List Orbit) → length old ≤ length ts → length new ≤ length ts → length (cond b (o ∷ new) old) ≤ suc (length ts)
     go true o old new h k = omega arith
     go false o old new h k = omega arith
 
 -- no more than tuples
-pub orbits-tuples : (tolerance : Float) (limits : Limits) (more : ℕ) (points flat : List Vec) (rows : List Row)
-    → length (hyperplaneOrbits tolerance limits more points flat rows) ≤ length (allTuples (length points) more)
+pub orbits-tuples : (tolerance : Float) (limits : Limits) (rule more : ℕ) (points flat : List Vec) (rows : List Row)
+    → length (hyperplaneOrbits tolerance limits rule more points flat rows) ≤ length (allTuples (length points) more)
 unfolding hyperplaneOrbits pairsFrom allPairs allTuples
-orbits-tuples tolerance limits more points flat rows =
+orbits-tuples tolerance limits rule more points flat rows =
     let n = length points in
     let breaks = breaksLimit tolerance limits points in
     let openers = vertexOpeners rows [] (countFrom 0 n) in
@@ -110,7 +110,7 @@ orbits-tuples tolerance limits more points flat rows =
     let skip : Pair → Bool = λ p. breaks (p .0) (p .1) in
     let added : Pair → List (List ℕ) = λ p. choose (above n (p .1)) more in
     let pairs = pairOpeners skip rows [] (pairsFrom n openers) in
-    let a = hyperplanes-few tolerance flat rows [] (flatMap (tuples breaks n more) pairs) in
+    let a = hyperplanes-few tolerance (mostVertices rule more n) flat rows [] (flatMap (tuples breaks n more) pairs) in
     let b = flat-few (tuples breaks n more) added pairs (tuples-few breaks n more) in
     let c = openers-few added skip rows [] (pairsFrom n openers) in
     let d = vertices-few (λ (v : ℕ). flatMap added (from v)) rows [] (countFrom 0 n) in
@@ -119,11 +119,11 @@ orbits-tuples tolerance limits more points flat rows =
     omega arith
 
 -- at rank 3 no more than n (n − 1) / 2
-pub orbits-few : (tolerance : Float) (limits : Limits) (points flat : List Vec) (rows : List Row)
-    → 2 * length (hyperplaneOrbits tolerance limits 0 points flat rows) + length points ≤ length points * length points
-orbits-few tolerance limits points flat rows =
+pub orbits-few : (tolerance : Float) (limits : Limits) (rule : ℕ) (points flat : List Vec) (rows : List Row)
+    → 2 * length (hyperplaneOrbits tolerance limits rule 0 points flat rows) + length points ≤ length points * length points
+orbits-few tolerance limits rule points flat rows =
     let n = length points in
-    let a = orbits-tuples tolerance limits 0 points flat rows in
+    let a = orbits-tuples tolerance limits rule 0 points flat rows in
     let b = pairs-tuples n in
     let e = edges-few n (allPairs n) (record { ascends = all-pairs-ascend n; proper = of-all-pairs n }) in
     omega arith

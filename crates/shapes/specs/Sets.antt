@@ -55,28 +55,28 @@ near-set tolerance s points = record {
   below = λ v m. let r = near-range tolerance s points 0 v m .1 in omega arith;
 }
 
-hyperplane-sets : (tolerance : Float) (flat : List Vec) (rows : List Row) (seen tuples : List (List ℕ)) (o : Orbit) → Mem o (hyperplanes tolerance flat rows seen tuples) → VertexSet (length flat) (o .vertices)
+hyperplane-sets : (tolerance : Float) (most : ℕ) (flat : List Vec) (rows : List Row) (seen tuples : List (List ℕ)) (o : Orbit) → Mem o (hyperplanes tolerance most flat rows seen tuples) → VertexSet (length flat) (o .vertices)
 unfolding hyperplanes
-hyperplane-sets tolerance flat rows seen [] o m = elim m [ ]
-hyperplane-sets tolerance flat rows seen (tuple ∷ ts) o m =
+hyperplane-sets tolerance most flat rows seen [] o m = elim m [ ]
+hyperplane-sets tolerance most flat rows seen (tuple ∷ ts) o m =
     let s = fromPoints tolerance (map (pointAt flat) tuple) in
     let set = pointsNear tolerance s flat 0 in
     let joined = fresh compareNats seen (map (setImage set) rows) in
-    go s joined (isHyperplane s && not (anyOf (λ (q : List ℕ). isEq (compareNats set q)) seen)) m (hyperplane-sets tolerance flat rows seen ts o) (hyperplane-sets tolerance flat rows (joined ++ seen) ts o)
+    go s joined (isHyperplane s && not (anyOf (λ (q : List ℕ). isEq (compareNats set q)) seen) && leb (length set) most) m (hyperplane-sets tolerance most flat rows seen ts o) (hyperplane-sets tolerance most flat rows (joined ++ seen) ts o)
   where
     go : (s : Subspace) (joined : List (List ℕ)) (b : Bool)
-        → Mem o (cond b (record { vertices = pointsNear tolerance s flat 0; count = length joined } ∷ hyperplanes tolerance flat rows (joined ++ seen) ts) (hyperplanes tolerance flat rows seen ts))
-        → (Mem o (hyperplanes tolerance flat rows seen ts) → VertexSet (length flat) (o .vertices))
-        → (Mem o (hyperplanes tolerance flat rows (joined ++ seen) ts) → VertexSet (length flat) (o .vertices)) → VertexSet (length flat) (o .vertices)
+        → Mem o (cond b (record { vertices = pointsNear tolerance s flat 0; count = length joined } ∷ hyperplanes tolerance most flat rows (joined ++ seen) ts) (hyperplanes tolerance most flat rows seen ts))
+        → (Mem o (hyperplanes tolerance most flat rows seen ts) → VertexSet (length flat) (o .vertices))
+        → (Mem o (hyperplanes tolerance most flat rows (joined ++ seen) ts) → VertexSet (length flat) (o .vertices)) → VertexSet (length flat) (o .vertices)
     go s joined true (List·Memᴰ.List·Memᴰ·head e) old new = subst (λ (x : Orbit). VertexSet (length flat) (x .vertices)) (sym e) (near-set tolerance s flat)
     go s joined true (List·Memᴰ.List·Memᴰ·tail k) old new = new k
     go s joined false k old new = old k
 
 -- every orbit's first set
-pub orbit-set : (tolerance : Float) (limits : Limits) (more : ℕ) (points flat : List Vec) (rows : List Row) (o : Orbit) → Mem o (hyperplaneOrbits tolerance limits more points flat rows)
+pub orbit-set : (tolerance : Float) (limits : Limits) (rule more : ℕ) (points flat : List Vec) (rows : List Row) (o : Orbit) → Mem o (hyperplaneOrbits tolerance limits rule more points flat rows)
     → VertexSet (length flat) (o .vertices)
 unfolding hyperplaneOrbits
-orbit-set tolerance limits more points flat rows o m = hyperplane-sets tolerance flat rows [] _ o m
+orbit-set tolerance limits rule more points flat rows o m = hyperplane-sets tolerance _ flat rows [] _ o m
 
 -- the vertex at a place rises with the place
 pub set-rising : (n : ℕ) (vertices : List ℕ) → VertexSet n vertices → Rising (length vertices) n (λ (v : ℕ). getD vertices v 0)

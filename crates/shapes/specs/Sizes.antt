@@ -5,7 +5,7 @@ use mathlib.Core.Bool.{Bool, true, false, cond, not, _&&_}
 use mathlib.Core.List.{List, [], _∷_, _++_, map, List·Memᴰ}
 use Prim.Native.Nat.{ℕ, zero, suc, _+_, _*_, _≤_, _<_, compare}
 use native.Mathlib.Omega.{arith}
-use lib.Dec.{T, T-not, isEq, eqb, eqb→eq}
+use lib.Dec.{T, T-not, leb, isEq, eqb, eqb→eq}
 use lib.ListN.{length, getD, length-map, length-append}
 use lib.Ieee.{Float}
 use Rattle.definitions.specs.Lists.{Pair, comparePair, compareNats, sortNats, countFrom, anyOf, fresh}
@@ -16,7 +16,7 @@ use Rattle.definitions.specs.Orbits.{Row, Limits, Orbit, image, pointAt, points
 use Rattle.definitions.specs.Search.{Facet, Found}
 use Rattle.definitions.specs.Recursion.{Rules, Inner}
 use Rattle.definitions.specs.Faceting.{Prepared, split, searchFrom}
-use Rattle.laws.specs.Bools.{second, true→holds, apart}
+use Rattle.laws.specs.Bools.{first, second, true→holds, apart}
 use Rattle.laws.specs.Lists.{Mem, here, in-map, of-map, in-left, in-right, in-count, count-length, count-at, any-of}
 use Rattle.laws.specs.Orders.{nats, pairs, nat-lists}
 use Rattle.laws.specs.Pairs.{pairs-map}
@@ -148,15 +148,15 @@ joined-counted n rows seen set h identity new =
     some-of [] x m = elim m [ ]
     some-of (y ∷ l) x m = omega arith
 
-hyperplanes-counted : (tolerance : Float) (flat : List Vec) (rows : List Row) → Mem (countFrom 0 (length flat)) rows → (seen tuples : List (List ℕ)) (o : Orbit) → Mem o (hyperplanes tolerance flat rows seen tuples)
+hyperplanes-counted : (tolerance : Float) (most : ℕ) (flat : List Vec) (rows : List Row) → Mem (countFrom 0 (length flat)) rows → (seen tuples : List (List ℕ)) (o : Orbit) → Mem o (hyperplanes tolerance most flat rows seen tuples)
     → Counted rows (o .count)
 unfolding hyperplanes
-hyperplanes-counted tolerance flat rows identity seen [] o m = elim m [ ]
-hyperplanes-counted tolerance flat rows identity seen (tuple ∷ ts) o m =
+hyperplanes-counted tolerance most flat rows identity seen [] o m = elim m [ ]
+hyperplanes-counted tolerance most flat rows identity seen (tuple ∷ ts) o m =
     let s = fromPoints tolerance (map (pointAt flat) tuple) in
     let set = pointsNear tolerance s flat 0 in
     let joined = fresh compareNats seen (map (setImage set) rows) in
-    go s (isHyperplane s && not (anyOf (λ (q : List ℕ). isEq (compareNats set q)) seen)) refl m (hyperplanes-counted tolerance flat rows identity seen ts o) (hyperplanes-counted tolerance flat rows identity (joined ++ seen) ts o)
+    go s (isHyperplane s && not (anyOf (λ (q : List ℕ). isEq (compareNats set q)) seen) && leb (length set) most) refl m (hyperplanes-counted tolerance most flat rows identity seen ts o) (hyperplanes-counted tolerance most flat rows identity (joined ++ seen) ts o)
   where
     set-of : Subspace → List ℕ
     set-of s = pointsNear tolerance s flat 0
@@ -164,17 +164,17 @@ hyperplanes-counted tolerance flat rows identity seen (tuple ∷ ts) o m =
     joined-of : Subspace → List (List ℕ)
     joined-of s = fresh compareNats seen (map (setImage (set-of s)) rows)
 
-    go : (s : Subspace) (b : Bool) → isHyperplane s && not (anyOf (λ (q : List ℕ). isEq (compareNats (set-of s) q)) seen) ≡ b
-        → Mem o (cond b (record { vertices = set-of s; count = length (joined-of s) } ∷ hyperplanes tolerance flat rows (joined-of s ++ seen) ts) (hyperplanes tolerance flat rows seen ts))
-        → (Mem o (hyperplanes tolerance flat rows seen ts) → Counted rows (o .count)) → (Mem o (hyperplanes tolerance flat rows (joined-of s ++ seen) ts) → Counted rows (o .count)) → Counted rows (o .count)
+    go : (s : Subspace) (b : Bool) → isHyperplane s && not (anyOf (λ (q : List ℕ). isEq (compareNats (set-of s) q)) seen) && leb (length (set-of s)) most ≡ b
+        → Mem o (cond b (record { vertices = set-of s; count = length (joined-of s) } ∷ hyperplanes tolerance most flat rows (joined-of s ++ seen) ts) (hyperplanes tolerance most flat rows seen ts))
+        → (Mem o (hyperplanes tolerance most flat rows seen ts) → Counted rows (o .count)) → (Mem o (hyperplanes tolerance most flat rows (joined-of s ++ seen) ts) → Counted rows (o .count)) → Counted rows (o .count)
     go s true q (List·Memᴰ.List·Memᴰ·head e) old new =
         subst (λ (x : Orbit). Counted rows (x .count)) (sym e)
-        (joined-counted (length flat) rows seen (set-of s) (near-set tolerance s flat) identity (second (isHyperplane s) (not (anyOf (λ (r : List ℕ). isEq (compareNats (set-of s) r)) seen)) (true→holds q)))
+        (joined-counted (length flat) rows seen (set-of s) (near-set tolerance s flat) identity (second (isHyperplane s) (not (anyOf (λ (r : List ℕ). isEq (compareNats (set-of s) r)) seen)) (first (isHyperplane s && not (anyOf (λ (r : List ℕ). isEq (compareNats (set-of s) r)) seen)) (leb (length (set-of s)) most) (true→holds q))))
     go s true q (List·Memᴰ.List·Memᴰ·tail k) old new = new k
     go s false q k old new = old k
 
-pub orbit-counted : (tolerance : Float) (limits : Limits) (more : ℕ) (points flat : List Vec) (rows : List Row) → Rows (length flat) rows → (o : Orbit) → Mem o (hyperplaneOrbits tolerance limits more points flat rows)
+pub orbit-counted : (tolerance : Float) (limits : Limits) (rule more : ℕ) (points flat : List Vec) (rows : List Row) → Rows (length flat) rows → (o : Orbit) → Mem o (hyperplaneOrbits tolerance limits rule more points flat rows)
     → Counted rows (o .count)
 unfolding hyperplaneOrbits
-orbit-counted tolerance limits more points flat rows good o m =
-    hyperplanes-counted tolerance flat rows (subst (λ (l : List Row). Mem (countFrom 0 (length flat)) l) (sym (good .identity)) (here refl)) [] _ o m
+orbit-counted tolerance limits rule more points flat rows good o m =
+    hyperplanes-counted tolerance _ flat rows (subst (λ (l : List Row). Mem (countFrom 0 (length flat)) l) (sym (good .identity)) (here refl)) [] _ o m

@@ -23,7 +23,7 @@ fn keeps_set(rows: &[u8], i: usize, n: usize, set: u32) -> bool
 }
 
 // How many vertices of a set are below u: u's place in the set, if it is there.
-fn place_in(set: u32, u: usize) -> usize
+pub fn place_in(set: u32, u: usize) -> usize
     requires { ⌜ u ≤ 20 ⌝ }
     ensures { λ r. ⌜ r ≡ length (verticesOf u set) ⌝ }
 {

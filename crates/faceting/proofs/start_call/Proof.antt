@@ -30,9 +30,9 @@ shelf-for-requires c κs = search needs
 clear-shelf-requires : tie.Need-clear-shelf-requires
 clear-shelf-requires c κs =
     let s = c .before .before .before .before .before .before .before .before in
-    let same : length (c .before .before .before .before .find-orbits .last .1 .1 .1 .1 .1 .1 .1 .1 .1 .0) ≡ length (s .args .ws .now) = search needs in
+    let same : length (c .before .before .before .before .find-orbits .last .1 .1 .1 .1 .1 .1 .1 .1 .1 .1 .0) ≡ length (s .args .ws .now) = search needs in
     let fits = subst (ShelfFits (shelfFor (s .args .rank))) (sym same) (s .pre .3) in
-    subst (λ (x : Shelf). ShelfFits x (length (c .before .before .before .before .find-orbits .last .1 .1 .1 .1 .1 .1 .1 .1 .1 .0))) (sym (c .before .shelf-for .ensures)) fits
+    subst (λ (x : Shelf). ShelfFits x (length (c .before .before .before .before .find-orbits .last .1 .1 .1 .1 .1 .1 .1 .1 .1 .1 .0))) (sym (c .before .shelf-for .ensures)) fits
 
 -- src/lib.rt:108:1
 same-length : tie.Need-same-length
@@ -44,8 +44,8 @@ returns c =
     let s = c .before .before .before .before .before .before .before .before .before .before .before in
     let found = c .before .before .before .before .before .before .before .find-orbits in
     let clear = c .before .before .clear-shelf in
-    let same : length (found .last .1 .1 .1 .1 .1 .1 .1 .1 .1 .0) ≡ length (s .args .ws .now) = search needs in
-    start-kept (s .args .rules .orbits) _ (s .args .flat .n) (found .result) (s .args .rank) (c .before .before .before .before .shelf-for .result) (found .last .1 .1 .1 .1 .1 .1 .1 .1 .1 .0) (clear .last .0) (c .before .before .before .before .shelf-for .ensures)
+    let same : length (found .last .1 .1 .1 .1 .1 .1 .1 .1 .1 .1 .0) ≡ length (s .args .ws .now) = search needs in
+    start-kept (s .args .rules .orbits) _ (s .args .flat .n) (found .result) (s .args .rank) (c .before .before .before .before .shelf-for .result) (found .last .1 .1 .1 .1 .1 .1 .1 .1 .1 .1 .0) (clear .last .0) (c .before .before .before .before .shelf-for .ensures)
     (subst (ShelfFits (shelfFor (s .args .rank))) (sym same) (s .pre .3)) (s .pre .1) (clear .ensures .0) (clear .ensures .1) (found .ensures)
 
 pub start-call-spec : {M : Type 1} → statement M

@@ -59,7 +59,7 @@ behind-2 : (c : lts.Else2 claims reads.Pre reads.Post) → Reached (headerTests 
 unfolding headerTests readJob headerOf
 behind-2 c =
     goes-on (headerTests (job-2 c)) _ _ (behind-1 (c .before .before .before))
-    (ap (λ (h : Header). between 1 2 (h .version)) (sym (header-is-2 c)) ∙ (sym (c .before .between .ensures) ∙ not-false _ (c .if2 .left)))
+    (ap (λ (h : Header). between 1 3 (h .version)) (sym (header-is-2 c)) ∙ (sym (c .before .between .ensures) ∙ not-false _ (c .if2 .left)))
 
 -- ---- the counts of the header
 
@@ -182,7 +182,7 @@ unfolding headerTests readJob headerOf
 returns-2 c =
     let at-1 = c .before .before .before in
     refused-here (headerTests (job-1 at-1)) _ _ _ (behind-1 at-1)
-    (ap (λ (h : Header). between 1 2 (h .version)) (sym (c .before .before .header-of .ensures)) ∙ (sym (c .before .between .ensures) ∙ not-true _ (c .if2 .taken)))
+    (ap (λ (h : Header). between 1 3 (h .version)) (sym (c .before .before .header-of .ensures)) ∙ (sym (c .before .between .ensures) ∙ not-true _ (c .if2 .taken)))
 
 between-requires-2 : tie.Need-between-requires-2
 between-requires-2 c κs = search needs

@@ -27,13 +27,16 @@ entry-limit-at-requires c κs = fitting _ _ _ (c .before .before .before .before
 tolerance-at-requires : tie.Need-tolerance-at-requires
 tolerance-at-requires c κs = fitting _ _ _ (c .before .before .before .before .before .before .pre) (c .before .before .before .before .header-of .ensures) (c .before .before .before .places-of .ensures) .tolerance
 
+rule-at-requires : tie.Need-rule-at-requires
+rule-at-requires c κs = fitting _ _ _ (c .before .before .before .before .before .before .before .pre) (c .before .before .before .before .before .header-of .ensures) (c .before .before .before .before .places-of .ensures) .rule
+
 get-u32-requires : tie.Need-get-u32-requires
-get-u32-requires c κs = fitting _ _ _ (c .before .before .before .before .before .before .before .pre) (c .before .before .before .before .before .header-of .ensures) (c .before .before .before .before .places-of .ensures) .budget
+get-u32-requires c κs = fitting _ _ _ (c .before .before .before .before .before .before .before .before .pre) (c .before .before .before .before .before .before .header-of .ensures) (c .before .before .before .before .before .places-of .ensures) .budget
 
 returns : tie.Need-returns
 returns c =
-    fields-are _ _ _ _ _ _ _ _ (c .before .before .before .before .before .before .header-of .ensures) (c .before .before .before .before .before .places-of .ensures)
-    (c .before .before .before .before .limit-at .ensures) (c .before .before .before .limit-at2 .ensures) (c .before .before .entry-limit-at .ensures) (c .before .tolerance-at .ensures) (c .get-u32 .ensures)
+    fields-are _ _ _ _ _ _ _ _ _ (c .before .before .before .before .before .before .before .header-of .ensures) (c .before .before .before .before .before .before .places-of .ensures)
+    (c .before .before .before .before .before .limit-at .ensures) (c .before .before .before .before .limit-at2 .ensures) (c .before .before .before .entry-limit-at .ensures) (c .before .before .tolerance-at .ensures) (c .before .rule-at .ensures) (c .get-u32 .ensures)
 
 pub fields-of-spec : {M : Type 1} → statement M
 fields-of-spec =
@@ -45,5 +48,6 @@ fields-of-spec =
     limit-at-requires-2
     entry-limit-at-requires
     tolerance-at-requires
+    rule-at-requires
     get-u32-requires
     returns)

@@ -28,6 +28,12 @@ add-tolerance c = search needs
 room-from-requires : tie.Need-room-from-requires
 room-from-requires c κs = search needs
 
+add-rule : tie.Need-add-rule
+add-rule c = search needs
+
+room-from-requires-2 : tie.Need-room-from-requires-2
+room-from-requires-2 c κs = search needs
+
 add-budget : tie.Need-add-budget
 add-budget c = search needs
 
@@ -45,37 +51,37 @@ sub-points c = search needs
 
 mul-points : tie.Need-mul-points
 mul-points c =
-    let b = bounded _ (c .before .before .before .before .before .before .pre) in
+    let b = bounded _ (c .before .before .before .before .before .before .before .pre) in
     omega arith
 
 add-points : tie.Need-add-points
 add-points c =
-    let b = bounded _ (c .before .before .before .before .before .before .pre) in
+    let b = bounded _ (c .before .before .before .before .before .before .before .pre) in
     omega arith
 
 mul-rows : tie.Need-mul-rows
 mul-rows c =
-    let b = bounded _ (c .before .before .before .before .before .before .before .pre) in
+    let b = bounded _ (c .before .before .before .before .before .before .before .before .pre) in
     omega arith
 
 add-rows : tie.Need-add-rows
 add-rows c =
-    let b = bounded _ (c .before .before .before .before .before .before .before .pre) in
-    omega arith
-
-mul-t13 : tie.Need-mul-t13
-mul-t13 c =
     let b = bounded _ (c .before .before .before .before .before .before .before .before .pre) in
     omega arith
 
-add-t12 : tie.Need-add-t12
-add-t12 c =
-    let b = bounded _ (c .before .before .before .before .before .before .before .before .pre) in
+mul-t14 : tie.Need-mul-t14
+mul-t14 c =
+    let b = bounded _ (c .before .before .before .before .before .before .before .before .before .pre) in
+    omega arith
+
+add-t13 : tie.Need-add-t13
+add-t13 c =
+    let b = bounded _ (c .before .before .before .before .before .before .before .before .before .pre) in
     omega arith
 
 returns : tie.Need-returns
 unfolding placesOf
-returns c = rw (c .before .before .before .before .before .before .before .room .ensures .0, c .before .before .before .before .before .before .room2 .ensures .0, c .before .before .before .before .before .room3 .ensures .0, c .before .before .before .before .room-from .ensures .0) refl
+returns c = rw (c .before .before .before .before .before .before .before .before .room .ensures .0, c .before .before .before .before .before .before .before .room2 .ensures .0, c .before .before .before .before .before .before .room3 .ensures .0, c .before .before .before .before .before .room-from .ensures .0, c .before .before .before .before .room-from2 .ensures .0) refl
 
 pub places-of-spec : {M : Type 1} → statement M
 places-of-spec =
@@ -88,6 +94,8 @@ places-of-spec =
     room-requires-3
     add-tolerance
     room-from-requires
+    add-rule
+    room-from-requires-2
     add-budget
     add-offset
     mul-vector
@@ -97,6 +105,6 @@ places-of-spec =
     add-points
     mul-rows
     add-rows
-    mul-t13
-    add-t12
+    mul-t14
+    add-t13
     returns)

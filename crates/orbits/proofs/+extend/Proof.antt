@@ -36,11 +36,11 @@ abbrev extend-below : ℕ → In 2 extend-kinds.ps
 extend-below t = and 2 extend-kinds.ps (falls 2 extend-kinds.ps _<_ μ-extend t) extend.Pre
 
 abbrev extend-Inv-loop : extend-lts.InvT-loop
-extend-Inv-loop points flat tuple v from more rows m min max tolerance bound ws₀ n reached₀ u₀ ws reached u =
-    (from ≤ u) × (length ws ≡ length ws₀) × Extending tolerance (pointsOf flat) (rowsIn (flat .n) m rows) bound reached₀ ws₀ (extensions (keepsLimits tolerance (limitsOf min max) (pointsOf points) v) (pointsOf flat) (pointsOf tuple) (flat .n) from more) (extensions (keepsLimits tolerance (limitsOf min max) (pointsOf points) v) (pointsOf flat) (pointsOf tuple) (flat .n) u more) reached ws
+extend-Inv-loop points flat tuple v from more rows m min max tolerance most bound ws₀ n reached₀ u₀ ws reached u =
+    (from ≤ u) × (length ws ≡ length ws₀) × Extending tolerance most (pointsOf flat) (rowsIn (flat .n) m rows) bound reached₀ ws₀ (extensions (keepsLimits tolerance (limitsOf min max) (pointsOf points) v) (pointsOf flat) (pointsOf tuple) (flat .n) from more) (extensions (keepsLimits tolerance (limitsOf min max) (pointsOf points) v) (pointsOf flat) (pointsOf tuple) (flat .n) u more) reached ws
 
 abbrev extend-μ-loop : extend-lts.MeasureT-loop
-extend-μ-loop points flat tuple v from more rows m min max tolerance bound ws₀ n reached₀ u₀ ws reached u =
+extend-μ-loop points flat tuple v from more rows m min max tolerance most bound ws₀ n reached₀ u₀ ws reached u =
     n - u
 
 extend-try-tuple-requires : (t : ℕ) → extend-lts.Need-try-tuple-requires (
@@ -99,7 +99,7 @@ extend-loop-holds : (t : ℕ) → extend-lts.Need-loop-holds (
   extend.Post,
 ) (extend-at t) extend.Post extend-Inv-loop extend-μ-loop
 extend-loop-holds t c = let s = c .before .before .before in let a = s .args in let p = s .pre .1 in
-    (omega arith, refl, extend-start (a .tolerance) (pointsOf (a .flat)) (rowsIn (a .flat .n) (a .m) (a .rows .now)) (a .bound) (a .state) (a .ws .now) _ (p .1))
+    (omega arith, refl, extend-start (a .tolerance) (a .most) (pointsOf (a .flat)) (rowsIn (a .flat .n) (a .m) (a .rows .now)) (a .bound) (a .state) (a .ws .now) _ (p .1))
 
 extend-breaks-limit-requires : (t : ℕ) → extend-lts.Need-breaks-limit-requires (
   try-tuple-reads.Asked,
@@ -163,7 +163,7 @@ extend-loop-again t c = let s = c .before .before .before .before .before .befor
     let l = c .before .before .before .loop in
     let positive : 0 < a .more = omega (arith, c .before .before .before .before .if1 .left) in
     let fails : passes (l .u) ≡ false = not-kept (a .tolerance) (limitsOf (a .min) (a .max)) (pointsOf (a .points)) (a .v) (l .u) (sym (c .before .breaks-limit .ensures) ∙ c .if2 .taken) in
-    (omega arith, l .inv .1, subst (λ (rest : List (List Vec)). Extending (a .tolerance) flat rows (a .bound) (a .state) (a .ws .now) (extensions passes flat tuple (a .flat .n) (a .from) (a .more)) rest (l .reached) (l .ws)) (vertex-fails passes flat tuple (a .flat .n) (l .u) (a .more) positive (omega (arith, p .4)) fails) (l .inv .2))
+    (omega arith, l .inv .1, subst (λ (rest : List (List Vec)). Extending (a .tolerance) (a .most) flat rows (a .bound) (a .state) (a .ws .now) (extensions passes flat tuple (a .flat .n) (a .from) (a .more)) rest (l .reached) (l .ws)) (vertex-fails passes flat tuple (a .flat .n) (l .u) (a .more) positive (omega (arith, p .4)) fails) (l .inv .2))
 
 extend-point-requires : (t : ℕ) → extend-lts.Need-point-requires (
   try-tuple-reads.Asked,
@@ -294,7 +294,7 @@ extend-loop-again-2 t c = let s = c .before .before .before .before .before .bef
     let longer : pointsOf (c .before .before .before .before .with-point .result) ≡ tuple ++ (pointAt flat (l .u) ∷ []) = h .means ∙ ap (λ (x : Vec). tuple ++ (x ∷ [])) point in (
       omega arith,
       c .before .ws2 .given ∙ l .inv .1,
-      extend-turn (a .tolerance) flat rows (a .bound) (a .state) (a .ws .now) (extensions passes flat tuple (a .flat .n) (a .from) (a .more)) (extensions passes flat tuple (a .flat .n) (l .u) (a .more)) _ _ (l .reached) (l .ws) _ _ (l .inv .2)
+      extend-turn (a .tolerance) (a .most) flat rows (a .bound) (a .state) (a .ws .now) (extensions passes flat tuple (a .flat .n) (a .from) (a .more)) (extensions passes flat tuple (a .flat .n) (l .u) (a .more)) _ _ (l .reached) (l .ws) _ _ (l .inv .2)
           (vertex-joins passes flat tuple (a .flat .n) (l .u) (a .more) (pointsOf (c .before .before .before .before .with-point .result)) positive (omega (arith, p .4, c .before .before .before .before .before .before .before .before .loop-test .taken)) joins longer) (c .before .before .extend .ensures),
     )
 
@@ -325,7 +325,7 @@ extend-returns-2 : (t : ℕ) → extend-lts.Need-returns-2 (
   extend.Post,
 ) (extend-at t) extend.Post extend-Inv-loop extend-μ-loop
 extend-returns-2 t c = let s = c .before .before .before .before .before in let a = s .args in let p = s .pre .1 in let l = c .before .loop in
-    extend-end (a .tolerance) (pointsOf (a .flat)) (rowsIn (a .flat .n) (a .m) (a .rows .now)) (a .bound) (a .state) (a .ws .now) _ _ (l .reached) (l .ws) (l .inv .2)
+    extend-end (a .tolerance) (a .most) (pointsOf (a .flat)) (rowsIn (a .flat .n) (a .m) (a .rows .now)) (a .bound) (a .state) (a .ws .now) _ _ (l .reached) (l .ws) (l .inv .2)
     (none-left (keepsLimits (a .tolerance) (limitsOf (a .min) (a .max)) (pointsOf (a .points)) (a .v)) (pointsOf (a .flat)) (pointsOf (a .tuple)) (a .flat .n) (l .u) (a .more) (omega (arith, c .before .before .if1 .left)) (omega (arith, p .4)))
 
 pub +extend-spec : {M : Type 1} → statement M

@@ -15,8 +15,11 @@ use Rattle.orbits.proofs.find_orbits.Tie as tie
 pair-openers-requires : tie.Need-pair-openers-requires
 pair-openers-requires c κs = let s = c .before .before in (search needs, rows-fit-as (s .pre .0 .permute) (omega (arith, s .pre .0 .same-n)))
 
+most-vertices-requires : tie.Need-most-vertices-requires
+most-vertices-requires c κs = search needs
+
 walk-pairs-requires : tie.Need-walk-pairs-requires
-walk-pairs-requires c κs = let s = c .before .before .before .before in let o = c .before .pair-openers in (
+walk-pairs-requires c κs = let s = c .before .before .before .before .before in let o = c .before .before .pair-openers in (
   s .pre .0,
   openers-rise-as _ _ _ _ _ _ (o .ensures .means) (omega (arith, s .pre .0 .same-n)),
   o .ensures .fits .fits,
@@ -33,25 +36,28 @@ same-length : tie.Need-same-length
 same-length c = search needs
 
 returns : tie.Need-returns
-returns c = let s = c .before .before .before .before .before .before .before .before .before in let a = s .args in let o = c .before .before .before .before .before .before .pair-openers in
+returns c = let s = c .before .before .before .before .before .before .before .before .before .before in let a = s .args in let o = c .before .before .before .before .before .before .before .pair-openers in
     let e = openers-same (a .tolerance) (limitsOf (a .min) (a .max)) (pointsOf (a .points)) (a .m) (a .rows .now) (pairsIn (o .result)) (a .points .n) (a .flat .n) (s .pre .0 .same-n) (o .ensures .means) in
     let w = c .before .before .before .before .walk-pairs in
-    answers (a .tolerance) (limitsOf (a .min) (a .max)) (a .more) (pointsOf (a .points)) (pointsOf (a .flat)) (rowsIn (a .flat .n) (a .m) (a .rows .now)) (a .bound) (pairsIn (o .result)) (a .ws .now) (w .result) _ (a .flat .n) (points-length (a .flat)) (points-length (a .points) ∙ s .pre .0 .same-n) (rows-permute (s .pre .0 .permute)) e (w .ensures) .1 (c .enum-told .given .1)
+    let most = c .before .before .before .before .before .before .most-vertices in
+    answers (a .tolerance) (limitsOf (a .min) (a .max)) (a .rule) (a .more) (pointsOf (a .points)) (pointsOf (a .flat)) (rowsIn (a .flat .n) (a .m) (a .rows .now)) (a .bound) (pairsIn (o .result)) (a .ws .now) (w .result) _ (a .flat .n) (most .result) (points-length (a .flat)) (most .ensures) (points-length (a .points) ∙ s .pre .0 .same-n) (rows-permute (s .pre .0 .permute)) e (w .ensures) .1 (c .enum-told .given .1)
 
 same-length-2 : tie.Need-same-length-2
 same-length-2 c = search needs
 
 returns-2 : tie.Need-returns-2
-returns-2 c = let s = c .before .before .before .before .before .before .before .before .before in let a = s .args in let o = c .before .before .before .before .before .before .pair-openers in
+returns-2 c = let s = c .before .before .before .before .before .before .before .before .before .before in let a = s .args in let o = c .before .before .before .before .before .before .before .pair-openers in
     let e = openers-same (a .tolerance) (limitsOf (a .min) (a .max)) (pointsOf (a .points)) (a .m) (a .rows .now) (pairsIn (o .result)) (a .points .n) (a .flat .n) (s .pre .0 .same-n) (o .ensures .means) in
     let w = c .before .before .before .before .walk-pairs in
-    answers (a .tolerance) (limitsOf (a .min) (a .max)) (a .more) (pointsOf (a .points)) (pointsOf (a .flat)) (rowsIn (a .flat .n) (a .m) (a .rows .now)) (a .bound) (pairsIn (o .result)) (a .ws .now) (w .result) _ (a .flat .n) (points-length (a .flat)) (points-length (a .points) ∙ s .pre .0 .same-n) (rows-permute (s .pre .0 .permute)) e (w .ensures) .0 (c .enum-told2 .given .1)
+    let most = c .before .before .before .before .before .before .most-vertices in
+    answers (a .tolerance) (limitsOf (a .min) (a .max)) (a .rule) (a .more) (pointsOf (a .points)) (pointsOf (a .flat)) (rowsIn (a .flat .n) (a .m) (a .rows .now)) (a .bound) (pairsIn (o .result)) (a .ws .now) (w .result) _ (a .flat .n) (most .result) (points-length (a .flat)) (most .ensures) (points-length (a .points) ∙ s .pre .0 .same-n) (rows-permute (s .pre .0 .permute)) e (w .ensures) .0 (c .enum-told2 .given .1)
 
 pub find-orbits-spec : {M : Type 1} → statement M
 find-orbits-spec =
     tie.close
     (tie.spec
     pair-openers-requires
+    most-vertices-requires
     walk-pairs-requires
     enum-told
     enum-told-2

@@ -9,7 +9,7 @@ use Rattle.space.specs.Counts.{points-length}
 use Rattle.openers.specs.Rows.{rowsIn}
 use Rattle.orbits.specs.Walks.{walked-closed, walked-opened}
 use Rattle.orbits.specs.Workspace.{seenIn}
-use Rattle.orbits.proofs.Laws.{no-plane, seen-before, opens-now, near-is}
+use Rattle.orbits.proofs.Laws.{no-plane, passed-over, opens-now, near-is}
 use Rattle.orbits.proofs.fit_tuple.Statement.{statement}
 use Rattle.orbits.proofs.fit_tuple.Tie as tie
 
@@ -23,15 +23,15 @@ returns : tie.Need-returns
 returns c = let s = c .before .before .before .before .before in let a = s .args in
     let p = c .before .before .from-points .ensures .0 in
     let flat : isHyperplane (fromPoints (a .tolerance) (pointsOf (a .tuple))) ≡ false = ap isHyperplane (sym (p .means)) ∙ (sym (c .before .is-hyperplane .ensures) ∙ not-true _ (c .if1 .taken)) in
-    walked-closed (a .tolerance) (pointsOf (a .flat)) (rowsIn (a .flat .n) (a .m) (a .rows .now)) (a .bound) (a .known) (a .count) (a .ws .now) (pointsOf (a .tuple)) (s .pre .1)
-    (no-plane (a .tolerance) (pointsOf (a .flat)) (rowsIn (a .flat .n) (a .m) (a .rows .now)) (seenIn (a .known) (a .ws .now)) (pointsOf (a .tuple)) flat)
+    walked-closed (a .tolerance) (a .most) (pointsOf (a .flat)) (rowsIn (a .flat .n) (a .m) (a .rows .now)) (a .bound) (a .known) (a .count) (a .ws .now) (pointsOf (a .tuple)) (s .pre .1)
+    (no-plane (a .tolerance) (a .most) (pointsOf (a .flat)) (rowsIn (a .flat .n) (a .m) (a .rows .now)) (seenIn (a .known) (a .ws .now)) (pointsOf (a .tuple)) flat)
 
 points-near-requires : tie.Need-points-near-requires
 points-near-requires c κs = let s = c .before .before .before .before .before in let e = c .before .before .from-points .ensures in
     (s .pre .0 .flat-fits, e .0 .fits, sym (e .1 (s .pre .0 .some-point) ∙ s .pre .0 .same-d))
 
-is-seen-requires : tie.Need-is-seen-requires
-is-seen-requires c κs = search needs
+may-open-requires : tie.Need-may-open-requires
+may-open-requires c κs = search needs
 
 same-length : tie.Need-same-length
 same-length c = search needs
@@ -41,9 +41,9 @@ returns-2 c = let s = c .before .before .before .before .before .before .before 
     let p = c .before .before .before .before .before .before .from-points .ensures .0 in
     let flat : isHyperplane (fromPoints (a .tolerance) (pointsOf (a .tuple))) ≡ true = ap isHyperplane (sym (p .means)) ∙ (sym (c .before .before .before .before .before .is-hyperplane .ensures) ∙ not-false _ (c .before .before .before .before .if1 .left)) in
     let rows = rowsIn (a .flat .n) (a .m) (a .rows .now) in
-    let near = near-is (a .tolerance) (pointsOf (a .flat)) rows (seenIn (a .known) (a .ws .now)) (pointsOf (a .tuple)) (c .before .before .before .points-near .result) (subspaceOf (c .before .before .before .before .before .before .from-points .result)) (p .means) (c .before .before .before .points-near .ensures) in
-    walked-closed (a .tolerance) (pointsOf (a .flat)) rows (a .bound) (a .known) (a .count) (a .ws .now) (pointsOf (a .tuple)) (s .pre .1)
-    (seen-before (a .tolerance) (pointsOf (a .flat)) rows (seenIn (a .known) (a .ws .now)) (pointsOf (a .tuple)) flat (rw (← near) (sym (c .before .is-seen .ensures) ∙ c .if2 .taken)))
+    let near = near-is (a .tolerance) (a .most) (pointsOf (a .flat)) rows (seenIn (a .known) (a .ws .now)) (pointsOf (a .tuple)) (c .before .before .before .points-near .result) (subspaceOf (c .before .before .before .before .before .before .from-points .result)) (p .means) (c .before .before .before .points-near .ensures) in
+    walked-closed (a .tolerance) (a .most) (pointsOf (a .flat)) rows (a .bound) (a .known) (a .count) (a .ws .now) (pointsOf (a .tuple)) (s .pre .1)
+    (passed-over (a .tolerance) (a .most) (pointsOf (a .flat)) rows (seenIn (a .known) (a .ws .now)) (pointsOf (a .tuple)) flat (rw (points-length (a .flat), ← near) (sym (c .before .may-open .ensures) ∙ not-true _ (c .if2 .taken))))
 
 open-orbit-requires : tie.Need-open-orbit-requires
 open-orbit-requires c κs = search needs
@@ -56,9 +56,9 @@ returns-3 c = let s = c .before .before .before .before .before .before .before 
     let p = c .before .before .before .before .before .before .before .before .before .before .from-points .ensures .0 in
     let flat : isHyperplane (fromPoints (a .tolerance) (pointsOf (a .tuple))) ≡ true = ap isHyperplane (sym (p .means)) ∙ (sym (c .before .before .before .before .before .before .before .before .before .is-hyperplane .ensures) ∙ not-false _ (c .before .before .before .before .before .before .before .before .if1 .left)) in
     let rows = rowsIn (a .flat .n) (a .m) (a .rows .now) in
-    let near = near-is (a .tolerance) (pointsOf (a .flat)) rows (seenIn (a .known) (a .ws .now)) (pointsOf (a .tuple)) (c .before .before .before .before .before .before .before .points-near .result) (subspaceOf (c .before .before .before .before .before .before .before .before .before .before .from-points .result)) (p .means) (c .before .before .before .before .before .before .before .points-near .ensures) in
-    walked-opened (a .tolerance) (pointsOf (a .flat)) rows (a .bound) (a .known) (a .count) (a .ws .now) (pointsOf (a .tuple)) _ _
-    (opens-now (a .tolerance) (pointsOf (a .flat)) rows (seenIn (a .known) (a .ws .now)) (pointsOf (a .tuple)) flat (rw (← near) (sym (c .before .before .before .before .before .is-seen .ensures) ∙ c .before .before .before .before .if2 .left)))
+    let near = near-is (a .tolerance) (a .most) (pointsOf (a .flat)) rows (seenIn (a .known) (a .ws .now)) (pointsOf (a .tuple)) (c .before .before .before .before .before .before .before .points-near .result) (subspaceOf (c .before .before .before .before .before .before .before .before .before .before .from-points .result)) (p .means) (c .before .before .before .before .before .before .before .points-near .ensures) in
+    walked-opened (a .tolerance) (a .most) (pointsOf (a .flat)) rows (a .bound) (a .known) (a .count) (a .ws .now) (pointsOf (a .tuple)) _ _
+    (opens-now (a .tolerance) (a .most) (pointsOf (a .flat)) rows (seenIn (a .known) (a .ws .now)) (pointsOf (a .tuple)) flat (rw (points-length (a .flat), ← near) (sym (c .before .before .before .before .before .may-open .ensures) ∙ not-false _ (c .before .before .before .before .if2 .left))))
     (rw (points-length (a .flat), ← near) (c .before .before .open-orbit .ensures))
 
 pub fit-tuple-spec : {M : Type 1} → statement M
@@ -69,7 +69,7 @@ fit-tuple-spec =
     is-hyperplane-requires
     returns
     points-near-requires
-    is-seen-requires
+    may-open-requires
     same-length
     returns-2
     open-orbit-requires

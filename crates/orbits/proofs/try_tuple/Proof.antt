@@ -18,14 +18,14 @@ fit-tuple-requires c κs = search needs
 
 returns : tie.Need-returns
 returns c = let s = c .before .before .before .before in let a = s .args in
-    stays-refused (a .tolerance) (pointsOf (a .flat)) (rowsIn (a .flat .n) (a .m) (a .rows .now)) (a .bound) (a .state) (a .ws .now) (pointsOf (a .tuple) ∷ []) (c .enum-told .given .1) (s .pre .1)
+    stays-refused (a .tolerance) (a .most) (pointsOf (a .flat)) (rowsIn (a .flat .n) (a .m) (a .rows .now)) (a .bound) (a .state) (a .ws .now) (pointsOf (a .tuple) ∷ []) (c .enum-told .given .1) (s .pre .1)
 
 same-length : tie.Need-same-length
 same-length c = search needs
 
 returns-2 : tie.Need-returns-2
 returns-2 c = let s = c .before .before .before .before .before .before .before .before in let a = s .args in
-    goes-on (a .tolerance) (pointsOf (a .flat)) (rowsIn (a .flat .n) (a .m) (a .rows .now)) (a .bound) (a .state) (a .ws .now) (pointsOf (a .tuple) ∷ []) _ _ (c .before .before .before .before .enum-told2 .given .1) (c .before .before .fit-tuple .ensures)
+    goes-on (a .tolerance) (a .most) (pointsOf (a .flat)) (rowsIn (a .flat .n) (a .m) (a .rows .now)) (a .bound) (a .state) (a .ws .now) (pointsOf (a .tuple) ∷ []) _ _ (c .before .before .before .before .enum-told2 .given .1) (c .before .before .fit-tuple .ensures)
 
 pub try-tuple-spec : {M : Type 1} → statement M
 try-tuple-spec =

@@ -19,17 +19,17 @@ use Rattle.orbits.proofs.walk_pairs.Reads as reads
 use Rattle.orbits.proofs.walk_pairs.Lts as lts
 
 abbrev Inv-loop : tie.InvT-loop
-Inv-loop points flat more rows m min max tolerance bound ws₀ pairs count reached₀ k₀ ws reached k = (k ≤ count) × (length ws ≡ length ws₀) × Walked tolerance (pointsOf flat) (rowsIn (flat .n) m rows) bound reached₀ ws₀ (pairTuples tolerance (limitsOf min max) (pointsOf points) (pointsOf flat) (flat .n) more (take k (pairsIn pairs))) reached ws
+Inv-loop points flat more rows m min max tolerance most bound ws₀ pairs count reached₀ k₀ ws reached k = (k ≤ count) × (length ws ≡ length ws₀) × Walked tolerance most (pointsOf flat) (rowsIn (flat .n) m rows) bound reached₀ ws₀ (pairTuples tolerance (limitsOf min max) (pointsOf points) (pointsOf flat) (flat .n) more (take k (pairsIn pairs))) reached ws
 
 abbrev μ-loop : tie.MeasureT-loop
-μ-loop points flat more rows m min max tolerance bound ws₀ pairs count reached₀ k₀ ws reached k = count - k
+μ-loop points flat more rows m min max tolerance most bound ws₀ pairs count reached₀ k₀ ws reached k = count - k
 
 codes-long : {called : lts.Claims} (s : lts.Start called reads.Pre reads.Post Inv-loop μ-loop) → length (s .args .t3 .codes) ≡ 190
 codes-long s = search needs
 
 loop-holds : tie.Need-loop-holds Inv-loop μ-loop
 loop-holds c = let s = c .before .before in let a = s .args in
-    (omega arith, refl, walk-start (a .tolerance) (limitsOf (a .min) (a .max)) (pointsOf (a .points)) (pointsOf (a .flat)) (a .flat .n) (a .more) (rowsIn (a .flat .n) (a .m) (a .rows .now)) (a .bound) (a .state) (a .ws .now) (pairsIn (a .t3)) (s .pre .3))
+    (omega arith, refl, walk-start (a .tolerance) (a .most) (limitsOf (a .min) (a .max)) (pointsOf (a .points)) (pointsOf (a .flat)) (a .flat .n) (a .more) (rowsIn (a .flat .n) (a .m) (a .rows .now)) (a .bound) (a .state) (a .ws .now) (pairsIn (a .t3)) (s .pre .3))
 
 mul-code : tie.Need-mul-code Inv-loop μ-loop
 mul-code c = omega (arith, c .before .before .before .before .pre .2)
@@ -65,7 +65,7 @@ loop-again c = let s = c .before .before .before .before .before .before .before
     let count = pairs-count (a .t3) (s .pre .2) (codes-long s) in (
       omega arith,
       c .before .ws .given ∙ l .inv .1,
-      walk-turn (a .tolerance) (limitsOf (a .min) (a .max)) (pointsOf (a .points)) (pointsOf (a .flat)) (a .flat .n) (a .more) (rowsIn (a .flat .n) (a .m) (a .rows .now)) (a .bound) (a .state) (a .ws .now) (pairsIn (a .t3)) (l .k) _ _ (pointsOf (c .before .before .before .before .pair-points .result)) (l .reached) (l .ws) _ _ (omega arith) (pair-at (a .t3) (s .pre .2) (codes-long s) (l .k) below) (c .before .before .before .before .pair-points .ensures .means) (l .inv .2) (c .before .before .extend .ensures),
+      walk-turn (a .tolerance) (a .most) (limitsOf (a .min) (a .max)) (pointsOf (a .points)) (pointsOf (a .flat)) (a .flat .n) (a .more) (rowsIn (a .flat .n) (a .m) (a .rows .now)) (a .bound) (a .state) (a .ws .now) (pairsIn (a .t3)) (l .k) _ _ (pointsOf (c .before .before .before .before .pair-points .result)) (l .reached) (l .ws) _ _ (omega arith) (pair-at (a .t3) (s .pre .2) (codes-long s) (l .k) below) (c .before .before .before .before .pair-points .ensures .means) (l .inv .2) (c .before .before .extend .ensures),
     )
 
 same-length : tie.Need-same-length Inv-loop μ-loop
@@ -75,7 +75,7 @@ returns : tie.Need-returns Inv-loop μ-loop
 returns c = let s = c .before .before .before .before in let a = s .args in let l = c .before .loop in
     let count = pairs-count (a .t3) (s .pre .2) (codes-long s) in
     let all : take (l .k) (pairsIn (a .t3)) ≡ pairsIn (a .t3) = take-all (l .k) (pairsIn (a .t3)) (omega arith) in
-    subst (λ (ps : List Pair). Walked (a .tolerance) (pointsOf (a .flat)) (rowsIn (a .flat .n) (a .m) (a .rows .now)) (a .bound) (a .state) (a .ws .now) (pairTuples (a .tolerance) (limitsOf (a .min) (a .max)) (pointsOf (a .points)) (pointsOf (a .flat)) (a .flat .n) (a .more) ps) (l .reached) (l .ws)) all (l .inv .2)
+    subst (λ (ps : List Pair). Walked (a .tolerance) (a .most) (pointsOf (a .flat)) (rowsIn (a .flat .n) (a .m) (a .rows .now)) (a .bound) (a .state) (a .ws .now) (pairTuples (a .tolerance) (limitsOf (a .min) (a .max)) (pointsOf (a .points)) (pointsOf (a .flat)) (a .flat .n) (a .more) ps) (l .reached) (l .ws)) all (l .inv .2)
 
 pub walk-pairs-spec : {M : Type 1} → statement M
 walk-pairs-spec =
