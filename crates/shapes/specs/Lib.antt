@@ -54,6 +54,7 @@ pub mod FigureNumbers
 pub mod AnswerWords
 pub mod JobWords
 pub mod CallOrbits
+pub mod CrowdedLines
 pub mod KeptSizes
 pub mod KeptRidges
 pub mod KeptAnswer
