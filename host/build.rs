@@ -71,8 +71,9 @@ const FREE: &[Piece] = &[
     },
 ];
 
-/// What is altered in the faceting itself. Each addition only reads the
-/// original's values; `watch` counts and stops, it never changes them.
+/// What is altered in the faceting itself. Each addition but the tolerance and the
+/// rule only reads the original's values; `watch` counts and stops, it never changes
+/// them.
 const FACETING_PATCHES: &[Patch] = &[
     // The tolerance is a value of the run instead of a constant.
     Patch {
@@ -80,10 +81,12 @@ const FACETING_PATCHES: &[Patch] = &[
         put: "f64::tolerance()",
         times: 5,
     },
-    // Refusal 13, before a set opens an orbit.
+    // Refusal 13, before a set opens an orbit; under rule 2 a crowded line opens none,
+    // which alone alters what the original does, and only for jobs that name that rule.
     Patch {
         find: "contains(&hyperplane_vertices) {",
-        put: "contains(&hyperplane_vertices) {
+        put: "contains(&hyperplane_vertices)
+                && !watch::passes_over(rank, hyperplane_vertices.len()) {
             watch::opens_orbit(rank, hyperplane_orbits.len(), hyperplane_vertices.len());",
         times: 1,
     },

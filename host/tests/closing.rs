@@ -113,6 +113,22 @@ fn facets_are_counted(answer: &Answer, place: usize) -> bool {
     answer.summaries[place][2] == sum
 }
 
+/// What rule 2 buys: without the lines that have more than two points, every figure of
+/// the jobs that miss (K) closes in itself.
+#[test]
+fn without_crowded_lines_what_misses_k_closes_in_itself() {
+    let Some(oracle) = oracle() else { return };
+    let crowded: Vec<Line> = table().into_iter().filter(|l| l.missing == "K").collect();
+    assert_eq!(crowded.len(), 2);
+    for line in crowded {
+        let found = answer(&oracle, &format!("rule 2\n{}", line.text));
+        for entry in &found.entries {
+            let counts = ridges_by_facets(&entry.figure);
+            assert_eq!(counts[0] + counts[2] + counts[3], 0, "{}", line.text);
+        }
+    }
+}
+
 #[test]
 fn figures_of_the_table_do_not_close_in_themselves() {
     let Some(oracle) = oracle() else { return };

@@ -184,6 +184,29 @@ fn the_tolerance_is_a_value_of_the_job() {
     assert_eq!(answer(&oracle, &coarse).counts.len(), 1);
 }
 
+/// Under rule 2 a line with more than two points has no edge, in a plane of a solid
+/// too; planes stay, and a job of rank 2 keeps its edge.
+#[test]
+fn the_rule_is_a_value_of_the_job() {
+    let Some(oracle) = oracle() else { return };
+    let under = |rule: u8, text: &str| answer(&oracle, &format!("rule {rule}\n{text}"));
+    let triangle = "points\n0 0\n1 0\n2 0\n0 1\n";
+    assert_eq!(under(1, triangle), answer(&oracle, triangle));
+    let (one, two) = (under(1, triangle), under(2, triangle));
+    assert_eq!((one.counts.len(), one.entries.len()), (4, 1));
+    assert_eq!((two.counts.len(), two.entries.len()), (3, 0));
+    let plane = "points\n0 0 0\n1 0 0\n2 0 0\n0 1 0\n";
+    let (one, two) = (under(1, plane), under(2, plane));
+    assert_eq!((one.counts.len(), one.facets[0].len()), (1, 1));
+    assert_eq!((two.counts.len(), two.facets[0].len()), (1, 0));
+    let line = "rank 2\npoints\n0\n1\n2\n";
+    assert_eq!(under(1, line), under(2, line));
+    let grid = "points\n0 0\n1 0\n2 0\n0 1\n1 1\n2 1\n0 2\n1 2\n2 2\ngenerators\n0 3 6 1 4 7 2 5 8\n2 1 0 5 4 3 8 7 6\n";
+    let two = under(2, grid);
+    assert_eq!((two.examined, &two.counts[..]), (3, &[8, 4][..]));
+    assert_eq!(two.summaries, [[8, 8, 8], [4, 4, 4]]);
+}
+
 #[test]
 fn buffers_exactly_full_and_one_short() {
     let Some(mut oracle) = oracle() else { return };

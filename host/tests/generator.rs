@@ -112,7 +112,7 @@ fn every_result_and_every_event_is_reached() {
 #[test]
 fn picked_cases_are_spread() {
     let Some(mut oracle) = oracle() else { return };
-    let picked = pick(&mut oracle, 1, 150, 20_000);
+    let picked = pick(&mut oracle, 1, 150, 20_000, None);
     let lines: Vec<String> = picked.iter().map(|one| one.to_string()).collect();
     let tagged = |tag: &str| lines.iter().filter(|line| line.contains(tag)).count();
     assert_eq!(lines.len(), 150);

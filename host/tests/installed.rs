@@ -215,6 +215,7 @@ bits = int(hashlib.sha256(data).hexdigest()[:15], 16)
 digits = "".join("0123456789ABCDEFGHJKMNPQRSTVWXYZ"[bits >> 5 * i & 31] for i in reversed(range(12)))
 print("-".join((digits[:4], digits[4:8], digits[8:])))
 print(job([(0, 0), (1, 0), (1, 1), (0, 1)], limit=3, low=0.5, tolerance=0.001).hex())
+print(job([(0, 0), (1, 0), (1, 1), (0, 1)], rule=2).hex())
 "#;
 
 /// Python on these words with what is installed; none where it is not there.
@@ -261,9 +262,12 @@ fn python_comes_to_the_same_as_rust() {
             Err(Stop::Broken(words)) => panic!("{words}"),
         };
     }
-    let job = text::encode(&format!("{SQUARE}limit 3\nmin 0.5\ntolerance 0.001\n")).expect("a job");
-    let hex: String = job.iter().map(|byte| format!("{byte:02x}")).collect();
-    wanted += &format!("CKBF-JN37-ED4Y\n{hex}\n");
+    wanted += "CKBF-JN37-ED4Y\n";
+    for more in ["limit 3\nmin 0.5\ntolerance 0.001\n", "rule 2\n"] {
+        let job = text::encode(&format!("{SQUARE}{more}")).expect("a job");
+        let hex: String = job.iter().map(|byte| format!("{byte:02x}")).collect();
+        wanted += &format!("{hex}\n");
+    }
     let words: Vec<&str> = words.iter().map(String::as_str).collect();
     if let Some(done) = python(&usr, &words) {
         assert_eq!(done.fine(), wanted);

@@ -325,3 +325,34 @@ fn figures_close_where_it_is_argued_that_they_do() {
     );
     assert!(open > 100, "only {open} entries do not close");
 }
+
+/// Figures in the plane, of jobs whose rows are a group: under rule 2 all close in
+/// themselves, and of the same jobs under rule 1 many do not.
+#[test]
+fn figures_of_the_plane_close_under_rule_2() {
+    let Some(oracle) = oracle() else { return };
+    let (mut jobs, mut entries, mut open) = ([0; 2], [0; 2], [0; 2]);
+    for number in 0..1_500 {
+        let case = case(9, number, kind_named("rule"));
+        let Some(mut job) = Job::read(&case.job).filter(|job| job.rank == 3) else {
+            continue;
+        };
+        for (place, rule) in [1, 2].into_iter().enumerate() {
+            job.rule = rule;
+            let judged = oracle.judge(&job.write(), usize::MAX);
+            let Ok(answer) = judged.result.as_ref().map_err(|_| ()) else {
+                continue;
+            };
+            if judged.rows_open() {
+                continue;
+            }
+            let closed = looks(answer).iter().filter(|look| look.closes()).count();
+            jobs[place] += 1;
+            entries[place] += answer.entries.len();
+            open[place] += answer.entries.len() - closed;
+        }
+    }
+    println!("under rules 1 and 2: {jobs:?} jobs, {entries:?} entries, {open:?} do not close");
+    assert!(jobs[1] > 200 && entries[1] > 200, "{jobs:?}, {entries:?}");
+    assert!(open[0] > 50 && open[1] == 0, "{open:?}");
+}

@@ -106,6 +106,22 @@ fn equal_points_and_crowded_lines_are_told() {
         words.contains(", and there are 7 more such lines: "),
         "{words}"
     );
+    assert!(only(grid).change.starts_with("write 'rule 2', "));
+    // Under rule 2 the numbering does not matter, and the note has no weight.
+    let ruled = notes(&format!("rule 2\n{grid}"));
+    assert_eq!((ruled.list.len(), ruled.weight()), (1, 0));
+    let note = &ruled.list[0];
+    assert_eq!(note.kind, "rule");
+    assert!(
+        note.words
+            .ends_with(": under rule 2 no edge lies on such a line"),
+        "{}",
+        note.words
+    );
+    // A line by itself has its edge under either rule.
+    let line = "rank 2\nrule 2\npoints\n0\n1\n2\n";
+    assert_eq!(only(line).kind, "crowded");
+    assert!(only(line).change.starts_with("leave out points "));
     // In space too, where a line lies in several planes.
     assert_eq!(
         kinds("points\n0 0 0\n1 1 1\n2 2 2\n1 0 0\n0 1 0\n"),

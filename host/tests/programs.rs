@@ -39,12 +39,13 @@ fn the_worked_example_is_what_an_engine_answers() {
     }
 }
 
-/// A job's refusals in the order in which they are looked for: that of a tolerance
-/// directly behind that of a number.
+/// A job's refusals in the order in which they are looked for: those of a tolerance
+/// and of a rule directly behind that of a number.
 fn refusals() -> Vec<Refusal> {
     let mut all: Vec<Refusal> = Refusal::all().collect();
     all.sort_by_key(|refusal| match refusal {
         Refusal::Tolerance => (Refusal::Number.number(), 1),
+        Refusal::Rule => (Refusal::Number.number(), 2),
         other => (other.number(), 0),
     });
     all
@@ -56,7 +57,7 @@ const OF_A_ROW: [&str; 2] = ["    REGISTER_ROW = 26", "    REGISTER_RECORDS = 27
 #[test]
 fn page_and_header_have_every_refusal() {
     let numbers: Vec<u8> = refusals().into_iter().map(Refusal::number).collect();
-    assert_eq!(numbers.len(), 18);
+    assert_eq!(numbers.len(), 19);
     assert_eq!(refusal_numbers(), numbers);
     let named = |refusal| format!("    {} = {}", constant(refusal), refusal.number());
     let of_a_job = refusals().into_iter().map(named);

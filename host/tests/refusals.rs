@@ -18,8 +18,9 @@ fn refusal(bytes: &[u8], workspace: usize) -> u8 {
 #[test]
 fn the_first_fault_in_order_decides() {
     let mut job = Job::read(&job(SQUARE)).expect("the square is laid out");
-    job.version = 2;
+    job.version = 3;
     job.tolerance = 1.0;
+    job.rule = 3;
     job.rows = vec![vec![1, 0, 2, 3], vec![0, 0, 0, 9]];
     job.min = Some(-1.0);
     let mut bytes = job.write();
@@ -27,11 +28,11 @@ fn the_first_fault_in_order_decides() {
     let row_0 = bytes.len() - 9;
     let row_1 = bytes.len() - 5;
     bytes[0] = b'G';
-    bytes[3] = 3;
+    bytes[3] = 4;
     bytes[5..11].copy_from_slice(&[9, 9, 1, 0, 0, 9]);
-    let steps: [(u8, usize, &[u8]); 11] = [
+    let steps: [(u8, usize, &[u8]); 12] = [
         (1, 0, b"F"),
-        (2, 3, &[2]),
+        (2, 3, &[3]),
         (3, 5, &[3]),
         (4, 6, &[2]),
         (5, 7, &[4]),
@@ -40,6 +41,7 @@ fn the_first_fault_in_order_decides() {
         (8, 0, b""),
         (9, 18, &[0x3f]),
         (22, 19, &0.001_f64.to_le_bytes()),
+        (25, 27, &[2]),
         (10, row_0, &[0, 1]),
     ];
     for (number, place, mended) in steps {
@@ -88,6 +90,10 @@ fn both_sides_of_each_bound_on_numbers() {
     }
     for never in [f64::NAN, f64::INFINITY, f64::NEG_INFINITY] {
         assert_eq!(with(tolerance, never), 9);
+    }
+    let rule: Change = |job, x| (job.version, job.rule) = (3, x as u8);
+    for (number, refused) in [(0.0, 25), (1.0, 0), (2.0, 0), (3.0, 25), (255.0, 25)] {
+        assert_eq!(with(rule, number), refused);
     }
     assert_eq!(with(|job, x| job.max = Some(x), -0.0), 0);
     assert_eq!(with(|job, x| job.max = Some(x), -5e-324), 9);

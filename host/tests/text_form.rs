@@ -30,6 +30,24 @@ fn a_tolerance_makes_a_job_of_version_2() {
     assert!(error.contains("version 1 has no tolerance"), "{error}");
 }
 
+/// A rule asks for version 3, which has a tolerance too.
+#[test]
+fn a_rule_makes_a_job_of_version_3() {
+    let square = |words: &str| read(&format!("{words}{SQUARE}"));
+    assert_eq!(square("").rule, 1);
+    assert_eq!(square("tolerance 0.001\n").rule, 1);
+    let named = square("rule 2\n");
+    assert_eq!((named.version, named.tolerance, named.rule), (3, 1e-7, 2));
+    assert_eq!(named, square("version 3\ntolerance 0.0000001\nrule 2\n"));
+    assert_eq!(read(&decode(&named.write())), named);
+    assert_eq!(square("version 3\n").rule, 1);
+    for version in [1, 2] {
+        let both = format!("version {version}\ntolerance 0.001\nrule 2\n{SQUARE}");
+        let error = encode(&both).expect_err("the version has no rule");
+        assert!(error.contains("has no rule"), "{error}");
+    }
+}
+
 #[test]
 fn what_is_not_said_has_its_default() {
     let flat = read(SQUARE);

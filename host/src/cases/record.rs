@@ -15,9 +15,9 @@
 
 use std::collections::BTreeMap;
 
-use faceting_register::bounds::WORKSPACE;
+use faceting_register::bounds::{SOCIETY_RULE, WORKSPACE};
 use faceting_register::request::USUAL_ROOM;
-use faceting_register::Refusal;
+use faceting_register::{Job, Refusal};
 
 use crate::cases::generator::{self, KINDS};
 use crate::cases::known_jobs::KNOWN_JOBS;
@@ -131,6 +131,10 @@ fn narrowed(mut case: Case) -> Case {
 
 fn consider(oracle: &mut Oracle, list: &mut List, case: Case, of_a_kind: usize) {
     if case.job.len() > LONGEST_JOB || case.workspace > LARGEST_WORKSPACE {
+        return;
+    }
+    // The original has no rule 2.
+    if Job::read(&case.job).is_some_and(|job| job.rule == SOCIETY_RULE) {
         return;
     }
     let outcome = run(oracle, &case);

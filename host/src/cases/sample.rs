@@ -4,11 +4,13 @@
 use std::collections::BTreeMap;
 use std::fmt;
 
+use faceting_register::bounds::RULE;
 use faceting_register::job::point_count_of;
 use faceting_register::{Answer, Refusal};
 
+use crate::cases::generator::{self, Kind};
 use crate::cases::run::run;
-use crate::cases::{generator, Case, Outcome, Room};
+use crate::cases::{Case, Outcome, Room};
 use crate::engines::judgement::Judgement;
 use crate::engines::oracle::Oracle;
 use crate::format::hex;
@@ -73,15 +75,22 @@ impl fmt::Display for Sample {
     }
 }
 
-/// That many small cases, or fewer if the seed's first `tries` cases hold fewer.
-pub fn pick(oracle: &mut Oracle, seed: u64, count: usize, tries: usize) -> Vec<Sample> {
+/// That many small cases, or fewer if the seed's first `tries` cases, all of a kind
+/// where one is named, hold fewer.
+pub fn pick(
+    oracle: &mut Oracle,
+    seed: u64,
+    count: usize,
+    tries: usize,
+    kind: Option<&'static Kind>,
+) -> Vec<Sample> {
     let mut wanted = shares(count);
     let mut picked = Vec::new();
     for number in 0..tries {
         if picked.len() == count {
             break;
         }
-        let case = generator::case(seed, number, None);
+        let case = generator::case(seed, number, kind);
         let Some((one, class)) = small(oracle, case) else {
             continue;
         };
@@ -159,6 +168,11 @@ fn tags(judged: &Judgement, code: i64) -> Vec<String> {
     let mut tags: Vec<String> = Vec::new();
     let rank = judged.job.as_ref().map(|job| format!("rank-{}", job.rank));
     tags.extend(rank);
+    let rule = judged.job.as_ref().map(|job| job.rule);
+    tags.extend(
+        rule.filter(|&rule| rule != RULE)
+            .map(|rule| format!("rule-{rule}")),
+    );
     let events = &judged.events;
     let flags = [
         (judged.rows_open(), "rows-not-closed"),

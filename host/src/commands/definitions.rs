@@ -6,6 +6,7 @@ use std::process::Command as Process;
 use facetings_host::cases::sample::{self, Sample};
 use facetings_host::compare::definitions as tests;
 
+use super::streams::chosen_kind;
 use super::{open_original, print, Command};
 use crate::arguments::Arguments;
 use crate::{Failure, DIFFERENT};
@@ -14,17 +15,24 @@ use crate::{Failure, DIFFERENT};
 pub const DEFINITIONS: Command = Command {
     name: "definitions",
     about: "Evaluates the definitions on picked cases.",
-    usage: "--seed S --count N [--tries T] [--crate DIR] --scratch DIR",
+    usage: "--seed S --count N [--tries T] [--kind K] [--crate DIR] --scratch DIR",
     details: || {
         "\
-Picks N small cases as pick does, writes a scratch repository to an empty or new
+Picks N small cases as pick does, or only cases of the kind K, writes a scratch repository to an empty or new
 folder with a copy of the definitions (default: crates/definitions) and a test
 for each case that expects the Rust's value and buffer, runs 'rt check' there,
 and says how many agree and which do not. Takes about a second a case.
 "
         .into()
     },
-    options: &["--seed", "--count", "--tries", "--crate", "--scratch"],
+    options: &[
+        "--seed",
+        "--count",
+        "--tries",
+        "--kind",
+        "--crate",
+        "--scratch",
+    ],
     run,
 };
 
@@ -39,7 +47,8 @@ fn run(arguments: Arguments) -> Result<(), Failure> {
         return Err(words.into());
     }
     let scratch = new_folder(arguments.needed("--scratch")?)?;
-    let cases = sample::pick(&mut open_original()?, seed, count, tries);
+    let kind = chosen_kind(&arguments)?;
+    let cases = sample::pick(&mut open_original()?, seed, count, tries, kind);
     tests::write(&scratch, definitions, &cases)
         .map_err(|error| format!("cannot write {}: {error}", scratch.display()))?;
     report(&cases, &check(&scratch)?)

@@ -24,7 +24,8 @@ pub const COMPARE_REGISTER: Command = Command {
     details: || {
         "\
 Puts the known jobs and N generated cases (default: 10000; as generate makes
-them, every eighth of the kind brink, one of 64 of the kind tolerance) to the Rust once each, and to the register in several calls: as
+them, every eighth of the kind brink, one of 64 of the kind tolerance and one of the
+kind rule) to the Rust once each, and to the register in several calls: as
 generated, with the workspace of the rank's length and one byte less, with the
 answer buffer exactly full and one byte short, with the job one byte shorter and
 longer, and as a copy with one altered byte. Buffers are poisoned, the workspace is
@@ -37,7 +38,7 @@ call differs. The register is linked where 'rt staticlib register' has left it
 before the build; --library takes the function from a shared library instead.
 With --tolerance all generated cases are of version 2 and name T: points and lengths
 around T, at least, above and below. The Rust runs with the job's tolerance in the six
-places of its constant.
+places of its constant. Jobs under rule 2 run with the Rust's crowded lines passed over.
 With --memory fresh each slice is new memory of exactly its length and the workspace
 was never written, so that a memory checker such as valgrind sees every access beside
 them, and every choice that hangs on what the workspace held.
@@ -66,10 +67,11 @@ pub fn open_register(arguments: &Arguments) -> Result<Guard, Failure> {
 }
 
 /// Every eighth case has a distance at the tolerance: hardly any drawn case shows
-/// in which order products are added. Some name another tolerance.
+/// in which order products are added. Some name another tolerance, some a rule.
 fn at_the_brink(number: usize) -> Option<&'static Kind> {
     match number % 64 {
         3 => kind_named("tolerance"),
+        11 => kind_named("rule"),
         number if number % 8 == 5 => kind_named("brink"),
         _ => None,
     }

@@ -142,7 +142,7 @@ fn pick_cases(arguments: Arguments) -> Result<(), Failure> {
     let seed = arguments.needed_number("--seed")?;
     let count = arguments.needed_number("--count")?;
     let tries = arguments.number("--tries")?.unwrap_or(100_000);
-    let picked = sample::pick(&mut open_original()?, seed, count, tries);
+    let picked = sample::pick(&mut open_original()?, seed, count, tries, None);
     let text: String = picked.iter().map(|one| format!("{one}\n")).collect();
     write_to(arguments.text("-o"), text.as_bytes())?;
     if picked.len() < count {

@@ -26,6 +26,10 @@ pub fn culprit(refusal: Refusal, job: &Job, lines: &Lines) -> Option<Culprit> {
             let words = format!("the tolerance {fault}");
             Some(at(lines.keywords.get("tolerance"), &words, None))
         }
+        Refusal::Rule => {
+            let words = format!("the rule is {}", job.rule);
+            Some(at(lines.keywords.get("rule"), &words, None))
+        }
         Refusal::Identity => {
             let first = job.rows.first().filter(|row| !is_identity(row))?;
             let images: Vec<String> = first.iter().map(u8::to_string).collect();

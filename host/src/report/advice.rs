@@ -6,13 +6,13 @@ use faceting_register::Refusal;
 use crate::format::culprit::Culprit;
 
 /// The rule and the change of each refusal, in the order of `Refusal::all`.
-const ALL: [(&str, &str); 18] = [
+const ALL: [(&str, &str); 19] = [
     (
         "a job has at least 11 bytes and begins with the letters FCT",
         "give the set in the text form, or make the bytes with 'facetings-host encode'",
     ),
     (
-        "the version is 1 or 2",
+        "the version is 1 to 3",
         "leave the keyword 'version' out",
     ),
     (
@@ -78,6 +78,10 @@ const ALL: [(&str, &str); 18] = [
     (
         "the tolerance is from 0.000000001 to 0.001",
         "write 'tolerance 0.001' for points that are good to three places, or leave the keyword out",
+    ),
+    (
+        "the rule of crowded lines is 1 or 2",
+        "write 'rule 2' to leave lines with more than two points without an edge, or leave the keyword out",
     ),
 ];
 

@@ -174,6 +174,7 @@ fn limits(job: &Job) -> Json {
         ("entries", or_null(&job.limit, |&limit| number(limit))),
         ("budget", number(job.budget)),
         ("tolerance", Json::Float(job.tolerance)),
+        ("rule", number(job.rule.into())),
     ])
 }
 

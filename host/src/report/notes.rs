@@ -4,6 +4,7 @@
 
 use std::collections::HashSet;
 
+use faceting_register::bounds::SOCIETY_RULE;
 use faceting_register::job::compose;
 use faceting_register::Job;
 
@@ -84,7 +85,7 @@ impl Set<'_> {
 }
 
 /// The notes, in the order of their weight.
-const CHECKS: [fn(&Set) -> Option<Note>; 10] = [
+const CHECKS: [fn(&Set) -> Option<Note>; 11] = [
     unkept_distances,
     no_group,
     equal_points,
@@ -95,6 +96,7 @@ const CHECKS: [fn(&Set) -> Option<Note>; 10] = [
     small_set,
     thin_margin,
     other_symmetry,
+    lines_without_edges,
 ];
 
 fn note(kind: &'static str, words: String, change: impl Into<String>) -> Option<Note> {
@@ -178,6 +180,35 @@ fn equal_points(set: &Set) -> Option<Note> {
 
 /// A line with more than two points has an edge between its first two alone.
 fn crowded_lines(set: &Set) -> Option<Note> {
+    let ruled_out = set.job.rule == SOCIETY_RULE && set.job.rank > 2;
+    let (lines, a, b) = lines_of_many(set).filter(|_| !ruled_out)?;
+    let words = format!(
+        "{lines}: only the edge between a line's first two points is tried, here {a}-{b}, so the numbering of the points matters"
+    );
+    let change =
+        "leave out points that are no corners, or number first the two that the edge joins";
+    let change = match set.job.rank > 2 {
+        true => format!("write 'rule 2', under which such a line has no edge, or {change}"),
+        false => change.into(),
+    };
+    note("crowded", words, change)
+}
+
+/// Under the society's rule such a line has no edge: no fault, but good to know.
+fn lines_without_edges(set: &Set) -> Option<Note> {
+    let ruled_out = set.job.rule == SOCIETY_RULE && set.job.rank > 2;
+    let (lines, ..) = lines_of_many(set).filter(|_| ruled_out)?;
+    Some(Note {
+        kind: "rule",
+        words: format!("{lines}: under rule 2 no edge lies on such a line"),
+        change: "leave out points that are no corners, or write 'rule 1' to try the edge between a line's first two points".into(),
+        weighs: false,
+    })
+}
+
+/// The first line with more than two points, in words, how many more there are, and its
+/// first two points.
+fn lines_of_many(set: &Set) -> Option<(String, usize, usize)> {
     let mut lines: Vec<Vec<usize>> = Vec::new();
     for (a, b) in set.pairs() {
         let line = Flat::through([&set.flat[a], &set.flat[b]], set.tolerance);
@@ -201,12 +232,7 @@ fn crowded_lines(set: &Set) -> Option<Note> {
         2 => ", and there is another such line".into(),
         more => format!(", and there are {} more such lines", more - 1),
     };
-    let words = format!(
-        "{first}{more}: only the edge between a line's first two points is tried, here {a}-{b}, so the numbering of the points matters"
-    );
-    let change =
-        "leave out points that are no corners, or number first the two that the edge joins";
-    note("crowded", words, change)
+    Some((first + &more, *a, *b))
 }
 
 fn flat_set(set: &Set) -> Option<Note> {

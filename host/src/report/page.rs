@@ -4,7 +4,7 @@
 
 use std::fmt::Write;
 
-use faceting_register::job::TOLERANCE_VERSION;
+use faceting_register::job::{RULE_VERSION, TOLERANCE_VERSION};
 use faceting_register::Answer;
 
 use super::label::{counted, Count};
@@ -67,6 +67,9 @@ pub fn page(report: &Report) -> String {
     }
     if report.job.version >= TOLERANCE_VERSION {
         let _ = writeln!(text, "Tolerance: {}", short(report.job.tolerance));
+    }
+    if report.job.version >= RULE_VERSION {
+        let _ = writeln!(text, "Rule of crowded lines: {}", report.job.rule);
     }
     let _ = writeln!(
         text,

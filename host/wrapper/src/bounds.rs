@@ -3,7 +3,7 @@
 use std::ops::RangeInclusive;
 
 /// Versions of a job's layout.
-pub const VERSIONS: RangeInclusive<u16> = 1..=2;
+pub const VERSIONS: RangeInclusive<u16> = 1..=3;
 
 /// Ranks that a job may have: a line, figures in a plane, solids.
 pub const RANKS: RangeInclusive<u8> = 2..=4;
@@ -41,6 +41,16 @@ pub const TOLERANCE: f64 = 1e-7;
 
 /// The tolerances that a job may name.
 pub const TOLERANCES: RangeInclusive<f64> = 1e-9..=1e-3;
+
+/// The rule of crowded lines where a job names none: as ported, a line opens an orbit
+/// however many points it has.
+pub const RULE: u8 = 1;
+
+/// The society's rule: in a call of rank 3 a line with more than two points opens none.
+pub const SOCIETY_RULE: u8 = 2;
+
+/// The rules that a job may name.
+pub const RULES: RangeInclusive<u8> = RULE..=SOCIETY_RULE;
 
 /// The workspace of rank 3, in bytes.
 pub const PLANE_WORKSPACE: usize = 524_288;

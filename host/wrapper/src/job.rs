@@ -14,6 +14,9 @@ pub const VERSION: u16 = 1;
 /// The first version whose jobs name a tolerance.
 pub const TOLERANCE_VERSION: u16 = 2;
 
+/// The first version whose jobs name a rule of crowded lines.
+pub const RULE_VERSION: u16 = 3;
+
 /// The bytes in front of a job's numbers.
 pub const HEADER_LENGTH: usize = 11;
 
@@ -58,6 +61,9 @@ pub struct Job {
     /// Distances below it count as none. Written from `TOLERANCE_VERSION` on; before, it
     /// is `bounds::TOLERANCE`.
     pub tolerance: f64,
+    /// The rule of crowded lines. Written from `RULE_VERSION` on; before, it is
+    /// `bounds::RULE`.
+    pub rule: u8,
     /// Lists that may be examined, over all calls.
     pub budget: u32,
     /// A point of the plane that the set is seen in.
@@ -120,6 +126,7 @@ pub fn accept(bytes: &[u8], workspace: usize) -> Result<Job, Refusal> {
     refuse_unless(job.numbers_in_bounds(), Refusal::Number)?;
     let tolerated = bounds::TOLERANCES.contains(&job.tolerance);
     refuse_unless(tolerated, Refusal::Tolerance)?;
+    refuse_unless(bounds::RULES.contains(&job.rule), Refusal::Rule)?;
     let identity = job.rows.first().is_some_and(|row| is_identity(row));
     refuse_unless(identity, Refusal::Identity)?;
     let permutations = job.rows.iter().all(|row| is_permutation(row));
@@ -172,6 +179,7 @@ impl Job {
             max: None,
             limit: None,
             tolerance: bounds::TOLERANCE,
+            rule: bounds::RULE,
             budget: DEFAULT_BUDGET,
             offset: vec![0.0; dimension],
             basis: unit_vectors(usize::from(rank).saturating_sub(1), dimension),
@@ -189,6 +197,7 @@ impl Job {
         let mut rest = Fields(&bytes[HEADER_LENGTH..]);
         let present = |flag| header.flags & flag != 0;
         let has_tolerance = header.version >= TOLERANCE_VERSION;
+        let has_rule = header.version >= RULE_VERSION;
         let (d, n) = (usize::from(header.dimension), usize::from(header.points));
         let job = Job {
             version: header.version,
@@ -200,6 +209,9 @@ impl Job {
             tolerance: rest
                 .optional(has_tolerance, Fields::float)?
                 .unwrap_or(bounds::TOLERANCE),
+            rule: rest
+                .optional(has_rule, Fields::byte)?
+                .unwrap_or(bounds::RULE),
             budget: rest.word()?,
             offset: rest.floats(d)?,
             basis: rest.many(usize::from(header.rank) - 1, |r| r.floats(d))?,
@@ -222,6 +234,9 @@ impl Job {
         bytes.extend(self.limit.into_iter().flat_map(u32::to_le_bytes));
         if self.version >= TOLERANCE_VERSION {
             bytes.extend(self.tolerance.to_le_bytes());
+        }
+        if self.version >= RULE_VERSION {
+            bytes.push(self.rule);
         }
         bytes.extend(self.budget.to_le_bytes());
         bytes.extend(self.coordinates().flat_map(f64::to_le_bytes));
@@ -282,6 +297,10 @@ impl Fields<'_> {
         Some(*front)
     }
 
+    fn byte(&mut self) -> Option<u8> {
+        self.array().map(|[byte]| byte)
+    }
+
     fn word(&mut self) -> Option<u32> {
         self.array().map(u32::from_le_bytes)
     }
@@ -295,7 +314,7 @@ impl Fields<'_> {
     }
 
     fn row(&mut self, points: usize) -> Option<Vec<u8>> {
-        self.many(points, |r| r.array().map(|[v]| v))
+        self.many(points, Fields::byte)
     }
 
     fn many<T>(&mut self, count: usize, one: impl Fn(&mut Self) -> Option<T>) -> Option<Vec<T>> {

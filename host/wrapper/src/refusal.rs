@@ -39,14 +39,16 @@ pub enum Refusal {
     Room,
     /// A tolerance that is too small or too large; looked for behind `Number`.
     Tolerance = 22,
+    /// Another rule of crowded lines; looked for behind `Tolerance`.
+    Rule = 25,
 }
 
 use Refusal::*;
 
 /// Every refusal with its words, ascending by number.
-const ALL: [(Refusal, &str); 18] = [
+const ALL: [(Refusal, &str); 19] = [
     (Mark, "the job is under 11 bytes or has the wrong mark"),
-    (Version, "the version is not 1 or 2"),
+    (Version, "the version is not 1 to 3"),
     (Rank, "the rank is not 2 to 4"),
     (Dimension, "d is below rank - 1 or above 4"),
     (PointCount, "the number of points is not 2 to 20"),
@@ -63,6 +65,7 @@ const ALL: [(Refusal, &str); 18] = [
     (Budget, "a list is due when the budget is used up"),
     (Room, "the answer buffer is too short"),
     (Tolerance, "the tolerance is not 1e-9 to 1e-3"),
+    (Rule, "the rule is not 1 or 2"),
 ];
 
 impl Refusal {

@@ -13,7 +13,7 @@ use super::symmetry;
 pub fn counts(rng: &mut Rng) -> Draft {
     let mut job = small_job(rng);
     match rng.below(5) {
-        0 => job.version = *rng.pick(&[0, 1, 2, 3, 256, 257, 65_535]),
+        0 => job.version = *rng.pick(&[0, 1, 2, 3, 4, 257, 65_535]),
         1 => set_rank(&mut job, *rng.pick(&[1, 2, 3, 4, 5, 6])),
         2 => set_dimension(&mut job, rng.within(0, 6)),
         3 => set_points(&mut job, *rng.pick(&[0, 1, 2, 19, 20, 21, 22])),

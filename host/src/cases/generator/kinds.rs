@@ -2,7 +2,7 @@
 //! case of it is made.
 
 use faceting_register::bounds::{workspace_length, TOLERANCE, WORKSPACE};
-use faceting_register::job::{identity_row, unit_vectors, TOLERANCE_VERSION};
+use faceting_register::job::{identity_row, unit_vectors, RULE_VERSION, TOLERANCE_VERSION};
 use faceting_register::request::USUAL_ROOM;
 use faceting_register::Job;
 
@@ -147,6 +147,12 @@ pub const KINDS: &[Kind] = &[
         0,
         tolerance,
         "version 2: the kinds near, brink and limits around another tolerance, and the range's ends; never drawn, only named",
+    ),
+    kind(
+        "rule",
+        0,
+        rule,
+        "version 3: sets with crowded lines under either rule, and other rules; never drawn, only named",
     ),
     kind(
         "brink",
@@ -315,6 +321,37 @@ pub fn at_tolerance(rng: &mut Rng, tolerance: f64) -> Job {
         tolerance,
         ..job
     }
+}
+
+/// A job of version 3, most of them under rule 2: points on few lines, in a plane or in
+/// space, or any job of another kind.
+fn rule(rng: &mut Rng) -> Draft {
+    let mut job = match rng.below(6) {
+        0 => near_job(rng, TOLERANCE),
+        1 => limits_job(rng, TOLERANCE),
+        _ => crowded_job(rng),
+    };
+    job.version = RULE_VERSION;
+    job.rule = match rng.below(8) {
+        0 => *rng.pick(&[0, 3, 255]),
+        1 => 1,
+        _ => 2,
+    };
+    if rng.once_in(32) {
+        job.tolerance = damage::tolerance(rng);
+    }
+    wide(job)
+}
+
+fn crowded_job(rng: &mut Rng) -> Job {
+    let dimension = rng.within(2, 3);
+    let most = if dimension == 2 { 8 } else { 6 };
+    let count = rng.within(4, most);
+    let points = match rng.below(3) {
+        0 => shapes::lattice(rng, count, dimension, 2),
+        _ => shapes::crowded(rng, count, dimension),
+    };
+    with_rows(rng, points)
 }
 
 fn large(rng: &mut Rng) -> Draft {

@@ -5,6 +5,7 @@
 use std::cell::RefCell;
 use std::panic::{catch_unwind, resume_unwind, AssertUnwindSafe};
 
+use faceting_register::bounds::{RULE, SOCIETY_RULE};
 use faceting_register::{Job, Refusal, Stop};
 
 use crate::engines::judgement::{Bounds, Events, Inner, Orbit};
@@ -12,6 +13,7 @@ use crate::engines::judgement::{Bounds, Events, Inner, Orbit};
 struct Watch {
     bounds: Bounds,
     tolerance: f64,
+    rule: u8,
     budget: u32,
     events: Events,
 }
@@ -29,6 +31,7 @@ pub fn watched<T>(
     let watch = Watch {
         bounds: bounds.clone(),
         tolerance: job.tolerance,
+        rule: job.rule,
         budget: job.budget,
         events: Events::default(),
     };
@@ -73,6 +76,13 @@ fn refuse_if(met: bool, refusal: Refusal) -> Result<(), Refusal> {
 /// The tolerance of the run: the job's.
 pub(super) fn tolerance() -> f64 {
     WATCH.with_borrow(|watch| watch.as_ref().map_or(0.0, |w| w.tolerance))
+}
+
+/// Whether a set of that many points opens no orbit under the job's rule. The original
+/// has no such rule.
+pub(super) fn passes_over(rank: usize, points: usize) -> bool {
+    let rule = WATCH.with_borrow(|watch| watch.as_ref().map_or(RULE, |w| w.rule));
+    rule == SOCIETY_RULE && rank == 3 && points > 2
 }
 
 /// A new set of that many points is about to open an orbit.

@@ -214,16 +214,18 @@ impl Draft {
 
     /// The version that was said, or the least that has the keywords.
     fn full_version(&self) -> Result<u16, String> {
-        let least = match self.has("tolerance") {
-            true => job::TOLERANCE_VERSION,
-            false => job::VERSION,
-        };
-        match self.job.version {
-            _ if !self.has("version") => Ok(least),
-            said if said < least && self.has("tolerance") => Err(format!(
-                "version {said} has no tolerance; leave 'version' out"
-            )),
-            said => Ok(said),
+        let versions = [
+            ("rule", job::RULE_VERSION),
+            ("tolerance", job::TOLERANCE_VERSION),
+        ];
+        let newest = versions.into_iter().find(|(word, _)| self.has(word));
+        match (self.job.version, newest) {
+            (_, None) if !self.has("version") => Ok(job::VERSION),
+            (_, Some((_, least))) if !self.has("version") => Ok(least),
+            (said, Some((word, least))) if said < least => {
+                Err(format!("version {said} has no {word}; leave 'version' out"))
+            }
+            (said, _) => Ok(said),
         }
     }
 

@@ -1,7 +1,7 @@
 //! The keywords of the text form, each in one place: what it reads into a draft and
 //! what is written of a job. `help/text.txt` tells people of them.
 
-use faceting_register::job::{Job, TOLERANCE_VERSION, VERSION};
+use faceting_register::job::{Job, RULE_VERSION, TOLERANCE_VERSION, VERSION};
 
 use super::draft::{Draft, Wanted};
 use super::values::{numbers, one_number, one_of, row, whole};
@@ -40,7 +40,7 @@ pub fn find(word: &str) -> Option<&'static Keyword> {
 }
 
 /// Every keyword, in the order in which a job is written.
-pub static KEYWORDS: [Keyword; 15] = [
+pub static KEYWORDS: [Keyword; 16] = [
     value(
         "version",
         |draft, text| put(&mut draft.job.version, whole(text)),
@@ -75,6 +75,11 @@ pub static KEYWORDS: [Keyword; 15] = [
         "tolerance",
         |draft, text| put(&mut draft.job.tolerance, one_number(text)),
         |job| (job.version >= TOLERANCE_VERSION).then(|| Said::behind(decimal(job.tolerance))),
+    ),
+    value(
+        "rule",
+        |draft, text| put(&mut draft.job.rule, whole(text)),
+        |job| (job.version >= RULE_VERSION).then(|| Said::behind(job.rule)),
     ),
     value(
         "budget",
@@ -127,7 +132,7 @@ const SYMMETRIES: [(&str, Wanted); 3] = [
 
 /// Whether a version follows from the other keywords.
 fn implied(version: u16) -> bool {
-    [VERSION, TOLERANCE_VERSION].contains(&version)
+    [VERSION, TOLERANCE_VERSION, RULE_VERSION].contains(&version)
 }
 
 /// A keyword with values behind it.
