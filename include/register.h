@@ -26,13 +26,13 @@ extern "C" {
 
 /*
  * Why a job is refused; the function returns minus this number. They are looked
- * for in this order, and the first that applies is returned [11.1]; 22 has its
- * place behind 9. Of 13 to 16, which come up during the work, it is the one that
+ * for in this order, and the first that applies is returned [11.1]; 22 and 25 have
+ * their place behind 9. Of 13 to 16, which come up during the work, it is the one that
  * is met first [11.4].
  */
 enum register_refusal {
     REGISTER_MARK = 1,         /* under 11 bytes, or does not begin with FCT */
-    REGISTER_VERSION = 2,      /* version other than 1, 2 */
+    REGISTER_VERSION = 2,      /* version other than 1, 2, 3 */
     REGISTER_RANK = 3,         /* rank other than 2, 3, 4 */
     REGISTER_DIMENSION = 4,    /* coordinates: fewer than rank - 1, more than 4 */
     REGISTER_POINT_COUNT = 5,  /* fewer than 2 points, more than 20 */
@@ -43,6 +43,7 @@ enum register_refusal {
                                   beyond 65,536 in size, the basis's beyond 1, min
                                   or max below 0 or above 131,072 */
     REGISTER_TOLERANCE = 22,   /* tolerance below 1e-9 or above 1e-3 */
+    REGISTER_RULE = 25,        /* rule of crowded lines other than 1, 2 */
     REGISTER_IDENTITY = 10,    /* the first row moves a point */
     REGISTER_PERMUTATION = 11, /* a row that is no permutation */
     REGISTER_WORKSPACE = 12,   /* workspace shorter than the rank's, see above */
@@ -64,7 +65,7 @@ enum register_refusal {
  * facets, as said below.
  *
  * Returns the length of the answer, which is 0 or more, or minus the number of a
- * refusal, -1 to -17 or -22. Nothing else is returned (code-says), and every call ends.
+ * refusal, -1 to -17, -22 or -25. Nothing else is returned (code-says), and every call ends.
  *
  * What is promised, for all bytes in the three slices:
  *

@@ -22,6 +22,8 @@ from dataclasses import dataclass
 
 VERSION = 1
 TOLERANCE_VERSION = 2  # the first whose jobs name a tolerance
+RULE_VERSION = 3  # the first whose jobs name a rule of crowded lines
+TOLERANCE = 1e-7  # of a job that names none
 DEFAULT_BUDGET = 1_000_000
 WORKSPACE = 4_194_304
 USUAL_ROOM = 1 << 20
@@ -52,6 +54,7 @@ REFUSALS = {
     20: "only entries of rank 4 have a price",
     21: "no entry of that number",
     22: "a tolerance outside its range",
+    25: "a rule that there is not",
 }
 
 
@@ -97,9 +100,12 @@ class Quote:
 
 
 def job(points, rows=None, rank=None, *, low=None, high=None, limit=None, tolerance=None,
-        budget=DEFAULT_BUDGET, offset=None, basis=None):
+        rule=None, budget=DEFAULT_BUDGET, offset=None, basis=None):
     """The bytes of a job; rank is by default one more than the number of coordinates."""
+    if rule is not None and tolerance is None:
+        tolerance = TOLERANCE
     version = VERSION if tolerance is None else TOLERANCE_VERSION
+    version = version if rule is None else RULE_VERSION
     dimension = len(points[0]) if points else 0
     rank = dimension + 1 if rank is None else rank
     rows = [range(len(points))] if rows is None else rows
@@ -113,6 +119,8 @@ def job(points, rows=None, rank=None, *, low=None, high=None, limit=None, tolera
         limits += struct.pack("<I", limit)
     if tolerance is not None:
         limits += struct.pack("<d", tolerance)
+    if rule is not None:
+        limits += struct.pack("<B", rule)
     numbers = [*offset, *(x for vector in basis for x in vector), *(x for p in points for x in p)]
     body = struct.pack(f"<I{len(numbers)}d", budget, *numbers)
     return head + limits + body + b"".join(bytes(row) for row in rows)
