@@ -15,6 +15,7 @@ pub mod Symmetry
 pub mod Batch
 pub mod Prices
 pub mod Noble
+pub mod Plain
 pub mod Open
 pub mod Labels
 pub mod Examples
@@ -29,3 +30,4 @@ pub mod Carried
 pub mod Rows
 pub mod Quotes
 pub mod Packages
+pub mod PlainEntries

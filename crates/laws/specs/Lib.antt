@@ -20,3 +20,4 @@ pub mod Sets
 pub mod Outcomes
 pub mod Refusals
 pub mod Walks
+pub mod Filtered
