@@ -23,9 +23,10 @@ codeWritten (Refused number) = negℤ (pos number)
 codeWritten Short = negℤ (pos 17)
 codeWritten (Wrote many) = pos many
 
-pub code-is : (job : Bytes) (workspace room : ℕ) {w : Written} → w ≡ writtenIn room (alone job workspace) → codeWritten w ≡ codeOf (outcome job workspace room)
+-- of any outcome of which so much is written
+pub written-code : (room : ℕ) (o : Outcome Bytes) {w : Written} → w ≡ writtenIn room o → codeWritten w ≡ codeOf (andThen o (fitting room))
 unfolding codeWritten writtenIn codeOf fitting refuseIf andThen
-code-is job workspace room {w} e = ap codeWritten e ∙ (go (alone job workspace) ∙ sym (ap codeOf (outcome-alone job workspace room)))
+written-code room o {w} e = ap codeWritten e ∙ go o
   where
     by-room : (bytes : Bytes) (b : Bool) → codeWritten (cond b Short (Wrote (length bytes))) ≡ codeOf (refuseIf b 17 (λ u. answered bytes))
     by-room bytes true = refl
@@ -34,6 +35,9 @@ code-is job workspace room {w} e = ap codeWritten e ∙ (go (alone job workspace
     go : (o : Outcome Bytes) → codeWritten (writtenIn room o) ≡ codeOf (andThen o (fitting room))
     go (refused number) = refl
     go (answered bytes) = by-room bytes (ltb room (length bytes))
+
+pub code-is : (job : Bytes) (workspace room : ℕ) {w : Written} → w ≡ writtenIn room (alone job workspace) → codeWritten w ≡ codeOf (outcome job workspace room)
+code-is job workspace room e = written-code room (alone job workspace) e ∙ sym (ap codeOf (outcome-alone job workspace room))
 
 pub buffer-is : (job : Bytes) (workspace room : ℕ) → bufferIn room (alone job workspace) ≡ bufferOf room (outcome job workspace room)
 unfolding bufferIn

@@ -155,7 +155,7 @@ pub enum Written {
 }
 
 // The cursor behind the last word is the answer's length, or past the buffer: then the buffer is cleared again.
-fn close(answer: &mut [u8], at: usize) -> Written
+pub fn close(answer: &mut [u8], at: usize) -> Written
     ensures result { λ r. ⌜ r ≡ writtenTo (length (now (answer .entry))) at ⌝ }
     ensures buffer { λ _. ⌜ now (answer .exit) ≡ bufferTo (now (answer .entry)) at ⌝ }
 {

@@ -1,4 +1,4 @@
-// `label_irc` on sorted lists of numbered facets: which entries are made of two others. Leans on the order of the lists.
+// `label_irc` on sorted lists of numbered facets: which entries are made of two others; and its walk by itself, for `filter_irc`. Leans on the order of the lists.
 use order::Area;
 ghost use mathlib.Core.Path.{_≡_};
 ghost use Prim.Native.Nat.{_+_, _*_, _≤_, _<_, compare};
@@ -6,7 +6,8 @@ ghost use lib.ListN.{length, getD};
 ghost use Rattle.pool.specs.Pool.{count};
 ghost use lib.Seq.{sets};
 ghost use Rattle.order.specs.Areas.{listsOf, listOf, Holding};
-ghost use Rattle.definitions.specs.Figures.{firstAbove, labelsOf};
+ghost use Rattle.definitions.specs.Figures.{walk, firstAbove, labelsOf};
+ghost use Rattle.definitions.specs.Plain.{isFound};
 ghost use Rattle.order.specs.Numbers.{AllAscending};
 ghost use Rattle.labels.specs.Labels.{leaves, labelBytes};
 
@@ -21,10 +22,10 @@ fn next_at(s: &[u8], area: Area, k: usize, n: usize, i: usize) -> u32
     order::item_at(s, area, k, i) as u32
 }
 
-// ---- label_irc
+// ---- the walk
 
 // Whether the first item of the list at place b is above that of the list at place a.
-fn starts_above(s: &[u8], area: Area, b: usize, a: usize) -> bool
+pub fn starts_above(s: &[u8], area: Area, b: usize, a: usize) -> bool
     requires { ⌜ Holding area (now s) × (b < area .count) × (a < area .count) ⌝ }
     ensures { λ r. ⌜ r ≡ firstAbove compare (listOf area (now (s .entry)) b) (listOf area (now (s .entry)) a) ⌝ }
 {
@@ -36,6 +37,31 @@ fn starts_above(s: &[u8], area: Area, b: usize, a: usize) -> bool
     }
     order::item_at(s, area, a, 0) < order::item_at(s, area, b, 0)
 }
+
+// Whether the walk of list b through list a comes to the end of b [8.7]. `label_irc` has this walk inside its labelled loops, by the same laws.
+pub fn is_found(s: &[u8], area: Area, a: usize, b: usize) -> bool
+    requires { ⌜ Holding area (now s) × (a < area .count) × (b < area .count) ⌝ }
+    ensures { λ r. ⌜ r ≡ isFound (walk compare (listOf area (now (s .entry)) a) (listOf area (now (s .entry)) b)) ⌝ }
+{
+    let m = order::length_at(s, area, a);
+    let n = order::length_at(s, area, b);
+    let mut i = 0;
+    let mut j = 0;
+    while j < n {
+        let item = next_at(s, area, a, m, i);
+        let sought = order::item_at(s, area, b, j) as u32;
+        if sought < item {
+            return false;
+        }
+        if item == sought {
+            j += 1;
+        }
+        i += 1;
+    }
+    true
+}
+
+// ---- label_irc
 
 // Whether the list at place c is what the walk of list b through list a passes over or leaves.
 fn is_left(s: &[u8], area: Area, a: usize, b: usize, c: usize) -> bool

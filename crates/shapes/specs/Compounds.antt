@@ -26,7 +26,7 @@ pub record Entered (a : ℕ) (labels : List (Option Pair)) (c : Compound) : Type
   pub whole : c .whole ≡ a + place
   pub is : getD labels place none ≡ some (c .first, c .second)
 
-entered : (a : ℕ) (labels : List (Option Pair)) (c : Compound) → Mem c (compoundsFrom a labels) → Entered a labels c
+pub entered : (a : ℕ) (labels : List (Option Pair)) (c : Compound) → Mem c (compoundsFrom a labels) → Entered a labels c
 unfolding compoundsFrom compoundAt
 entered a [] c m = elim m [ ]
 entered a (none ∷ labels) c m = later (entered (suc a) labels c m)
