@@ -1,0 +1,2 @@
+-- What `filter_irc` has found and written, turn by turn.
+pub mod Found
