@@ -25,14 +25,14 @@ use Rattle.register.specs.Reading.{wordsRead, entriesRead, answer-back, 
 -- ---- what an answered job says
 
 -- its call's answer, whose bytes these are
-record Called (bytes : Bytes) (answer : Bytes) : Type 0 where
-  given : Answer
-  is-given : callOf bounds1 (readJob bytes) ≡ answered given
-  bytes-are : answer ≡ answerBytes (readJob bytes .budget) given
-  passed : RowsPassed (readJob bytes)
-  ranked : T (between 2 4 (readJob bytes .rank))
+pub record Called (bytes : Bytes) (answer : Bytes) : Type 0 where
+  pub given : Answer
+  pub is-given : callOf bounds1 (readJob bytes) ≡ answered given
+  pub bytes-are : answer ≡ answerBytes (readJob bytes .budget) given
+  pub passed : RowsPassed (readJob bytes)
+  pub ranked : T (between 2 4 (readJob bytes .rank))
 
-called : (bytes : Bytes) (workspace room : ℕ) (answer : Bytes) → outcome bytes workspace room ≡ answered answer → Called bytes answer
+pub called : (bytes : Bytes) (workspace room : ℕ) (answer : Bytes) → outcome bytes workspace room ≡ answered answer → Called bytes answer
 unfolding outcome outcomeWithin fitting tests
 called bytes workspace room answer e =
     let job = readJob bytes in
@@ -61,7 +61,7 @@ answer-decoded bytes workspace room answer are e =
     (c .given, c .is-given, ap wordsRead (c .bytes-are) ∙ answer-back budget (c .given) (job-words bytes (c .passed) (c .ranked) (c .given) (c .is-given) budget (budget-below bytes are)))
 
 -- and its entries are those that its call gives
-entries-in : (bytes : Bytes) (answer tail : Bytes) (c : Called bytes answer) → entriesRead (answer ++ tail) ≡ c .given .entries
+pub entries-in : (bytes : Bytes) (answer tail : Bytes) (c : Called bytes answer) → entriesRead (answer ++ tail) ≡ c .given .entries
 entries-in bytes answer tail c =
     ap (λ (l : Bytes). entriesRead (l ++ tail)) (c .bytes-are)
     ∙ entries-read (readJob bytes .budget) (c .given) tail (job-words bytes (c .passed) (c .ranked) (c .given) (c .is-given) 0 (omega arith))

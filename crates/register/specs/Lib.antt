@@ -2,3 +2,4 @@
 pub mod Reading
 pub mod Demands
 pub mod Batches
+pub mod Plain

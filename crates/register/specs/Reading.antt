@@ -163,3 +163,15 @@ entries-read budget a tail small =
     ∙ (ap after (regroup counts entries possible compounds summaries (wordsRead tail))
     ∙ (ap (λ (r : List ℕ × List ℕ). readCounted readEntry (r .1) .0) (counted-read readWord (λ (count : ℕ). count ∷ []) word-reads (a .counts) (entries ++ others))
     ∙ ap (λ (r : List Entry × List ℕ). r .0) (counted-read readEntry entryWords entry-reads (a .entries) others))))
+
+-- ---- the numbers of a list that stands alone
+
+-- how many, and then each
+unfoldable pub numbersRead : Bytes → List ℕ
+numbersRead bytes = readCounted readWord (wordsRead bytes) .0
+
+pub numbers-back : (numbers : List ℕ) (tail : Bytes) → WordsBelow u32s (counted (λ (number : ℕ). number ∷ []) numbers) → numbersRead (flatMap wordBytes (counted (λ (number : ℕ). number ∷ []) numbers) ++ tail) ≡ numbers
+unfolding numbersRead
+numbers-back numbers tail small =
+    ap (λ (words : List ℕ). readCounted readWord words .0) (words-back (counted (λ (number : ℕ). number ∷ []) numbers) tail small)
+    ∙ ap (λ (r : List ℕ × List ℕ). r .0) (counted-read readWord (λ (number : ℕ). number ∷ []) word-reads numbers (wordsRead tail))

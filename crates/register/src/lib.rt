@@ -2,7 +2,7 @@
 use answering::Written;
 use quotes::Quoted;
 ghost use mathlib.Core.Path.{_≡_};
-ghost use Prim.Native.Nat.{_≤_};
+ghost use Prim.Native.Nat.{ℕ, _≤_};
 ghost use lib.IntN.{pos, negℤ};
 ghost use lib.ListN.{length, take};
 ghost use Rattle.definitions.specs.Outcome.{answered};
@@ -11,8 +11,12 @@ ghost use Rattle.definitions.specs.Demands.{Demand1, Demand2, Demand3};
 ghost use Rattle.definitions.specs.Symmetry.{Symmetric};
 ghost use Rattle.definitions.specs.Batch.{batch, Batched};
 ghost use Rattle.definitions.specs.Prices.{quote, quoteCode, slipLength, slip, withRoom};
-ghost use Rattle.register.specs.Reading.{entriesRead};
+ghost use Rattle.definitions.specs.Plain.{plainOnes, splitLists, LeftOut};
+ghost use Rattle.register.specs.Reading.{entriesRead, numbersRead};
 ghost use Rattle.register.specs.Batches.{Promised};
+
+// [11.5] the return value where a buffer is too short
+const NO_ROOM: i64 = -17;
 
 // [12.7] minus the refusal's number
 pub fn refusal(number: u8) -> i64
@@ -36,7 +40,7 @@ pub extern "C" fn register_answer(job: &[u8], workspace: &mut [u8], answer: &mut
     words::clear(answer);
     match answering::answer_job(job, workspace, answer) {
         Written::Refused(number) => refusal(number),
-        Written::Short => -17,
+        Written::Short => NO_ROOM,
         Written::Wrote(many) => many as i64,
     }
 }
@@ -70,5 +74,22 @@ pub extern "C" fn register_price(
     match quotes::quote_job(job, workspace, entry, tariff, answer) {
         Quoted::Refused(number) => refusal(number),
         Quoted::Total(total) => total as i64,
+    }
+}
+
+// [18.3] The plain entries of a job: how many, and the number of each, ascending. The return value is the length in bytes, or minus the number of the refusal. Code and buffer are the
+// definition's, whatever the slices are. Of the entries that the first call answers this job with, whatever its buffer, and that are read back from that answer's bytes: each whose number is
+// not in this buffer has another, whose split list stands inside its own [18.4].
+#[no_mangle]
+pub extern "C" fn register_plain(job: &[u8], workspace: &mut [u8], numbers: &mut [u8]) -> i64
+    ensures code { λ r. ⌜ r ≡ codeOf (plainOnes (now (job .entry)) (length (now (workspace .entry))) (length (now (numbers .entry)))) ⌝ }
+    ensures buffer { λ _. ⌜ now (numbers .exit) ≡ bufferOf (length (now (numbers .entry))) (plainOnes (now (job .entry)) (length (now (workspace .entry))) (length (now (numbers .entry)))) ⌝ }
+    ensures left_out { λ _. ⌜ ((written : Bytes) → plainOnes (now (job .entry)) (length (now (workspace .entry))) (length (now (numbers .entry))) ≡ answered written → (first : ℕ) (bytes : Bytes) → outcome (now (job .entry)) (length (now (workspace .entry))) first ≡ answered bytes → LeftOut (splitLists (entriesRead bytes)) (numbersRead (now (numbers .exit)))) ⌝ }
+{
+    words::clear(numbers);
+    match plain::plain_job(job, workspace, numbers) {
+        Written::Refused(number) => refusal(number),
+        Written::Short => NO_ROOM,
+        Written::Wrote(many) => many as i64,
     }
 }
