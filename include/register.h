@@ -179,6 +179,29 @@ int64_t register_price(const uint8_t *job, size_t job_length,
                        const uint8_t *tariff, size_t tariff_length,
                        uint8_t *answer, size_t answer_length);
 
+/*
+ * Writes which entries of a job are plain: those in whose split list the ordered
+ * walk of [8.7] finds no other entry's list of equal or smaller length whose first
+ * item is not above theirs [18.2]. First how many they are, then the number of
+ * each, ascending, counted from 0: little-endian u32 in a buffer of any alignment.
+ * Of two entries with equal lists neither is among them; at rank 2 it writes 1, 0.
+ *
+ * Returns the length in bytes, 4 * (1 + how many), or minus the number of the
+ * job's refusal, as register_answer does, 17 for a buffer shorter than that. The
+ * length of the job's answer is not asked, and no figure is worked out. 4,100
+ * bytes hold every list.
+ *
+ * Promised beside what is promised of register_answer: every entry whose number is
+ * not written has another entry whose list stands inside its own, item by item in
+ * order, of the entries that register_answer gives for the same job; so every
+ * compound is left out. The converse is not: the walk ends at an item above the one
+ * it looks for, and may keep an entry that another stands inside of [18.4]. What
+ * the caller owes is as for register_answer.
+ */
+int64_t register_plain(const uint8_t *job, size_t job_length,
+                       uint8_t *workspace, size_t workspace_length,
+                       uint8_t *answer, size_t answer_length);
+
 #ifdef __cplusplus
 }
 #endif

@@ -73,6 +73,7 @@ const NAMES: &[&str] = &[
     "roots",
     "compare-register",
     "compare-rows",
+    "compare-plain",
     "speed",
     "load",
     "record",

@@ -4,6 +4,7 @@ mod definitions;
 mod jobs;
 mod load;
 mod mutants;
+mod plain;
 mod register;
 mod roots;
 mod rows;
@@ -49,6 +50,7 @@ pub const COMMANDS: &[Command] = &[
     roots::ROOTS,
     register::COMPARE_REGISTER,
     rows::COMPARE_ROWS,
+    plain::COMPARE_PLAIN,
     speed::SPEED,
     load::LOAD,
     register::RECORD,

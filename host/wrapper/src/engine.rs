@@ -19,6 +19,13 @@ pub trait Engine {
     fn answer_row(&mut self, _row: &[u8], _workspace: usize, _answer: &mut [u8]) -> Option<i64> {
         None
     }
+
+    /// How many plain entries the job has and the number of each, as u32 in the buffer;
+    /// their length in bytes or minus a refusal number. None where the engine has no
+    /// such call.
+    fn plain(&mut self, _job: &[u8], _workspace: usize, _answer: &mut [u8]) -> Option<i64> {
+        None
+    }
 }
 
 /// Why a job has no answer.

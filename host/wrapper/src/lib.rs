@@ -18,6 +18,7 @@ pub mod batch;
 pub mod bounds;
 pub mod engine;
 pub mod job;
+pub mod plain;
 pub mod quote;
 pub mod refusal;
 pub mod register;

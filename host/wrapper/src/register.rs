@@ -49,6 +49,15 @@ mod linked {
             answer: *mut u8,
             answer_length: usize,
         ) -> i64;
+
+        pub fn register_plain(
+            job: *const u8,
+            job_length: usize,
+            workspace: *mut u8,
+            workspace_length: usize,
+            answer: *mut u8,
+            answer_length: usize,
+        ) -> i64;
     }
 }
 
@@ -78,10 +87,23 @@ pub fn exported_batch() -> Result<Exported, NotLinked> {
     Err(NotLinked)
 }
 
+/// The function that writes the numbers of a job's plain entries.
+#[cfg(has_register)]
+pub fn exported_plain() -> Result<Exported, NotLinked> {
+    Ok(linked::register_plain)
+}
+
+/// The function that writes the numbers of a job's plain entries.
+#[cfg(not(has_register))]
+pub fn exported_plain() -> Result<Exported, NotLinked> {
+    Err(NotLinked)
+}
+
 /// The register with a workspace that is kept from call to call.
 pub struct Register {
     function: Exported,
     batch: Exported,
+    plain: Exported,
     workspace: Vec<u8>,
 }
 
@@ -91,6 +113,7 @@ impl Register {
         Ok(Register {
             function: exported()?,
             batch: exported_batch()?,
+            plain: exported_plain()?,
             workspace: Vec::new(),
         })
     }
@@ -133,5 +156,9 @@ impl Engine for Register {
 
     fn answer_row(&mut self, row: &[u8], workspace: usize, answer: &mut [u8]) -> Option<i64> {
         Some(self.call(self.batch, row, workspace, answer))
+    }
+
+    fn plain(&mut self, job: &[u8], workspace: usize, answer: &mut [u8]) -> Option<i64> {
+        Some(self.call(self.plain, job, workspace, answer))
     }
 }
