@@ -26,6 +26,8 @@ RULE_VERSION = 3  # the first whose jobs name a rule of crowded lines
 TOLERANCE = 1e-7  # of a job that names none
 DEFAULT_BUDGET = 1_000_000
 WORKSPACE = 4_194_304
+# A count and 1,024 numbers.
+PLAIN_ROOM = 4 * (1 + 1024)
 USUAL_ROOM = 1 << 20
 LONGEST = 1 << 30
 ROOM = 17  # the refusal of a buffer that is too short
@@ -194,12 +196,13 @@ class Register:
     nothing else; two threads need a Register each."""
 
     def __init__(self, library=None):
-        linked = ctypes.CDLL(library or _library())
-        self._function = linked.register_answer
-        self._function.restype = ctypes.c_int64
-        self._function.argtypes = [ctypes.c_char_p, ctypes.c_size_t, ctypes.c_char_p,
-                                   ctypes.c_size_t, ctypes.c_char_p, ctypes.c_size_t]
-        self._price = linked.register_price
+        exported = ctypes.CDLL(library or _library())
+        self._function, self._plain = exported.register_answer, exported.register_plain
+        for function in (self._function, self._plain):
+            function.restype = ctypes.c_int64
+            function.argtypes = [ctypes.c_char_p, ctypes.c_size_t, ctypes.c_char_p,
+                                 ctypes.c_size_t, ctypes.c_char_p, ctypes.c_size_t]
+        self._price = exported.register_price
         self._price.restype = ctypes.c_int64
         self._price.argtypes = [ctypes.c_char_p, ctypes.c_size_t, ctypes.c_char_p, ctypes.c_size_t,
                                 ctypes.c_uint64, ctypes.c_char_p, ctypes.c_size_t,
@@ -230,3 +233,11 @@ class Register:
         if code < 0:
             raise Refused(-code)
         return Quote(code, list(struct.unpack(f"<{MOST_EDGES}Q", slip.raw)))
+
+    def plain(self, asked):
+        """The ascending numbers of the entries of a job in which no other is found."""
+        buffer = ctypes.create_string_buffer(PLAIN_ROOM)
+        code = self._plain(asked, len(asked), self._workspace, WORKSPACE, buffer, PLAIN_ROOM)
+        if code < 0:
+            raise Refused(-code)
+        return list(struct.unpack(f"<{code // 4}I", buffer.raw[:code]))[1:]

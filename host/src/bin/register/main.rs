@@ -8,6 +8,7 @@ mod order;
 mod outcome;
 mod output;
 mod places;
+mod plain;
 mod price;
 mod progress;
 mod quotes;
@@ -36,6 +37,7 @@ fn main() -> ExitCode {
             Some(Told::Version) => print(VERSION),
             None if options.symmetry => symmetry::run(&options),
             None if options.quotes_alone() => price::run(&options),
+            None if options.plain => plain::run(&options),
             None => work::run(&options),
         },
         Err(words) => complain(&words, Status::Bad),

@@ -66,6 +66,8 @@ pub struct Options {
     pub symmetry: bool,
     /// The tariff to quote from: in place of answers, or for what shows prices.
     pub price: Option<PathBuf>,
+    /// Whether the numbers of plain entries are printed in place of answers.
+    pub plain: bool,
     /// Whether a note of weight counts in the exit status.
     pub strict: bool,
     /// How large parts are cut.
@@ -93,6 +95,7 @@ impl Options {
             quiet: false,
             symmetry: false,
             price: None,
+            plain: false,
             strict: false,
             size: Size {
                 scale: 1.0,
@@ -141,6 +144,7 @@ impl Options {
             "--symmetry" => self.symmetry = true,
             "--price" if self.price.is_some() => return Err("'--price' was given before".into()),
             "--price" => self.price = Some(value()?.into()),
+            "--plain" => self.plain = true,
             "--strict" => self.strict = true,
             "--help" | "-h" => self.told = self.told.or(Some(Told::Help)),
             "--version" => self.told = self.told.or(Some(Told::Version)),
@@ -194,6 +198,17 @@ impl Options {
             return Err(
                 "'--price' goes with '--csv', with '--svg' or by itself, and not with '--original'"
                     .into(),
+            );
+        }
+        if self.plain
+            && (self.price.is_some()
+                || self.symmetry
+                || self.original
+                || self.form != Form::Page
+                || self.place.is_some())
+        {
+            return Err(
+                "'--plain' goes with none of '--json', '--raw', '-o', '--price', '--symmetry' and '--original'".into(),
             );
         }
         if self.inputs.is_empty() && self.told.is_none() {
