@@ -4,14 +4,14 @@ use mathlib.Core.Path.{_≡_, refl, sym, ap, _∙_}
 use mathlib.Core.Bool.{Bool, false, cond}
 use mathlib.Core.List.{List, [], _∷_, _++_, map, flatMap}
 use mathlib.Core.Option.{Option, some, none}
-use Prim.Native.Nat.{ℕ, _+_, _*_, _/_, _%_, _^_, _≤_, _<_, compare}
+use Prim.Native.Nat.{ℕ, suc, _+_, _*_, _/_, _%_, _^_, _≤_, _<_, compare}
 use native.Mathlib.Omega.{arith}
 use borrow.Author.Tests.{ne-eqb}
 use lib.Dec.{eqb, isEq}
 use lib.ListN.{length, drop, length-map}
 use lib.Seq.{sets}
 use Rattle.definitions.specs.Lists.{Pair, compareNats}
-use Rattle.definitions.specs.Figures.{walk, labelFrom, labelsOf}
+use Rattle.definitions.specs.Figures.{walk, firstAbove, labelFrom, labelsOf}
 use Rattle.laws.specs.Lists.{Mem, here, there, of-map}
 use Rattle.laws.specs.Orders.{nats}
 use Rattle.laws.specs.Walks.{labelled}
@@ -24,6 +24,11 @@ leaves a b items = elim (walk compare a b) [
   | none ↦ false
   | some rest ↦ isEq (compareNats rest items)
 ]
+
+-- the place of the first list that does not begin below these items, the lists being those from place b on
+unfoldable pub searchFrom : List ℕ → List (List ℕ) → ℕ → ℕ
+searchFrom a [] b = b
+searchFrom a (l ∷ ls) b = let later = searchFrom a ls (suc b) in cond (firstAbove compare a l) later b
 
 unfoldable pub labelCode : Option Pair → ℕ
 labelCode none = 0

@@ -2,14 +2,14 @@
 use order::Area;
 ghost use mathlib.Core.Path.{_≡_};
 ghost use Prim.Native.Nat.{_+_, _*_, _≤_, _<_, compare};
-ghost use lib.ListN.{length, getD};
+ghost use lib.ListN.{length, getD, drop};
 ghost use Rattle.pool.specs.Pool.{count};
 ghost use lib.Seq.{sets};
 ghost use Rattle.order.specs.Areas.{listsOf, listOf, Holding};
 ghost use Rattle.definitions.specs.Figures.{walk, firstAbove, labelsOf};
 ghost use Rattle.definitions.specs.Plain.{isFound};
 ghost use Rattle.order.specs.Numbers.{AllAscending};
-ghost use Rattle.labels.specs.Labels.{leaves, labelBytes};
+ghost use Rattle.labels.specs.Labels.{leaves, searchFrom, labelBytes};
 
 // The item at place i of the list at place k, which has n items; behind its last item a number above every item.
 fn next_at(s: &[u8], area: Area, k: usize, n: usize, i: usize) -> u32
@@ -63,6 +63,22 @@ pub fn is_found(s: &[u8], area: Area, a: usize, b: usize) -> bool
 
 // ---- label_irc
 
+// The place of the first list from place `from` on that does not begin below list a.
+fn search_start(s: &[u8], area: Area, a: usize, from: usize) -> usize
+    requires { ⌜ Holding area (now s) × (a < area .count) × (from ≤ area .count) ⌝ }
+    ensures { λ r. ⌜ r ≡ searchFrom (listOf area (now (s .entry)) a) (drop from (listsOf area (now (s .entry)))) from ⌝ }
+{
+    let lists = area.count;
+    let mut b = from;
+    while b < lists {
+        if !starts_above(s, area, a, b) {
+            return b;
+        }
+        b += 1;
+    }
+    b
+}
+
 // Whether the list at place c is what the walk of list b through list a passes over or leaves.
 fn is_left(s: &[u8], area: Area, a: usize, b: usize, c: usize) -> bool
     requires { ⌜ Holding area (now s) × (a < area .count) × (b < area .count) × (c < area .count) ⌝ }
@@ -95,22 +111,26 @@ fn is_left(s: &[u8], area: Area, a: usize, b: usize, c: usize) -> bool
 }
 
 // For each list the first shorter one found inside it, and with it the first later one that is left: a table of labels from place `at` on.
-// The lists ascend: behind a shorter b that begins above a's first item every list begins above it, so that the search may stop there.
+// The lists ascend: behind a list that begins above a's first item every list begins above it, so that the search may
+// stop there; and a list that begins below it is found neither inside a nor inside a later list, so that no search
+// looks at it again. An empty list, which stands first and is found inside every other, begins neither above nor below.
 pub fn label_irc(ws: &mut [u8], area: Area, at: usize)
     requires { ⌜ Holding area (now ws) × AllAscending (listsOf area (now ws)) × (area .count ≤ 65536) × (area .bytes + 2 * area .count ≤ at) × (at + 4 * area .count ≤ length (now ws)) ⌝ }
     ensures { λ _. ⌜ now (ws .exit) ≡ sets (now (ws .entry)) at (labelBytes (labelsOf compare (listsOf area (now (ws .entry))))) ⌝ }
 {
     let lists = area.count;
+    let mut start = 0;
     'a: for a in 0..lists {
         words::put_u32(ws, at + 4 * a, 0);
         let m = order::length_at(ws, area, a);
-        'subset: for b in 0..lists {
+        start = search_start(ws, area, a, start);
+        'subset: for b in start..lists {
+            if starts_above(ws, area, b, a) {
+                break;
+            }
             let n = order::length_at(ws, area, b);
             if m <= n {
                 continue;
-            }
-            if starts_above(ws, area, b, a) {
-                break;
             }
             let mut i = 0;
             let mut j = 0;
