@@ -1,17 +1,18 @@
 -- The turns of the loops that make the search's tables. Leans on Codes and Areas.
 use mathlib.Core.Path.{_≡_, refl, sym, ap, subst, _∙_}
 use mathlib.Core.List.{List, [], _∷_, _++_, append-nil}
-use Prim.Native.Nat.{ℕ, suc, _+_, _*_, _-_, _/_, _%_, _≤_, _<_, min}
+use Prim.Native.Nat.{ℕ, zero, suc, _+_, _*_, _-_, _/_, _%_, _≤_, _<_, min}
 use native.Mathlib.Omega.{arith}
+use native.Mathlib.Decide.{ℕ-discrete}
 use native.Mathlib.Nat.{mul-le-mul-left, mul-le-mul-right}
-use lib.ListN.{length, getD, take}
-use lib.Seq.{take-all}
+use lib.ListN.{length, getD, take, set, replicate, length-set}
+use lib.Seq.{take-all, getD-set-same, getD-set-other}
 use Rattle.definitions.specs.Search.{lastShare}
 use Rattle.laws.specs.Parts.{take-more}
 use Rattle.laws.specs.Segments.{placed}
 use Rattle.pool.specs.Pool.{base, used, pushed, ended}
 use Rattle.shares.specs.Areas.{area, flat, AreaRoom, AreaEmpty, Joined, AreaGrown, flat-few, listsTo, lists-long, lists-at, joined-room, joined-more, joined-none, push-asks, joined-push, joined-end}
-use Rattle.ridges.specs.Codes.{touchedOf, onesIn, onesTo, ones-append, one-joins, one-stays, ones-left, ones-to-few, ones-more, sharesHere, amountOf, here-none, here-joins, here-stays, touchedTo, touchedCode, touched-more, code-some, code-none, touched-few, amount-small}
+use Rattle.ridges.specs.Codes.{touchedOf, onesIn, onesTo, ones-append, one-joins, one-stays, ones-left, ones-to-few, ones-more, PlacesCounted, sharesHere, amountOf, here-none, here-joins, here-stays, touchedTo, touchedCode, touched-more, code-some, code-none, touched-few, amount-small}
 
 -- ---- what a facet adds to one ridge orbit
 
@@ -59,17 +60,75 @@ module _ {codes : List ℕ} {ridge places last i : ℕ} (a : Adding codes ridge 
         last-is = rw (more, j) (a .last-is);
       }
 
-module _ {codes : List ℕ} {ridge places last i : ℕ} (a : Adding codes ridge places last i) where
-  pub total-small : length codes < 4294967296 → last * places ≤ 281474976710656
-  total-small h = let m : last * places ≤ last * 4294967296 = mul-le-mul-left last (omega (arith, a .few, a .within)) in omega (arith, a .small)
+-- for each of the first ridge orbits
+pub record AddingAll (ridges : ℕ) (codes places last : List ℕ) (i : ℕ) : Type 0 where
+  pub places-long : length places ≡ 190
+  pub last-long : length last ≡ 190
+  pub each : (ridge : ℕ) → ridge < ridges → Adding codes ridge (getD places ridge 0) (getD last ridge 0) i
 
-  pub adding-end : length codes ≤ i → min (last * places) 3 ≡ amountOf ridge codes
-  unfolding amountOf
-  adding-end h =
-      let e : take i codes ≡ codes = take-all i codes h in
-      let p = a .places-are ∙ ap (λ (l : List ℕ). length (sharesHere ridge l)) e in
-      let q = a .last-is ∙ ap (λ (l : List ℕ). lastShare 0 (sharesHere ridge l)) e in
-      λ t. min (q t * p t) 3
+pub all-start : (ridges : ℕ) (codes places last : List ℕ) → PlacesCounted ridges [] places last → AddingAll ridges codes places last 0
+unfolding lastShare
+all-start ridges codes places last z = record {
+  places-long = z .places-long;
+  last-long = z .last-long;
+  each = λ ridge h.
+      let a : getD places ridge 0 ≡ 0 = z .many ridge h ∙ ap length (here-none ridge) in
+      let b : getD last ridge 0 ≡ 0 = z .share ridge h ∙ ap (lastShare 0) (here-none ridge) in
+      rw (a, b) (adding-start codes ridge);
+}
+
+module _ {ridges : ℕ} {codes places last : List ℕ} {i : ℕ} (a : AddingAll ridges codes places last i) (h : i < length codes) (code : ℕ) (e : code ≡ getD codes i 0) (small : code < 4294967296) (few : ridges ≤ 190) where
+  pub all-joins : code % 65536 < ridges → AddingAll ridges codes (set places (code % 65536) (getD places (code % 65536) 0 + 1)) (set last (code % 65536) (code / 65536)) (i + 1)
+  all-joins k = record {
+    places-long = length-set places (code % 65536) (getD places (code % 65536) 0 + 1) ∙ a .places-long;
+    last-long = length-set last (code % 65536) (code / 65536) ∙ a .last-long;
+    each = λ ridge l. go ridge l (ℕ-discrete ridge (code % 65536));
+  }
+    where
+      go : (ridge : ℕ) → ridge < ridges → Dec (ridge ≡ code % 65536)
+          → Adding codes ridge (getD (set places (code % 65536) (getD places (code % 65536) 0 + 1)) ridge 0) (getD (set last (code % 65536) (code / 65536)) ridge 0) (i + 1)
+      go ridge l (yes q) = rw (q, getD-set-same places (code % 65536) (getD places (code % 65536) 0 + 1) 0 (omega (arith, a .places-long)), getD-set-same last (code % 65536) (code / 65536) 0 (omega (arith, a .last-long))) (adding-joins (a .each (code % 65536) k) h code e small refl)
+      go ridge l (no n) = rw (getD-set-other places (code % 65536) ridge (getD places (code % 65536) 0 + 1) 0 n, getD-set-other last (code % 65536) ridge (code / 65536) 0 n) (adding-stays (a .each ridge l) h code e small (λ q. n (sym q)))
+
+  pub all-stay : ridges ≤ code % 65536 → AddingAll ridges codes places last (i + 1)
+  all-stay k = record {
+    places-long = a .places-long;
+    last-long = a .last-long;
+    each = λ ridge l. adding-stays (a .each ridge l) h code e small (λ q. omega arith);
+  }
+
+pub all-end : {ridges : ℕ} {codes places last : List ℕ} {i : ℕ} → AddingAll ridges codes places last i → length codes ≤ i → PlacesCounted ridges codes places last
+all-end {ridges} {codes} {places} {last} {i} a h =
+    let e : take i codes ≡ codes = take-all i codes h in
+    record {
+      places-long = a .places-long;
+      last-long = a .last-long;
+      many = λ ridge l. a .each ridge l .places-are ∙ ap (λ (l : List ℕ). length (sharesHere ridge l)) e;
+      share = λ ridge l. a .each ridge l .last-is ∙ ap (λ (l : List ℕ). lastShare 0 (sharesHere ridge l)) e;
+    }
+
+-- nothing is counted before
+pub none-counted : (ridges : ℕ) → ridges ≤ 190 → PlacesCounted ridges [] (replicate 190 0) (replicate 190 0)
+unfolding lastShare
+none-counted ridges h = record {
+  places-long = refl;
+  last-long = refl;
+  many = λ ridge l. zero-at ridge ∙ sym (ap length (here-none ridge));
+  share = λ ridge l. zero-at ridge ∙ sym (ap (lastShare 0) (here-none ridge));
+}
+  where
+    zeros : (n k : ℕ) → _≡_ {A = ℕ} (getD (replicate n 0) k 0) 0
+    zeros zero k = refl
+    zeros (suc n) zero = refl
+    zeros (suc n) (suc k) = zeros n k
+
+    zero-at : (k : ℕ) → _≡_ {A = ℕ} (getD (replicate 190 0) k 0) 0
+    zero-at k = zeros 190 k
+
+-- what that comes to
+pub counted-amount : {ridges : ℕ} {codes places last : List ℕ} → PlacesCounted ridges codes places last → (ridge : ℕ) → ridge < ridges → (added : ℕ) → added ≡ min (getD last ridge 0 * getD places ridge 0) 3 → added ≡ amountOf ridge codes
+unfolding amountOf
+counted-amount {ridges} {codes} {places} {last} c ridge h added e = let p = c .many ridge h in let q = c .share ridge h in e ∙ (λ t. min (q t * p t) 3)
 
 -- ---- what a facet adds, as a list
 

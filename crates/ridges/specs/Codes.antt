@@ -40,6 +40,13 @@ sharesHere ridge codes = sharesAt ridge (map shareOf codes)
 unfoldable pub amountOf : ℕ → List ℕ → ℕ
 amountOf ridge codes = min (lastShare 0 (sharesHere ridge codes) * length (sharesHere ridge codes)) 3
 
+-- for each of the first ridge orbits how many places are in it, and the share at the last of these
+pub record PlacesCounted (ridges : ℕ) (codes places last : List ℕ) : Type 0 where
+  pub places-long : length places ≡ 190
+  pub last-long : length last ≡ 190
+  pub many : (ridge : ℕ) → ridge < ridges → getD places ridge 0 ≡ length (sharesHere ridge codes)
+  pub share : (ridge : ℕ) → ridge < ridges → getD last ridge 0 ≡ lastShare 0 (sharesHere ridge codes)
+
 last-more : (before : ℕ) (l : List Share) (s : Share) → lastShare before (l ++ (s ∷ [])) ≡ s .1
 unfolding lastShare
 last-more before [] s = refl

@@ -4,7 +4,7 @@
 // them or not.
 ghost use mathlib.Core.Path.{_≡_};
 ghost use mathlib.Core.List.{List, _∷_, []};
-ghost use Prim.Native.Nat.{ℕ, _+_, _*_, _≤_, _<_};
+ghost use Prim.Native.Nat.{ℕ, _+_, _*_, _≤_, _<_, min};
 ghost use lib.ListN.{length, getD, take, drop};
 ghost use Rattle.pool.specs.Pool.{count, closedLists, Sound};
 ghost use Rattle.openers.specs.Rows.{rowsIn};
@@ -12,31 +12,42 @@ ghost use Rattle.shapes.specs.Kept.{Kept, keptTable};
 ghost use Rattle.facets.specs.Layout.{Inputs};
 ghost use Rattle.ridges.specs.Desks.{Given, areasOf};
 ghost use Rattle.shares.specs.Areas.{area, AreaRoom, AreaEmpty, Joined, AreaGrown, Space, Made, flat, listsTo};
-ghost use Rattle.ridges.specs.Codes.{amountOf, touchedTo, touchedOf, onesIn, onesTo, onesOf};
+ghost use Rattle.ridges.specs.Codes.{PlacesCounted, touchedTo, touchedOf, onesIn, onesTo, onesOf};
 use facets::Areas;
 use shares::Desk;
 use shelf::Shelf;
 
 // ---- the tables of the search
 
-// What facet x adds to a ridge orbit [7.2], cut off at 3.
-fn amount(shares: &[u8], x: usize, ridge: usize) -> usize
-    requires { ⌜ Sound 4 1024 (now shares) × (x < count (now shares)) ⌝ }
-    ensures { λ r. ⌜ r ≡ amountOf ridge (getD (closedLists 4 1024 (now (shares .entry))) x []) ⌝ }
+// What the places of facet x say of each ridge orbit: how many of them are in it, and the share at the last of these.
+fn count_places(
+    shares: &[u8],
+    x: usize,
+    ridges: usize,
+    places: &mut [u32; 190],
+    last: &mut [u32; 190],
+)
+    requires { ⌜ Sound 4 1024 (now shares) × (x < count (now shares)) × (ridges ≤ 190) × PlacesCounted ridges [] (now places) (now last) ⌝ }
+    ensures { λ _. ⌜ PlacesCounted ridges (getD (closedLists 4 1024 (now (shares .entry))) x []) (now (places .exit)) (now (last .exit)) ⌝ }
 {
     let n = pool::list_length(shares, x) as usize;
-    let mut places = 0;
-    let mut last = 0;
     let mut i = 0;
     while i < n {
-        let code = pool::item_u32(shares, 1024, x, i) as usize;
-        if code % 65536 == ridge {
-            places += 1;
-            last = code / 65536;
+        let code = pool::item_u32(shares, 1024, x, i);
+        let ridge = (code % 65536) as usize;
+        if ridge < ridges {
+            places[ridge] += 1;
+            last[ridge] = code / 65536;
         }
         i += 1;
     }
-    let total = last * places;
+}
+
+// What a facet adds to a ridge orbit [7.2], cut off at 3.
+fn amount(last: u32, places: u32) -> usize
+    ensures { λ r. ⌜ r ≡ min (last * places) 3 ⌝ }
+{
+    let total = last as usize * places as usize;
     if 3 < total { 3 } else { total }
 }
 
@@ -48,9 +59,12 @@ fn touch_facet(ws: &mut [u8], desk: Desk, facets: usize, ridges: usize, x: usize
     let shares = desk.shares;
     let touched = desk.touched;
     let ones = desk.ones;
+    let mut places: [u32; 190] = [0; 190];
+    let mut last: [u32; 190] = [0; 190];
+    count_places(&ws[shares..touched], x, ridges, &mut places, &mut last);
     let mut ridge = 0;
     while ridge < ridges {
-        let added = amount(&ws[shares..touched], x, ridge);
+        let added = amount(last[ridge], places[ridge]);
         if 0 < added {
             pool::push_u16(&mut ws[touched..ones], facets, (4 * ridge + added) as u16);
         }
@@ -59,7 +73,7 @@ fn touch_facet(ws: &mut [u8], desk: Desk, facets: usize, ridges: usize, x: usize
     pool::end_list(&mut ws[touched..ones]);
 }
 
-// What each facet adds. A facet's places are looked at once for each ridge orbit.
+// What each facet adds. A facet's places are looked at once.
 fn touch_facets(ws: &mut [u8], desk: Desk, facets: usize, ridges: usize)
     requires { ⌜ (desk .shares ≤ desk .touched) × Sound 4 1024 (area (desk .shares) (desk .touched) (now ws)) × (facets ≡ count (area (desk .shares) (desk .touched) (now ws))) × (ridges ≤ 190) × Space (desk .touched) (desk .ones) 2 facets (length (now ws)) (facets * ridges) facets ⌝ }
     ensures { λ _. ⌜ Made (desk .touched) (desk .ones) 2 facets (now (ws .entry)) (now (ws .exit)) (listsTo (touchedOf ridges (closedLists 4 1024 (area (desk .shares) (desk .touched) (now (ws .entry))))) facets) ⌝ }
