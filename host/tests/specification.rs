@@ -44,6 +44,11 @@ fn definitions() -> PathBuf {
     repository().join("crates/definitions/specs")
 }
 
+/// More tables, which no edit of the definitions needs.
+fn evaluated() -> PathBuf {
+    repository().join("crates/evaluated/specs")
+}
+
 /// A chapter and a section in it.
 type Section = (u32, u32);
 
@@ -146,6 +151,7 @@ fn every_section_is_named_by_a_definition() {
     let mut named = BTreeSet::new();
     let mut specs = Vec::new();
     files(&definitions(), &mut specs);
+    files(&evaluated(), &mut specs);
     for path in specs {
         let text = read(&path);
         let lines: Vec<&str> = text.lines().collect();

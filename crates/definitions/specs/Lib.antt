@@ -22,12 +22,8 @@ pub mod Examples
 pub mod Roots
 pub mod KnownJobs
 pub mod Refusals
-pub mod Tolerances
 pub mod CrowdedLines
 pub mod PortersErrors
 pub mod RuledOut
 pub mod Carried
-pub mod Rows
 pub mod Quotes
-pub mod Packages
-pub mod PlainEntries
