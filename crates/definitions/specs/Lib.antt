@@ -26,4 +26,4 @@ pub mod CrowdedLines
 pub mod PortersErrors
 pub mod RuledOut
 pub mod Carried
-pub mod Quotes
+pub mod Costs

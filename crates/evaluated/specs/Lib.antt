@@ -4,3 +4,4 @@ pub mod Tolerances
 pub mod Rows
 pub mod Packages
 pub mod PlainEntries
+pub mod Quotes
