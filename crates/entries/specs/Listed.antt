@@ -86,6 +86,9 @@ module _ (bytes : ℕ) (s : List ℕ) (p : Pool bytes s) where
   pub labelled-lists : listsIn 1024 bytes n (labelled bytes s) ≡ sortBy compareNats (closedLists 2 1024 (take bytes s))
   labelled-lists = lists-kept 1024 bytes n (inOrder bytes s) (labelled bytes s) same-front (labelled-length ∙ sym order-length) ∙ order-lists
 
+  pub labelled-ascends : AllAscending (listsIn 1024 bytes n (labelled bytes s))
+  labelled-ascends = subst AllAscending (sym (lists-kept 1024 bytes n (inOrder bytes s) (labelled bytes s) same-front (labelled-length ∙ sym order-length))) order-ascends
+
   pub labelled-labels : labelsIn (bytes + 2048) n (labelled bytes s) ≡ labelsOf compare (sortBy compareNats (closedLists 2 1024 (take bytes s)))
   unfolding labelled labelRun
   labelled-labels =
@@ -170,5 +173,6 @@ module _ (shelf : Shelf) (at bytes : ℕ) (s : List ℕ) (r : ListsBehind shelf 
         fewEntries = r .sound .few;
         room = omega (arith, r .room);
         numbers = left-numbers;
+        ascends = rw is (labelled-ascends bytes (drop at s) ready-pool);
       };
     }

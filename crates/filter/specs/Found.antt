@@ -1,73 +1,104 @@
 -- `filter_irc` turn by turn: a list is looked through for the others one by one, and the places that are kept stand in the workspace, each behind the one before. Leans on the definition and on
 -- lists in an area.
-use mathlib.Core.Path.{_≡_, refl, sym, ap, _∙_}
+use mathlib.Core.Path.{_≡_, refl, sym, ap, _∙_, subst}
+use mathlib.Core.Logic.{_⊎_, ⊎-elim}
 use mathlib.Core.Bool.{Bool, true, false, cond, not, _&&_, _||_}
 use mathlib.Core.List.{List, [], _∷_, _++_, flatMap, append-nil}
 use Prim.Native.Nat.{ℕ, _+_, _*_, _≤_, _<_, compare}
 use native.Mathlib.Omega.{arith}
-use borrow.Author.Tests.{eq-eqb, ne-eqb, lt-leb, le-leb}
-use lib.Dec.{leb, eqb}
-use lib.ListN.{length, getD, take, length-append}
+use borrow.Author.Tests.{ne-eqb, lt-leb, le-leb}
+use lib.Dec.{T, leb, eqb}
+use lib.ListN.{length, getD, take, drop, length-append, length-drop}
 use lib.Seq.{sets, length-sets}
 use Rattle.definitions.specs.Lists.{anyOf, keep, countFrom}
 use Rattle.definitions.specs.Figures.{walk, firstAbove}
 use Rattle.definitions.specs.Plain.{isFound, finds, findsOther, filterIrc}
-use Rattle.laws.specs.Bools.{true→holds, holds→true}
-use Rattle.laws.specs.Lists.{any-of, any-append, keep-append, keep-few, in-count, count-more, count-length}
-use Rattle.laws.specs.Segments.{take-sets-le, sets-append}
+use Rattle.laws.specs.Bools.{true→holds, holds→true, fails→false, first, second, apart}
+use Rattle.laws.specs.Lists.{any-of, any-witness, keep-append, keep-few, in-count, of-count, count-more, count-length}
+use Rattle.laws.specs.Segments.{take-sets-le, sets-append, le-or-lt}
 use Rattle.words.specs.Words.{put, bytesOf}
 use Rattle.words.specs.Runs.{run, run-length, run-append}
 use Rattle.order.specs.declared.Area.{Area}
 use Rattle.order.specs.Areas.{Holding, listsOf, lists-length, lists-kept, holds-kept}
+use Rattle.order.specs.Numbers.{AllAscending}
+use Rattle.labels.specs.Labels.{searchFrom}
+use Rattle.labels.specs.Begins.{above-later, not-above, walk-below, search-few, search-below}
 
--- ---- whether b is found in a, test by test
+-- ---- whether b, which does not begin above a, is found in a
 
 module _ (a b : List ℕ) where
   pub longer : length a < length b → false ≡ finds compare a b
   unfolding finds
   longer h = sym (ap (λ (t : Bool). t && not (firstAbove compare b a) && isFound (walk compare a b)) (lt-leb (length b) (length a) h))
 
-  pub above : length b ≤ length a → firstAbove compare b a ≡ true → false ≡ finds compare a b
-  unfolding finds
-  above h f = sym (rw (le-leb (length b) (length a) h, f) refl)
-
   pub walked : length b ≤ length a → firstAbove compare b a ≡ false → isFound (walk compare a b) ≡ finds compare a b
   unfolding finds
   walked h f = sym (rw (le-leb (length b) (length a) h, f) refl)
 
+-- ---- a list that begins above or below another is not found in it
+
+  pub above : firstAbove compare b a ≡ true → finds compare a b ≡ false
+  unfolding finds
+  above f = rw f (go (leb (length b) (length a)))
+    where
+      go : (t : Bool) → t && false && isFound (walk compare a b) ≡ false
+      go true = refl
+      go false = refl
+
+  below : firstAbove compare a b ≡ true → finds compare a b ≡ false
+  unfolding finds isFound
+  below f = rw (walk-below a b f) (go (leb (length b) (length a) && not (firstAbove compare b a)))
+    where
+      go : (t : Bool) → t && false ≡ false
+      go true = refl
+      go false = refl
+
 -- ---- the others, one by one
 
--- the place before b at which a list is found
-unfoldable pub foundBefore : List (List ℕ) → ℕ → ℕ → Bool
-foundBefore lists a b = anyOf (λ (k : ℕ). not (eqb a k) && finds compare (getD lists a []) (getD lists k [])) (countFrom 0 b)
+-- none of the lists before place b, but for a itself, is found in list a
+abbrev pub NoneBefore : List (List ℕ) → ℕ → ℕ → Type 0
+NoneBefore lists a b = (k : ℕ) → k < b → (a ≡ k → ⊥) → finds compare (getD lists a []) (getD lists k []) ≡ false
+
+-- from list a on: none of the lists before the start is found in any of them
+pub record Begun (lists : List (List ℕ)) (a start : ℕ) : Type 0 where
+  pub few : start ≤ length lists
+  pub passed : (j : ℕ) → a ≤ j → j < length lists → (k : ℕ) → k < start → finds compare (getD lists j []) (getD lists k []) ≡ false
+
+pub begun-first : (lists : List (List ℕ)) → Begun lists 0 0
+begun-first lists = record { few = omega arith; passed = λ j h l k below. absurd (omega arith) }
+
+pub begun-next : (lists : List (List ℕ)) (a start : ℕ) → Begun lists a start → Begun lists (a + 1) start
+begun-next lists a start b = record { few = b .few; passed = λ j h l k below. b .passed j (omega arith) l k below }
+
+-- where the search for list a starts
+pub begun-search : (lists : List (List ℕ)) → AllAscending lists → (a start r : ℕ) → Begun lists a start → a < length lists → r ≡ searchFrom (getD lists a []) (drop start lists) start → Begun lists a r
+begun-search lists up a start r b h e = record {
+    few = omega (arith, e, search-few (getD lists a []) (drop start lists) start, length-drop start lists, b .few);
+    passed = λ j i l k inside. ⊎-elim
+      (λ behind. below (getD lists j []) (getD lists k []) (above-later (getD lists k []) (getD lists a []) (getD lists j []) (search-below lists (getD lists a []) (drop start lists) start refl k behind (omega arith)) (not-above lists up a j i l)))
+      (λ before. b .passed j i l k before)
+      (le-or-lt start k);
+  }
 
 module _ (lists : List (List ℕ)) (a : ℕ) where
   abbrev test : ℕ → Bool
   test k = not (eqb a k) && finds compare (getD lists a []) (getD lists k [])
 
-  pub none-before : foundBefore lists a 0 ≡ false
-  unfolding foundBefore anyOf countFrom
-  none-before = refl
+  pub none-begun : (start : ℕ) → a < length lists → Begun lists a start → NoneBefore lists a start
+  none-begun start h b k below other = b .passed a (omega arith) h k below
 
-  one-more : (b : ℕ) → foundBefore lists a (b + 1) ≡ (foundBefore lists a b || test b)
-  unfolding foundBefore anyOf
-  one-more b =
-      let e : 0 + b ≡ b = omega arith in
-      ap (anyOf test) (count-more 0 b) ∙ (any-append test (countFrom 0 b) ((0 + b) ∷ []) ∙ rw e (ap (λ (t : Bool). anyOf test (countFrom 0 b) || t) (last (test b))))
-    where
-      last : (t : Bool) → t || false ≡ t
-      last true = refl
-      last false = refl
+  -- one place further
+  further : (b : ℕ) → NoneBefore lists a b → ((a ≡ b → ⊥) → finds compare (getD lists a []) (getD lists b []) ≡ false) → NoneBefore lists a (b + 1)
+  further b none here k below other = ⊎-elim
+      (λ last. let e : b ≡ k = omega arith in subst (λ (n : ℕ). finds compare (getD lists a []) (getD lists n []) ≡ false) e (here (λ same. other (same ∙ e))))
+      (λ before. none k before other)
+      (le-or-lt b k)
 
-  pub itself : (b : ℕ) → foundBefore lists a b ≡ false → a ≡ b → foundBefore lists a (b + 1) ≡ false
-  itself b e s = one-more b ∙ rw (e, eq-eqb a b s) refl
+  pub itself : (b : ℕ) → NoneBefore lists a b → a ≡ b → NoneBefore lists a (b + 1)
+  itself b none s = further b none (λ other. absurd (other s))
 
-  pub not-found : (b : ℕ) → foundBefore lists a b ≡ false → false ≡ finds compare (getD lists a []) (getD lists b []) → foundBefore lists a (b + 1) ≡ false
-  not-found b e f = one-more b ∙ rw (e, ← f) (go (not (eqb a b)))
-    where
-      go : (t : Bool) → false || t && false ≡ false
-      go true = refl
-      go false = refl
+  pub not-found : (b : ℕ) → NoneBefore lists a b → false ≡ finds compare (getD lists a []) (getD lists b []) → NoneBefore lists a (b + 1)
+  not-found b none f = further b none (λ other. sym f)
 
   pub is-found : (b : ℕ) → b < length lists → (a ≡ b → ⊥) → true ≡ finds compare (getD lists a []) (getD lists b []) → true ≡ findsOther compare lists a
   unfolding findsOther
@@ -75,9 +106,32 @@ module _ (lists : List (List ℕ)) (a : ℕ) where
       let here-is : test b ≡ true = rw (ne-eqb a b n, ← f) refl in
       sym (holds→true (anyOf test (countFrom 0 (length lists))) (any-of test b (countFrom 0 (length lists)) (in-count 0 (length lists) b (omega arith) (omega arith)) (true→holds here-is)))
 
-  pub none-found : (b : ℕ) → foundBefore lists a b ≡ false → b ≡ length lists → false ≡ findsOther compare lists a
-  unfolding foundBefore findsOther
-  none-found b e n = sym (ap (λ (k : ℕ). anyOf test (countFrom 0 k)) (sym n) ∙ e)
+  pub none-found : (b : ℕ) → NoneBefore lists a b → length lists ≤ b → false ≡ findsOther compare lists a
+  unfolding findsOther
+  none-found b none h = sym (go (anyOf test (countFrom 0 (length lists))) refl)
+    where
+      no : T (anyOf test (countFrom 0 (length lists))) → ⊥
+      no t =
+          let w = any-witness test (countFrom 0 (length lists)) t in
+          let k = w .0 in
+          let inside = of-count 0 (length lists) k (w .1) .1 in
+          let found = second (not (eqb a k)) (finds compare (getD lists a []) (getD lists k [])) (w .2) in
+          let differs = first (not (eqb a k)) (finds compare (getD lists a []) (getD lists k [])) (w .2) in
+          subst (λ (t : Bool). T t) (none k (omega arith) (apart a k (fails→false (eqb a k) differs))) found
+
+      go : (t : Bool) → anyOf test (countFrom 0 (length lists)) ≡ t → anyOf test (countFrom 0 (length lists)) ≡ false
+      go true e = absurd (no (true→holds e))
+      go false e = e
+
+  -- a list that begins above list a: it and every later one are passed over
+  pub stopped : AllAscending lists → (b : ℕ) → b < length lists → NoneBefore lists a b → firstAbove compare (getD lists b []) (getD lists a []) ≡ true → false ≡ findsOther compare lists a
+  stopped up b h none f = none-found (length lists) all (omega arith)
+    where
+      all : NoneBefore lists a (length lists)
+      all k inside other = ⊎-elim
+          (λ behind. above (getD lists a []) (getD lists k []) (above-later (getD lists a []) (getD lists b []) (getD lists k []) f (not-above lists up b k behind inside)))
+          (λ before. none k before other)
+          (le-or-lt b k)
 
 -- ---- the places that are kept
 
@@ -151,6 +205,18 @@ module _ (area : Area) (at : ℕ) (ws₀ : List ℕ) (ok : Holding area ws₀) (
         (p ∙ (ap (λ (s : List ℕ). sets s (at + 4 * many) (bytesOf 4 a)) (g .wrote)
         ∙ (ap (λ (k : ℕ). sets (sets ws₀ at (run 4 up)) (at + k) (bytesOf 4 a)) n
         ∙ (sets-append (run 4 up) (bytesOf 4 a) ws₀ at ∙ (ap (sets ws₀ at) one ∙ ap (λ (l : List ℕ). sets ws₀ at (run 4 l)) (sym q))))))
+
+  -- the start of the search for list a, in the workspace as it stands
+  module _ (up : AllAscending (listsOf area ws₀)) (many : ℕ) (ws : List ℕ) (a : ℕ) (g : Going area at ws₀ many ws a) (start : ℕ) (b : Begun (listsOf area ws₀) a start) (h : a < area .count)
+      (r : ℕ) (e : r ≡ searchFrom (getD (listsOf area ws) a []) (drop start (listsOf area ws)) start) where
+    pub begun : Begun (listsOf area ws₀) a r
+    begun =
+        let n = lists-length (area .most) (area .bytes) (area .count) ws₀ in
+        begun-search (listsOf area ws₀) up a start r b (omega arith) (rw (g .same) at e)
+
+    -- what `finds_other` is asked
+    pub asked : Holding area ws × AllAscending (listsOf area ws) × (a < area .count) × Begun (listsOf area ws) a r
+    asked = (g .holds, subst AllAscending (sym (g .same)) up, h, subst (λ (ls : List (List ℕ)). Begun ls a r) (sym (g .same)) begun)
 
   pub all-kept : (many : ℕ) (ws : List ℕ) (a : ℕ) → Going area at ws₀ many ws a → area .count ≤ a → (many ≡ length (filterIrc compare (listsOf area ws₀))) × (ws ≡ sets ws₀ at (run 4 (filterIrc compare (listsOf area ws₀))))
   unfolding filterIrc keptBefore

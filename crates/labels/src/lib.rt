@@ -64,7 +64,7 @@ pub fn is_found(s: &[u8], area: Area, a: usize, b: usize) -> bool
 // ---- label_irc
 
 // The place of the first list from place `from` on that does not begin below list a.
-fn search_start(s: &[u8], area: Area, a: usize, from: usize) -> usize
+pub fn search_start(s: &[u8], area: Area, a: usize, from: usize) -> usize
     requires { ⌜ Holding area (now s) × (a < area .count) × (from ≤ area .count) ⌝ }
     ensures { λ r. ⌜ r ≡ searchFrom (listOf area (now (s .entry)) a) (drop from (listsOf area (now (s .entry)))) from ⌝ }
 {

@@ -18,7 +18,7 @@ use Rattle.words.specs.Words.{words, words-length, words-more, numberAt-drop}
 use Rattle.words.specs.Runs.{run, words-sets}
 use Rattle.words.specs.Lent.{lent-tail, back-tail, back-length}
 use Rattle.order.specs.Areas.{HoldsOrder, listsIn, lists-length}
-use Rattle.order.specs.Numbers.{AllBelow}
+use Rattle.order.specs.Numbers.{AllBelow, AllAscending}
 use Rattle.shapes.specs.Kept.{Kept}
 use Rattle.shelf.specs.declared.Level.{Level}
 use Rattle.shelf.specs.Leaves.{Leaves, facetAt, listsLeft, entryLeft, answerLeft}
@@ -71,9 +71,10 @@ module _ {more n : ℕ} {rows : List Row} {kept : List Kept} {level : Level} {s 
   many-lists = lists-length 1024 (level .bytes) (level .count) (drop (level .lists) s)
 
   -- what `filter_irc` is asked
-  pub filter-asked : HoldsOrder 1024 (level .bytes) (level .count) lent × (level .count ≤ 4294967296) × (level .bytes + 2 * level .count ≤ level .bytes + 2048) × (level .bytes + 2048 + 4 * level .count ≤ length lent)
+  pub filter-asked : HoldsOrder 1024 (level .bytes) (level .count) lent × AllAscending (listsIn 1024 (level .bytes) (level .count) lent) × (level .count ≤ 4294967296) × (level .bytes + 2 * level .count ≤ level .bytes + 2048) × (level .bytes + 2048 + 4 * level .count ≤ length lent)
   filter-asked = (
     subst (HoldsOrder 1024 (level .bytes) (level .count)) (sym same-lent) (l .area),
+    subst (λ (t : List ℕ). AllAscending (listsIn 1024 (level .bytes) (level .count) t)) (sym same-lent) (l .ascends),
     omega (arith, l .fewEntries),
     omega (arith, l .fewEntries),
     rw same-lent (omega (arith, l .room, length-drop (level .lists) s)),

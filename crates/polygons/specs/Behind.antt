@@ -10,7 +10,7 @@ use Rattle.laws.specs.Segments.{part, part-take}
 use Rattle.words.specs.Words.{words, words-take}
 use Rattle.order.specs.Areas.{lists-kept, holds-kept}
 use Rattle.labels.specs.Labels.{labelsIn, labelOf}
-use Rattle.order.specs.Numbers.{AllBelow}
+use Rattle.order.specs.Numbers.{AllBelow, AllAscending}
 use Rattle.shapes.specs.Kept.{Kept, keptPossible}
 use Rattle.shelf.specs.Front.{keeps-front}
 use Rattle.shelf.specs.Leaves.{Leaves, listsLeft, entryLeft, answerLeft}
@@ -50,6 +50,7 @@ module _ {more n : ℕ} {rows : List Row} {kept : List Kept} {level : Level} {s 
     fewEntries = left .fewEntries;
     room = omega (arith, long, left .room);
     numbers = subst (AllBelow (level .shelf .facets)) (sym lists-after) (left .numbers);
+    ascends = subst AllAscending (sym lists-after) (left .ascends);
   }
 
   pub answer-after : (rest : ℕ) → answerLeft more n rows kept level t rest ≡ answerLeft more n rows kept level s rest

@@ -9,7 +9,7 @@ use Rattle.definitions.specs.Recursion.{Entry, Answer}
 use Rattle.definitions.specs.Figures.{compoundsFrom}
 use Rattle.order.specs.Areas.{HoldsOrder, listsIn}
 use Rattle.labels.specs.Labels.{labelsIn}
-use Rattle.order.specs.Numbers.{AllBelow}
+use Rattle.order.specs.Numbers.{AllBelow, AllAscending}
 use Rattle.shapes.specs.Kept.{Kept, keptFigure, keptPossible}
 use Rattle.shelf.specs.Keeps.{Keeps, facetsOf}
 use Rattle.shelf.specs.declared.Level.{Level}
@@ -45,3 +45,4 @@ pub record Leaves (more n : ℕ) (rows : List Row) (kept : List Kept) (level : L
   pub fewEntries : level .count ≤ 1024
   pub room : level .lists + (level .bytes + 2048 + 4 * level .count) ≤ length s
   pub numbers : AllBelow (level .shelf .facets) (listsLeft level s)
+  pub ascends : AllAscending (listsLeft level s)
