@@ -27,3 +27,4 @@ pub mod PortersErrors
 pub mod RuledOut
 pub mod Carried
 pub mod Costs
+pub mod PlainLists

@@ -1,10 +1,10 @@
--- The plain entries [18.2] [18.3], evaluated: small lists, and jobs that tell the readings of the request apart, each
+-- The plain entries [18.2] [18.3], evaluated on jobs that tell the readings of the request apart, each
 -- with what the Rust's `filter_irc` gives. The last of these keeps an entry that another stands inside of, which the
 -- promise of [18.4] allows.
 use mathlib.Core.Path.{_≡_, refl}
 use mathlib.Core.Bool.{Bool, false, _&&_}
 use mathlib.Core.List.{List, [], _∷_, flatMap}
-use Prim.Native.Nat.{ℕ, _+_, _*_, compare}
+use Prim.Native.Nat.{ℕ, _+_, _*_}
 use lib.Dec.{T, eqb}
 use lib.ListN.{length, getD}
 use Rattle.definitions.specs.Lists.{Pair, allOf}
@@ -12,31 +12,9 @@ use Rattle.definitions.specs.Outcome.{Outcome, refused, answered}
 use Rattle.definitions.specs.Recursion.{Answer}
 use Rattle.definitions.specs.Job.{Bytes, sameNats}
 use Rattle.definitions.specs.Prices.{answerOf}
-use Rattle.definitions.specs.Plain.{filterIrc, splitLists, plainOnes, Inside, nothing, passed, taken}
+use Rattle.definitions.specs.Plain.{splitLists, plainOnes, Inside, nothing, passed, taken}
 use Rattle.definitions.specs.Open.{open-all}
 use Rattle.definitions.specs.Examples.{open-examples, bytesOf, jobWith, wholePoints, plain, withBudget, identity, segmentJob, squareJob}
-
--- ---- small lists
-
--- 0 / 0: of two equal lists neither is kept
-pub equal-lists : filterIrc compare ((0 ∷ []) ∷ (0 ∷ []) ∷ []) ≡ []
-unfolding open-all
-equal-lists = refl
-
--- 0 / 0,2: the second holds the first. It has no label, for 2 is no list
-pub no-label : filterIrc compare ((0 ∷ []) ∷ (0 ∷ 2 ∷ []) ∷ []) ≡ 0 ∷ []
-unfolding open-all
-no-label = refl
-
--- 0,4 / 4: the first holds the second, which begins above it, and is kept
-pub begins-above : filterIrc compare ((0 ∷ 4 ∷ []) ∷ (4 ∷ []) ∷ []) ≡ 0 ∷ 1 ∷ []
-unfolding open-all
-begins-above = refl
-
--- 1,2 / 1,4,2: the second holds the first, but the walk ends at 4, which is above 2
-pub walk-ends : filterIrc compare ((1 ∷ 2 ∷ []) ∷ (1 ∷ 4 ∷ 2 ∷ []) ∷ []) ≡ 0 ∷ 1 ∷ []
-unfolding open-all
-walk-ends = refl
 
 -- ---- jobs
 

@@ -6,7 +6,7 @@ use mathlib.Core.Bool.{Bool, true, false, cond, not, _&&_, _||_}
 use mathlib.Core.List.{List, [], _∷_, _++_, flatMap, append-nil}
 use Prim.Native.Nat.{ℕ, _+_, _*_, _≤_, _<_, compare}
 use native.Mathlib.Omega.{arith}
-use borrow.Author.Tests.{ne-eqb, lt-leb, le-leb}
+use borrow.Author.Tests.{ne-eqb}
 use lib.Dec.{T, leb, eqb}
 use lib.ListN.{length, getD, take, drop, length-append, length-drop}
 use lib.Seq.{sets, length-sets}
@@ -22,21 +22,12 @@ use Rattle.order.specs.declared.Area.{Area}
 use Rattle.order.specs.Areas.{Holding, listsOf, lists-length, lists-kept, holds-kept}
 use Rattle.order.specs.Numbers.{AllAscending}
 use Rattle.labels.specs.Labels.{searchFrom}
+use Rattle.filter.specs.Noted.{Noted}
 use Rattle.labels.specs.Begins.{above-later, not-above, walk-below, search-few, search-below}
-
--- ---- whether b, which does not begin above a, is found in a
-
-module _ (a b : List ℕ) where
-  pub longer : length a < length b → false ≡ finds compare a b
-  unfolding finds
-  longer h = sym (ap (λ (t : Bool). t && not (firstAbove compare b a) && isFound (walk compare a b)) (lt-leb (length b) (length a) h))
-
-  pub walked : length b ≤ length a → firstAbove compare b a ≡ false → isFound (walk compare a b) ≡ finds compare a b
-  unfolding finds
-  walked h f = sym (rw (le-leb (length b) (length a) h, f) refl)
 
 -- ---- a list that begins above or below another is not found in it
 
+module _ (a b : List ℕ) where
   pub above : firstAbove compare b a ≡ true → finds compare a b ≡ false
   unfolding finds
   above f = rw f (go (leb (length b) (length a)))
@@ -52,6 +43,15 @@ module _ (a b : List ℕ) where
       go : (t : Bool) → t && false ≡ false
       go true = refl
       go false = refl
+
+-- ---- what is asked: lists in order, and room behind them for as many numbers
+
+pub record Filters (area : Area) (at : ℕ) (s : List ℕ) : Type 0 where
+  pub holds : Holding area s
+  pub ascends : AllAscending (listsOf area s)
+  pub few : area .count ≤ 1024
+  pub behind : area .bytes + 2 * area .count ≤ at
+  pub room : at + 4 * area .count ≤ length s
 
 -- ---- the others, one by one
 
@@ -73,12 +73,12 @@ begun-next lists a start b = record { few = b .few; passed = λ j h l k below. b
 -- where the search for list a starts
 pub begun-search : (lists : List (List ℕ)) → AllAscending lists → (a start r : ℕ) → Begun lists a start → a < length lists → r ≡ searchFrom (getD lists a []) (drop start lists) start → Begun lists a r
 begun-search lists up a start r b h e = record {
-    few = omega (arith, e, search-few (getD lists a []) (drop start lists) start, length-drop start lists, b .few);
-    passed = λ j i l k inside. ⊎-elim
+  few = omega (arith, e, search-few (getD lists a []) (drop start lists) start, length-drop start lists, b .few);
+  passed = λ j i l k inside. ⊎-elim
       (λ behind. below (getD lists j []) (getD lists k []) (above-later (getD lists k []) (getD lists a []) (getD lists j []) (search-below lists (getD lists a []) (drop start lists) start refl k behind (omega arith)) (not-above lists up a j i l)))
       (λ before. b .passed j i l k before)
       (le-or-lt start k);
-  }
+}
 
 module _ (lists : List (List ℕ)) (a : ℕ) where
   abbrev test : ℕ → Bool
@@ -215,8 +215,16 @@ module _ (area : Area) (at : ℕ) (ws₀ : List ℕ) (ok : Holding area ws₀) (
         begun-search (listsOf area ws₀) up a start r b (omega arith) (rw (g .same) at e)
 
     -- what `finds_other` is asked
-    pub asked : Holding area ws × AllAscending (listsOf area ws) × (a < area .count) × Begun (listsOf area ws) a r
-    asked = (g .holds, subst AllAscending (sym (g .same)) up, h, subst (λ (ls : List (List ℕ)). Begun ls a r) (sym (g .same)) begun)
+    pub asked : (notes : List ℕ) → 4 * area .count ≤ length notes → Noted (listsOf area ws₀) (area .count) notes
+        → Holding area ws × AllAscending (listsOf area ws) × (a < area .count) × Begun (listsOf area ws) a r × (4 * area .count ≤ length notes) × Noted (listsOf area ws) (area .count) notes
+    asked notes room n = (
+      g .holds,
+      subst AllAscending (sym (g .same)) up,
+      h,
+      subst (λ (ls : List (List ℕ)). Begun ls a r) (sym (g .same)) begun,
+      room,
+      subst (λ (ls : List (List ℕ)). Noted ls (area .count) notes) (sym (g .same)) n,
+    )
 
   pub all-kept : (many : ℕ) (ws : List ℕ) (a : ℕ) → Going area at ws₀ many ws a → area .count ≤ a → (many ≡ length (filterIrc compare (listsOf area ws₀))) × (ws ≡ sets ws₀ at (run 4 (filterIrc compare (listsOf area ws₀))))
   unfolding filterIrc keptBefore

@@ -1,2 +1,3 @@
--- What `filter_irc` has found and written, turn by turn.
+-- What lists have in common; what `filter_irc` has found and written, turn by turn.
+pub mod Noted
 pub mod Found

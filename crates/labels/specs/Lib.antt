@@ -1,3 +1,4 @@
--- The label of an entry, and its bytes; lists in order by their first items.
+-- The label of an entry, and its bytes; lists in order by their first items; how far a walk comes.
 pub mod Labels
 pub mod Begins
+pub mod Walked

@@ -6,13 +6,13 @@ ghost use lib.ListN.{length, getD, drop};
 ghost use Rattle.pool.specs.Pool.{count};
 ghost use lib.Seq.{sets};
 ghost use Rattle.order.specs.Areas.{listsOf, listOf, Holding};
-ghost use Rattle.definitions.specs.Figures.{walk, firstAbove, labelsOf};
-ghost use Rattle.definitions.specs.Plain.{isFound};
+ghost use Rattle.definitions.specs.Figures.{firstAbove, labelsOf};
 ghost use Rattle.order.specs.Numbers.{AllAscending};
 ghost use Rattle.labels.specs.Labels.{leaves, searchFrom, labelBytes};
+ghost use Rattle.labels.specs.Walked.{itemsFound};
 
 // The item at place i of the list at place k, which has n items; behind its last item a number above every item.
-fn next_at(s: &[u8], area: Area, k: usize, n: usize, i: usize) -> u32
+pub fn next_at(s: &[u8], area: Area, k: usize, n: usize, i: usize) -> u32
     requires { ⌜ Holding area (now s) × (k < area .count) × (n ≡ length (listOf area (now s) k)) ⌝ }
     ensures { λ r. ⌜ r ≡ getD (listOf area (now (s .entry)) k) i 65536 ⌝ }
 {
@@ -38,10 +38,11 @@ pub fn starts_above(s: &[u8], area: Area, b: usize, a: usize) -> bool
     order::item_at(s, area, a, 0) < order::item_at(s, area, b, 0)
 }
 
-// Whether the walk of list b through list a comes to the end of b [8.7]. `label_irc` has this walk inside its labelled loops, by the same laws.
-pub fn is_found(s: &[u8], area: Area, a: usize, b: usize) -> bool
+// How many items of list b the walk through list a finds, one after another: all of them where it comes to the end of b [8.7]. `label_irc` has this walk inside its labelled loops, by the
+// same laws.
+pub fn items_found(s: &[u8], area: Area, a: usize, b: usize) -> usize
     requires { ⌜ Holding area (now s) × (a < area .count) × (b < area .count) ⌝ }
-    ensures { λ r. ⌜ r ≡ isFound (walk compare (listOf area (now (s .entry)) a) (listOf area (now (s .entry)) b)) ⌝ }
+    ensures { λ r. ⌜ r ≡ itemsFound (listOf area (now (s .entry)) a) (listOf area (now (s .entry)) b) ⌝ }
 {
     let m = order::length_at(s, area, a);
     let n = order::length_at(s, area, b);
@@ -51,14 +52,14 @@ pub fn is_found(s: &[u8], area: Area, a: usize, b: usize) -> bool
         let item = next_at(s, area, a, m, i);
         let sought = order::item_at(s, area, b, j) as u32;
         if sought < item {
-            return false;
+            return j;
         }
         if item == sought {
             j += 1;
         }
         i += 1;
     }
-    true
+    j
 }
 
 // ---- label_irc

@@ -23,6 +23,7 @@ use Rattle.shapes.specs.Kept.{Kept}
 use Rattle.shelf.specs.declared.Level.{Level}
 use Rattle.shelf.specs.Leaves.{Leaves, facetAt, listsLeft, entryLeft, answerLeft}
 use Rattle.entries.specs.Facets.{facetCount, ordered}
+use Rattle.filter.specs.Found.{Filters}
 use Rattle.kept_edges.specs.Edges.{edgeAnswer}
 
 -- how many numbers, and each
@@ -71,14 +72,14 @@ module _ {more n : ℕ} {rows : List Row} {kept : List Kept} {level : Level} {s 
   many-lists = lists-length 1024 (level .bytes) (level .count) (drop (level .lists) s)
 
   -- what `filter_irc` is asked
-  pub filter-asked : HoldsOrder 1024 (level .bytes) (level .count) lent × AllAscending (listsIn 1024 (level .bytes) (level .count) lent) × (level .count ≤ 4294967296) × (level .bytes + 2 * level .count ≤ level .bytes + 2048) × (level .bytes + 2048 + 4 * level .count ≤ length lent)
-  filter-asked = (
-    subst (HoldsOrder 1024 (level .bytes) (level .count)) (sym same-lent) (l .area),
-    subst (λ (t : List ℕ). AllAscending (listsIn 1024 (level .bytes) (level .count) t)) (sym same-lent) (l .ascends),
-    omega (arith, l .fewEntries),
-    omega (arith, l .fewEntries),
-    rw same-lent (omega (arith, l .room, length-drop (level .lists) s)),
-  )
+  pub filter-asked : Filters (record { most = 1024; bytes = level .bytes; count = level .count }) (level .bytes + 2048) lent
+  filter-asked = record {
+    holds = subst (HoldsOrder 1024 (level .bytes) (level .count)) (sym same-lent) (l .area);
+    ascends = subst (λ (t : List ℕ). AllAscending (listsIn 1024 (level .bytes) (level .count) t)) (sym same-lent) (l .ascends);
+    few = l .fewEntries;
+    behind = omega (arith, l .fewEntries);
+    room = rw same-lent (omega (arith, l .room, length-drop (level .lists) s));
+  }
 
   module _ (many : ℕ) (p : List ℕ) (many-is : many ≡ length (filterIrc compare (listsIn 1024 (level .bytes) (level .count) lent)))
       (put : p ≡ sets lent (level .bytes + 2048) (run 4 (filterIrc compare (listsIn 1024 (level .bytes) (level .count) lent)))) where

@@ -1,20 +1,19 @@
--- `labels::is_found` meets its contract. Invariant: the walk from i and j on comes to the end of b where the whole walk does. Measure: the items of list a that are left. Assumes nothing.
+-- `labels::items_found` meets its contract. Invariant: j items are found, and with those that the walk from i and j on finds they are all that it finds. Measure: the items of list a that are left. Assumes nothing.
 use mathlib.Core.Path.{_≡_, sym, _∙_}
 use mathlib.Core.Logic.{_⊎_, ⊎-elim}
-use Prim.Native.Nat.{_-_, _≤_, _<_, compare}
+use Prim.Native.Nat.{_+_, _-_, _≤_, _<_}
 use native.Mathlib.Omega.{arith}
 use borrow.Author.Needs.{needs}
 use lib.ListN.{length, drop}
-use Rattle.definitions.specs.Figures.{walk}
-use Rattle.definitions.specs.Plain.{isFound}
 use Rattle.laws.specs.Lists.{read-inside}
 use Rattle.order.specs.Areas.{listOf}
-use Rattle.labels.proofs.Walking.{before-end, found-above, found-same, found-pass, found-end}
-use Rattle.labels.proofs.is_found.Statement.{statement}
-use Rattle.labels.proofs.is_found.Tie as tie
+use Rattle.labels.specs.Walked.{itemsFound}
+use Rattle.labels.proofs.Walking.{before-end, items-above, items-same, items-pass, items-end}
+use Rattle.labels.proofs.items_found.Statement.{statement}
+use Rattle.labels.proofs.items_found.Tie as tie
 
 abbrev Inv-loop : tie.InvT-loop
-Inv-loop s area a b m n i₀ j₀ i j = (i ≤ m) × (j ≤ n) × (isFound (walk compare (drop i (listOf area s a)) (drop j (listOf area s b))) ≡ isFound (walk compare (listOf area s a) (listOf area s b)))
+Inv-loop s area a b m n i₀ j₀ i j = (i ≤ m) × (j ≤ n) × (j + itemsFound (drop i (listOf area s a)) (drop j (listOf area s b)) ≡ itemsFound (listOf area s a) (listOf area s b))
 
 abbrev μ-loop : tie.MeasureT-loop
 μ-loop s area a b m n i₀ j₀ i j = m - i
@@ -49,7 +48,7 @@ returns c =
     let l = at-loop .loop in
     let g = at-item-at .item-at in
     let inside : l .j < length y = omega arith in
-    sym (found-above x y (l .i) (l .j) (l .inv .2) (g .result) inside (g .ensures ∙ read-inside y (l .j) 0 65536 inside) (omega arith) (omega arith))
+    items-above x y (l .i) (l .j) (l .inv .2) (g .result) inside (g .ensures ∙ read-inside y (l .j) 0 65536 inside) (omega arith) (omega arith)
 
 add-j : tie.Need-add-j Inv-loop μ-loop
 add-j c = search needs
@@ -87,8 +86,8 @@ loop-again c =
     let is-y = g .ensures ∙ read-inside y (l .j) 0 65536 inside in
     let before : l .i < length x = before-end x (l .i) (omega arith) in
     ⊎-elim
-    (λ w. rw (w .1) (omega arith, omega arith, found-same x y (l .i) (l .j) (l .inv .2) (g .result) inside is-y (omega arith) (omega arith)))
-    (λ w. rw (w .1) (omega arith, omega arith, found-pass x y (l .i) (l .j) (l .inv .2) (g .result) inside is-y (omega arith) (omega arith)))
+    (λ w. rw (w .1) (omega arith, omega arith, items-same x y (l .i) (l .j) (l .inv .2) (g .result) inside is-y (omega arith) (omega arith)))
+    (λ w. rw (w .1) (omega arith, omega arith, items-pass x y (l .i) (l .j) (l .inv .2) (g .result) inside is-y (omega arith) (omega arith)))
     (c .if2 .came)
 
 returns-2 : tie.Need-returns-2 Inv-loop μ-loop
@@ -97,10 +96,10 @@ returns-2 c =
     let at-start = at-loop .before .before .before .before in
     let s = at-start .args .s .now in
     let l = at-loop .loop in
-    sym (found-end (listOf (at-start .args .area) s (at-start .args .a)) (listOf (at-start .args .area) s (at-start .args .b)) (l .i) (l .j) (l .inv .2) (omega arith))
+    items-end (listOf (at-start .args .area) s (at-start .args .a)) (listOf (at-start .args .area) s (at-start .args .b)) (l .i) (l .j) (l .inv .2) (omega arith)
 
-pub is-found-spec : {M : Type 1} → statement M
-is-found-spec =
+pub items-found-spec : {M : Type 1} → statement M
+items-found-spec =
     tie.close
     (tie.spec
     Inv-loop
