@@ -235,7 +235,8 @@ class Register:
         return Quote(code, list(struct.unpack(f"<{MOST_EDGES}Q", slip.raw)))
 
     def plain(self, asked):
-        """The ascending numbers of the entries of a job in which no other is found."""
+        """The ascending numbers of the entries of a job in which no other is found. An entry
+        that is not among them has the parts of another; one that is may have them too."""
         buffer = ctypes.create_string_buffer(PLAIN_ROOM)
         code = self._plain(asked, len(asked), self._workspace, WORKSPACE, buffer, PLAIN_ROOM)
         if code < 0:

@@ -204,7 +204,7 @@ fn a_run_that_was_cut_short_goes_on() {
             let told = done.text();
             assert!(told.contains("] b.txt: as before\n"), "{told}");
             let all = "4 sets: 2 answered, 1 refused, 0 bad, 1 as before; ";
-            let all = format!("{all}10 figures, 1 of them a compound\n");
+            let all = format!("{all}10 figures, 9 of them plain, 1 of them a compound\n");
             assert!(told.ends_with(&all), "{told}");
             assert_eq!(place.read(&file("b")), marked);
             assert_eq!(place.read(&file("a")), whole);

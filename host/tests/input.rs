@@ -102,7 +102,8 @@ fn a_page_says_what_an_off_file_gave() {
     on_each("off", |place, run| {
         place.write("cube.off", CUBE.replace("OFF\n", "OFF\n# A cube.\n"));
         let page = run(&["cube.off"]).fine();
-        let head = "cube.off\nA cube (from an OFF file).\n\nLabel: 3 figures, 1 of them a compound";
+        let head = "cube.off\nA cube (from an OFF file).\n\nLabel: 3 figures, 2 of them plain, \
+             1 of them a compound\n";
         assert!(page.starts_with(head), "{page}");
         assert!(page.contains("\nRows: the 48 symmetries that the host found in the points\n"));
         let json = Value::read(&run(&["--json", "cube.off"]).fine());

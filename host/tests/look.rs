@@ -5,7 +5,7 @@ mod common;
 use faceting_register::{Answer, Entry, Figure, Job};
 use facetings_host::cases::generator::{case, kind_named};
 use facetings_host::engines::judgement::Judgement;
-use facetings_host::engines::oracle::Oracle;
+use facetings_host::engines::oracle::{kept, Oracle};
 use facetings_host::geometry::{dot, minus};
 use facetings_host::report::flat::Flat;
 use facetings_host::report::look::{looks, Look};
@@ -136,7 +136,8 @@ fn report(oracle: &Oracle, text: &str) -> Report {
         found: None,
     };
     let source = Source::of("original", &bytes);
-    Report::of(&subject, source, asked, &found.bytes()).expect("an answer")
+    let plain = Some(kept(&found));
+    Report::of(&subject, source, asked, &found.bytes(), plain).expect("an answer")
 }
 
 const GRID: &str = "points\n0 0\n1 0\n2 0\n0 1\n1 1\n2 1\n0 2\n1 2\n2 2\ngenerators\n0 3 6 1 4 7 2 5 8\n2 5 8 1 4 7 0 3 6\n";
@@ -147,49 +148,55 @@ const CUBE_GROUP: &str = "generators\n0 1 4 5 2 3 6 7\n1 3 0 2 5 7 4 6\n";
 fn the_label_says_what_was_left_out_and_what_does_not_close() {
     let Some(oracle) = oracle() else { return };
     let cases = [
-        (GRID.to_string(), "8 figures, 2 of them close in themselves"),
+        (
+            GRID.to_string(),
+            "8 figures, 4 of them plain, 2 of them close in themselves",
+        ),
         (
             format!("{CUBE}{CUBE_GROUP}"),
-            "3 figures, 1 of them a compound",
+            "3 figures, 2 of them plain, 1 of them a compound",
         ),
-        (format!("{SQUARE}{SQUARE_GROUP}"), "1 figure"),
+        (
+            format!("{SQUARE}{SQUARE_GROUP}"),
+            "1 figure, 1 of them plain",
+        ),
         (
             format!("{CUBE}limit 20\n"),
-            "at least 20 figures (entry limit 20)",
+            "at least 20 figures (entry limit 20), 20 of them plain",
         ),
         (
             format!("{CUBE}{CUBE_GROUP}limit 20\n"),
-            "3 figures (entry limit 20 not reached), 1 of them a compound",
+            "3 figures (entry limit 20 not reached), 2 of them plain, 1 of them a compound",
         ),
         (
             format!("{CUBE}{CUBE_GROUP}limit 2\n"),
-            "at least 2 figures (entry limit 2)",
+            "at least 2 figures (entry limit 2), 2 of them plain",
         ),
         // Three figures at most are asked for, and a plane has three possible facets:
         // others may be missing, so more figures may be.
         (
             format!("{CUBE}{CUBE_GROUP}limit 3\n"),
-            "at least 3 figures (entry limit 3), 1 of them a compound",
+            "at least 3 figures (entry limit 3), 2 of them plain, 1 of them a compound",
         ),
         (
             format!("{SQUARE}limit 0\n"),
-            "at least 1 figure (entry limit 0)",
+            "at least 1 figure (entry limit 0), 1 of them plain",
         ),
         (
             format!("{SQUARE}limit 8\n"),
-            "7 figures (entry limit 8 not reached)",
+            "7 figures (entry limit 8 not reached), 7 of them plain",
         ),
         (
             format!("{SQUARE}limit 7\n"),
-            "at least 7 figures (entry limit 7)",
+            "at least 7 figures (entry limit 7), 7 of them plain",
         ),
         (
             "rank 2\npoints\n0\n1\nlimit 1\n".into(),
-            "1 figure (entry limit 1 not reached)",
+            "1 figure (entry limit 1 not reached), 1 of them plain",
         ),
         (
             format!("{SQUARE}max 1.2\n"),
-            "1 figure (edges of length 1.2 or less)",
+            "1 figure (edges of length 1.2 or less), 1 of them plain",
         ),
         (
             format!("{SQUARE}min 1.2\n"),
@@ -197,11 +204,11 @@ fn the_label_says_what_was_left_out_and_what_does_not_close() {
         ),
         (
             format!("{SQUARE}min 0.5\nmax 1.2\nlimit 9\n"),
-            "1 figure (entry limit 9 not reached, edges of length 0.5 to 1.2)",
+            "1 figure (entry limit 9 not reached, edges of length 0.5 to 1.2), 1 of them plain",
         ),
         (
             format!("{SQUARE}rows\n0 1 2 3\n1 2 3 0\n"),
-            "7 figures, 2 of them close in themselves, 6 of them different",
+            "7 figures, 3 of them plain, 2 of them close in themselves, 6 of them different",
         ),
     ];
     for (text, label) in cases {

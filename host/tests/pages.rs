@@ -7,6 +7,7 @@ mod common;
 use std::collections::BTreeSet;
 use std::path::{Path, PathBuf};
 
+use faceting_register::plain::plain;
 use faceting_register::request::{ask, LONGEST};
 use faceting_register::{Engine, Job, Stop};
 use facetings_host::format::vertex_set::{self, VertexSet};
@@ -60,7 +61,8 @@ fn result(engine: &mut dyn Engine, set: &VertexSet) -> String {
             // The recorded pages are the register's; both engines must come to them.
             let source = Source::of("register", job);
             let asked = Job::read(job).expect("an answered job can be read");
-            let report = Report::of(&set.subject, source, asked, &bytes);
+            let plain = plain(engine, job).expect("an answered job has plain entries");
+            let report = Report::of(&set.subject, source, asked, &bytes, Some(plain));
             let report = report.expect("the answer is laid out as one");
             assert_eq!(report.length, bytes.len());
             page(&report)

@@ -6,8 +6,15 @@ mod common;
 use faceting_register::plain::{bytes, plain};
 use faceting_register::{Refusal, Register, Stop};
 use facetings_host::compare::plain::{compare, compare_generated, gives, Met};
+use facetings_host::report::page::spans;
 
-use common::{job, oracle, SQUARE, WORKSPACE};
+use common::json::Value;
+use common::place::Place;
+use common::ways::ways;
+use common::{job, oracle, CORNER, SQUARE, WORKSPACE};
+
+const COMMAND: &str = env!("CARGO_BIN_EXE_register");
+const CUBE: &str = include_str!("../../examples/cube.txt");
 
 /// Generated cases that every run of the tests compares.
 const COUNT: usize = 2_000;
@@ -112,4 +119,116 @@ fn the_jobs_own_refusals_come_first_and_17_last() {
         Refusal::Budget.code(),
     );
     assert_eq!(plain(&mut register, &[]), Err(Stop::Refused(Refusal::Mark)));
+}
+
+/// What stands behind the lines of all sets.
+const PROMISE: &str = "plain: each figure that is not plain has all the parts of another that \
+    is listed, which is proved; a plain one may have them too\n";
+
+/// The same where a limit may have cut a list.
+const PROMISE_OF_SOME: &str = "plain: each figure that is not plain has all the parts of \
+    another that is listed, which is proved; a plain one may have them too, and those of a \
+    figure that the limit left out\n";
+
+#[test]
+fn the_command_prints_both_counts_the_numbers_and_the_promise() {
+    if register().is_none() {
+        return;
+    }
+    let place = Place::new("plain-text");
+    place.write("cube.txt", CUBE);
+    place.write("few.txt", format!("{CUBE}limit 2\n"));
+    place.write("none.txt", format!("{SQUARE}max 0.5\n"));
+    place.write("poor.txt", format!("{CORNER}budget 9\n"));
+    place.write("walk.txt", READINGS[4].1);
+    let run = |words: &[&str]| place.run(COMMAND, &[&["--plain"], words].concat());
+    let cube = "cube.txt: 3 figures, 2 of them plain: 0 2\n";
+    assert_eq!(run(&["cube.txt"]).fine(), format!("{cube}{PROMISE}"));
+    assert_eq!(run(&["--quiet", "cube.txt"]).fine(), cube);
+    let walk = "walk.txt: 4 figures, 3 of them plain: 0 2 3\n";
+    let few = "few.txt: at least 2 figures (entry limit 2), 2 of them plain: 0 1\n";
+    assert_eq!(
+        run(&["walk.txt", "few.txt", "cube.txt"]).fine(),
+        format!("{walk}{few}{cube}{PROMISE_OF_SOME}")
+    );
+    assert_eq!(
+        run(&["none.txt"]).fine(),
+        "none.txt: no figures (edges of length 0.5 or less)\n"
+    );
+    let poor = run(&["poor.txt"]);
+    assert!(poor
+        .complaint(1)
+        .starts_with("register: poor.txt: refused 16: "));
+    let both = run(&["poor.txt", "cube.txt"]);
+    assert_eq!((both.status, both.text()), (1, format!("{cube}{PROMISE}")));
+}
+
+/// A list whose items all stand in another one, in their order.
+fn stands_in(one: &[Vec<u32>], other: &[Vec<u32>]) -> bool {
+    let mut rest = other.iter();
+    one.iter().all(|item| rest.any(|there| there == item))
+}
+
+/// Label, page and JSON tell the same of each engine; what is left out has another
+/// inside, and the set of the walk keeps one that has.
+#[test]
+fn page_and_json_tell_which_entries_are_plain() {
+    for way in ways() {
+        let place = Place::new("plain-page");
+        let run = |words: &[&str]| place.run(COMMAND, &[way.option, words].concat()).fine();
+        let mut kept_with_another = 0;
+        for (name, text, kept) in READINGS {
+            place.write("set.txt", text);
+            let value = Value::read(&run(&["--json", "set.txt"]));
+            assert_eq!(value.field("plain").words(), kept, "{name}");
+            let lists: Vec<Vec<Vec<u32>>> = value
+                .field("entries")
+                .list()
+                .iter()
+                .map(|entry| {
+                    entry
+                        .field("parts")
+                        .list()
+                        .iter()
+                        .map(Value::words)
+                        .collect()
+                })
+                .collect();
+            let (all, some) = (lists.len(), kept.len());
+            let figures = if all == 1 { "figure" } else { "figures" };
+            let label = format!("{all} {figures}, {some} of them plain");
+            assert!(value.field("label").text().starts_with(&label), "{label}");
+            let page = run(&["set.txt"]);
+            assert!(page.contains(&format!("\nLabel: {label}")), "{page}");
+            assert!(page.contains(&format!("\n  {PROMISE}")), "{page}");
+            assert!(page.contains("\nWhich figures are plain is what a second proved call writes."));
+            for (a, list) in lists.iter().enumerate() {
+                let others = lists.iter().enumerate().filter(|(b, _)| *b != a);
+                let another = others.map(|(_, other)| other).any(|b| stands_in(b, list));
+                let plain = kept.contains(&(a as u32));
+                assert!(plain || another, "{name}: entry {a}");
+                kept_with_another += usize::from(plain && another);
+            }
+        }
+        assert!(kept_with_another > 0);
+        place.write("few.txt", format!("{CUBE}limit 2\n"));
+        assert!(run(&["few.txt"]).contains(&format!("\n  {PROMISE_OF_SOME}")));
+        place.write("none.txt", format!("{SQUARE}max 0.5\n"));
+        let none = run(&["none.txt"]);
+        assert!(none.contains("\nPlain: no entries\n") && !none.contains("plain: each"));
+    }
+}
+
+#[test]
+fn pages_give_numbers_that_follow_each_other_together() {
+    let told: [(&[u32], &str); 5] = [
+        (&[], ""),
+        (&[7], "7"),
+        (&[0, 1, 3], "0, 1, 3"),
+        (&[0, 1, 2], "0 to 2"),
+        (&[0, 2, 3, 4, 5, 9, 10], "0, 2 to 5, 9, 10"),
+    ];
+    for (numbers, words) in told {
+        assert_eq!(spans(numbers), words);
+    }
 }

@@ -106,7 +106,9 @@ fn a_page_has_the_numbers_of_the_answer() {
 my square.txt
 Four corners.
 
-Label: 1 figure
+Label: 1 figure, 1 of them plain
+  plain: each figure that is not plain has all the parts of another that is listed, which is \
+proved; a plain one may have them too
 
 Notes: none
   margin: points counted off a line are 0.707 or more away; the border is 1e-7
@@ -127,6 +129,9 @@ Parts, measured: 1 shape
   entry 0: 4 × A edge, length 1.0000; 4 corners, angle 90.00° A–A
 
 Compounds: no entries
+
+Plain: 1 entry
+  0
 
 3 lists were examined.
 
@@ -286,6 +291,7 @@ fn answer(value: &Value) -> Answer {
         "margin",
         "notes",
         "orbits",
+        "plain",
         "points",
         "rank",
         "result",
@@ -392,13 +398,17 @@ fn a_folder_gives_a_line_each_and_a_bad_file_holds_up_none() {
         let text = done.text();
         let lines: Vec<&str> = text.lines().collect();
         assert_eq!(lines.len(), 5, "{text}");
-        assert_eq!(lines[0], "[1/4] a square.txt: 7 figures");
+        assert_eq!(lines[0], "[1/4] a square.txt: 7 figures, 7 of them plain");
         assert!(lines[1].starts_with("[2/4] b.job: refused 16: "));
         assert!(lines[2].starts_with("[3/4] c.txt: line 3: "));
-        assert_eq!(lines[3], "[4/4] d.txt: 207 figures, 10 of them compounds");
+        assert_eq!(
+            lines[3],
+            "[4/4] d.txt: 207 figures, 197 of them plain, 10 of them compounds"
+        );
         assert_eq!(
             lines[4],
-            "4 sets: 2 answered, 1 refused, 1 bad; 214 figures, 10 of them compounds"
+            "4 sets: 2 answered, 1 refused, 1 bad; \
+             214 figures, 204 of them plain, 10 of them compounds"
         );
         let files = run(&["sets/a square.txt", "sets/b.job"]);
         assert_eq!((files.status, files.text().lines().count()), (1, 3));
@@ -457,12 +467,18 @@ fn a_text_may_hold_several_sets() {
         assert_eq!(done.status, 2);
         let text = done.text();
         let lines: Vec<&str> = text.lines().collect();
-        assert_eq!(lines[0], "[1/3] sets.txt, square: 7 figures");
+        assert_eq!(
+            lines[0],
+            "[1/3] sets.txt, square: 7 figures, 7 of them plain"
+        );
         assert!(
             lines[1].starts_with("[2/3] sets.txt, wrong: line 8, job wrong: line 10: "),
             "{text}"
         );
-        assert_eq!(lines[2], "[3/3] sets.txt, corner: 1 figure");
+        assert_eq!(
+            lines[2],
+            "[3/3] sets.txt, corner: 1 figure, 1 of them plain"
+        );
         place.write("twice.txt", format!("job a\n{SQUARE}\njob a\n{SQUARE}"));
         let done = run(&["twice.txt", "-o", "out"]);
         assert!(done.complaint(2).contains("two sets would both be written"));
@@ -521,7 +537,7 @@ fn page_json_and_label_tell_what_the_host_saw() {
         place.write("grid.txt", GRID);
         let page = run(&["grid.txt"]).fine();
         for line in [
-            "\nLabel: 8 figures, 2 of them close in themselves\n",
+            "\nLabel: 8 figures, 4 of them plain, 2 of them close in themselves\n",
             "\nNotes: 1\n  points 0, 1, 2 lie on a line, ",
             "\nFigures: 8 entries, 2 of them close in themselves\n",
             "\n  entry 0: does not close in itself, point 0 lies in 1 edge\n",
@@ -559,7 +575,7 @@ fn strict_ends_with_4_where_a_note_weighs() {
     on_each("strict", |place, run| {
         place.write("sets/grid.txt", GRID);
         place.write("sets/square.txt", SQUARE);
-        let noted = "8 figures, 2 of them close in themselves; 1 note";
+        let noted = "8 figures, 4 of them plain, 2 of them close in themselves; 1 note";
         run(&["sets/grid.txt"]).fine();
         let done = run(&["--strict", "sets/grid.txt"]);
         assert_eq!(done.status, 4);
@@ -571,14 +587,14 @@ fn strict_ends_with_4_where_a_note_weighs() {
             several.contains(&format!("] grid.txt: {noted}\n")),
             "{several}"
         );
-        let sum =
-            "2 sets: 2 answered, 0 refused, 0 bad; 15 figures, 9 of them close in themselves\n";
+        let sum = "2 sets: 2 answered, 0 refused, 0 bad; \
+            15 figures, 11 of them plain, 9 of them close in themselves\n";
         assert!(several.ends_with(sum), "{several}");
         assert_eq!(run(&["--strict", "sets"]).status, 4);
         place.write("sets/z.txt", format!("{SQUARE}limit 2\n"));
         let cut = run(&["sets"]).fine();
         assert!(
-            cut.contains("] z.txt: at least 2 figures (entry limit 2)\n"),
+            cut.contains("] z.txt: at least 2 figures (entry limit 2), 2 of them plain\n"),
             "{cut}"
         );
         assert!(cut.contains("; at least 17 figures, "), "{cut}");

@@ -206,7 +206,7 @@ fn one_set_is_one_set() {
         place.write("sets/a.txt", SQUARE);
         let text = run(&["sets"]).fine();
         let last = text.lines().last();
-        let words = "1 set: 1 answered, 0 refused, 0 bad; 7 figures";
+        let words = "1 set: 1 answered, 0 refused, 0 bad; 7 figures, 7 of them plain";
         assert_eq!(last, Some(words));
     });
 }

@@ -216,7 +216,7 @@ fn marks_are_as_many_as_the_sides_of_joints() {
         let bytes = ask(way.engine.as_mut(), &job, LONGEST).expect("an answer");
         let asked = Job::read(&job).expect("the example is a job");
         let source = Source::of("register", &job);
-        let report = Report::of(&set.subject, source, asked, &bytes).expect("an answer");
+        let report = Report::of(&set.subject, source, asked, &bytes, None).expect("an answer");
         for (e, entry) in report.parts.entries.iter().enumerate() {
             let mut joints: BTreeMap<(usize, usize), usize> = BTreeMap::new();
             for joint in &entry.joints {

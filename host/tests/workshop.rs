@@ -87,7 +87,7 @@ fn an_off_file_has_the_figure_and_is_read_back_as_the_same_points() {
             );
         }
         let page = run(&["out/cube-1.off"]).fine();
-        assert!(page.contains("Label: 3 figures, 1 of them a compound"));
+        assert!(page.contains("Label: 3 figures, 2 of them plain, 1 of them a compound"));
     });
 }
 
@@ -211,7 +211,8 @@ fn pictures_are_whole_the_same_each_time_and_have_every_face() {
         let sheet = text(place, "one/cube & co.svg");
         for words in [
             "cube &amp; co.txt",
-            "3 figures, 1 of them a compound",
+            "3 figures, 2 of them plain, 1 of them a compound",
+            ">plain: each figure that is not plain has all the parts of another that is listed, ",
             ">entry 1: 7R4T-8S10-KBDN<",
             ">6 A, 8 B<",
             ">B triangle, side 2.8284<",

@@ -6,9 +6,7 @@ use faceting_register::plain::bytes;
 use faceting_register::{Answer, Engine, Refusal, Stop};
 
 use crate::cases::generator::case;
-use crate::engines::oracle::Oracle;
-#[cfg(has_miratope)]
-use crate::engines::original::plain_lists;
+use crate::engines::oracle::{kept, Oracle};
 
 /// What stands in a buffer before a call.
 const POISON: u8 = 0xa5;
@@ -32,22 +30,6 @@ pub struct Met {
     pub kept_with_another: usize,
     /// Entries left out that stand in no compound's place.
     pub left_out_unlabelled: usize,
-}
-
-/// Without the original there is no `Oracle`, and nobody asks.
-#[cfg(not(has_miratope))]
-fn plain_lists(_lists: &Vec<Vec<(usize, usize)>>) -> Vec<usize> {
-    Vec::new()
-}
-
-/// The numbers of the entries that the original keeps.
-pub fn kept(answer: &Answer) -> Vec<u32> {
-    let lists = answer.entries.iter().map(|entry| {
-        let item = |&(orbit, facet): &(u32, u32)| (orbit as usize, facet as usize);
-        entry.list.iter().map(item).collect()
-    });
-    let kept = plain_lists(&lists.collect());
-    kept.into_iter().map(|number| number as u32).collect()
 }
 
 /// The items of b stand in a, in their order.

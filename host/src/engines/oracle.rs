@@ -3,12 +3,13 @@
 
 use std::fmt;
 
+use faceting_register::plain::bytes;
 use faceting_register::{job, Answer, Engine, Refusal, Stop};
 
 use super::Probe;
 use crate::engines::judgement::{Bounds, Events, Judgement};
 #[cfg(has_miratope)]
-use crate::engines::original::faceting;
+use crate::engines::original::{faceting, plain_lists};
 
 /// The original's source was not there when this crate was built.
 #[derive(Clone, Copy, Debug, PartialEq, Eq)]
@@ -73,14 +74,39 @@ fn faceting(_job: &job::Job, _bounds: &Bounds) -> (Result<Answer, Stop>, Events)
     (Err(Stop::Broken(NoSource.to_string())), Events::default())
 }
 
+/// Without the original there is no `Oracle`, and nobody asks.
+#[cfg(not(has_miratope))]
+fn plain_lists(_lists: &Vec<Vec<(usize, usize)>>) -> Vec<usize> {
+    Vec::new()
+}
+
+/// The numbers of the entries that the original's `filter_irc` keeps.
+pub fn kept(answer: &Answer) -> Vec<u32> {
+    let lists = answer.entries.iter().map(|entry| {
+        let item = |&(orbit, facet): &(u32, u32)| (orbit as usize, facet as usize);
+        entry.list.iter().map(item).collect()
+    });
+    let kept = plain_lists(&lists.collect());
+    kept.into_iter().map(|number| number as u32).collect()
+}
+
 /// Fills the buffer as the exported call does and returns its value.
 pub fn fill(result: &Result<Answer, Stop>, answer: &mut [u8]) -> Result<i64, String> {
+    fill_with(result, Answer::bytes, answer)
+}
+
+/// The same with what is written of an answer.
+fn fill_with(
+    result: &Result<Answer, Stop>,
+    written: impl Fn(&Answer) -> Vec<u8>,
+    answer: &mut [u8],
+) -> Result<i64, String> {
     answer.fill(0);
     match result {
         Err(Stop::Broken(words)) => Err(format!("the original panicked: {words}")),
         Err(Stop::Refused(refusal)) => Ok(refusal.code()),
         Ok(found) => {
-            let bytes = found.bytes();
+            let bytes = written(found);
             let Some(front) = answer.get_mut(..bytes.len()) else {
                 return Ok(Refusal::Room.code());
             };
@@ -102,5 +128,11 @@ impl Engine for Oracle {
         let code = fill(&judged.result, answer).unwrap_or(BROKEN);
         self.last = Some(judged);
         code
+    }
+
+    fn plain(&mut self, job: &[u8], workspace: usize, answer: &mut [u8]) -> Option<i64> {
+        let judged = self.judge(job, workspace);
+        let written = |found: &Answer| bytes(&kept(found));
+        Some(fill_with(&judged.result, written, answer).unwrap_or(BROKEN))
     }
 }

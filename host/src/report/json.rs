@@ -92,6 +92,7 @@ pub fn answered(report: &Report) -> Json {
         ("rank", Json::Number(subject.rank.into())),
         ("label", Json::Text(report.label())),
         ("cut", Json::Truth(report.count.cut)),
+        ("plain", or_null(&report.plain, |plain| numbers(plain))),
         ("closing", Json::Number(report.count.closing as i64)),
         ("carried", or_null(&report.carried, carried)),
         ("points", list(&job.points, |point| floats(point))),

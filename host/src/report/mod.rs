@@ -80,6 +80,8 @@ pub struct Report {
     pub carried: Option<Carried>,
     /// The host's own look at the job.
     pub notes: Notes,
+    /// The ascending numbers of the plain entries, where they were asked for.
+    pub plain: Option<Vec<u32>>,
     /// What the label counts.
     pub count: Count,
     /// What each entry costs, in pence, where a tariff was given and the rank has prices.
@@ -87,12 +89,14 @@ pub struct Report {
 }
 
 impl Report {
-    /// What there is to tell of an answer's bytes, if they are one.
+    /// What there is to tell of an answer's bytes, if they are one, and of the numbers
+    /// of the job's plain entries, where they were asked for.
     pub fn of(
         subject: &Subject,
         source: Source,
         job: Job,
         answer: &[u8],
+        plain: Option<Vec<u32>>,
     ) -> Result<Report, Damage> {
         let (read, length) = Answer::read(answer)?;
         let looks = looks(&read);
@@ -100,7 +104,8 @@ impl Report {
             subject: subject.clone(),
             source,
             notes: Notes::of(&job),
-            count: Count::of(&job, &read, &looks),
+            count: Count::of(&job, &read, &looks, plain.as_ref().map(Vec::len)),
+            plain,
             carried: Carried::of(&job, &read),
             parts: Parts::of(&job, &read),
             job,

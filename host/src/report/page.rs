@@ -34,13 +34,15 @@ const WORDS: &str = "\
 The host's own look, which is not proved: the notes, the margin, what closes in itself,
 pieces, equal figures, and what is measured: shapes, lengths and angles. That rows which
 are closed under composition carry each figure to itself is proved, and looked at again.
-All else stands in the answer. A figure's points are those at which one of its edges
-ends. It closes in itself where each of its ridges (at rank 3 a point, at rank 4 an edge)
-lies in exactly two of its facets. It is in pieces where its facets fall apart into groups
-without a common ridge. It is a compound where its parts are those of two other entries
-together. A row carries a figure to itself where the images of its edges are its edges, of
-its polygons its polygons, and so up to its facets. Lengths are in the units of the
-points. The angle of a joint is that between its two facets, at most 180°.
+Which figures are plain is what a second proved call writes. All else stands in the
+answer. A figure's points are those at which one of its edges ends. It closes in itself
+where each of its ridges (at rank 3 a point, at rank 4 an edge) lies in exactly two of its
+facets. It is in pieces where its facets fall apart into groups without a common ridge. It
+is a compound where its parts are those of two other entries together. It is plain where
+an ordered walk, which may miss one, finds no other entry's parts among its own. A row
+carries a figure to itself where the images of its edges are its edges, of its polygons
+its polygons, and so up to its facets. Lengths are in the units of the points. The angle
+of a joint is that between its two facets, at most 180°.
 ";
 
 /// The whole page, each line ended.
@@ -53,11 +55,15 @@ pub fn page(report: &Report) -> String {
         let _ = writeln!(text, "{about}");
     }
     let _ = writeln!(text, "\nLabel: {}", report.label());
+    if let Some(promise) = report.count.promise() {
+        let _ = writeln!(text, "  plain: {promise}");
+    }
     put_notes(&mut text, report);
     put_orbits(&mut text, subject.rank, answer, &report.parts);
     put_entries(&mut text, report);
     put_parts(&mut text, report);
     put_compounds(&mut text, answer);
+    put_plain(&mut text, report);
     let lists = counted(answer.examined as usize, "list was", "lists were");
     let Source { engine, hash } = &report.source;
     let _ = writeln!(text, "\n{lists} examined.\n");
@@ -194,6 +200,34 @@ fn put_entries(text: &mut String, report: &Report) {
             let _ = writeln!(text, "  entry {e}: {}", seen.join("; "));
         }
     }
+}
+
+/// Which entries are plain.
+fn put_plain(text: &mut String, report: &Report) {
+    if let Some(numbers) = &report.plain {
+        let entries = counted(numbers.len(), "entry", "entries");
+        let _ = writeln!(text, "\nPlain: {entries}");
+        if !numbers.is_empty() {
+            let _ = writeln!(text, "  {}", spans(numbers));
+        }
+    }
+}
+
+/// Ascending numbers, neighbours together: 0 to 3, 5, 7 to 9.
+pub fn spans(numbers: &[u32]) -> String {
+    let mut spans: Vec<[u32; 2]> = Vec::new();
+    for &number in numbers {
+        match spans.last_mut() {
+            Some([_, last]) if *last + 1 == number => *last = number,
+            _ => spans.push([number, number]),
+        }
+    }
+    let words = spans.iter().map(|&[first, last]| match last - first {
+        0 => first.to_string(),
+        1 => format!("{first}, {last}"),
+        _ => format!("{first} to {last}"),
+    });
+    words.collect::<Vec<String>>().join(", ")
 }
 
 /// What the rows do to the figures: promised where they are closed under composition,

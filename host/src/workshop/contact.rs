@@ -18,7 +18,7 @@ const CELL: [f64; 2] = [200.0, 224.0];
 
 /// A line of words, and what stands above the pictures.
 const LINE: f64 = 18.0;
-const TOP: f64 = 70.0;
+const TOP: f64 = 88.0;
 
 /// The sheet of a set.
 pub fn sheet(report: &Report, painter: &Painter) -> String {
@@ -34,6 +34,9 @@ pub fn sheet(report: &Report, painter: &Painter) -> String {
     text += PAPER;
     text += &tag("text class=\"h\" x=\"16\" y=\"30\"", name);
     text += &words(16.0, 52.0, &label);
+    if let Some(promise) = report.count.promise() {
+        text += &words(16.0, 52.0 + LINE, &format!("plain: {promise}"));
+    }
     for (e, entry) in entries.iter().enumerate() {
         let number = number(&report.job, &report.answer.entries[e].figure);
         text += &cell(e, &number, entry, report.price(e), painter);

@@ -7,7 +7,9 @@ use super::markup::{escaped, section, tag};
 use super::picture::Painter;
 use crate::catalogue::number::number;
 use crate::report::json::Json;
+use crate::report::label::Count;
 use crate::report::notes::Note;
+use crate::report::page::spans;
 use crate::report::parts::{entry_words, shape_words};
 use crate::report::{Report, Source, VERSION};
 
@@ -49,7 +51,14 @@ Page Up and Page Down show others, Escape closes.</p></dialog>
 pub fn page(report: &Report, back: &str) -> String {
     let painter = Painter::of(report);
     let (name, label) = (escaped(&report.subject.name), escaped(&report.label()));
-    let main = notes(report) + &figures(report, &painter) + &shapes(report) + &compounds(report);
+    let main = [
+        notes(report),
+        figures(report, &painter),
+        shapes(report),
+        compounds(report),
+        plain(report),
+    ];
+    let main = main.concat();
     let data = data(report, &painter).to_string().replace('<', "\\u003c");
     let parts = [
         header(report, back, &name, &label),
@@ -70,8 +79,15 @@ fn header(report: &Report, back: &str, name: &str, label: &str) -> String {
         tag("h1", name),
         about.map_or(String::new(), |about| tag("p", about)),
         tag("p class=\"label\"", label),
+        promise(&report.count),
     ];
     tag("header", lines.join("\n"))
+}
+
+/// What is promised of plain figures, near the number of them.
+pub fn promise(count: &Count) -> String {
+    let words = count.promise().map(|words| format!("Plain: {words}."));
+    words.map_or(String::new(), |words| tag("p class=\"soft\"", words))
 }
 
 /// A whole document around its body.
@@ -224,9 +240,17 @@ fn compounds(report: &Report) -> String {
     }
 }
 
+fn plain(report: &Report) -> String {
+    let numbers = report.plain.as_deref().unwrap_or_default();
+    match numbers.is_empty() {
+        true => String::new(),
+        false => section("plain", "Plain entries", &tag("p", spans(numbers))),
+    }
+}
+
 /// Where the page comes from, and what of it is whose.
 const WHOSE: &str = "Counts of points, edges and facets, and which entries are compounds, are the \
-answer's. Notes, pieces, what closes in itself, lengths and angles are the host's own look.";
+answer's; which are plain is what a second proved call writes. Notes, pieces, what closes in itself, lengths and angles are the host's own look.";
 
 fn foot(report: &Report) -> String {
     let Source { engine, hash } = &report.source;

@@ -2,11 +2,11 @@
 
 use std::fmt::Write;
 
-use super::html::{bounds, document, filters, head, table};
+use super::html::{bounds, document, filters, head, promise, table};
 use super::markup::{escaped, tag};
 use super::picture::Painter;
 use super::MARK;
-use crate::report::label::counted;
+use crate::report::label::{counted, Count};
 use crate::report::{Report, VERSION};
 
 /// A set on the index.
@@ -17,8 +17,8 @@ pub struct Row {
     pub place: Option<String>,
     /// Its label, or why it has none.
     pub line: String,
-    /// How many figures it has.
-    pub figures: usize,
+    /// What its label counts.
+    pub count: Count,
     /// A small picture of the first.
     pub small: String,
 }
@@ -26,13 +26,12 @@ pub struct Row {
 impl Row {
     /// A set with a page.
     pub fn answered(report: &Report, place: String) -> Row {
-        let figures = report.answer.entries.len();
         Row {
             name: report.subject.name.clone(),
             place: Some(place),
             line: report.label(),
-            figures,
-            small: match figures {
+            count: report.count,
+            small: match report.count.figures {
                 0 => String::new(),
                 _ => Painter::of(report).small(0),
             },
@@ -45,7 +44,7 @@ impl Row {
             name: name.into(),
             place: None,
             line,
-            figures: 0,
+            count: Count::default(),
             small: String::new(),
         }
     }
@@ -67,7 +66,10 @@ pub fn index(rows: &[Row]) -> String {
     ];
     let lines: String = rows.iter().map(line).collect();
     let table = table(&heads.concat(), &lines);
-    let header = tag("header", tag("h1", &title));
+    let all = rows
+        .iter()
+        .fold(Count::default(), |sum, row| sum.plus(row.count));
+    let header = tag("header", tag("h1", &title) + &promise(&all));
     let main = tag("main", filters(&bounds("figures", "Figures")) + &table);
     document(
         &title,
@@ -77,7 +79,7 @@ pub fn index(rows: &[Row]) -> String {
 }
 
 fn line(row: &Row) -> String {
-    let (name, figures) = (escaped(&row.name), row.figures);
+    let (name, figures) = (escaped(&row.name), row.count.figures);
     let link = match &row.place {
         Some(place) => tag(&format!("a href=\"{}.html\"", address(place)), &name),
         None => name.clone(),

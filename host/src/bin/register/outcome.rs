@@ -2,6 +2,7 @@
 
 use faceting_register::bounds::WORKSPACE;
 use faceting_register::job::accept;
+use faceting_register::plain::plain;
 use faceting_register::request::ask;
 use faceting_register::{Engine, Job, Stop};
 use facetings_host::format::vertex_set::VertexSet;
@@ -10,7 +11,7 @@ use facetings_host::report::notes::Notes;
 use facetings_host::report::page::page;
 use facetings_host::report::{advice, json, Rejection, Report, Source};
 
-use crate::options::Form;
+use crate::options::{Form, Options};
 
 /// How it ended: the exit status.
 #[derive(Clone, Copy, Default, PartialEq, Eq, PartialOrd, Ord)]
@@ -31,25 +32,29 @@ pub enum Outcome {
 }
 
 /// The engine's answer to a set, of no more bytes than there is room for.
-pub fn outcome(engine: &mut dyn Engine, set: &VertexSet, room: usize) -> Outcome {
-    let name = engine.name();
+pub fn outcome(engine: &mut dyn Engine, set: &VertexSet, options: &Options) -> Outcome {
     let job = set.job.as_ref();
-    outcome_from(name, set, || job.ok().map(|job| ask(engine, job, room)))
+    let result = job.ok().map(|job| ask(engine, job, options.room));
+    outcome_from(engine, set, options, result)
 }
 
-/// What came of a set whose job, if it has one, the named engine gave this result.
+/// What came of a set whose job, if it has one, the engine gave this result.
 pub fn outcome_from(
-    engine: &'static str,
+    engine: &mut dyn Engine,
     set: &VertexSet,
-    result: impl FnOnce() -> Option<Result<Vec<u8>, Stop>>,
+    options: &Options,
+    result: Option<Result<Vec<u8>, Stop>>,
 ) -> Outcome {
     let job = match &set.job {
         Ok(job) => job,
         Err(words) => return Outcome::Bad(words.clone()),
     };
-    let source = Source::of(engine, job);
-    match result() {
-        Some(Ok(bytes)) => answered(set, source, job, bytes),
+    let source = Source::of(engine.name(), job);
+    match result {
+        Some(Ok(bytes)) => match plain_entries(engine, job, options) {
+            Ok(plain) => answered(set, source, job, bytes, plain),
+            Err(words) => Outcome::Bad(words),
+        },
         Some(Err(Stop::Refused(refusal))) => Outcome::Refused(Box::new(Rejection {
             refusal,
             culprit: set.culprit(refusal),
@@ -61,8 +66,30 @@ pub fn outcome_from(
     }
 }
 
-fn answered(set: &VertexSet, source: Source, job: &[u8], bytes: Vec<u8>) -> Outcome {
-    let read = Job::read(job).map(|job| Report::of(&set.subject, source, job, &bytes));
+/// The numbers of the plain entries of a job that has an answer. Bytes by themselves
+/// have no label, and nobody waits for them.
+fn plain_entries(
+    engine: &mut dyn Engine,
+    job: &[u8],
+    options: &Options,
+) -> Result<Option<Vec<u32>>, String> {
+    if options.form == Form::Raw {
+        return Ok(None);
+    }
+    let numbers = plain(engine, job);
+    numbers
+        .map(Some)
+        .map_err(|stop| format!("answered, but not its plain entries: {stop}"))
+}
+
+fn answered(
+    set: &VertexSet,
+    source: Source,
+    job: &[u8],
+    bytes: Vec<u8>,
+    plain: Option<Vec<u32>>,
+) -> Outcome {
+    let read = Job::read(job).map(|job| Report::of(&set.subject, source, job, &bytes, plain));
     match read {
         Some(Ok(report)) if report.length == bytes.len() => {
             Outcome::Answered(Box::new(report), bytes)

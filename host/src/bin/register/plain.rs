@@ -1,15 +1,14 @@
-//! The plain entries of sets, in place of answers: both counts on the label's line, and
-//! the numbers of those that are plain.
+//! The plain entries of sets, in place of answers: both counts of the label's line, and
+//! the numbers of those that are plain; behind all sets what is promised of them.
 
-use faceting_register::plain::plain;
-use faceting_register::request::ask;
-use faceting_register::{Answer, Register, Stop};
+use faceting_register::Register;
 use facetings_host::format::vertex_set::VertexSet;
-use facetings_host::report::label::counted;
+use facetings_host::report::label::{left_out, Count};
+use facetings_host::report::Report;
 
 use crate::inputs;
 use crate::options::Options;
-use crate::outcome::Status;
+use crate::outcome::{outcome, Outcome, Status};
 use crate::{complain, output};
 
 /// Prints a line for every set; one that has none is told of and does not hold up the
@@ -20,41 +19,43 @@ pub fn run(options: &Options) -> Status {
         Err(absent) => return complain(&absent.to_string(), Status::Absent),
     };
     let mut worst = Status::Answered;
+    let mut all = Count::default();
     for input in inputs::inputs(&options.inputs) {
         for named in inputs::read(&input) {
-            worst = worst.max(set(&mut register, &named.set, options.room));
+            let found = outcome(&mut register, &named.set, options);
+            all = found.report().map_or(all, |report| all.plus(report.count));
+            worst = worst.max(told(&named.set, &found, options.strict));
         }
     }
-    worst
+    match all.promise().filter(|_| !options.quiet) {
+        Some(promise) => worst.max(print(&format!("plain: {promise}\n"))),
+        None => worst,
+    }
 }
 
-fn set(register: &mut Register, set: &VertexSet, room: usize) -> Status {
+/// The line of a set: on standard output where it was answered.
+fn told(set: &VertexSet, found: &Outcome, strict: bool) -> Status {
     let name = &set.subject.name;
-    let job = match &set.job {
-        Ok(job) => job,
-        Err(words) => return complain(&format!("{name}: {words}"), Status::Bad),
-    };
-    let line = match line(register, job, room) {
-        Ok(line) => line,
-        Err(stop) => return complain(&format!("{name}: {stop}"), Status::Refused),
-    };
-    match output::print(format!("{name}: {line}\n").as_bytes()) {
-        Ok(()) => Status::Answered,
-        Err(words) => complain(&words, Status::Bad),
+    match found.report() {
+        Some(report) => print(&format!("{name}: {}\n", line(report))).max(found.status(strict)),
+        None => complain(&format!("{name}: {}", found.line()), found.status(strict)),
     }
 }
 
 /// How many figures there are, how many of them are plain, and which.
-fn line(register: &mut Register, job: &[u8], room: usize) -> Result<String, Stop> {
-    let plain = plain(register, job)?;
-    let answer = Answer::read(&ask(register, job, room)?);
-    let (answer, _) = answer.map_err(|damage| Stop::Broken(damage.to_string()))?;
-    let figures = counted(answer.entries.len(), "figure", "figures");
-    let numbers: Vec<String> = plain.iter().map(u32::to_string).collect();
-    let colon = if numbers.is_empty() { "" } else { ": " };
-    Ok(format!(
-        "{figures}, {} of them plain{colon}{}",
-        plain.len(),
-        numbers.join(" ")
-    ))
+fn line(report: &Report) -> String {
+    let both = report.count.both(left_out(&report.job, report.count.cut));
+    let plain = report.plain.iter().flatten();
+    let numbers: Vec<String> = plain.map(u32::to_string).collect();
+    match numbers.is_empty() {
+        true => both,
+        false => format!("{both}: {}", numbers.join(" ")),
+    }
+}
+
+fn print(line: &str) -> Status {
+    match output::print(line.as_bytes()) {
+        Ok(()) => Status::Answered,
+        Err(words) => complain(&words, Status::Bad),
+    }
 }

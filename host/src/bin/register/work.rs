@@ -65,7 +65,7 @@ fn alone(options: &Options, engine: &mut dyn Engine, set: &VertexSet) -> Result<
     if place.is_some_and(|place| resume::is_there(options, place, engine.name(), set)) {
         return Ok(Status::Answered);
     }
-    let found = outcome(engine, set, options.room);
+    let found = outcome(engine, set, options);
     if let Some(bytes) = found.result(options.form, set) {
         match &options.place {
             Some(place) => output::save(place, &bytes)?,
@@ -166,7 +166,8 @@ fn some<'a>(
     let done = |(i, Named { set, .. }): (usize, &Named)| match there[i] {
         true => Done::kept(),
         false => {
-            let mut found = outcome_from(name, set, || results.next());
+            let result = set.job.is_ok().then(|| results.next()).flatten();
+            let mut found = outcome_from(engine.as_mut(), set, options, result);
             if let Some(quotes) = quotes {
                 quotes.add(set, &mut found);
             }
