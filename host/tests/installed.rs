@@ -309,6 +309,59 @@ fn python_prices_entries() {
     }
 }
 
+/// The plain entries of each job named, or its refusal.
+const PLAIN: &str = r#"
+import sys
+from faceting_register import Refused, Register
+register = Register()
+for name in sys.argv[1:]:
+    asked = open(name, "rb").read()
+    try:
+        print(register.plain(asked), len(register.answer(asked).entries))
+    except Refused as refused:
+        print(refused)
+"#;
+
+#[test]
+fn python_tells_the_plain_entries() {
+    let place = Place::new("installed-plain");
+    let Some(usr) = installed(&place) else { return };
+    let parabola: String = (0..6).map(|i| format!("{i} {}\n", i * i)).collect();
+    let all_but: Vec<u32> = {
+        let job = text::encode(&format!("points\n{parabola}")).expect("a job");
+        let bytes = ask(&mut Register::open().expect("linked"), &job, LONGEST).expect("an answer");
+        let (answer, _) = Answer::read(&bytes).expect("an answer");
+        let whole = |number: &u32| answer.compounds.iter().any(|triple| triple[0] == *number);
+        (0..207).filter(|number| !whole(number)).collect()
+    };
+    assert_eq!(all_but.len(), 197);
+    let sets = [
+        (CUBE.to_string(), "[0, 2] 3".to_string()),
+        (format!("points\n{parabola}"), format!("{all_but:?} 207")),
+        (format!("{SQUARE}max 0.5\n"), "[] 0".into()),
+        (
+            format!("{CORNER}budget 9\n"),
+            "refused 16: the budget is used up".into(),
+        ),
+        (
+            "points\n0 0\n".into(),
+            "refused 5: fewer than 2 points, or more than 20".into(),
+        ),
+    ];
+    let mut words = vec!["-c".to_string(), PLAIN.to_string()];
+    let mut wanted = String::new();
+    for (i, (set, line)) in sets.iter().enumerate() {
+        let job = text::encode(set).expect("the set is a job");
+        place.write(&format!("{i}.job"), &job);
+        words.push(place.path(&format!("{i}.job")).display().to_string());
+        wanted += &format!("{line}\n");
+    }
+    let words: Vec<&str> = words.iter().map(String::as_str).collect();
+    if let Some(done) = python(&usr, &words) {
+        assert_eq!(done.fine(), wanted);
+    }
+}
+
 fn summary(bytes: &[u8]) -> String {
     let (answer, _) = Answer::read(bytes).expect("an answer");
     let edges: Vec<u32> = answer.summaries.iter().map(|summary| summary[1]).collect();

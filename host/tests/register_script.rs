@@ -192,7 +192,7 @@ fn every_option_of_the_help_is_one_of_the_command() {
 #[test]
 fn words_are_checked_before_anything_is_built_as_the_command_checks_them() {
     let place = repository("words", &[("rt", RT), ("cargo", CARGO)]);
-    let wrong: [&[&str]; 18] = [
+    let wrong: [&[&str]; 21] = [
         &[],
         &["--json"],
         &["--jsn", "a b.txt"],
@@ -211,6 +211,9 @@ fn words_are_checked_before_anything_is_built_as_the_command_checks_them() {
         &["--html", "a b.txt"],
         &["--csv", "--html", "a b.txt"],
         &["--jobs", "x", "a b.txt"],
+        &["--plain", "--json", "a b.txt"],
+        &["a b.txt", "--plain", "-o", "x"],
+        &["--original", "--plain", "a b.txt"],
     ];
     for words in wrong {
         let done = run(&place, words);
