@@ -71,7 +71,7 @@ setTimeout(() => {
     holds("it closes", !one("dialog").open && location.hash === "");
     const named = (e) => e.getAttribute("aria-label") || e.textContent.trim();
     holds("what is pressed has a name", all("button, input, select, a").every((e) => named(e) !== ""));
-    const headings = "icosahedron.txt|Notes|Figures|Shapes, measured|Compounds";
+    const headings = "icosahedron.txt|Notes|Figures|Shapes, measured|Compounds|Plain entries";
     holds("headings are in order", all("h1, main h2").map((e) => e.textContent).join("|") === headings);
     const wide = document.documentElement.scrollWidth;
     holds("nothing is wider than a phone", innerWidth > 400 || wide <= innerWidth);
