@@ -59,6 +59,10 @@ listsAt shelf a = shelf .owners + a .lists
 abbrev pub listBytes : Areas → ℕ
 listBytes a = a .end - a .lists
 
+-- the lists that the search emitted
+abbrev emittedLists : Shelf → Areas → List ℕ → List (List ℕ)
+emittedLists shelf a s = closedLists 2 1024 (part (listsAt shelf a) (listBytes a) s)
+
 -- what `list_entries` is asked, and what it leaves: at rank 3 the lists as they are, above split
 pub record ListsReady (shelf : Shelf) (rank : ℕ) (a : Areas) (s : List ℕ) : Type 0 where
   pub order : a .lists ≤ a .end
@@ -67,8 +71,8 @@ pub record ListsReady (shelf : Shelf) (rank : ℕ) (a : Areas) (s : List ℕ) : 
   pub parts : (rank ≡ 3 → ⊥) → Splits shelf (listsAt shelf a) (listBytes a) s
 
 pub record EntriesListed (shelf : Shelf) (rank : ℕ) (a : Areas) (s : List ℕ) (level : Level) (t : List ℕ) : Type 0 where
-  pub whole : rank ≡ 3 → Listed shelf (listsAt shelf a) (listsAt shelf a) (listBytes a) (closedLists 2 1024 (part (listsAt shelf a) (listBytes a) s)) s level t
-  pub parts : (rank ≡ 3 → ⊥) → Listed shelf (shelf .owners + 2048) (shelf .owners + 2048 + listBytes a) 2101260 (map (splitOn shelf s) (closedLists 2 1024 (part (listsAt shelf a) (listBytes a) s))) s level t
+  pub whole : rank ≡ 3 → Listed shelf (listsAt shelf a) (listsAt shelf a) (listBytes a) (listsAt shelf a) (listBytes a) (emittedLists shelf a s) (emittedLists shelf a s) s level t
+  pub parts : (rank ≡ 3 → ⊥) → Listed shelf (shelf .owners + 2048) (shelf .owners + 2048) (listBytes a) (shelf .owners + 2048 + listBytes a) 2101260 (emittedLists shelf a s) (map (splitOn shelf s) (emittedLists shelf a s)) s level t
 
 -- ---- where the areas lie
 
@@ -243,13 +247,13 @@ module _ (k : Stock) (shelf : Shelf) (rank : ℕ) (rows : List ℕ) (m : ℕ) (r
           at-rank zero few e =
               let three : rank ≡ 3 = omega arith in
               let g = l .whole three in
-              answers (left-whole (pointsIn k) shelf (keptIn k) t keeps-still numbered below (k .more) (k .rows) found lists-are (listsAt shelf a) (listsAt shelf a) (listBytes a) level u (plain three) g)
-              (g .leaves (k .more) (pointsIn k) (k .rows) (keptIn k) keeps-still) (omega (arith, g .at-is, g .bytes-are, p .order, p .ends))
+              answers (left-whole (pointsIn k) shelf (keptIn k) t keeps-still numbered below (k .more) (k .rows) found lists-are (listsAt shelf a) (listsAt shelf a) (listBytes a) (listsAt shelf a) (listBytes a) level u (plain three) g)
+              (g .leaves (k .more) (pointsIn k) (k .rows) (keptIn k) keeps-still) (omega (arith, ap (λ (x : Level). x .lists) (g .level-is), ap (λ (x : Level). x .bytes) (g .level-is), p .order, p .ends))
           at-rank (suc zero) few e =
               let other : rank ≡ 3 → ⊥ = λ q. omega arith in
               let g = l .parts other in
-              answers (left-split (pointsIn k) shelf (keptIn k) t keeps-still numbered below (k .more) (k .rows) found lists-are (shelf .owners + 2048) (shelf .owners + 2048 + listBytes a) 2101260 level u (splittable other) g)
-              (g .leaves (k .more) (pointsIn k) (k .rows) (keptIn k) keeps-still) (omega (arith, g .at-is, g .bytes-are, p .parts-end other))
+              answers (left-split (pointsIn k) shelf (keptIn k) t keeps-still numbered below (k .more) (k .rows) found lists-are (shelf .owners + 2048) (shelf .owners + 2048) (listBytes a) (shelf .owners + 2048 + listBytes a) 2101260 level u (splittable other) g)
+              (g .leaves (k .more) (pointsIn k) (k .rows) (keptIn k) keeps-still) (omega (arith, ap (λ (x : Level). x .lists) (g .level-is), ap (λ (x : Level). x .bytes) (g .level-is), p .parts-end other))
           at-rank (suc (suc more)) few e = absurd (omega arith)
 
   -- ---- the search on the lent rest

@@ -1,12 +1,12 @@
 -- The sentences of [13.8] determine the entries of a call, without the one that names the search (`exactly`): under the proviso a closed choice has one entry, so a list in which every closed choice has an entry
 -- misses none, a list whose every entry is a closed choice's has none that is foreign, and a list that pairs off with the closed choices has each as often as it should. Leans on Entries.
 use mathlib.Core.Path.{_≡_, refl, sym, ap, _∙_, subst}
-use mathlib.Core.List.{List, [], _∷_, List·Memᴰ, List·Nodup, List·Permᴰ, Permᴰ·refl, Permᴰ·symm, Pairwise, Forall₂}
+use mathlib.Core.List.{List, [], _∷_, map, List·Memᴰ, List·Nodup, List·Permᴰ, Permᴰ·refl, Permᴰ·symm, Pairwise, Forall₂}
 use lib.Dec.{T}
 use Rattle.definitions.specs.Search.{Facet}
 use Rattle.definitions.specs.Recursion.{Entry}
 use Rattle.definitions.specs.Faceting.{Prepared, tableFor, entryOf}
-use Rattle.definitions.specs.Demands.{isClosedChoice, equalShares, EntryOfChoice, AllClosedChoices}
+use Rattle.definitions.specs.Demands.{choiceOf, isClosedChoice, equalShares, EntryOfChoice, choicesOf, AllClosedChoices}
 use Rattle.laws.specs.Lists.{Mem, here, there}
 use Rattle.laws.specs.Ascending.{Distinct}
 use Rattle.completeness.specs.OneOrder.{one-order}
@@ -86,12 +86,22 @@ module _ {A B : Type 0} (R : A → B → Type 0) where
       behind z n (List·Memᴰ.List·Memᴰ·head e) = absurd (n (sym e))
       behind z n (List·Memᴰ.List·Memᴰ·tail i) = i
 
+-- a list and what is made of it, item by item
+with-images : {A B : Type 0} (R : A → B → Type 0) (f : A → B) (l : List A) → ((x : A) → Mem x l → R x (f x)) → Forall₂ R l (map f l)
+with-images R f [] h = Forall₂.Forall₂·nil
+with-images R f (x ∷ l) h = Forall₂.Forall₂·cons (h x (here refl)) (with-images R f l (λ y i. h y (there i)))
+
+-- a list pairs off with itself
+with-itself : {A : Type 0} (l : List A) → Forall₂ (λ (x y : A). x ≡ y) l l
+with-itself [] = Forall₂.Forall₂·nil
+with-itself (x ∷ l) = Forall₂.Forall₂·cons refl (with-itself l)
+
 -- ---- the sentences, each alone
 
 module _ (p : Prepared) where
   -- as the field `every-entry` says it
   abbrev pub EveryEntry : List Entry → Type 0
-  EveryEntry entries = (e : Entry) → Mem e entries → (c : List Facet) × T (isClosedChoice (tableFor p) c) × EntryOfChoice p e c
+  EveryEntry entries = (e : Entry) → Mem e entries → T (isClosedChoice (tableFor p) (choiceOf (e .before))) × EntryOfChoice p e (choiceOf (e .before))
 
   -- as `every-choice` does, where there is no limit
   abbrev pub EveryChoice : List Entry → Type 0
@@ -99,22 +109,31 @@ module _ (p : Prepared) where
 
   -- as `one-to-one` does, where there is no limit
   abbrev pub OneToOne : List Entry → Type 0
-  OneToOne entries = (choices : List (List Facet)) × Forall₂ (EntryOfChoice p) entries choices × AllClosedChoices (tableFor p) choices
+  OneToOne entries = AllClosedChoices (tableFor p) (choicesOf entries)
+
+  -- two lists with all closed choices, once each, have them in another order at most; so they are equally long
+  pub same-choices : (l m : List Entry) → OneToOne l → OneToOne m → List·Permᴰ (choicesOf l) (choicesOf m)
+  same-choices l m x y =
+      same-items (λ (c d : List Facet). c ≡ d) (λ c d e i q r. q ∙ sym r) (with-itself (choicesOf l)) (with-itself (choicesOf m)) (nodup-distinct (x .once)) (nodup-distinct (y .once))
+      (λ c i. y .these c .0 (x .these c .1 i)) (λ c i. x .these c .0 (y .these c .1 i))
 
   module _ (equal : T (equalShares (tableFor p))) where
     -- a closed choice has one entry
     pub one-entry : (c : List Facet) → T (isClosedChoice (tableFor p) c) → (d e : Entry) → EntryOfChoice p d c → EntryOfChoice p e c → d ≡ e
-    one-entry c closed d e x y = x .entry ∙ ap (entryOf p) (one-order (tableFor p) equal c closed (x .order) (y .order) (x .taken-so) (y .taken-so)) ∙ sym (y .entry)
+    one-entry c closed d e x y = x .entry ∙ ap (entryOf p) (one-order (tableFor p) equal c closed (d .before) (e .before) (x .taken-so) (y .taken-so)) ∙ sym (y .entry)
 
     -- a list with an entry of each closed choice has every entry of one with none but such
     pub none-missing : (l m : List Entry) → EveryEntry l → EveryChoice m → (e : Entry) → Mem e l → Mem e m
     none-missing l m every all e i =
-        let c = every e i in
-        let other = all (c .0) (c .1) in
-        subst (λ (x : Entry). Mem x m) (one-entry (c .0) (c .1) (other .0) e (other .2) (c .2)) (other .1)
+        let c = choiceOf (e .before) in
+        let own = every e i in
+        let other = all c (own .0) in
+        subst (λ (x : Entry). Mem x m) (one-entry c (own .0) (other .0) e (other .2) (own .1)) (other .1)
 
-    -- two lists that pair off with the closed choices have the same entries, each as often
-    pub none-doubled : (l m : List Entry) → OneToOne l → OneToOne m → List·Permᴰ l m
-    none-doubled l m x y =
-        same-items (EntryOfChoice p) (λ d e c i. one-entry c (x .2 .these c .1 i) d e) (x .1) (y .1) (nodup-distinct (x .2 .once)) (nodup-distinct (y .2 .once))
-        (λ c i. y .2 .these c .0 (x .2 .these c .1 i)) (λ c i. x .2 .these c .0 (y .2 .these c .1 i))
+    -- two lists of such entries with all closed choices, once each, have the same entries, each as often
+    pub none-doubled : (l m : List Entry) → EveryEntry l → EveryEntry m → OneToOne l → OneToOne m → List·Permᴰ l m
+    unfolding choicesOf
+    none-doubled l m s t x y =
+        same-items (EntryOfChoice p) (λ d e c i. one-entry c (x .these c .1 i) d e)
+        (with-images (EntryOfChoice p) (λ (e : Entry). choiceOf (e .before)) l (λ e i. s e i .1)) (with-images (EntryOfChoice p) (λ (e : Entry). choiceOf (e .before)) m (λ e i. t e i .1))
+        (nodup-distinct (x .once)) (nodup-distinct (y .once)) (λ c i. y .these c .0 (x .these c .1 i)) (λ c i. x .these c .0 (y .these c .1 i))

@@ -2,7 +2,7 @@
 use mathlib.Core.Path.{_≡_, refl, sym, ap, _∙_, subst}
 use mathlib.Core.Logic.{_⊎_, inl, inr, _↔_}
 use mathlib.Core.Bool.{Bool, true, false, not}
-use mathlib.Core.List.{List, [], _∷_, _++_, map, List·Memᴰ, List·Nodup, List·Permᴰ, Permᴰ·refl, Permᴰ·symm, Permᴰ·map, Pairwise, Forall₂}
+use mathlib.Core.List.{List, [], _∷_, _++_, map, List·Memᴰ, List·Nodup, List·Permᴰ, Permᴰ·refl, Permᴰ·symm, Permᴰ·map, map-map, Pairwise}
 use mathlib.Core.Option.{Option, some, none}
 use Prim.Native.Nat.{ℕ, zero, suc, _-_, _≤_, _<_, min, max, Ordering}
 use native.Mathlib.Omega.{arith}
@@ -13,7 +13,7 @@ use Rattle.definitions.specs.Outcome.{Outcome, answered}
 use Rattle.definitions.specs.Search.{Facet, Table, Found}
 use Rattle.definitions.specs.Recursion.{Rules, Entry}
 use Rattle.definitions.specs.Faceting.{Prepared, tableFor, entryOf, entriesOf, compareEntries, entryLimits, searchFrom}
-use Rattle.definitions.specs.Demands.{choiceOf, isClosedChoice, isOrderOf, equalShares, EntryOfChoice, AllClosedChoices, EntriesComplete}
+use Rattle.definitions.specs.Demands.{choiceOf, isClosedChoice, isOrderOf, equalShares, EntryOfChoice, choicesOf, AllClosedChoices, EntriesComplete}
 use Rattle.laws.specs.Lists.{Mem, here, there, in-map, of-map}
 use Rattle.laws.specs.Orders.{pair-lists}
 use Rattle.laws.specs.Pairs.{Pairs, pairs→nodup, pairs-take, in-take}
@@ -24,11 +24,6 @@ use Rattle.completeness.specs.Choices.{ClosedChoice, closed-choice-of, s
 use Rattle.completeness.specs.Complete.{every-choice}
 use Rattle.completeness.specs.OneOrder.{one-order}
 use Rattle.completeness.specs.Unique.{Other, lists-differ, choices-differ}
-
--- two lists made from one, item by item
-pub forall-maps : {A B C : Type 0} (R : B → C → Type 0) (f : A → B) (g : A → C) (l : List A) → ((x : A) → Mem x l → R (f x) (g x)) → Forall₂ R (map f l) (map g l)
-forall-maps R f g [] h = Forall₂.Forall₂·nil
-forall-maps R f g (x ∷ l) h = Forall₂.Forall₂·cons (h x (here refl)) (forall-maps R f g l (λ y k. h y (there k)))
 
 -- ---- the choices of all emitted lists
 
@@ -99,19 +94,23 @@ module _ (rules : Rules) (p : Prepared) (found : Found) (is-found : searchFrom r
   of-entry : (e : Entry) → Mem e entries → (l : List Facet) × Mem l sorted × (e ≡ entryOf p l)
   of-entry e h = of-map (entryOf p) e sorted (subst (λ (s : List Entry). Mem e s) entries-sorted h)
 
-  own-choice : (l : List Facet) → Mem l sorted → EntryOfChoice p (entryOf p l) (choiceOf l)
-  own-choice l h = record { order = l; taken-so = emitted-order true t l (in-tree l h) .0; entry = refl }
-
-  pair-off : Forall₂ (EntryOfChoice p) entries (map choiceOf sorted)
-  pair-off = subst (λ (s : List Entry). Forall₂ (EntryOfChoice p) s (map choiceOf sorted)) (sym entries-sorted) (forall-maps (EntryOfChoice p) (entryOf p) choiceOf sorted own-choice)
+  -- the choices that the records name are those of the emitted lists
+  choices-sorted : choicesOf entries ≡ map choiceOf sorted
+  unfolding choicesOf entryOf
+  choices-sorted = ap choicesOf entries-sorted ∙ map-map (λ (e : Entry). choiceOf (e .before)) (entryOf p) sorted
 
   entries-length : length entries ≡ length (found .lists)
   entries-length = ap length entries-sorted ∙ length-map sorted (entryOf p) ∙ perm-length sorted-perm
 
-  every-entry : (e : Entry) → Mem e entries → (c : List Facet) × T (isClosedChoice t c) × EntryOfChoice p e c
+  own-choice : (l : List Facet) → Mem l sorted → T (isClosedChoice t (choiceOf l)) × EntryOfChoice p (entryOf p l) (choiceOf l)
+  unfolding entryOf
+  own-choice l h = let r = emitted-order true t l (in-tree l h) in (r .1, record { taken-so = r .0; entry = refl })
+
+  every-entry : (e : Entry) → Mem e entries → T (isClosedChoice t (choiceOf (e .before))) × EntryOfChoice p e (choiceOf (e .before))
+  unfolding entryOf
   every-entry e h =
       let r = of-entry e h in
-      (choiceOf (r .0), emitted-order true t (r .0) (in-tree (r .0) (r .1)) .1, record { order = r .0; taken-so = emitted-order true t (r .0) (in-tree (r .0) (r .1)) .0; entry = r .2 })
+      subst (λ (x : Entry). T (isClosedChoice t (choiceOf (x .before))) × EntryOfChoice p x (choiceOf (x .before))) (sym (r .2)) (own-choice (r .0) (r .1))
 
   -- ---- without a limit
 
@@ -121,11 +120,12 @@ module _ (rules : Rules) (p : Prepared) (found : Found) (is-found : searchFrom r
       subst (λ (s : List (List Facet)). List·Permᴰ s sorted) (emitted-cut ∙ ap (λ (limit : Option ℕ). cut limit 0 (closedLists true t)) e) (Permᴰ·symm sorted-perm)
 
   has-entry : rules .entryLimit ≡ none → (c : List Facet) → T (isClosedChoice t c) → (e : Entry) × Mem e entries × EntryOfChoice p e c
+  unfolding entryOf
   has-entry e c h =
       let r = every-choice t c h in (
         entryOf p (r .0),
         subst (λ (s : List Entry). Mem (entryOf p (r .0)) s) (sym entries-sorted) (in-map (entryOf p) (r .0) sorted (perm-member (all-emitted e) (r .0) (r .1))),
-        record { order = r .0; taken-so = r .2; entry = refl },
+        record { taken-so = r .2; entry = refl },
       )
 
   -- ---- with a limit m
@@ -153,15 +153,12 @@ module _ (rules : Rules) (p : Prepared) (found : Found) (is-found : searchFrom r
   entries-complete = record {
     every-entry = every-entry;
     every-choice = has-entry;
-    one-to-one = λ e equal. (map choiceOf sorted, pair-off, all-choices t equal sorted (all-emitted e));
+    one-to-one = λ e equal. subst (AllClosedChoices t) (sym choices-sorted) (all-choices t equal sorted (all-emitted e));
     one-order = one-order t;
     at-most = λ m e. let n = entries-number m e in omega arith;
-    different-choices = λ m e equal. (map choiceOf sorted, pair-off, differ m e equal, λ c h. closed-of c (of-map choiceOf c sorted h));
+    different-choices = λ m e equal. subst List·Nodup (sym choices-sorted) (differ m e equal);
     number = λ m e equal.
         (map choiceOf (closedLists true t), all-choices t equal (closedLists true t) (Permᴰ·refl (closedLists true t)), entries-number m e ∙ ap (min (max m 1)) (sym (length-map (closedLists true t) choiceOf)));
     ascending = ascend;
     exactly = refl;
   }
-    where
-      closed-of : (c : List Facet) → ((l : List Facet) × Mem l sorted × (c ≡ choiceOf l)) → T (isClosedChoice t c)
-      closed-of c r = subst (λ (d : List Facet). T (isClosedChoice t d)) (sym (r .2)) (emitted-order true t (r .0) (in-tree (r .0) (r .1)) .1)

@@ -7,20 +7,21 @@ use mathlib.Core.Option.{none}
 use Prim.Native.Nat.{ℕ, suc, _<_, Ordering}
 use native.Mathlib.Omega.{arith}
 use lib.Dec.{T, T-not, isEq}
-use lib.ListN.{length, getD, take, drop}
+use lib.ListN.{length, getD, take, drop, length-map}
 use Rattle.definitions.specs.Lists.{anyOf, allOf, countFrom}
 use Rattle.definitions.specs.Outcome.{Outcome}
+use Rattle.definitions.specs.Search.{Facet}
 use Rattle.definitions.specs.Recursion.{Entry}
 use Rattle.definitions.specs.Faceting.{Prepared, tableFor}
 use Rattle.definitions.specs.Job.{readJob, counted, entryWords}
-use Rattle.definitions.specs.Demands.{CallComplete, equalShares}
+use Rattle.definitions.specs.Demands.{CallComplete, choiceOf, choicesOf, equalShares}
 use Rattle.definitions.specs.RuledOut.{only-these, sameEntries, squareBytes, squareEntries, square-accepted, open-square, otherFigure, closedInOrder, sensible, square-sensible}
 use Rattle.laws.specs.Bools.{first}
 use Rattle.laws.specs.Lists.{Mem, any-of, all-of, member-at, in-count}
 use Rattle.laws.specs.Orders.{nat-lists}
 use Rattle.laws.specs.Sorting.{perm-length}
 use Rattle.completeness.specs.Jobs.{accepted-answers}
-use Rattle.completeness.specs.Determined.{EveryEntry, EveryChoice, OneToOne, none-missing, none-doubled}
+use Rattle.completeness.specs.Determined.{EveryEntry, EveryChoice, OneToOne, none-missing, same-choices}
 
 -- ---- the square's call
 
@@ -37,7 +38,7 @@ p = square-call .before
 square-equal : T (equalShares (tableFor p))
 unfolding sensible
 square-equal =
-    let lists = map (λ (e : Entry). e .list) squareEntries in
+    let lists = map (λ (e : Entry). e .before) squareEntries in
     first (equalShares (tableFor p)) (closedInOrder (tableFor p) lists) (subst (λ (o : Outcome Prepared). T (sensible o lists)) (square-call .is-before) square-sensible)
 
 no-limit : readJob squareBytes .entryLimit ≡ none
@@ -65,7 +66,7 @@ unfoldable pub leftOut : ℕ → List Entry
 leftOut k = take k squareEntries ++ drop (suc k) squareEntries
 
 unfoldable pub noEntry : Entry
-noEntry = record { list = []; figure = [] }
+noEntry = record { list = []; before = []; figure = [] }
 
 each-missed : T (allOf (λ (k : ℕ). not (amongThem (getD squareEntries k noEntry) (leftOut k))) (countFrom 0 7))
 unfolding open-square amongThem leftOut noEntry
@@ -80,10 +81,13 @@ none-left-out k h all =
     T-not (amongThem e (leftOut k)) (all-of (λ (i : ℕ). not (amongThem (getD squareEntries i noEntry) (leftOut i))) (countFrom 0 7) each-missed k (in-count 0 7 k (omega arith) (omega arith)))
     (among-them e (leftOut k) still)
 
--- ---- closed choices and entries pair off one to one
+-- ---- the records' own choices are all closed choices, once each
 
 pub as-many : (l : List Entry) → OneToOne p l → length l ≡ 7
-as-many l one = perm-length (none-doubled p square-equal l squareEntries one (square-call .complete .one-to-one no-limit square-equal)) ∙ seven-entries
+unfolding choicesOf
+as-many l one =
+    let choice : Entry → List Facet = λ e. choiceOf (e .before) in
+    sym (length-map l choice) ∙ perm-length (same-choices p l squareEntries one (square-call .complete .one-to-one no-limit square-equal)) ∙ length-map squareEntries choice ∙ seven-entries
 
 -- refuses every entry more, and so each of the seven twice
 pub none-twice : (e : Entry) → OneToOne p (e ∷ squareEntries) → ⊥

@@ -106,6 +106,7 @@ square-carried = tt
 unfoldable pub triangle : Entry
 triangle = record {
   list = (0, 0) ∷ [];
+  before = (0, 0) ∷ [];
   figure = ([] ∷ []) ∷ replicate 4 (0 ∷ []) ∷ ((0 ∷ 1 ∷ []) ∷ (0 ∷ 2 ∷ []) ∷ (1 ∷ 2 ∷ []) ∷ []) ∷ ((0 ∷ 1 ∷ 2 ∷ []) ∷ []) ∷ [];
 }
 
@@ -129,7 +130,7 @@ turned-answer =
     3 ∷ 2 ∷ 2 ∷ 1 ∷
     -- entries
     1 ∷
-    1 ∷ 0 ∷ 0 ∷ 4 ∷ 1 ∷ 0 ∷ 3 ∷ 1 ∷ 0 ∷ 1 ∷ 0 ∷ 1 ∷ 0 ∷ 2 ∷ 2 ∷ 0 ∷ 1 ∷ 2 ∷ 1 ∷ 2 ∷ 1 ∷ 2 ∷ 0 ∷ 1 ∷
+    1 ∷ 0 ∷ 0 ∷ 1 ∷ 0 ∷ 0 ∷ 4 ∷ 1 ∷ 0 ∷ 3 ∷ 1 ∷ 0 ∷ 1 ∷ 0 ∷ 1 ∷ 0 ∷ 2 ∷ 2 ∷ 0 ∷ 1 ∷ 2 ∷ 1 ∷ 2 ∷ 1 ∷ 2 ∷ 0 ∷ 1 ∷
     -- possible facets of each orbit
     1 ∷ 3 ∷ 1 ∷ 0 ∷ 2 ∷ 1 ∷ 0 ∷ 1 ∷ 0 ∷ 1 ∷ 2 ∷ 0 ∷ 1 ∷
     1 ∷ 3 ∷ 1 ∷ 0 ∷ 2 ∷ 1 ∷ 0 ∷ 1 ∷ 0 ∷ 1 ∷ 2 ∷ 0 ∷ 2 ∷
@@ -146,6 +147,7 @@ turned-accepted = record { workspace = 524288; room = 4000; answer = flatMap (by
 unfoldable pub path : Entry
 path = record {
   list = (0, 0) ∷ [];
+  before = (0, 0) ∷ [];
   figure = ([] ∷ []) ∷ replicate 3 (0 ∷ []) ∷ twoEdges;
 }
 

@@ -5,7 +5,7 @@
 use mathlib.Core.Path.{_≡_}
 use mathlib.Core.Logic.{_↔_}
 use mathlib.Core.Bool.{Bool, true, false, cond, not, _&&_, _||_}
-use mathlib.Core.List.{List, [], _∷_, _++_, map, List·Memᴰ, List·Nodup, Pairwise, Forall₂}
+use mathlib.Core.List.{List, [], _∷_, _++_, map, List·Memᴰ, List·Nodup, Pairwise}
 use mathlib.Core.Option.{Option, some, none}
 use Prim.Native.Nat.{ℕ, zero, suc, _-_, _≤_, min, max}
 use lib.Dec.{T, leb, ltb, eqb, isEq}
@@ -85,11 +85,14 @@ isOrderOf table taken remaining (f ∷ fs) =
     let rest = isOrderOf table (taken ++ (f ∷ [])) (without f remaining) fs in
     memberPair f remaining && isNext table (lowestOpen table taken) remaining f && rest
 
--- [13.5] an entry made from an order of the choice
+-- [13.5] an entry made from an order of the choice, which is the list before splitting that its record carries
 pub record EntryOfChoice (p : Prepared) (e : Entry) (c : List Facet) : Type 0 where
-  pub order : List Facet
-  pub taken-so : T (isOrderOf (tableFor p) [] c order)
-  pub entry : e ≡ entryOf p order
+  pub taken-so : T (isOrderOf (tableFor p) [] c (e .before))
+  pub entry : e ≡ entryOf p (e .before)
+
+-- [13.5] the choices of entries, in the entries' order, read from their records alone
+unfoldable pub choicesOf : List Entry → List (List Facet)
+choicesOf = map (λ (e : Entry). choiceOf (e .before))
 
 -- ---- the third: the proviso, and lists of choices
 
@@ -112,22 +115,19 @@ pub record AllClosedChoices (table : Table) (choices : List (List Facet)) : Type
 -- [13.8] What is demanded of the entries of a call above rank 2, sentence by sentence: of its entry limit, what it
 -- had before its search, the lists its search emits, and the entries.
 pub record EntriesComplete (limit : Option ℕ) (p : Prepared) (emitted : List (List Facet)) (entries : List Entry) : Type 0 where
-  -- sound
-  pub every-entry : (e : Entry) → List·Memᴰ e entries → (c : List Facet) × T (isClosedChoice (tableFor p) c) × EntryOfChoice p e c
+  -- sound: the choice that the record names is closed, and the entry is made from it
+  pub every-entry : (e : Entry) → List·Memᴰ e entries → T (isClosedChoice (tableFor p) (choiceOf (e .before))) × EntryOfChoice p e (choiceOf (e .before))
   -- complete, where no limit cuts it off
   pub every-choice : limit ≡ none → (c : List Facet) → T (isClosedChoice (tableFor p) c) → (e : Entry) × List·Memᴰ e entries × EntryOfChoice p e c
-  -- under the proviso each closed choice has one entry, its own
-  pub one-to-one : limit ≡ none → T (equalShares (tableFor p))
-      → (choices : List (List Facet)) × Forall₂ (EntryOfChoice p) entries choices × AllClosedChoices (tableFor p) choices
+  -- under the proviso the choices that the records name, in the entries' order, are all closed choices, once each
+  pub one-to-one : limit ≡ none → T (equalShares (tableFor p)) → AllClosedChoices (tableFor p) (choicesOf entries)
   -- and just one order, so that there is one entry that it may have
   pub one-order : T (equalShares (tableFor p)) → (c : List Facet) → T (isClosedChoice (tableFor p) c)
       → (d e : List Facet) → T (isOrderOf (tableFor p) [] c d) → T (isOrderOf (tableFor p) [] c e) → d ≡ e
   -- a limit of 0 lets one entry pass, as a limit of 1 does
   pub at-most : (m : ℕ) → limit ≡ some m → length entries ≤ max m 1
   -- cut off at a limit, under the proviso no choice has two entries
-  pub different-choices : (m : ℕ) → limit ≡ some m → T (equalShares (tableFor p))
-      → (choices : List (List Facet)) × Forall₂ (EntryOfChoice p) entries choices × List·Nodup choices
-      × ((c : List Facet) → List·Memᴰ c choices → T (isClosedChoice (tableFor p) c))
+  pub different-choices : (m : ℕ) → limit ≡ some m → T (equalShares (tableFor p)) → List·Nodup (choicesOf entries)
   -- and nothing is cut off before the limit is reached
   pub number : (m : ℕ) → limit ≡ some m → T (equalShares (tableFor p))
       → (choices : List (List Facet)) × AllClosedChoices (tableFor p) choices × (length entries ≡ min (max m 1) (length choices))

@@ -69,17 +69,17 @@ facetImages p f =
     let figure = getD (atOrbit possibleFacets (p .inner) (f .0)) (f .1) [] in
     map (λ (row : Row). moveSorted (image row) figure) (p .rows)
 
--- [9.4] [9.5] the entry of a list: the list split, and the figure of the split list
+-- [9.4] [9.5] the entry of a list: the list split, the list itself, and the figure of the split list
 unfoldable pub entryOf : Prepared → List Facet → Entry
 entryOf p list =
     let parts = split p list in
-    record { list = parts; figure = figureOf (p .more) (p .points) (flatMap (facetImages p) parts) }
+    record { list = parts; before = list; figure = figureOf (p .more) (p .points) (flatMap (facetImages p) parts) }
 
 -- [9.5] by split list
 unfoldable pub compareEntries : Entry → Entry → Ordering
 compareEntries d e = comparePairs (d .list) (e .list)
 
--- [9.5] an entry for each list emitted, sorted
+-- [9.5] an entry for each list emitted, sorted; equal split lists keep the order in which they were emitted
 unfoldable pub entriesOf : Prepared → List (List Facet) → List Entry
 entriesOf p lists = sortBy compareEntries (map (entryOf p) lists)
 

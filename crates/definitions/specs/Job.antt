@@ -8,12 +8,13 @@ use lib.Dec.{leb, ltb, eqb, isEq}
 use lib.IntN.{ℤ, pos, negℤ}
 use lib.ListN.{length, getD, take, drop, replicate}
 use lib.Ieee.{Float, nan, inf, fin, binary64, ofBits, lt, le}
-use Rattle.definitions.specs.Lists.{Pair, compareNats, anyOf, allOf, keep, countFrom, sortNats, memberNat}
+use Rattle.definitions.specs.Lists.{compareNats, anyOf, allOf, keep, countFrom, sortNats, memberNat}
 use Rattle.definitions.specs.Outcome.{Outcome, refused, answered, andThen, refuseIf}
 use Rattle.definitions.specs.Vectors.{Vec, zero64}
 use Rattle.definitions.specs.Subspace.{Subspace}
 use Rattle.definitions.specs.Orbits.{Row, Limits}
 use Rattle.definitions.specs.Figures.{Figure, Elements, Compound, rankOf}
+use Rattle.definitions.specs.Search.{Facet}
 use Rattle.definitions.specs.Recursion.{Bounds, Rules, Entry, Answer}
 use Rattle.definitions.specs.Faceting.{faceting}
 
@@ -281,9 +282,13 @@ counted words items = length items ∷ flatMap words items
 unfoldable pub figureWords : Figure → List ℕ
 figureWords = counted (counted (counted (λ (sub : ℕ). sub ∷ [])))
 
--- [12.3] of an entry: its split list, behind its length, and its figure
+-- [12.3] of a list of facets: its length, then orbit and number of each
+unfoldable pub facetWords : List Facet → List ℕ
+facetWords = counted (λ (item : Facet). item .0 ∷ item .1 ∷ [])
+
+-- [12.3] of an entry: its split list, the list before splitting, and its figure
 unfoldable pub entryWords : Entry → List ℕ
-entryWords e = counted (λ (item : Pair). item .0 ∷ item .1 ∷ []) (e .list) ++ figureWords (e .figure)
+entryWords e = facetWords (e .list) ++ facetWords (e .before) ++ figureWords (e .figure)
 
 -- [12.3] of a compound: the entry and its two components
 unfoldable pub compoundWords : Compound → List ℕ

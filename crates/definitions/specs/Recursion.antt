@@ -33,9 +33,10 @@ pub record Rules : Type 0 where
   pub bounds : Bounds
   pub rule : ℕ
 
--- [6.1] an entry: its split list and its figure
+-- [6.1] an entry: its split list, the list before splitting, as the search emitted it, and its figure
 pub record Entry : Type 0 where
   pub list : List Facet
+  pub before : List Facet
   pub figure : Figure
 
 -- [6.1] an answer: the orbits' counts, the entries, each orbit's possible facets, the compound map, and what is
@@ -61,7 +62,7 @@ vertexRidge v = [] ∷ ((0 ∷ []) ∷ []) ∷ ((v ∷ []) ∷ []) ∷ []
 unfoldable pub swappedEnds : ℕ → Answer
 swappedEnds left = record {
   counts = 2 ∷ [];
-  entries = record { list = (0, 0) ∷ []; figure = dyad } ∷ [];
+  entries = record { list = (0, 0) ∷ []; before = (0, 0) ∷ []; figure = dyad } ∷ [];
   possible = (vertexRidge 0 ∷ []) ∷ [];
   compounds = [];
   left = left;
@@ -71,7 +72,7 @@ swappedEnds left = record {
 unfoldable pub separateEnds : ℕ → Answer
 separateEnds left = record {
   counts = 1 ∷ 1 ∷ [];
-  entries = record { list = (0, 0) ∷ (1, 0) ∷ []; figure = dyad } ∷ [];
+  entries = record { list = (0, 0) ∷ (1, 0) ∷ []; before = (0, 0) ∷ (1, 0) ∷ []; figure = dyad } ∷ [];
   possible = (vertexRidge 0 ∷ []) ∷ (vertexRidge 1 ∷ []) ∷ [];
   compounds = [];
   left = left;

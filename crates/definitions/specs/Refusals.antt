@@ -135,6 +135,8 @@ buffers =
     ∷ record { job = symmetricJob (plain 3); workspace = 524288; room = 4 * length symmetricSquare-answer; expected = gives symmetricSquare-answer }
     ∷ record { job = symmetricJob (plain 3); workspace = 524288; room = 4 * length symmetricSquare-answer - 1; expected = refuses 17 }
     ∷ record { job = symmetricJob (plain 3); workspace = 524288; room = 0; expected = refuses 17 }
+    -- and one word short, at rank 2
+    ∷ record { job = segmentJob (identity 2); workspace = 0; room = 4 * length twoPoints-answer - 4; expected = refuses 17 }
     ∷ []
 
 pub refusals : T (allOf passes (inOrder ++ counts ++ floats ++ tolerances ++ rules ++ buffers))

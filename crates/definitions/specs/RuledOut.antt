@@ -94,11 +94,19 @@ not-twice = square-ruled-out firstTwice tt tt
 
 -- the first entry with another figure
 unfoldable pub otherFigure : List Entry
-otherFigure = map (λ (e : Entry). record { list = e .list; figure = dyad }) (take 1 squareEntries) ++ drop 1 squareEntries
+otherFigure = map (λ (e : Entry). record { list = e .list; before = e .before; figure = dyad }) (take 1 squareEntries) ++ drop 1 squareEntries
 
 pub not-other-figure : Demand3 squareBytes otherFigure → ⊥
 unfolding open-square otherFigure
 not-other-figure = square-ruled-out otherFigure tt tt
+
+-- the first entry with another list before splitting
+unfoldable pub otherBefore : List Entry
+otherBefore = map (λ (e : Entry). record { list = e .list; before = reverse (e .before); figure = e .figure }) (take 1 squareEntries) ++ drop 1 squareEntries
+
+pub not-other-before : Demand3 squareBytes otherBefore → ⊥
+unfolding open-square otherBefore
+not-other-before = square-ruled-out otherBefore tt tt
 
 -- the entries in another order
 unfoldable pub backwards : List Entry
@@ -110,7 +118,7 @@ not-backwards = square-ruled-out backwards tt tt
 
 -- ---- the words of [13.3] to [13.7] say of the square what they should
 
--- every split list of the square, which has no compound facets, is an order of a closed choice; the shares are equal
+-- the list before splitting of every entry of the square is an order of a closed choice; the shares are equal
 unfoldable pub closedInOrder : Table → List (List Facet) → Bool
 closedInOrder table = allOf (λ (l : List Facet). isClosedChoice table (choiceOf l) && isOrderOf table [] (choiceOf l) l)
 
@@ -118,7 +126,7 @@ unfoldable pub sensible : Outcome Prepared → List (List Facet) → Bool
 sensible (refused number) lists = false
 sensible (answered p) lists = equalShares (tableFor p) && closedInOrder (tableFor p) lists
 
-pub square-sensible : T (sensible (preparedOf (readJob squareBytes)) (map (λ (e : Entry). e .list) squareEntries))
+pub square-sensible : T (sensible (preparedOf (readJob squareBytes)) (map (λ (e : Entry). e .before) squareEntries))
 unfolding open-square closedInOrder sensible
 square-sensible = tt
 

@@ -88,5 +88,6 @@ module _ (shelf : Shelf) (a : Areas) (s : List ℕ) (most : a .bound ≡ 1024) w
       sound = sound;
       room = room;
       short = λ l m. split-short n shelf kept s keeps emitted numbers-below each l m (apart (map (facetAt kept) l) (in-map (map (facetAt kept)) l emitted m));
+      whole = numbers-below;
       numbers = split-numbers n shelf kept s keeps emitted numbers-below each;
     }

@@ -1,28 +1,39 @@
 -- Lists put in order and labelled: an area that begins with a pool has the numbers of its lists in order behind the pool, and 2,048 bytes further on their labels. In a workspace whose
 -- front keeps what a call has of its inner calls, such an area is what the call leaves. Leans on the shelf, and on areas, their order and labels.
 use mathlib.Core.Path.{_≡_, refl, sym, ap, _∙_, subst}
-use mathlib.Core.List.{List}
+use mathlib.Core.List.{List, [], map}
 use Prim.Native.Nat.{ℕ, _+_, _*_, _≤_, compare}
 use native.Mathlib.Omega.{arith}
-use lib.ListN.{length, take, drop, length-drop}
+use lib.ListN.{length, getD, take, drop, length-drop}
 use lib.Seq.{sets, length-sets, take-take}
-use Rattle.definitions.specs.Lists.{compareNats, sortBy}
+use Rattle.definitions.specs.Lists.{compareNats, sortBy, countFrom}
 use Rattle.definitions.specs.Orbits.{Row}
 use Rattle.definitions.specs.Figures.{labelsOf}
 use Rattle.laws.specs.Lists.{Mem}
-use Rattle.laws.specs.Sorting.{of-sorted}
+use Rattle.laws.specs.Sorting.{byKey, sort-map, of-sorted}
+use Rattle.laws.specs.Merging.{map-count}
 use Rattle.laws.specs.Segments.{part, take-sets-le}
 use Rattle.pool.specs.Pool.{count, closedLists, closed-length, Sound}
-use Rattle.order.specs.Areas.{HoldsOrder, listsIn, lists-length, lists-kept, holds-kept}
+use Rattle.order.specs.Areas.{HoldsOrder, listAt, orderIn, listsIn, lists-length, pool-kept, order-kept, lists-kept, holds-kept}
 use Rattle.order.specs.Numbers.{AllBelow, AllAscending}
 use Rattle.labels.specs.Labels.{labelBytes, labelsIn, labels-read}
-use Rattle.order.specs.Sorted.{ordered, ordered-length, ordered-holds, ordered-ascends, sorted-lists}
+use Rattle.order.specs.Sorted.{compareAt, orderFrom, ordered, ordered-length, ordered-pool, ordered-order, ordered-holds, ordered-ascends, sorted-lists}
 use Rattle.shapes.specs.Kept.{Kept}
 use Rattle.shelf.specs.declared.Shelf.{Shelf}
 use Rattle.shelf.specs.declared.Level.{Level}
 use Rattle.shelf.specs.Keeps.{Keeps}
 use Rattle.shelf.specs.Front.{keeps-front}
-use Rattle.shelf.specs.Leaves.{Leaves, listsLeft}
+use Rattle.shelf.specs.Leaves.{Leaves, listsLeft, orderLeft, emittedPool}
+
+-- ---- the order of lists
+
+-- the numbers of lists in the order of the lists; equal lists keep the order of their numbers
+unfoldable pub inListOrder : List (List ℕ) → List ℕ
+inListOrder lists = sortBy (byKey compareNats (λ (k : ℕ). getD lists k [])) (countFrom 0 (length lists))
+
+pub order-sorts : (lists : List (List ℕ)) → map (λ (k : ℕ). getD lists k []) (inListOrder lists) ≡ sortBy compareNats lists
+unfolding inListOrder
+order-sorts lists = sym (sort-map compareNats (λ (k : ℕ). getD lists k []) (countFrom 0 (length lists))) ∙ ap (sortBy compareNats) (map-count [] lists)
 
 -- ---- an area of its own
 
@@ -83,6 +94,22 @@ module _ (bytes : ℕ) (s : List ℕ) (p : Pool bytes s) where
   pub labelled-holds : HoldsOrder 1024 bytes n (labelled bytes s)
   labelled-holds = holds-kept 1024 bytes n (inOrder bytes s) (labelled bytes s) same-front (labelled-length ∙ sym order-length) order-holds
 
+  -- the pool stays as it is, and the numbers behind it are those of its lists in order
+  pub labelled-pool : take bytes (labelled bytes s) ≡ take bytes s
+  unfolding inOrder
+  labelled-pool =
+      let f = few in
+      pool-kept 1024 bytes n (inOrder bytes s) (labelled bytes s) same-front (labelled-length ∙ sym order-length) ∙ ordered-pool 1024 bytes s 0 n (p .sound) (omega arith) (omega arith) order-room
+
+  pub labelled-order : orderIn bytes n (labelled bytes s) ≡ inListOrder (closedLists 2 1024 (take bytes s))
+  unfolding inOrder inListOrder orderFrom compareAt listAt
+  labelled-order =
+      let f = few in
+      let lists = closedLists 2 1024 (take bytes s) in
+      order-kept 1024 bytes n (inOrder bytes s) (labelled bytes s) same-front (labelled-length ∙ sym order-length)
+      ∙ (ordered-order 1024 bytes s 0 n (p .sound) (omega arith) (omega arith) order-room
+      ∙ ap (λ (k : ℕ). sortBy (byKey compareNats (λ (i : ℕ). getD lists i [])) (countFrom 0 k)) (sym (closed-length 2 1024 (take bytes s))))
+
   pub labelled-lists : listsIn 1024 bytes n (labelled bytes s) ≡ sortBy compareNats (closedLists 2 1024 (take bytes s))
   labelled-lists = lists-kept 1024 bytes n (inOrder bytes s) (labelled bytes s) same-front (labelled-length ∙ sym order-length) ∙ order-lists
 
@@ -121,14 +148,13 @@ pub record ListsBehind (shelf : Shelf) (at bytes : ℕ) (s : List ℕ) : Type 0 
   pub room : at + (bytes + 2048 + 4 * count (part at bytes s)) ≤ length s
   pub numbers : AllBelow (shelf .facets) (closedLists 2 1024 (part at bytes s))
 
--- The level stands at a place, with a pool of so many bytes, and its entries are these lists, in order and labelled. What lies before the byte `from` is as it was, so that a shelf before it
--- is part of what the call leaves.
-pub record Listed (shelf : Shelf) (from at bytes : ℕ) (lists : List (List ℕ)) (s : List ℕ) (level : Level) (t : List ℕ) : Type 0 where
-  pub shelf-is : level .shelf ≡ shelf
-  pub at-is : level .lists ≡ at
-  pub bytes-are : level .bytes ≡ bytes
-  pub many-are : level .count ≡ length lists
-  pub lists-are : listsLeft level t ≡ sortBy compareNats lists
+-- The level stands at a place, with a pool of so many bytes, and its entries' split lists are these lists, in order and labelled; the lists as they were emitted stand in a pool of `extent`
+-- bytes at `origin`, list k being that which was split into list k. What lies before the byte `from` is as it was, so that a shelf before it is part of what the call leaves.
+pub record Listed (shelf : Shelf) (from origin extent at bytes : ℕ) (emitted lists : List (List ℕ)) (s : List ℕ) (level : Level) (t : List ℕ) : Type 0 where
+  pub level-is : level ≡ record { shelf = shelf; emitted = origin; extent = extent; lists = at; bytes = bytes; count = length lists }
+  pub emitted-are : closedLists 2 1024 (emittedPool level t) ≡ emitted
+  pub split-are : closedLists 2 1024 (take (level .bytes) (drop (level .lists) t)) ≡ lists
+  pub order-is : orderLeft level t ≡ inListOrder lists
   pub labels-are : labelsIn (level .bytes + 2048) (level .count) (drop (level .lists) t) ≡ labelsOf compare (sortBy compareNats lists)
   pub front : take from t ≡ take from s
   pub long : length t ≡ length s
@@ -140,7 +166,7 @@ module _ (shelf : Shelf) (at bytes : ℕ) (s : List ℕ) (r : ListsBehind shelf 
   ready-pool = record { sound = r .sound; room = let d = length-drop at s in omega (arith, r .room) }
 
   abbrev level : Level
-  level = record { shelf = shelf; lists = at; bytes = bytes; count = count (part at bytes s) }
+  level = record { shelf = shelf; emitted = at; extent = bytes; lists = at; bytes = bytes; count = count (part at bytes s) }
 
   abbrev lists : List (List ℕ)
   lists = closedLists 2 1024 (part at bytes s)
@@ -156,13 +182,15 @@ module _ (shelf : Shelf) (at bytes : ℕ) (s : List ℕ) (r : ListsBehind shelf 
     shelf-front =
         sym (take-take (shelf .owners + 2048) at t (r .behind)) ∙ (ap (take (shelf .owners + 2048)) front ∙ take-take (shelf .owners + 2048) at s (r .behind))
 
-    pub listed : Listed shelf at at bytes lists s level t
+    pool-stays : part at bytes t ≡ part at bytes s
+    pool-stays = ap (take bytes) is ∙ labelled-pool bytes (drop at s) ready-pool
+
+    pub listed : Listed shelf at at bytes at bytes lists lists s level t
     listed = record {
-      shelf-is = refl;
-      at-is = refl;
-      bytes-are = refl;
-      many-are = sym (closed-length 2 1024 (part at bytes s));
-      lists-are = left-lists;
+      level-is = ap (λ (n : ℕ). record { shelf = shelf; emitted = at; extent = bytes; lists = at; bytes = bytes; count = n }) (sym (closed-length 2 1024 (part at bytes s)));
+      emitted-are = ap (closedLists 2 1024) pool-stays;
+      split-are = ap (closedLists 2 1024) pool-stays;
+      order-is = ap (orderIn bytes (count (part at bytes s))) is ∙ labelled-order bytes (drop at s) ready-pool;
       labels-are = ap (labelsIn (bytes + 2048) (count (part at bytes s))) is ∙ labelled-labels bytes (drop at s) ready-pool;
       front = front;
       long = long;
@@ -174,5 +202,12 @@ module _ (shelf : Shelf) (at bytes : ℕ) (s : List ℕ) (r : ListsBehind shelf 
         room = omega (arith, r .room);
         numbers = left-numbers;
         ascends = rw is (labelled-ascends bytes (drop at s) ready-pool);
+        emitted = record {
+          behind = r .behind;
+          before = omega arith;
+          sound = subst (Sound 2 1024) (sym pool-stays) (r .sound);
+          as-many = refl;
+          numbers = subst (λ (pool : List ℕ). AllBelow (shelf .facets) (closedLists 2 1024 pool)) (sym pool-stays) (r .numbers);
+        };
       };
     }

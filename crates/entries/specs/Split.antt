@@ -8,6 +8,7 @@ use native.Mathlib.Omega.{arith}
 use lib.ListN.{length, take, drop, length-append, length-drop, length-map}
 use lib.Seq.{paste, length-paste, take-paste, take-at, drop-at, take-add, take-take, take-append-le, length-take-le, take-all}
 use Rattle.definitions.specs.Lists.{Pair, compareNats, sortBy}
+use Rattle.definitions.specs.Orbits.{Row}
 use Rattle.definitions.specs.Figures.{labelsOf}
 use Rattle.laws.specs.Lists.{Mem, here, there}
 use Rattle.laws.specs.Places.{flatMap-map}
@@ -19,11 +20,13 @@ use Rattle.labels.specs.Labels.{labelOf, labelsIn}
 use Rattle.order.specs.Numbers.{AllBelow}
 use Rattle.splitting.specs.Splitting.{splitList, fillAll, fillAll-filled, Filled, PoolRoom, facetLabels, poolOf, restOf, partsIn}
 use Rattle.splitting.specs.Splitting as compounds
+use Rattle.shapes.specs.Kept.{Kept}
 use Rattle.shelf.specs.declared.Shelf.{Shelf}
 use Rattle.shelf.specs.declared.Level.{Level}
-use Rattle.shelf.specs.Keeps.{ShelfFits, labelsPart}
+use Rattle.shelf.specs.Keeps.{Keeps, ShelfFits, labelsPart}
 use Rattle.shelf.specs.Front.{keeps-front}
-use Rattle.entries.specs.Listed.{ListsBehind, Listed}
+use Rattle.shelf.specs.Leaves.{orderLeft, EmittedStand, Leaves}
+use Rattle.entries.specs.Listed.{inListOrder, ListsBehind, Listed}
 
 -- the components of each facet, as the shelf has them
 unfoldable pub componentsIn : Shelf → List ℕ → List (Option Pair)
@@ -41,6 +44,7 @@ pub record Splits (shelf : Shelf) (from bytes : ℕ) (s : List ℕ) : Type 0 whe
   pub sound : Sound 2 1024 (part from bytes s)
   pub room : shelf .owners + (bytes + 2109452) ≤ length s
   pub short : (l : List ℕ) → Mem l (closedLists 2 1024 (part from bytes s)) → length (splitOn shelf s l) ≤ 1024
+  pub whole : AllBelow (shelf .facets) (closedLists 2 1024 (part from bytes s))
   pub numbers : AllBelow (shelf .facets) (map (splitOn shelf s) (closedLists 2 1024 (part from bytes s)))
 
 -- ---- lists and parts
@@ -263,15 +267,65 @@ module _ (shelf : Shelf) (from bytes : ℕ) (s : List ℕ) (r : Splits shelf fro
               ∙ (take-append-le (at - labels) (take (at - labels + bytes) u) _ (omega (arith, front-length))
               ∙ (take-take (at - labels) (at - labels + bytes) u (omega arith) ∙ take-take (at - labels) wide (drop labels s1) (omega (arith, labels-before)))))
 
-      pub split-left : (level : Level) (t : List ℕ) → Listed shelf to to 2101260 (closedLists 2 1024 (part to 2101260 s2)) s2 level t → Listed shelf at to 2101260 lists s level t
-      split-left level t l = record {
-        shelf-is = l .shelf-is;
-        at-is = l .at-is;
-        bytes-are = l .bytes-are;
-        many-are = l .many-are ∙ ap length split-closed;
-        lists-are = l .lists-are ∙ ap (sortBy compareNats) split-closed;
-        labels-are = l .labels-are ∙ ap (λ (ls : List (List ℕ)). labelsOf compare (sortBy compareNats ls)) split-closed;
-        front = sym (take-take at to t (omega arith)) ∙ (ap (take at) (l .front) ∙ (take-take at to s2 (omega arith) ∙ front2));
-        long = l .long ∙ long2;
-        leaves = λ more n rows kept k. l .leaves more n rows kept (keeps-front n shelf kept s s2 front2 long2 k);
-      }
+      -- the moved pool is as it was
+      pool2 : part at bytes s2 ≡ part from bytes s
+      pool2 =
+          let k = at - labels + bytes in
+          let e : labels + (at - labels) ≡ at = omega (arith, labels-before) in
+          let b : at - labels + bytes - (at - labels) ≡ bytes = omega arith in
+          ap (λ (n : ℕ). part n bytes s2) (sym e)
+          ∙ (sym (part-part (at - labels) bytes labels wide s2 (omega (arith, labels-before)))
+          ∙ (ap (part (at - labels) bytes) (own ∙ split)
+          ∙ (sym (part-take k (take k u ++ _) (at - labels) bytes (omega arith))
+          ∙ (ap (part (at - labels) bytes) (take-at (take k u) _ k front-length)
+          ∙ (part-take k u (at - labels) bytes (omega arith)
+          ∙ (ap (λ (n : ℕ). part (at - labels) n u) (sym b) ∙ pool-is))))))
+
+      abbrev ls : List (List ℕ)
+      ls = closedLists 2 1024 (part to 2101260 s2)
+
+      module _ (level : Level) (t : List ℕ) (l : Listed shelf to to 2101260 to 2101260 ls ls s2 level t) where
+        -- the level that splitting leaves, whose emitted lists stand in another pool
+        abbrev apart : Level
+        apart = record { shelf = shelf; emitted = at; extent = bytes; lists = to; bytes = 2101260; count = level .count }
+
+        sorted-is : level ≡ record { shelf = shelf; emitted = to; extent = 2101260; lists = to; bytes = 2101260; count = level .count }
+        sorted-is =
+            l .level-is
+            ∙ ap (λ (n : ℕ). record { shelf = shelf; emitted = to; extent = 2101260; lists = to; bytes = 2101260; count = n }) (sym (ap (λ (x : Level). x .count) (l .level-is)))
+
+        still : part at bytes t ≡ part from bytes s
+        still = sym (part-take to t at bytes (omega arith)) ∙ (ap (part at bytes) (l .front) ∙ (part-take to s2 at bytes (omega arith) ∙ pool2))
+
+        parted : closedLists 2 1024 (take 2101260 (drop to t)) ≡ lists
+        parted = subst (λ (x : Level). closedLists 2 1024 (take (x .bytes) (drop (x .lists) t)) ≡ ls) sorted-is (l .split-are) ∙ split-closed
+
+        stand : EmittedStand apart t
+        stand = record {
+          behind = omega arith;
+          before = omega arith;
+          sound = subst (Sound 2 1024) (sym still) (r .sound);
+          as-many =
+              sym (closed-length 2 1024 (take 2101260 (drop to t)))
+              ∙ (ap length parted ∙ (length-map emitted (splitOn shelf s) ∙ (ap (λ (pool : List ℕ). length (closedLists 2 1024 pool)) (sym still) ∙ closed-length 2 1024 (part at bytes t))));
+          numbers = subst (λ (pool : List ℕ). AllBelow (shelf .facets) (closedLists 2 1024 pool)) (sym still) (r .whole);
+        }
+
+        left : (more n : ℕ) (rows : List Row) (kept : List Kept) → Keeps n shelf kept s → Leaves more n rows kept apart t
+        left more n rows kept k =
+            let w = subst (λ (x : Level). Leaves more n rows kept x t) sorted-is (l .leaves more n rows kept (keeps-front n shelf kept s s2 front2 long2 k)) in
+            record { keeps = w .keeps; behind = w .behind; area = w .area; fewEntries = w .fewEntries; room = w .room; numbers = w .numbers; ascends = w .ascends; emitted = stand }
+
+        pub split-left : Listed shelf at at bytes to 2101260 emitted lists s apart t
+        split-left = record {
+          level-is = ap (λ (n : ℕ). record { shelf = shelf; emitted = at; extent = bytes; lists = to; bytes = 2101260; count = n }) (ap (λ (x : Level). x .count) (l .level-is) ∙ ap length split-closed);
+          emitted-are = ap (closedLists 2 1024) still;
+          split-are = parted;
+          order-is = subst (λ (x : Level). orderLeft x t ≡ inListOrder ls) sorted-is (l .order-is) ∙ ap inListOrder split-closed;
+          labels-are =
+              subst (λ (x : Level). labelsIn (x .bytes + 2048) (x .count) (drop (x .lists) t) ≡ labelsOf compare (sortBy compareNats ls)) sorted-is (l .labels-are)
+              ∙ ap (λ (ls : List (List ℕ)). labelsOf compare (sortBy compareNats ls)) split-closed;
+          front = sym (take-take at to t (omega arith)) ∙ (ap (take at) (l .front) ∙ (take-take at to s2 (omega arith) ∙ front2));
+          long = l .long ∙ long2;
+          leaves = left;
+        }

@@ -29,14 +29,16 @@ fn order_lists(s: &mut [u8], bytes: usize) -> usize
     lists
 }
 
-// The entries of a call whose emitted lists need no splitting: the pool from a place on, in order and labelled.
+// The entries of a call whose emitted lists need no splitting: the pool from a place on, in order and labelled. It is the pool of the emitted lists as well.
 pub fn sort_entries(ws: &mut [u8], shelf: Shelf, at: usize, bytes: usize) -> Level
     requires { ⌜ ListsBehind shelf at bytes (now ws) ⌝ }
-    ensures { λ r. ⌜ Listed shelf at at bytes (closedLists 2 1024 (part at bytes (now (ws .entry)))) (now (ws .entry)) r (now (ws .exit)) ⌝ }
+    ensures { λ r. ⌜ Listed shelf at at bytes at bytes (closedLists 2 1024 (part at bytes (now (ws .entry)))) (closedLists 2 1024 (part at bytes (now (ws .entry)))) (now (ws .entry)) r (now (ws .exit)) ⌝ }
 {
     let count = order_lists(&mut ws[at..], bytes);
     Level {
         shelf: shelf,
+        emitted: at,
+        extent: bytes,
         lists: at,
         bytes: bytes,
         count: count,
@@ -46,10 +48,10 @@ pub fn sort_entries(ws: &mut [u8], shelf: Shelf, at: usize, bytes: usize) -> Lev
 // ---- splitting
 
 // The entries of a call whose facets may be compound: the emitted lists' pool is moved to the byte behind the shelf, the lists are split into a pool behind it, and these are put in order and
-// labelled. The table of components is the shelf's own, so the part that splitting works in begins there.
+// labelled; the moved pool stays as it is. The table of components is the shelf's own, so the part that splitting works in begins there.
 pub fn split_entries(ws: &mut [u8], shelf: Shelf, from: usize, bytes: usize) -> Level
     requires { ⌜ Splits shelf from bytes (now ws) ⌝ }
-    ensures { λ r. ⌜ Listed shelf (shelf .owners + 2048) (shelf .owners + 2048 + bytes) 2101260 (map (splitOn shelf (now (ws .entry))) (closedLists 2 1024 (part from bytes (now (ws .entry))))) (now (ws .entry)) r (now (ws .exit)) ⌝ }
+    ensures { λ r. ⌜ Listed shelf (shelf .owners + 2048) (shelf .owners + 2048) bytes (shelf .owners + 2048 + bytes) 2101260 (closedLists 2 1024 (part from bytes (now (ws .entry)))) (map (splitOn shelf (now (ws .entry))) (closedLists 2 1024 (part from bytes (now (ws .entry))))) (now (ws .entry)) r (now (ws .exit)) ⌝ }
 {
     let labels = shelf.labels;
     let at = shelf.owners + 2048;
@@ -63,5 +65,13 @@ pub fn split_entries(ws: &mut [u8], shelf: Shelf, from: usize, bytes: usize) -> 
     };
     words::copy_within(ws, from, at, bytes);
     splitting::split_lists(&mut ws[labels..to + 2101260], layout);
-    sort_entries(ws, shelf, to, 2101260)
+    let sorted = sort_entries(ws, shelf, to, 2101260);
+    Level {
+        shelf: shelf,
+        emitted: at,
+        extent: bytes,
+        lists: to,
+        bytes: 2101260,
+        count: sorted.count,
+    }
 }

@@ -1,15 +1,14 @@
 // The words of the counts of a call's orbits, of lists of its facets, and of the compounds among its entries. Leans on the words of figures.
-use order::Area;
 ghost use mathlib.Core.Path.{_≡_};
 ghost use mathlib.Core.List.{flatMap};
 ghost use Prim.Native.Nat.{_+_, _*_, _-_, _/_, _%_, _≤_, _<_};
 ghost use lib.ListN.{length};
 ghost use Rattle.words.specs.Words.{words};
-ghost use Rattle.pool.specs.Pool.{count};
+ghost use Rattle.pool.specs.Pool.{count, Sound};
 ghost use Rattle.definitions.specs.Job.{counted, compoundWords};
 ghost use Rattle.definitions.specs.Figures.{compoundAt, compoundsFrom};
 ghost use Rattle.orbits.specs.Workspace.{orbitsIn};
-ghost use Rattle.order.specs.Areas.{listOf, Holding};
+ghost use Rattle.order.specs.Areas.{listAt};
 ghost use Rattle.labels.specs.Labels.{labelOf, labelsIn};
 ghost use Rattle.order.specs.Numbers.{ItemsBelow};
 ghost use Rattle.figure_words.specs.Wrote.{Wrote};
@@ -65,7 +64,7 @@ fn write_item(
     figure_words::push(answer, number, (x - first) as u32)
 }
 
-// The list at place k of an area: its length, and its facets.
+// List k of a pool: its length, and its facets.
 pub fn write_list(
     answer: &mut [u8],
     at: usize,
@@ -73,17 +72,16 @@ pub fn write_list(
     facets: usize,
     firsts: &[usize; 256],
     lists: &[u8],
-    area: Area,
     k: usize,
 ) -> usize
-    requires { ⌜ (2 * facets ≤ length (now owners)) × (facets < 4294967296) × OwnersBelow 256 (words 2 (now owners) facets) × Firsts (words 2 (now owners) facets) (now firsts) × Holding area (now lists) × (k < area .count) × ItemsBelow facets (listOf area (now lists) k) ⌝ }
-    ensures { λ r. ⌜ Wrote (now (answer .entry)) at (now (answer .exit)) r (listWords (words 2 (now (owners .entry)) facets) (listOf area (now (lists .entry)) k)) ⌝ }
+    requires { ⌜ (2 * facets ≤ length (now owners)) × (facets < 4294967296) × OwnersBelow 256 (words 2 (now owners) facets) × Firsts (words 2 (now owners) facets) (now firsts) × Sound 2 1024 (now lists) × (k < count (now lists)) × ItemsBelow facets (listAt 1024 (now lists) k) ⌝ }
+    ensures { λ r. ⌜ Wrote (now (answer .entry)) at (now (answer .exit)) r (listWords (words 2 (now (owners .entry)) facets) (listAt 1024 (now (lists .entry)) k)) ⌝ }
 {
-    let n = order::length_at(lists, area, k);
+    let n = order::length_of(lists, 1024, k);
     let mut cursor = figure_words::push(answer, at, n as u32);
     let mut i = 0;
     while i < n {
-        let x = order::item_at(lists, area, k, i) as usize;
+        let x = order::item_of(lists, 1024, k, i) as usize;
         cursor = write_item(answer, cursor, owners, facets, firsts, x);
         i += 1;
     }

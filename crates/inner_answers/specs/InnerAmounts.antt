@@ -73,7 +73,7 @@ two-amounts rules plane points rows budget i e =
       edges-many = kept-evenly i;
     }
   where
-    list-few : (r : RankTwo budget (i .answer)) → length (i .answer .counts) ≤ 2 → length (i .answer .counts) ≡ r .ends → (x : Entry) → Mem x (record { list = map (λ (v : ℕ). (v, 0)) (countFrom 0 (r .ends)); figure = dyad } ∷ []) → length (x .list) ≤ 2
+    list-few : (r : RankTwo budget (i .answer)) → length (i .answer .counts) ≤ 2 → length (i .answer .counts) ≡ r .ends → (x : Entry) → Mem x (record { list = map (λ (v : ℕ). (v, 0)) (countFrom 0 (r .ends)); before = map (λ (v : ℕ). (v, 0)) (countFrom 0 (r .ends)); figure = dyad } ∷ []) → length (x .list) ≤ 2
     list-few r few n x (List·Memᴰ.List·Memᴰ·head q) =
         let k = ap (λ (y : Entry). length (y .list)) q in
         let c = length-map {B = Pair} (countFrom 0 (r .ends)) (λ (v : ℕ). (v, 0)) in
@@ -81,7 +81,7 @@ two-amounts rules plane points rows budget i e =
         omega arith
     list-few r few n x (List·Memᴰ.List·Memᴰ·tail m) = elim m [ ]
 
-    edge-one : {list : List Pair} (x : Entry) → Mem x (record { list = list; figure = dyad } ∷ []) → length (edgePairs (moveEnds (λ (v : ℕ). getD (i .orbit .vertices) v 0) (x .figure))) ≤ 1
+    edge-one : {list : List Pair} (x : Entry) → Mem x (record { list = list; before = list; figure = dyad } ∷ []) → length (edgePairs (moveEnds (λ (v : ℕ). getD (i .orbit .vertices) v 0) (x .figure))) ≤ 1
     edge-one x (List·Memᴰ.List·Memᴰ·head q) = let k = ap (λ (y : Entry). length (edgePairs (moveEnds (λ (v : ℕ). getD (i .orbit .vertices) v 0) (y .figure)))) q in omega arith
     edge-one x (List·Memᴰ.List·Memᴰ·tail m) = elim m [ ]
 

@@ -26,7 +26,7 @@ use Rattle.shapes.specs.SplitCalls.{split-answer}
 use Rattle.order.specs.Areas.{lists-length}
 use Rattle.labels.specs.Labels.{labelsIn}
 use Rattle.openers.specs.Rows.{rowsIn, RowsFit}
-use Rattle.shelf.specs.Leaves.{Leaves, answerLeft, entryLeft, listsLeft}
+use Rattle.shelf.specs.Leaves.{Leaves, answerLeft, entryLeft, bothLeft, both-length}
 use Rattle.shelf.specs.declared.Level.{Level}
 use Rattle.left_edges.specs.Polygons.{OneEdge, EdgesLeft, edgeIn}
 
@@ -73,8 +73,8 @@ labels-left rules plane points rows budget n kept level s left e p m =
     let r = compound-in 0 (labelsIn (level .bytes + 2048) (level .count) (drop (level .lists) s)) p m in
     let c = splits .compounds (record { whole = r .0; first = p .0; second = p .1 }) (r .1) in
     let n1 = length-map (a .entries) (λ (x : Entry). x .list) in
-    let n2 = length-map (listsLeft level s) (entryLeft 0 n rows kept) in
-    let n3 = lists-length 1024 (level .bytes) (level .count) (drop (level .lists) s) in
+    let n2 = length-map (bothLeft level s) (entryLeft 0 n rows kept) in
+    let n3 = both-length level s in
     let b = c .second-below in
     (c .behind, omega arith)
 

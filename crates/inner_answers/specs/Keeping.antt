@@ -20,7 +20,7 @@ use Rattle.shapes.specs.Calls.{Given}
 use Rattle.shapes.specs.Kept.{Kept, keptOf}
 use Rattle.shapes.specs.KeptSizes.{few-counts}
 use Rattle.shelf.specs.Keeps.{Keeps, Ridges, joined}
-use Rattle.shelf.specs.Leaves.{Leaves, answerLeft, entryLeft, listsLeft}
+use Rattle.shelf.specs.Leaves.{Leaves, answerLeft, entryLeft, listsLeft, bothLeft, both-length}
 use Rattle.shelf.specs.declared.Shelf.{Shelf}
 use Rattle.shelf.specs.declared.Level.{Level}
 use Rattle.calls.specs.Layouts.{shelfFor, shelfThree, shelfFour, at-three, at-four}
@@ -213,7 +213,7 @@ module _ (g : Site) (shelf : Shelf) (left : ℕ) (level : Level) (rest : ℕ) (r
 
   entries-many : length (leftAnswer .entries) ≡ level .count
   unfolding answerLeft
-  entries-many = length-map (listsLeft level behind) (entryLeft 0 width (rowsIn width m rows) innerKept) ∙ lists-many left-edges
+  entries-many = length-map (bothLeft level behind) (entryLeft 0 width (rowsIn width m rows) innerKept) ∙ both-length level behind
 
   laid-four : Laid shelf shelfFour
   laid-four = subst (Laid shelf) (ap (λ (more : ℕ). shelfFor (3 + more)) (left-four .0) ∙ sym (at-four 4 (λ e. omega (arith, e)))) (t .laid)

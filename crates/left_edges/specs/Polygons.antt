@@ -24,7 +24,7 @@ use Rattle.shapes.specs.Polygons.{endsVia, edgeVia, edgePairs, polygon-raised, 
 use Rattle.shapes.specs.Kept.{Kept, keptOf, endsOf, keptPossible, keptAt, keptEdgeImages, keptFigure}
 use Rattle.shelf.specs.declared.Level.{Level}
 use Rattle.shelf.specs.Keeps.{facetsIn, facetsOf, edgesOf}
-use Rattle.shelf.specs.Leaves.{Leaves, facetAt, entryLeft, answerLeft, listsLeft}
+use Rattle.shelf.specs.Leaves.{Leaves, facetAt, bothLeft, lists-of-both, figureLeft, entryLeft, answerLeft, listsLeft}
 use Rattle.keep.specs.Adding.{facetsFrom}
 
 -- ---- an orbit with one edge
@@ -158,13 +158,12 @@ module _ (n : ℕ) (rows : List Row) (inner : List Kept) (h : Each n inner) (to 
       let q : max (to (e .0)) (to (e .1)) ≡ to (e .1) = omega arith in
       ap (λ (es : List (List Pair)). edgeVia to (endsOf (getD (map (λ (l : List Pair). edgeFigure (getD l 0 (0, 0))) es) 0 []))) (one .edges) ∙ (λ t. (p t, q t))
 
-  entry-place : (numbers : List ℕ) → ((x : ℕ) → Mem x numbers → x < length inner) → map (λ (place : Pair). place .0) (entryLeft 0 n rows inner numbers .list) ≡ numbers
-  unfolding entryLeft
+  entry-place : (numbers : List ℕ) → ((x : ℕ) → Mem x numbers → x < length inner) → map (λ (place : Pair). place .0) (map (facetAt inner) numbers) ≡ numbers
   entry-place numbers b =
       map-map (λ (place : Pair). place .0) (facetAt inner) numbers ∙ map-self (λ (x : ℕ). facetAt inner x .0) numbers (λ x m. ap (λ (f : Facet). f .0) (facet-is n inner h x (b x m)))
 
-  entry-edges : (numbers : List ℕ) → ((x : ℕ) → Mem x numbers → x < length inner) → edgePairs (moveEnds to (entryLeft 0 n rows inner numbers .figure)) ≡ entryEdges to rows inner numbers
-  unfolding entryLeft keptFigure entryEdges
+  entry-edges : (numbers : List ℕ) → ((x : ℕ) → Mem x numbers → x < length inner) → edgePairs (moveEnds to (figureLeft 0 n rows inner numbers)) ≡ entryEdges to rows inner numbers
+  unfolding figureLeft keptFigure entryEdges
   entry-edges numbers b =
       ap (λ (l : List Pair). edgePairs (moveEnds to (polygon n (edgesInOrder l)))) (entry-images n rows inner h numbers b)
       ∙ (ap edgePairs (polygon-raised to n (edgesInOrder (imagesOf rows inner numbers))) ∙ polygon-edges n (map (endsVia to) (edgesInOrder (imagesOf rows inner numbers))))
@@ -172,20 +171,25 @@ module _ (n : ℕ) (rows : List Row) (inner : List Kept) (h : Each n inner) (to 
 pub polygon-kept : (n : ℕ) (rows : List Row) (inner : List Kept) (level : Level) (s : List ℕ) (left : ℕ) (i : Inner) → i .answer ≡ answerLeft 0 n rows inner level s left → ((k : Kept) → Mem k inner → OneEdge n k)
     → ((x y : ℕ) → x < y → y < n → getD (i .orbit .vertices) x 0 < getD (i .orbit .vertices) y 0) → AllBelow (length inner) (listsLeft level s)
     → keptOf i ≡ polygonKept (i .orbit) rows inner (listsLeft level s) (labelsIn (level .bytes + 2048) (level .count) (drop (level .lists) s))
-unfolding keptOf polygonKept answerLeft possibleFacets
+unfolding keptOf polygonKept answerLeft entryLeft possibleFacets
 polygon-kept n rows inner level s left i e h up b =
     let to : ℕ → ℕ = λ p. getD (i .orbit .vertices) p 0 in
     let lists = listsLeft level s in
+    let both = bothLeft level s in
+    let split : List ℕ × List ℕ → List ℕ = λ b. b .0 in
+    let entry : List ℕ × List ℕ → Entry = entryLeft 0 n rows inner in
     let ends : map (λ (ridges : List Figure). edgeVia to (endsOf (getD ridges 0 []))) (map (keptPossible 0) inner) ≡ map (λ (k : Kept). endsVia to (edgeIn k)) inner =
     map-map (λ (ridges : List Figure). edgeVia to (endsOf (getD ridges 0 []))) (keptPossible 0) inner
     ∙ map-same (λ (k : Kept). edgeVia to (endsOf (getD (keptPossible 0 k) 0 []))) (λ (k : Kept). endsVia to (edgeIn k)) inner (λ k m. ridge-end n rows inner h to up k (h k m)) in
-    let places : map (λ (e : Entry). map (λ (place : Pair). place .0) (e .list)) (map (entryLeft 0 n rows inner) lists) ≡ lists =
-    map-map (λ (e : Entry). map (λ (place : Pair). place .0) (e .list)) (entryLeft 0 n rows inner) lists
-    ∙ map-self (λ (l : List ℕ). map (λ (place : Pair). place .0) (entryLeft 0 n rows inner l .list)) lists (λ l m. entry-place n rows inner h to l (b l m)) in
-    let edges : map edgePairs (map (λ (e : Entry). moveEnds to (e .figure)) (map (entryLeft 0 n rows inner) lists)) ≡ map (entryEdges to rows inner) lists =
-    map-map edgePairs (λ (e : Entry). moveEnds to (e .figure)) (map (entryLeft 0 n rows inner) lists)
-    ∙ (map-map (λ (e : Entry). edgePairs (moveEnds to (e .figure))) (entryLeft 0 n rows inner) lists
-    ∙ map-same (λ (l : List ℕ). edgePairs (moveEnds to (entryLeft 0 n rows inner l .figure))) (entryEdges to rows inner) lists (λ l m. entry-edges n rows inner h to l (b l m))) in
+    let place : List ℕ → List ℕ = λ l. map (λ (place : Pair). place .0) (map (facetAt inner) l) in
+    let places : map (λ (e : Entry). map (λ (place : Pair). place .0) (e .list)) (map entry both) ≡ lists =
+    map-map (λ (e : Entry). map (λ (place : Pair). place .0) (e .list)) entry both
+    ∙ (sym (map-map place split both) ∙ (ap (map place) (lists-of-both level s) ∙ map-self place lists (λ l m. entry-place n rows inner h to l (b l m)))) in
+    let drawn : List ℕ → List Pair = λ l. edgePairs (moveEnds to (figureLeft 0 n rows inner l)) in
+    let edges : map edgePairs (map (λ (e : Entry). moveEnds to (e .figure)) (map entry both)) ≡ map (entryEdges to rows inner) lists =
+    map-map edgePairs (λ (e : Entry). moveEnds to (e .figure)) (map entry both)
+    ∙ (map-map (λ (e : Entry). edgePairs (moveEnds to (e .figure))) entry both
+    ∙ (sym (map-map drawn split both) ∙ (ap (map drawn) (lists-of-both level s) ∙ map-same drawn (entryEdges to rows inner) lists (λ l m. entry-edges n rows inner h to l (b l m))))) in
     ap (λ (a : Answer). keptOf (record { orbit = i .orbit; answer = a })) e
     ∙ (λ t. record {
       orbit = i .orbit;

@@ -21,7 +21,7 @@ use Rattle.order.specs.Areas.{HoldsOrder, listsIn, lists-length}
 use Rattle.order.specs.Numbers.{AllBelow, AllAscending}
 use Rattle.shapes.specs.Kept.{Kept}
 use Rattle.shelf.specs.declared.Level.{Level}
-use Rattle.shelf.specs.Leaves.{Leaves, facetAt, listsLeft, entryLeft, answerLeft}
+use Rattle.shelf.specs.Leaves.{Leaves, facetAt, listsLeft, bothLeft, lists-of-both, entryLeft, answerLeft}
 use Rattle.entries.specs.Facets.{facetCount, ordered}
 use Rattle.filter.specs.Found.{Filters}
 use Rattle.kept_edges.specs.Edges.{edgeAnswer}
@@ -118,7 +118,10 @@ module _ {more n : ℕ} {rows : List Row} {kept : List Kept} {level : Level} {s 
       -- the entries' split lists are the numbered ones, by facets
       split-are : splitLists (answerLeft more n rows kept level s rest .entries) ≡ map (map (facetAt kept)) (listsLeft level s)
       unfolding answerLeft splitLists entryLeft
-      split-are = map-map (λ (e : Entry). e .list) (entryLeft more n rows kept) (listsLeft level s)
+      split-are =
+          let both = bothLeft level s in
+          map-map (λ (e : Entry). e .list) (entryLeft more n rows kept) both
+          ∙ (sym (map-map (map (facetAt kept)) (λ (b : List ℕ × List ℕ). b .0) both) ∙ ap (map (map (facetAt kept))) (lists-of-both level s))
 
       below : AllBelow (facetCount kept) (listsLeft level s)
       below = subst (λ (b : ℕ). AllBelow b (listsLeft level s)) (l .keeps .facets) (l .numbers)

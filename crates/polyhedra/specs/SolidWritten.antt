@@ -34,7 +34,7 @@ use Rattle.shapes.specs.EdgeSets.{edgesInOrder, polygonsInOrder, edgeNumber, po
 use Rattle.shapes.specs.FigureWords.{pointWords, edgeWords, bodyWords, polyhedron-words, polyhedron-summary}
 use Rattle.shapes.specs.Kept.{Kept, keptAt, keptPossible, keptEdgeImages, keptPolygons, keptFigure}
 use Rattle.shelf.specs.Keeps.{edgesOf, edgesPart}
-use Rattle.shelf.specs.Leaves.{facetAt, listsLeft, entryLeft, answerLeft, Leaves}
+use Rattle.shelf.specs.Leaves.{facetAt, listsLeft, bothLeft, lists-of-both, figureLeft, entryLeft, answerLeft, Leaves}
 use Rattle.shelf.specs.declared.Level.{Level}
 use Rattle.figure_words.specs.Wrote.{Wrote}
 use Rattle.possible_facets.specs.Facets.{edges-at}
@@ -45,7 +45,7 @@ use Rattle.facet_images.specs.Images.{imageMarks, nextChoice, chosenFrom}
 use Rattle.facet_images.specs.Arranged.{Arranged, chosen-in-order}
 use Rattle.writing.specs.Standing.{ownersIn, edgesIn}
 use Rattle.polyhedra.specs.Solids.{ImagesStand, facetFrom, imageOf, polyhedronFrom, linesOf, insideOf, solidFrom, solidEntryFrom, solidSummaryFrom, solidAnswerFrom}
-use Rattle.writing.specs.Written.{EdgesKept, all-each, all-ends, many-facets, many-lists, list-is, list-words, edges-written, Figured, possible-of, counts-are, owners-are, edges-are}
+use Rattle.writing.specs.Written.{EdgesKept, all-each, all-ends, many-facets, many-lists, list-is, both-inside, both-words, edges-written, Figured, possible-of, counts-are, owners-are, edges-are}
 use Rattle.possible_facets.specs.Possible.{polygonWords, sizeIn, possibleFrom}
 
 -- ---- an edge's number is how many marks lie below it
@@ -357,28 +357,39 @@ module _ {n m : ℕ} {bytes : List ℕ} {kept-all : List Kept} {level : Level} {
         (λ t. 5 ∷ 1 ∷ 0 ∷ n ∷ pointWords n ++ (many-lines t ∷ edgeWords (lines-are t) ++ (many-polygons t ∷ each t ++ bodyWords (many-polygons t))))
         ∙ sym (polyhedron-words n lines polygons)
 
-    entry-words : solidEntryFrom n m bytes level s ids numbers ≡ entryWords (entryLeft 1 n sends kept-all numbers)
-    unfolding solidEntryFrom entryWords entryLeft
-    entry-words = λ t. list-words fits h left numbers inside t ++ solid-words t
+    figure-words : solidFrom n m bytes level s ids numbers ≡ figureWords (figureLeft 1 n sends kept-all numbers)
+    unfolding figureLeft
+    figure-words = solid-words
 
-    summary-words : solidSummaryFrom n m bytes level s ids numbers ≡ summaryWords (entryLeft 1 n sends kept-all numbers)
-    unfolding solidSummaryFrom summaryMarked entryLeft keptFigure
-    summary-words = (λ t. endsUsed n (lines-are t) ∷ many-lines t ∷ many-polygons t ∷ []) ∙ sym (polyhedron-summary (entryLeft 1 n sends kept-all numbers) n lines polygons refl)
+    summary-words : (e : Entry) → e .figure ≡ figureLeft 1 n sends kept-all numbers → solidSummaryFrom n m bytes level s ids numbers ≡ summaryWords e
+    unfolding solidSummaryFrom summaryMarked figureLeft keptFigure
+    summary-words e is = (λ t. endsUsed n (lines-are t) ∷ many-lines t ∷ many-polygons t ∷ []) ∙ sym (polyhedron-summary e n lines polygons is)
 
   -- ---- entries and summaries
 
-  entries-are : counted (solidEntryFrom n m bytes level s ids) (listsLeft level s) ≡ counted entryWords (map (entryLeft 1 n sends kept-all) (listsLeft level s))
+  abbrev entry : List ℕ × List ℕ → Entry
+  entry = entryLeft 1 n sends kept-all
+
+  entry-words : (both : List ℕ × List ℕ) → Mem both (bothLeft level s) → solidEntryFrom n m bytes level s ids both ≡ entryWords (entry both)
+  unfolding solidEntryFrom entryWords entryLeft
+  entry-words both i = λ t. both-words fits h left both i t ++ figure-words (both .0) (both-inside fits h left both i .0) t
+
+  entries-are : counted (solidEntryFrom n m bytes level s ids) (bothLeft level s) ≡ counted entryWords (map entry (bothLeft level s))
   unfolding counted
   entries-are =
-      let lists = listsLeft level s in
-      let entry : List ℕ → Entry = entryLeft 1 n sends kept-all in
-      let each = flatMap-same (solidEntryFrom n m bytes level s ids) (λ (l : List ℕ). entryWords (entry l)) lists (λ l i. entry-words l (left .numbers l i)) ∙ sym (flatMap-map entryWords entry lists) in
+      let lists = bothLeft level s in
+      let each = flatMap-same (solidEntryFrom n m bytes level s ids) (λ (both : List ℕ × List ℕ). entryWords (entry both)) lists entry-words ∙ sym (flatMap-map entryWords entry lists) in
       λ t. sym (length-map lists entry) t ∷ each t
 
-  summaries-are : flatMap (solidSummaryFrom n m bytes level s ids) (listsLeft level s) ≡ flatMap summaryWords (map (entryLeft 1 n sends kept-all) (listsLeft level s))
+  summaries-are : flatMap (solidSummaryFrom n m bytes level s ids) (listsLeft level s) ≡ flatMap summaryWords (map entry (bothLeft level s))
+  unfolding entryLeft
   summaries-are =
-      flatMap-same (solidSummaryFrom n m bytes level s ids) (λ (l : List ℕ). summaryWords (entryLeft 1 n sends kept-all l)) (listsLeft level s) (λ l i. summary-words l (left .numbers l i))
-      ∙ sym (flatMap-map summaryWords (entryLeft 1 n sends kept-all) (listsLeft level s))
+      let summary = solidSummaryFrom n m bytes level s ids in
+      ap (flatMap summary) (sym (lists-of-both level s))
+      ∙ (flatMap-map summary (λ (both : List ℕ × List ℕ). both .0) (bothLeft level s)
+      ∙ (flatMap-same (λ (both : List ℕ × List ℕ). summary (both .0)) (λ (both : List ℕ × List ℕ). summaryWords (entry both)) (bothLeft level s)
+      (λ both i. summary-words (both .0) (both-inside fits h left both i .0) (entry both) refl)
+      ∙ sym (flatMap-map summaryWords entry (bothLeft level s))))
 
   possible-are : possibleFrom (λ (orbit : ℕ). polygonWords (sizeIn n s orbit)) (level .shelf .orbits) 0 (ownersIn level s) (edgesIn level s) ≡ flatMap (counted figureWords) (map (keptPossible 1) kept-all)
   possible-are =

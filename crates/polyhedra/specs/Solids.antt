@@ -13,15 +13,14 @@ use Rattle.openers.specs.Rows.{rowsIn}
 use Rattle.labels.specs.Labels.{labelsIn}
 use Rattle.shapes.specs.FigureWords.{pointWords, edgeWords, bodyWords}
 use Rattle.shelf.specs.Keeps.{edgesPart}
-use Rattle.shelf.specs.Leaves.{listsLeft}
+use Rattle.shelf.specs.Leaves.{listsLeft, bothLeft}
 use Rattle.shelf.specs.declared.Level.{Level}
-use Rattle.possible_facets.specs.Facets.{listWords}
 use Rattle.edge_marks.specs.Summaries.{summaryMarked}
 use Rattle.edge_marks.specs.Marks.{marksOf, codesMarked, edgesMarked}
 use Rattle.facet_images.specs.Images.{imageMarks, IdsBelow, chosenFrom}
 use Rattle.entry_lists.specs.Counts.{countWords}
 use Rattle.possible_facets.specs.Possible.{polygonWords, sizeIn, possibleFrom}
-use Rattle.writing.specs.Standing.{ownersIn, edgesIn}
+use Rattle.writing.specs.Standing.{ownersIn, edgesIn, bothWords}
 
 -- a facet as its edges' numbers among the marked ones
 unfoldable pub facetFrom : List Bool → List Bool → List ℕ
@@ -55,8 +54,8 @@ module _ (n m : ℕ) (rows : List ℕ) (level : Level) (s ids : List ℕ) where
   unfoldable pub solidFrom : List ℕ → List ℕ
   solidFrom numbers = polyhedronFrom n (linesOf numbers) (insideOf numbers) ids (edgesPart (level .shelf) s) rows
 
-  unfoldable pub solidEntryFrom : List ℕ → List ℕ
-  solidEntryFrom numbers = listWords (ownersIn level s) numbers ++ solidFrom numbers
+  unfoldable pub solidEntryFrom : List ℕ × List ℕ → List ℕ
+  solidEntryFrom both = bothWords (ownersIn level s) both ++ solidFrom (both .0)
 
   unfoldable pub solidSummaryFrom : List ℕ → List ℕ
   solidSummaryFrom numbers = summaryMarked n (linesOf numbers) (length (chosenFrom (insideOf numbers) 0 ids))
@@ -65,7 +64,7 @@ module _ (n m : ℕ) (rows : List ℕ) (level : Level) (s ids : List ℕ) where
   solidAnswerFrom budget left =
       (budget - left)
       ∷ countWords (orbitsIn s (level .shelf .orbits))
-      ++ counted solidEntryFrom (listsLeft level s)
+      ++ counted solidEntryFrom (bothLeft level s)
       ++ possibleFrom (λ (orbit : ℕ). polygonWords (sizeIn n s orbit)) (level .shelf .orbits) 0 (ownersIn level s) (edgesIn level s)
       ++ counted compoundWords (compoundsFrom 0 (labelsIn (level .bytes + 2048) (level .count) (drop (level .lists) s)))
       ++ flatMap solidSummaryFrom (listsLeft level s)

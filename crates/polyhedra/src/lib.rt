@@ -12,7 +12,7 @@ ghost use Rattle.definitions.specs.Job.{counted};
 ghost use Rattle.openers.specs.Marks.{marked};
 ghost use Rattle.figure_words.specs.Wrote.{Wrote};
 ghost use Rattle.edge_marks.specs.Marks.{EdgesFit};
-ghost use Rattle.shelf.specs.Leaves.{listsLeft};
+ghost use Rattle.shelf.specs.Leaves.{listsLeft, bothLeft};
 ghost use Rattle.facet_images.specs.Images.{IdsBelow};
 ghost use Rattle.polyhedra.specs.Solids.{polyhedronFrom, ImagesStand, solidFrom, solidEntryFrom, solidSummaryFrom};
 ghost use Rattle.polyhedra.specs.SolidWritten.{WroteSolidAnswer};
@@ -108,7 +108,7 @@ fn write_solid(
     )
 }
 
-// How many entries there are, and each: its split list and its polyhedron.
+// How many entries there are, and each: its split list, the list before splitting, and its polyhedron.
 fn write_solids(
     answer: &mut [u8],
     at: usize,
@@ -121,7 +121,7 @@ fn write_solids(
     many: usize,
 ) -> usize
     requires { ⌜ Standing m (now rows) level (now ws) × ImagesStand m level (now ws) (now ids) many × (n < 4294967296) ⌝ }
-    ensures { λ r. ⌜ Wrote (now (answer .entry)) at (now (answer .exit)) r (counted (solidEntryFrom n m (now (rows .entry)) level (now (ws .entry)) (words 4 (now (ids .entry)) many)) (listsLeft level (now (ws .entry)))) ⌝ }
+    ensures { λ r. ⌜ Wrote (now (answer .entry)) at (now (answer .exit)) r (counted (solidEntryFrom n m (now (rows .entry)) level (now (ws .entry)) (words 4 (now (ids .entry)) many)) (bothLeft level (now (ws .entry)))) ⌝ }
 {
     let owners = level.shelf.owners;
     let ridges = level.shelf.ridges;
@@ -130,7 +130,7 @@ fn write_solids(
     let mut cursor = figure_words::push(answer, at, count as u32);
     let mut k = 0;
     while k < count {
-        cursor = writing::write_entry_list(answer, cursor, ws, level, &firsts, k);
+        cursor = writing::write_entry_lists(answer, cursor, ws, level, &firsts, k);
         cursor = write_solid(answer, cursor, ws, level, rows, m, n, ids, many, k);
         k += 1;
     }

@@ -6,7 +6,7 @@ use lib.ListN.{length}
 use Rattle.definitions.specs.Lists.{Pair}
 use Rattle.definitions.specs.Figures.{Figure}
 use Rattle.definitions.specs.Recursion.{Entry, Answer}
-use Rattle.definitions.specs.Job.{Bytes, little, counted, figureWords, entryWords, compoundWords, summaryWords, answerWords, wordBytes, answerBytes}
+use Rattle.definitions.specs.Job.{Bytes, little, counted, figureWords, facetWords, entryWords, compoundWords, summaryWords, answerWords, wordBytes, answerBytes}
 use Rattle.laws.specs.Lists.{there}
 use Rattle.words.specs.Words.{wordBytes-is, little-bytesOf}
 use Rattle.laws.specs.Places.{map-self}
@@ -53,12 +53,13 @@ readPair words =
 unfoldable pub readFigure : Reader Figure
 readFigure = readCounted (readCounted (readCounted readWord))
 
--- an entry [12.3]: its split list and its figure
+-- an entry [12.3]: its split list, the list before splitting, and its figure
 unfoldable pub readEntry : Reader Entry
 readEntry words =
     let list = readCounted readPair words in
-    let figure = readFigure (list .1) in
-    (record { list = list .0; figure = figure .0 }, figure .1)
+    let before = readCounted readPair (list .1) in
+    let figure = readFigure (before .1) in
+    (record { list = list .0; before = before .0; figure = figure .0 }, figure .1)
 
 -- the entries, behind the number of lists examined and the orbits' counts
 unfoldable pub entriesRead : Bytes → List Entry
@@ -111,14 +112,23 @@ figure-reads : Reads readFigure figureWords
 unfolding readFigure figureWords
 figure-reads = counted-read (readCounted (readCounted readWord)) (counted (counted (λ (w : ℕ). w ∷ []))) (counted-read (readCounted readWord) (counted (λ (w : ℕ). w ∷ [])) (counted-read readWord (λ (w : ℕ). w ∷ []) word-reads))
 
+facets-read : Reads (readCounted readPair) facetWords
+unfolding facetWords
+facets-read = counted-read readPair (λ (p : Pair). p .0 ∷ p .1 ∷ []) pair-reads
+
 entry-reads : Reads readEntry entryWords
 unfolding readEntry entryWords
 entry-reads e rest =
-    let listWords = counted (λ (p : Pair). p .0 ∷ p .1 ∷ []) (e .list) in
-    let after : List Pair × List ℕ → Entry × List ℕ = λ list. let figure = readFigure (list .1) in (record { list = list .0; figure = figure .0 }, figure .1) in
-    ap (λ (l : List ℕ). after (readCounted readPair l)) (append-assoc listWords (figureWords (e .figure)) rest)
-    ∙ (ap after (counted-read readPair (λ (p : Pair). p .0 ∷ p .1 ∷ []) pair-reads (e .list) (figureWords (e .figure) ++ rest))
-    ∙ ap (λ (figure : Figure × List ℕ). (record { list = e .list; figure = figure .0 }, figure .1)) (figure-reads (e .figure) rest))
+    let figureRest = figureWords (e .figure) ++ rest in
+    let after : List Pair → List Pair × List ℕ → Entry × List ℕ = λ list before. let figure = readFigure (before .1) in (record { list = list; before = before .0; figure = figure .0 }, figure .1) in
+    let whole : List Pair × List ℕ → Entry × List ℕ = λ list. after (list .0) (readCounted readPair (list .1)) in
+    ap (λ (l : List ℕ). whole (readCounted readPair l)) (in-three (facetWords (e .list)) (facetWords (e .before)) (figureWords (e .figure)) rest)
+    ∙ (ap whole (facets-read (e .list) (facetWords (e .before) ++ figureRest))
+    ∙ (ap (after (e .list)) (facets-read (e .before) figureRest)
+    ∙ ap (λ (figure : Figure × List ℕ). (record { list = e .list; before = e .before; figure = figure .0 }, figure .1)) (figure-reads (e .figure) rest)))
+  where
+    in-three : (a b c d : List ℕ) → (a ++ b ++ c) ++ d ≡ a ++ (b ++ (c ++ d))
+    in-three a b c d = simp append-assoc
 
 -- ---- the words of an answer
 

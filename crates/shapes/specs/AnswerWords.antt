@@ -16,31 +16,35 @@ use Rattle.definitions.specs.Figures.{Figure, Compound, dyad, moveEnds, labelIr
 use Rattle.definitions.specs.Search.{Facet}
 use Rattle.definitions.specs.Recursion.{Rules, Bounds, Entry, Answer, Inner, vertexRidge, rowsWithin}
 use Rattle.definitions.specs.Faceting.{Prepared, possibleFacets, split, facetImages, entryOf, finish, faceting}
-use Rattle.definitions.specs.Job.{counted, figureWords, entryWords, compoundWords, summaryWords, answerWords}
+use Rattle.definitions.specs.Job.{counted, figureWords, facetWords, entryWords, compoundWords, summaryWords, answerWords}
 use Rattle.shapes.specs.AnswerSizes.{within-few}
 use Rattle.laws.specs.Lists.{Mem, in-map, of-map, of-count, count-length, in-replicate}
 use Rattle.laws.specs.Ascending.{Differ, Distinct}
 use Rattle.laws.specs.Pairs.{pairs-map}
 use Rattle.laws.specs.Ranges.{distinct-below}
 use Rattle.shapes.specs.Answered.{facetNumber, facetSum, AnsweredCall, answered-call}
-use Rattle.shapes.specs.Emitted.{entry-of-list}
+use Rattle.shapes.specs.Emitted.{entry-of-list, found-facet}
 use Rattle.shapes.specs.LowRanks.{RankTwo, rank-two, innerAt, inner-at-member, facet-orbit, few-entries}
 use Rattle.shapes.specs.Compounds.{composed, compounds-ascend}
 use Rattle.shapes.specs.Calls.{Given, innerPoints, inner-given, facetRank, ShapedAnswer, shaped-answer}
 use Rattle.shapes.specs.EntryFigures.{facets-many, call-split, found-split-in-call}
-use Rattle.shapes.specs.Sizes.{split-length}
+use Rattle.shapes.specs.Sizes.{found-length, split-length}
 use Rattle.shapes.specs.FewElements.{sizes, Few, step-few, mostElements, few-elements, inner-points, possible-few}
 use Rattle.shapes.specs.CallOrbits.{call-orbit-counted}
 use Rattle.shapes.specs.FigureNumbers.{WordsBelow, none-below, more-below, joined-below, each-below, counted-below, OnGround, ground-wider, ground-moved, figure-ground, dyad-ground, ridge-ground, figure-below, summary-below}
 
 -- ---- what is counted beside figures
 
+-- a list of facets: how many, their orbits and numbers
+pub record FacetsBelow (most : ℕ) (l : List Facet) : Type 0 where
+  pub few : length l < most
+  pub items : (g : Facet) → Mem g l → (g .0 < most) × (g .1 < most)
+
 pub record NumbersBelow (most : ℕ) (a : Answer) : Type 0 where
   pub few-counts : length (a .counts) < most
   pub counts : (c : ℕ) → Mem c (a .counts) → c < most
   pub few-entries : length (a .entries) < most
-  pub few-items : (x : Entry) → Mem x (a .entries) → length (x .list) < most
-  pub items : (x : Entry) → Mem x (a .entries) → (g : Facet) → Mem g (x .list) → (g .0 < most) × (g .1 < most)
+  pub lists : (x : Entry) → Mem x (a .entries) → FacetsBelow most (x .list) × FacetsBelow most (x .before)
   pub few-possible : (fs : List Figure) → Mem fs (a .possible) → length fs < most
   pub few-compounds : length (a .compounds) < most
   pub compounds : (c : Compound) → Mem c (a .compounds) → WordsBelow most (compoundWords c)
@@ -61,8 +65,7 @@ two-numbers most budget a h r = record {
   few-counts = let k = ap length (r .counts) in let n = length-replicate {A = ℕ} (r .ends) (2 / r .ends) in let b = few (r .ends) (r .one-or-two) in omega arith;
   counts = λ c m. let q = in-replicate (r .ends) c (2 / r .ends) (subst (λ (l : List ℕ). Mem c l) (r .counts) m) in let b = half (r .ends) (r .one-or-two) in omega arith;
   few-entries = let k = ap length (r .entries) in omega arith;
-  few-items = λ x m. items-few x (subst (λ (l : List Entry). Mem x l) (r .entries) m);
-  items = λ x m g i. item-few x (subst (λ (l : List Entry). Mem x l) (r .entries) m) g i;
+  lists = λ x m. both-below x (subst (λ (l : List Entry). Mem x l) (r .entries) m);
   few-possible = λ fs m. let q = of-map (λ (v : ℕ). vertexRidge v ∷ []) fs (countFrom 0 (r .ends)) (subst (λ (l : List (List Figure)). Mem fs l) (r .possible) m) in let k = ap length (q .2) in omega arith;
   few-compounds = let k = ap length (r .compounds) in omega arith;
   compounds = λ c m. none-in c (subst (λ (l : List Compound). Mem c l) (r .compounds) m);
@@ -79,24 +82,25 @@ two-numbers most budget a h r = record {
     list : List Pair
     list = map (λ (v : ℕ). (v, 0)) (countFrom 0 (r .ends))
 
-    items-few : (x : Entry) → Mem x (record { list = list; figure = dyad } ∷ []) → length (x .list) < most
-    items-few x (List·Memᴰ.List·Memᴰ·head q) =
-        let k = ap (λ (y : Entry). length (y .list)) q in
-        let n = length-map {B = Pair} (countFrom 0 (r .ends)) (λ (v : ℕ). (v, 0)) in
-        let m = count-length 0 (r .ends) in
-        let b = few (r .ends) (r .one-or-two) in
-        omega arith
-    items-few x (List·Memᴰ.List·Memᴰ·tail m) = elim m [ ]
+    list-below : FacetsBelow most list
+    list-below = record {
+      few =
+          let n = length-map {B = Pair} (countFrom 0 (r .ends)) (λ (v : ℕ). (v, 0)) in
+          let m = count-length 0 (r .ends) in
+          let b = few (r .ends) (r .one-or-two) in
+          omega arith;
+      items = λ g i.
+          let o = of-map (λ (v : ℕ). (v, 0)) g (countFrom 0 (r .ends)) i in
+          let low = of-count 0 (r .ends) (o .0) (o .1) .1 in
+          let b = few (r .ends) (r .one-or-two) in
+          let first = ap (λ (y : Facet). y .0) (o .2) in
+          let second = ap (λ (y : Facet). y .1) (o .2) in
+          (omega arith, omega arith);
+    }
 
-    item-few : (x : Entry) → Mem x (record { list = list; figure = dyad } ∷ []) → (g : Facet) → Mem g (x .list) → (g .0 < most) × (g .1 < most)
-    item-few x (List·Memᴰ.List·Memᴰ·head q) g i =
-        let o = of-map (λ (v : ℕ). (v, 0)) g (countFrom 0 (r .ends)) (subst (λ (y : Entry). Mem g (y .list)) q i) in
-        let low = of-count 0 (r .ends) (o .0) (o .1) .1 in
-        let b = few (r .ends) (r .one-or-two) in
-        let first = ap (λ (y : Facet). y .0) (o .2) in
-        let second = ap (λ (y : Facet). y .1) (o .2) in
-        (omega arith, omega arith)
-    item-few x (List·Memᴰ.List·Memᴰ·tail m) g i = elim m [ ]
+    both-below : (x : Entry) → Mem x (record { list = list; before = list; figure = dyad } ∷ []) → FacetsBelow most (x .list) × FacetsBelow most (x .before)
+    both-below x (List·Memᴰ.List·Memᴰ·head q) = subst (λ (y : Entry). FacetsBelow most (y .list) × FacetsBelow most (y .before)) (sym q) (list-below, list-below)
+    both-below x (List·Memᴰ.List·Memᴰ·tail m) = elim m [ ]
 
     none-in : (c : Compound) → Mem c [] → WordsBelow most (compoundWords c)
     none-in c m = elim m [ ]
@@ -142,6 +146,31 @@ module _ (most more : ℕ) (rules : Rules) (plane : Subspace) (points : List Vec
   unfolding finish
   from-list x i = entry-of-list rules p (c .found) (c .is-found) x (subst (λ (y : Answer). Mem x (y .entries)) (c .is) i)
 
+  -- a facet of the call
+  facet-below : (g : Facet) → g .1 < getD (map facetNumber (p .inner)) (g .0) 0 → (g .0 < most) × (g .1 < most)
+  facet-below g inside =
+      let o = facet-orbit (p .inner) g inside in
+      let low = o .0 in
+      let part = o .1 in
+      let few = facets-below (innerAt (p .inner) (g .0)) (inner-at-member (p .inner) (g .0) low) in
+      (omega (arith, few-inner), omega arith)
+
+  -- the lists of an entry: a list found split, and that list
+  list-below : (l : List Facet) → Mem l (c .found .lists) → FacetsBelow most (split p l) × FacetsBelow most l
+  list-below l m = (
+    record {
+      few =
+          let k = split-length rules p (c .found) (c .is-found) (call-split more rules plane points rows p given (c .prepared)) l m in
+          let f = under .facets in
+          omega (arith, c .prepared .few-facets);
+      items = λ g j. facet-below g (found-split-in-call more rules plane points rows p given (c .prepared) (c .found) (c .is-found) l m g j);
+    },
+    record {
+      few = let k = found-length rules p (c .found) (c .is-found) l m in omega (arith, few-inner);
+      items = λ g j. facet-below g (found-facet rules p (c .found) (c .is-found) l m g j);
+    },
+  )
+
   abbrev lists : List (List Pair)
   lists = map (λ (x : Entry). x .list) (a .entries)
 
@@ -160,20 +189,9 @@ module _ (most more : ℕ) (rules : Rules) (plane : Subspace) (points : List Vec
         let r = of-map (λ (i : Inner). i .orbit .count) n (p .inner) (subst (λ (y : Answer). Mem n (y .counts)) (c .is) m) in
         subst (λ (k : ℕ). k < most) (sym (r .2)) (count-below (r .0) (r .1));
     few-entries = let k = few-entries more rules plane points rows a c in let b = under .entries in omega arith;
-    few-items = λ x i.
+    lists = λ x i.
         let r = from-list x i in
-        let k = split-length rules p (c .found) (c .is-found) (call-split more rules plane points rows p given (c .prepared)) (r .0) (r .1) in
-        let n = ap (λ (y : Entry). length (y .list)) (r .2) in
-        let f = under .facets in
-        omega (arith, c .prepared .few-facets);
-    items = λ x i g j.
-        let r = from-list x i in
-        let inside = found-split-in-call more rules plane points rows p given (c .prepared) (c .found) (c .is-found) (r .0) (r .1) g (subst (λ (y : Entry). Mem g (y .list)) (r .2) j) in
-        let o = facet-orbit (p .inner) g inside in
-        let low = o .0 in
-        let part = o .1 in
-        let few = facets-below (innerAt (p .inner) (g .0)) (inner-at-member (p .inner) (g .0) low) in
-        (omega (arith, few-inner), omega arith);
+        subst (λ (y : Entry). FacetsBelow most (y .list) × FacetsBelow most (y .before)) (sym (r .2)) (list-below (r .0) (r .1));
     few-possible = λ fs m.
         let r = of-map possibleFacets fs (p .inner) (subst (λ (y : Answer). Mem fs (y .possible)) (c .is) m) in
         let k = ap length (r .2) ∙ facets-many (r .0) in
@@ -200,19 +218,22 @@ pub record Measured (n w : ℕ) (a : Answer) : Type 0 where
 -- all words of an answer, from what is counted and from its figures
 pub answer-below : (most more n w budget : ℕ) (a : Answer) → ShapedAnswer n more a → Measured n w a → NumbersBelow most a → 3 + more < most → n < most → w < most → budget < most
     → WordsBelow most (answerWords budget a)
-unfolding answerWords entryWords facetRank
+unfolding answerWords entryWords facetWords facetRank
 answer-below most more n w budget a shaped measured numbers ranks few-points elements few-budget =
     joined-below _
     (joined-below _
     (joined-below _
     (joined-below _ (more-below (omega arith) (counted-below (λ (count : ℕ). count ∷ []) (a .counts) (numbers .few-counts) (λ n i. more-below (numbers .counts n i) none-below)))
     (counted-below entryWords (a .entries) (numbers .few-entries) (λ x i.
-    joined-below _ (counted-below (λ (item : Pair). item .0 ∷ item .1 ∷ []) (x .list) (numbers .few-items x i) (λ g j. let k = numbers .items x i g j in more-below (k .0) (more-below (k .1) none-below))) (own x i))))
+    joined-below _ (joined-below _ (facets (x .list) (numbers .lists x i .0)) (facets (x .before) (numbers .lists x i .1))) (own x i))))
     (each-below (counted figureWords) (a .possible) (λ fs i. counted-below figureWords fs (numbers .few-possible fs i) (λ f j. possible fs i f j))))
     (counted-below compoundWords (a .compounds) (numbers .few-compounds) (numbers .compounds)))
     (each-below summaryWords (a .entries) (λ x i.
     summary-below most n w (2 + more) (x .figure) (shaped .entries x i) (measured .entry-ground x i) (measured .entry-few x i) (omega arith) few-points elements x refl))
   where
+    facets : (l : List Facet) → FacetsBelow most l → WordsBelow most (facetWords l)
+    facets l b = counted-below (λ (item : Facet). item .0 ∷ item .1 ∷ []) l (b .few) (λ g j. let k = b .items g j in more-below (k .0) (more-below (k .1) none-below))
+
     own : (x : Entry) → Mem x (a .entries) → WordsBelow most (figureWords (x .figure))
     own x i = figure-below most n w (2 + more) (x .figure) (shaped .entries x i) (measured .entry-ground x i) (measured .entry-few x i) (omega arith) few-points elements (omega arith)
 
@@ -231,7 +252,7 @@ answer-below most more n w budget a shaped measured numbers ranks few-points ele
 two-entry : (P : Figure → Type 0) (budget : ℕ) (a : Answer) → RankTwo budget a → P dyad → (x : Entry) → Mem x (a .entries) → P (x .figure)
 two-entry P budget a r h x i = only (subst (λ (l : List Entry). Mem x l) (r .entries) i)
   where
-    only : {list : List Pair} → Mem x (record { list = list; figure = dyad } ∷ []) → P (x .figure)
+    only : {list : List Pair} → Mem x (record { list = list; before = list; figure = dyad } ∷ []) → P (x .figure)
     only (List·Memᴰ.List·Memᴰ·head q) = subst (λ (y : Entry). P (y .figure)) (sym q) h
     only (List·Memᴰ.List·Memᴰ·tail m) = elim m [ ]
 

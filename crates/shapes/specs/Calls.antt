@@ -123,7 +123,7 @@ two-shaped n budget a h r = record {
   possible = λ fs m f i. ridge fs f i (of-map (λ (v : ℕ). vertexRidge v ∷ []) fs (countFrom 0 (r .ends)) (subst (λ (p : List (List Figure)). Mem fs p) (r .possible) m));
 }
   where
-    only : (e : Entry) → Mem e (record { list = map (λ (v : ℕ). (v, 0)) (countFrom 0 (r .ends)); figure = dyad } ∷ []) → Shaped n 2 (e .figure)
+    only : (e : Entry) → Mem e (record { list = map (λ (v : ℕ). (v, 0)) (countFrom 0 (r .ends)); before = map (λ (v : ℕ). (v, 0)) (countFrom 0 (r .ends)); figure = dyad } ∷ []) → Shaped n 2 (e .figure)
     only e (List·Memᴰ.List·Memᴰ·head q) = subst (λ (x : Entry). Shaped n 2 (x .figure)) (sym q) (dyad-shaped n h)
     only e (List·Memᴰ.List·Memᴰ·tail m) = elim m [ ]
 

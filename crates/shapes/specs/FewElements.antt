@@ -229,7 +229,7 @@ module _ (rules : Rules) (n r f : ℕ) (few-facets : rules .bounds .facets ≤ f
       one k (List·Memᴰ.List·Memᴰ·head q) = omega arith
       one k (List·Memᴰ.List·Memᴰ·tail m) = elim m [ ]
 
-      only : {list : List Pair} → Mem x (record { list = list; figure = dyad } ∷ []) → Few 1 (x .figure)
+      only : {list : List Pair} → Mem x (record { list = list; before = list; figure = dyad } ∷ []) → Few 1 (x .figure)
       only (List·Memᴰ.List·Memᴰ·head q) = subst (λ (y : Entry). Few 1 (y .figure)) (sym q) one
       only (List·Memᴰ.List·Memᴰ·tail m) = elim m [ ]
 

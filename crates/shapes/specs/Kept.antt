@@ -97,7 +97,7 @@ keptFigure (suc more) n rows kept parts =
 unfoldable pub keptEntry : ℕ → ℕ → List Row → List Kept → List Facet → Entry
 keptEntry more n rows kept list =
     let parts = flatMap (keptParts kept) list in
-    record { list = parts; figure = keptFigure more n rows kept parts }
+    record { list = parts; before = list; figure = keptFigure more n rows kept parts }
 
 unfoldable pub keptAnswer : ℕ → ℕ → List Row → List Kept → Found → Answer
 keptAnswer more n rows kept found =

@@ -175,7 +175,7 @@ module _ (more : ℕ) (rules : Rules) (plane : Subspace) (points : List Vec) (ro
       let kept = map keptOf (p .inner) in
       let figure = at-rank more few made in
       let parts = sym (kept-split p l (found-in-orbits rules p found is-found l m)) in
-      (λ t. record { list = split p l; figure = figure t }) ∙ (λ t. record { list = parts t; figure = keptFigure more (length points) rows kept (parts t) })
+      (λ t. record { list = split p l; before = l; figure = figure t }) ∙ (λ t. record { list = parts t; before = l; figure = keptFigure more (length points) rows kept (parts t) })
     where
       at-rank : (more : ℕ) → more ≤ 1 → Preparation more rules (faceting more rules) plane points rows p → entryOf p l .figure ≡ keptFigure more (length points) rows (map keptOf (p .inner)) (split p l)
       at-rank zero few made = three-figure rules plane points rows p given made found is-found l m

@@ -95,7 +95,7 @@ module _ {K : Type 0} (send : (ℕ → ℕ) → K → K) (keys : Inner → List 
         let figure =
         list-nested more rules plane points rows p given made found is-found l m .0
         ∙ (λ t. nestedFigure (made .points-are t) (suc more) (facets-kept (split p l) inside t)) in
-        (λ t. record { list = split p l; figure = figure t }) ∙ (λ t. record { list = parts t; figure = nestedFigure (length points) (suc more) (orbitFacets more rows kept (parts t)) })
+        (λ t. record { list = split p l; before = l; figure = figure t }) ∙ (λ t. record { list = parts t; before = l; figure = nestedFigure (length points) (suc more) (orbitFacets more rows kept (parts t)) })
 
     pub orbit-possible : (i : Inner) → Mem i (p .inner) → possibleFacets i ≡ orbitPossible more (keepElements i)
     unfolding orbitPossible keepBy

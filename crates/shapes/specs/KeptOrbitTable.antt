@@ -47,7 +47,7 @@ two-places budget a r = record {
         let s = ap length (map-at {B = List Figure} (λ (v : ℕ). vertexRidge v ∷ []) (countFrom 0 (r .ends)) (place .0) [] 0 (omega arith)) in
         omega arith
 
-    only : (e : Entry) → Mem e (record { list = map (λ (v : ℕ). (v, 0)) (countFrom 0 (r .ends)); figure = dyad } ∷ []) → (place : Pair) → Mem place (e .list)
+    only : (e : Entry) → Mem e (record { list = map (λ (v : ℕ). (v, 0)) (countFrom 0 (r .ends)); before = map (λ (v : ℕ). (v, 0)) (countFrom 0 (r .ends)); figure = dyad } ∷ []) → (place : Pair) → Mem place (e .list)
         → place .1 < length (getD (map (λ (v : ℕ). vertexRidge v ∷ []) (countFrom 0 (r .ends))) (place .0) [])
     only e (List·Memᴰ.List·Memᴰ·head q) place i = one place (subst (λ (x : Entry). Mem place (x .list)) q i)
     only e (List·Memᴰ.List·Memᴰ·tail m) place i = elim m [ ]

@@ -113,7 +113,7 @@ module _ {K : Type 0} (more : ℕ) where
   unfoldable pub orbitEntry : ℕ → List Row → List (KeptOrbit K (Nested more)) → List Facet → Entry
   orbitEntry n rows kept list =
       let parts = flatMap (orbitParts kept) list in
-      record { list = parts; figure = nestedFigure n (suc more) (orbitFacets rows kept parts) }
+      record { list = parts; before = list; figure = nestedFigure n (suc more) (orbitFacets rows kept parts) }
 
   unfoldable pub orbitPossible : KeptOrbit K (Nested more) → List Figure
   orbitPossible k = map (nestedFigure (entryPoints more (length (k .orbit .vertices))) more) (k .facets)

@@ -76,7 +76,7 @@ two-sized rows budget a r counted = record {
     places : List Pair
     places = map (λ (v : ℕ). (v, 0)) (countFrom 0 (r .ends))
 
-    below : (e : Entry) → Mem e (record { list = places; figure = dyad } ∷ []) → (place : Pair) → Mem place (e .list) → place .0 < length (a .counts)
+    below : (e : Entry) → Mem e (record { list = places; before = places; figure = dyad } ∷ []) → (place : Pair) → Mem place (e .list) → place .0 < length (a .counts)
     below e (List·Memᴰ.List·Memᴰ·head q) place i =
         let s = of-map (λ (v : ℕ). (v, 0)) place (countFrom 0 (r .ends)) (subst (λ (x : Entry). Mem place (x .list)) q i) in
         let k = of-count 0 (r .ends) (s .0) (s .1) .1 in
@@ -85,7 +85,7 @@ two-sized rows budget a r counted = record {
         omega arith
     below e (List·Memᴰ.List·Memᴰ·tail m) place i = elim m [ ]
 
-    few : (e : Entry) → Mem e (record { list = places; figure = dyad } ∷ []) → length (e .list) ≤ length (a .counts)
+    few : (e : Entry) → Mem e (record { list = places; before = places; figure = dyad } ∷ []) → length (e .list) ≤ length (a .counts)
     few e (List·Memᴰ.List·Memᴰ·head q) =
         let s = ap (λ (x : Entry). length (x .list)) q in
         let k = length-map {B = Pair} (countFrom 0 (r .ends)) (λ (v : ℕ). (v, 0)) in

@@ -53,7 +53,7 @@ two-one-ridge budget a r = record {
     in-places : (place : Pair) → Mem place places → place .1 ≡ 0
     in-places place m = ap (λ (x : Pair). x .1) (of-map (λ (v : ℕ). (v, 0)) place (countFrom 0 (r .ends)) m .2)
 
-    only : (e : Entry) → Mem e (record { list = places; figure = dyad } ∷ []) → (place : Pair) → Mem place (e .list) → place .1 ≡ 0
+    only : (e : Entry) → Mem e (record { list = places; before = places; figure = dyad } ∷ []) → (place : Pair) → Mem place (e .list) → place .1 ≡ 0
     only e (List·Memᴰ.List·Memᴰ·head q) place i = in-places place (subst (λ (x : Entry). Mem place (x .list)) q i)
     only e (List·Memᴰ.List·Memᴰ·tail m) place i = elim m [ ]
 

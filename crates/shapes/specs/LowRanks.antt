@@ -31,7 +31,7 @@ pub record RankTwo (budget : ℕ) (a : Answer) : Type 0 where
   pub ends : ℕ
   pub one-or-two : (ends ≡ 1) ⊎ (ends ≡ 2)
   pub counts : a .counts ≡ replicate ends (2 / ends)
-  pub entries : a .entries ≡ record { list = map (λ (v : ℕ). (v, 0)) (countFrom 0 ends); figure = dyad } ∷ []
+  pub entries : a .entries ≡ record { list = map (λ (v : ℕ). (v, 0)) (countFrom 0 ends); before = map (λ (v : ℕ). (v, 0)) (countFrom 0 ends); figure = dyad } ∷ []
   pub possible : a .possible ≡ map (λ (v : ℕ). vertexRidge v ∷ []) (countFrom 0 ends)
   pub compounds : a .compounds ≡ []
   pub left : a .left ≡ budget

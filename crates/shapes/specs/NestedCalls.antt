@@ -80,7 +80,7 @@ two-nested n budget a two r = record {
   possible = λ fs m f i. ridge fs f i (of-map (λ (v : ℕ). vertexRidge v ∷ []) fs (countFrom 0 (r .ends)) (subst (λ (p : List (List Figure)). Mem fs p) (r .possible) m));
 }
   where
-    only : (e : Entry) → Mem e (record { list = map (λ (v : ℕ). (v, 0)) (countFrom 0 (r .ends)); figure = dyad } ∷ []) → Nests n 2 zero (e .figure)
+    only : (e : Entry) → Mem e (record { list = map (λ (v : ℕ). (v, 0)) (countFrom 0 (r .ends)); before = map (λ (v : ℕ). (v, 0)) (countFrom 0 (r .ends)); figure = dyad } ∷ []) → Nests n 2 zero (e .figure)
     only e (List·Memᴰ.List·Memᴰ·head q) = ((0, 1), ap (λ (x : Entry). x .figure) q ∙ dyad-nested, record { rises = omega arith; below = omega arith })
     only e (List·Memᴰ.List·Memᴰ·tail m) = elim m [ ]
 

@@ -14,10 +14,12 @@ pub struct Shelf {
     pub end: usize,
 }
 
-// What a call leaves: the shelf, and an area with its entries' split lists. From `lists` on there are a pool of `bytes` bytes, the numbers of its lists in the entries' order, and at
-// `bytes` + 2,048 the entries' labels.
+// What a call leaves: the shelf, a pool of `extent` bytes at `emitted` with the lists as the search emitted them, and an area with its entries' split lists. From `lists` on there are a pool of
+// `bytes` bytes, whose list k is the emitted list k split, the numbers of its lists in the entries' order, and at `bytes` + 2,048 the entries' labels. Where nothing is split both pools are one.
 pub struct Level {
     pub shelf: Shelf,
+    pub emitted: usize,
+    pub extent: usize,
     pub lists: usize,
     pub bytes: usize,
     pub count: usize,

@@ -7,7 +7,7 @@ use lib.ListN.{set, replicate}
 use Rattle.definitions.specs.Figures.{dyad, rankOf}
 use Rattle.definitions.specs.Recursion.{vertexRidge, swappedEnds, separateEnds}
 use Rattle.definitions.specs.Lists.{anyOf, keep, countFrom, memberNat}
-use Rattle.definitions.specs.Job.{counted, figureWords, entryWords, compoundWords, isEnd, usedPoints, summaryWords, answerWords}
+use Rattle.definitions.specs.Job.{counted, figureWords, facetWords, entryWords, compoundWords, isEnd, usedPoints, summaryWords, answerWords}
 use Rattle.openers.specs.Meaning.{pairOf}
 use Rattle.shapes.specs.Edges.{edgeFigure}
 use Rattle.shapes.specs.EdgeSets.{ends}
@@ -27,11 +27,19 @@ pub ridge-words : (v : ℕ) → 1 ∷ 3 ∷ 0 ∷ 1 ∷ 1 ∷ 0 ∷ 1 ∷ 1 ∷ 
 unfolding counted figureWords vertexRidge flatMap
 ridge-words v = refl
 
+pub swapped-entry : 1 ∷ 1 ∷ 0 ∷ 0 ∷ 1 ∷ 0 ∷ 0 ∷ figureWords dyad ≡ counted entryWords (swappedEnds 0 .entries)
+unfolding swappedEnds counted entryWords facetWords figureWords dyad flatMap
+swapped-entry = refl
+
+pub separate-entry : 1 ∷ 2 ∷ 0 ∷ 0 ∷ 1 ∷ 0 ∷ 2 ∷ 0 ∷ 0 ∷ 1 ∷ 0 ∷ figureWords dyad ≡ counted entryWords (separateEnds 0 .entries)
+unfolding separateEnds counted entryWords facetWords figureWords dyad flatMap
+separate-entry = refl
+
 module _ (budget left : ℕ) where
-  pub swapped-words : (budget - left) ∷ 1 ∷ 2 ∷ 1 ∷ 1 ∷ 0 ∷ 0 ∷ figureWords dyad ++ (counted figureWords (vertexRidge 0 ∷ []) ++ (0 ∷ 2 ∷ 1 ∷ 2 ∷ [])) ≡ answerWords budget (swappedEnds left)
-  unfolding answerWords swappedEnds counted entryWords figureWords dyad vertexRidge summaryWords usedPoints isEnd keep countFrom anyOf memberNat compoundWords rankOf flatMap
+  pub swapped-words : (budget - left) ∷ 1 ∷ 2 ∷ counted entryWords (swappedEnds 0 .entries) ++ (counted figureWords (vertexRidge 0 ∷ []) ++ (0 ∷ 2 ∷ 1 ∷ 2 ∷ [])) ≡ answerWords budget (swappedEnds left)
+  unfolding answerWords swappedEnds counted entryWords facetWords figureWords dyad vertexRidge summaryWords usedPoints isEnd keep countFrom anyOf memberNat compoundWords rankOf flatMap
   swapped-words = refl
 
-  pub separate-words : (budget - left) ∷ 2 ∷ 1 ∷ 1 ∷ 1 ∷ 2 ∷ 0 ∷ 0 ∷ 1 ∷ 0 ∷ figureWords dyad ++ (counted figureWords (vertexRidge 0 ∷ []) ++ (counted figureWords (vertexRidge 1 ∷ []) ++ (0 ∷ 2 ∷ 1 ∷ 2 ∷ []))) ≡ answerWords budget (separateEnds left)
-  unfolding answerWords separateEnds counted entryWords figureWords dyad vertexRidge summaryWords usedPoints isEnd keep countFrom anyOf memberNat compoundWords rankOf flatMap
+  pub separate-words : (budget - left) ∷ 2 ∷ 1 ∷ 1 ∷ counted entryWords (separateEnds 0 .entries) ++ (counted figureWords (vertexRidge 0 ∷ []) ++ (counted figureWords (vertexRidge 1 ∷ []) ++ (0 ∷ 2 ∷ 1 ∷ 2 ∷ []))) ≡ answerWords budget (separateEnds left)
+  unfolding answerWords separateEnds counted entryWords facetWords figureWords dyad vertexRidge summaryWords usedPoints isEnd keep countFrom anyOf memberNat compoundWords rankOf flatMap
   separate-words = refl

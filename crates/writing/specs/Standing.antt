@@ -14,7 +14,7 @@ use Rattle.labels.specs.Labels.{labelsIn}
 use Rattle.order.specs.Numbers.{AllBelow}
 use Rattle.shapes.specs.EdgeSets.{polygon}
 use Rattle.shelf.specs.Keeps.{ShelfFits, ownersPart, edgesPart}
-use Rattle.shelf.specs.Leaves.{listsLeft}
+use Rattle.shelf.specs.Leaves.{listsLeft, bothLeft, EmittedStand}
 use Rattle.shelf.specs.declared.Level.{Level}
 use Rattle.possible_facets.specs.Facets.{OwnersBelow, listWords}
 use Rattle.edge_marks.specs.Summaries.{summaryMarked}
@@ -29,7 +29,7 @@ ownersIn level s = words 2 (ownersPart (level .shelf) s) (level .shelf .facets)
 abbrev pub edgesIn : Level → List ℕ → List (List ℕ)
 edgesIn level s = closedLists 2 1024 (edgesPart (level .shelf) s)
 
--- the split lists, and the orbits of their facets
+-- the split lists and the emitted ones, and the orbits of their facets
 pub record ListsStanding (level : Level) (s : List ℕ) : Type 0 where
   pub fits : ShelfFits (level .shelf) (length s)
   pub fewFacets : level .shelf .facets ≤ 1024
@@ -38,6 +38,7 @@ pub record ListsStanding (level : Level) (s : List ℕ) : Type 0 where
   pub fewEntries : level .count ≤ 1024
   pub room : level .lists + (level .bytes + 2048 + 4 * level .count) ≤ length s
   pub numbers : AllBelow (level .shelf .facets) (listsLeft level s)
+  pub emitted : EmittedStand level s
 
 -- and the edges of the facets, and what the rows do to them
 pub record Standing (m : ℕ) (rows : List ℕ) (level : Level) (s : List ℕ) : Type 0 where
@@ -49,8 +50,12 @@ pub record Standing (m : ℕ) (rows : List ℕ) (level : Level) (s : List ℕ) :
 
 -- ---- the words of an answer of rank 3
 
-unfoldable pub entryFrom : ℕ → List Row → List ℕ → List (List ℕ) → List ℕ → List ℕ
-entryFrom n rows owners edges numbers = listWords owners numbers ++ figureWords (polygon n (edgesMarked (marksOf rows edges numbers)))
+-- both lists of an entry: split, and before splitting
+unfoldable pub bothWords : List ℕ → List ℕ × List ℕ → List ℕ
+bothWords owners both = listWords owners (both .0) ++ listWords owners (both .1)
+
+unfoldable pub entryFrom : ℕ → List Row → List ℕ → List (List ℕ) → List ℕ × List ℕ → List ℕ
+entryFrom n rows owners edges both = bothWords owners both ++ figureWords (polygon n (edgesMarked (marksOf rows edges (both .0))))
 
 unfoldable pub summaryFrom : ℕ → List Row → List (List ℕ) → List ℕ → List ℕ
 summaryFrom n rows edges numbers = let marks = marksOf rows edges numbers in summaryMarked n marks (length (codesMarked marks 400))
@@ -59,7 +64,7 @@ unfoldable pub answerFrom : ℕ → List Row → Level → List ℕ → ℕ → 
 answerFrom n rows level s budget left =
     (budget - left)
     ∷ countWords (orbitsIn s (level .shelf .orbits))
-    ++ counted (entryFrom n rows (ownersIn level s) (edgesIn level s)) (listsLeft level s)
+    ++ counted (entryFrom n rows (ownersIn level s) (edgesIn level s)) (bothLeft level s)
     ++ possibleFrom (λ (orbit : ℕ). edgeFigureWords) (level .shelf .orbits) 0 (ownersIn level s) (edgesIn level s)
     ++ counted compoundWords (compoundsFrom 0 (labelsIn (level .bytes + 2048) (level .count) (drop (level .lists) s)))
     ++ flatMap (summaryFrom n rows (edgesIn level s)) (listsLeft level s)

@@ -10,7 +10,7 @@ use Rattle.definitions.specs.Figures.{Figure, compoundsFrom}
 use Rattle.definitions.specs.Orbits.{Orbit, pairImage}
 use Rattle.definitions.specs.Search.{Facet}
 use Rattle.definitions.specs.Recursion.{Entry}
-use Rattle.definitions.specs.Job.{counted, figureWords, entryWords, compoundWords, summaryWords, answerWords}
+use Rattle.definitions.specs.Job.{counted, figureWords, facetWords, entryWords, compoundWords, summaryWords, answerWords}
 use Rattle.laws.specs.Lists.{Mem, here, there, of-flatMap, flatMap-same, member-at, map-at}
 use Rattle.laws.specs.Places.{flat-singles, flatMap-map}
 use Rattle.pool.specs.Pool.{count, closedLists, closed-length}
@@ -26,7 +26,7 @@ use Rattle.shapes.specs.FigureWords.{polygon-summary}
 use Rattle.shapes.specs.UsedPoints.{endsUsed}
 use Rattle.shapes.specs.Kept.{Kept, keptPossible, keptEdgeImages, keptFigure}
 use Rattle.shelf.specs.Keeps.{facetsIn, edgesOf, edgesPart}
-use Rattle.shelf.specs.Leaves.{facetAt, listsLeft, entryLeft, answerLeft, Leaves}
+use Rattle.shelf.specs.Leaves.{facetAt, listsLeft, bothLeft, lists-of-both, both-below, figureLeft, entryLeft, answerLeft, Leaves}
 use Rattle.shelf.specs.declared.Level.{Level}
 use Rattle.figure_words.specs.Wrote.{Wrote}
 use Rattle.possible_facets.specs.Facets.{OwnersBelow, itemOf, itemWords, listWords, ownersFrom, owners-all, item-is, owners-below, Each, edges-at, many-edges, leading-is}
@@ -34,7 +34,7 @@ use Rattle.edge_marks.specs.Summaries.{summaryMarked}
 use Rattle.edge_marks.specs.Marks.{Ends, EdgesFit, marksOf, codesMarked, edgesMarked, pair-code, marked-edges}
 use Rattle.entry_lists.specs.Counts.{countWords}
 use Rattle.possible_facets.specs.Possible.{edgeFigureWords, possibleFrom}
-use Rattle.writing.specs.Standing.{ownersIn, edgesIn, Standing, entryFrom, summaryFrom, answerFrom}
+use Rattle.writing.specs.Standing.{ownersIn, edgesIn, Standing, bothWords, entryFrom, summaryFrom, answerFrom}
 
 -- What is kept of a call's facets: edges for each, and each edge with its smaller vertex first.
 pub record EdgesKept (n : ℕ) (kept : List Kept) : Type 0 where
@@ -181,6 +181,7 @@ module _ {more n m : ℕ} {bytes : List ℕ} {kept : List Kept} {level : Level} 
       fewEntries = left .fewEntries;
       room = left .room;
       numbers = left .numbers;
+      emitted = left .emitted;
     };
     fewOrbits = left .keeps .fewOrbits;
     rowsFit = fits .m-fits;
@@ -205,8 +206,8 @@ module _ {more n m : ℕ} {bytes : List ℕ} {kept : List Kept} {level : Level} 
     abbrev pub parts : List Facet
     parts = map (facetAt kept) numbers
 
-    pub list-words : listWords (ownersIn level s) numbers ≡ counted (λ (item : Pair). item .0 ∷ item .1 ∷ []) parts
-    unfolding listWords counted itemWords
+    pub list-words : listWords (ownersIn level s) numbers ≡ facetWords parts
+    unfolding listWords facetWords counted itemWords
     list-words =
         let items : flatMap (itemWords (ownersIn level s)) numbers ≡ flatMap (λ (item : Pair). item .0 ∷ item .1 ∷ []) parts =
         flatMap-same (itemWords (ownersIn level s)) (λ (x : ℕ). facetAt kept x .0 ∷ facetAt kept x .1 ∷ []) numbers (λ x i.
@@ -226,32 +227,51 @@ module _ {more n m : ℕ} {bytes : List ℕ} {kept : List Kept} {level : Level} 
         ap (flatMap (λ (e : Pair). map (pairImage e) (rowsIn n m bytes))) (sym (edges-at kept x (all-each h) (omega (arith, inside x i, left .keeps .facets)))))
         ∙ sym (flatMap-map images (facetAt kept) numbers)))
 
-    entry-words : entryFrom n (rowsIn 32 m bytes) (ownersIn level s) (edgesIn level s) numbers ≡ entryWords (entryLeft 0 n (rowsIn n m bytes) kept numbers)
-    unfolding entryFrom entryWords entryLeft keptFigure
-    entry-words = λ t. list-words t ++ figureWords (polygon n (edges-written t))
+    figure-words : figureWords (polygon n (edgesMarked (marksOf (rowsIn 32 m bytes) (edgesIn level s) numbers))) ≡ figureWords (figureLeft 0 n (rowsIn n m bytes) kept numbers)
+    unfolding figureLeft keptFigure
+    figure-words = ap (λ (edges : List Pair). figureWords (polygon n edges)) edges-written
 
-    summary-words : summaryFrom n (rowsIn 32 m bytes) (edgesIn level s) numbers ≡ summaryWords (entryLeft 0 n (rowsIn n m bytes) kept numbers)
-    unfolding summaryFrom summaryMarked entryLeft keptFigure edgesMarked
-    summary-words =
+    summary-words : (e : Entry) → e .figure ≡ figureLeft 0 n (rowsIn n m bytes) kept numbers → summaryFrom n (rowsIn 32 m bytes) (edgesIn level s) numbers ≡ summaryWords e
+    unfolding summaryFrom summaryMarked figureLeft keptFigure edgesMarked
+    summary-words e is =
         let edges = edgesInOrder (flatMap (keptEdgeImages (rowsIn n m bytes) kept) parts) in
         let codes = codesMarked (marksOf (rowsIn 32 m bytes) (edgesIn level s) numbers) 400 in
         let many : length codes ≡ length edges = sym (length-map codes pairOf) ∙ ap length edges-written in
-        (λ t. endsUsed n (edges-written t) ∷ many t ∷ many t ∷ []) ∙ sym (polygon-summary (entryLeft 0 n (rowsIn n m bytes) kept numbers) n edges refl)
+        (λ t. endsUsed n (edges-written t) ∷ many t ∷ many t ∷ []) ∙ sym (polygon-summary e n edges is)
 
-  entries-are : counted (entryFrom n (rowsIn 32 m bytes) (ownersIn level s) (edgesIn level s)) (listsLeft level s) ≡ counted entryWords (map (entryLeft 0 n (rowsIn n m bytes) kept) (listsLeft level s))
+  -- the numbers of an entry's two lists
+  pub both-inside : (both : List ℕ × List ℕ) → Mem both (bothLeft level s) → ((x : ℕ) → Mem x (both .0) → x < level .shelf .facets) × ((x : ℕ) → Mem x (both .1) → x < level .shelf .facets)
+  both-inside = both-below level s (left .area) (left .numbers) (left .emitted)
+
+  pub both-words : (both : List ℕ × List ℕ) → Mem both (bothLeft level s) → bothWords (ownersIn level s) both ≡ facetWords (map (facetAt kept) (both .0)) ++ facetWords (map (facetAt kept) (both .1))
+  unfolding bothWords
+  both-words both i = let inside = both-inside both i in λ t. list-words (both .0) (inside .0) t ++ list-words (both .1) (inside .1) t
+
+  abbrev entry : List ℕ × List ℕ → Entry
+  entry = entryLeft 0 n (rowsIn n m bytes) kept
+
+  entry-words : (both : List ℕ × List ℕ) → Mem both (bothLeft level s) → entryFrom n (rowsIn 32 m bytes) (ownersIn level s) (edgesIn level s) both ≡ entryWords (entry both)
+  unfolding entryFrom entryWords entryLeft
+  entry-words both i = λ t. both-words both i t ++ figure-words (both .0) (both-inside both i .0) t
+
+  entries-are : counted (entryFrom n (rowsIn 32 m bytes) (ownersIn level s) (edgesIn level s)) (bothLeft level s) ≡ counted entryWords (map entry (bothLeft level s))
   unfolding counted
   entries-are =
-      let lists = listsLeft level s in
-      let entry : List ℕ → Entry = entryLeft 0 n (rowsIn n m bytes) kept in
+      let lists = bothLeft level s in
       let each =
-      flatMap-same (entryFrom n (rowsIn 32 m bytes) (ownersIn level s) (edgesIn level s)) (λ (l : List ℕ). entryWords (entry l)) lists (λ l i. entry-words l (left .numbers l i))
+      flatMap-same (entryFrom n (rowsIn 32 m bytes) (ownersIn level s) (edgesIn level s)) (λ (both : List ℕ × List ℕ). entryWords (entry both)) lists entry-words
       ∙ sym (flatMap-map entryWords entry lists) in
       λ t. sym (length-map lists entry) t ∷ each t
 
-  summaries-are : flatMap (summaryFrom n (rowsIn 32 m bytes) (edgesIn level s)) (listsLeft level s) ≡ flatMap summaryWords (map (entryLeft 0 n (rowsIn n m bytes) kept) (listsLeft level s))
+  summaries-are : flatMap (summaryFrom n (rowsIn 32 m bytes) (edgesIn level s)) (listsLeft level s) ≡ flatMap summaryWords (map entry (bothLeft level s))
+  unfolding entryLeft
   summaries-are =
-      flatMap-same (summaryFrom n (rowsIn 32 m bytes) (edgesIn level s)) (λ (l : List ℕ). summaryWords (entryLeft 0 n (rowsIn n m bytes) kept l)) (listsLeft level s) (λ l i. summary-words l (left .numbers l i))
-      ∙ sym (flatMap-map summaryWords (entryLeft 0 n (rowsIn n m bytes) kept) (listsLeft level s))
+      let summary = summaryFrom n (rowsIn 32 m bytes) (edgesIn level s) in
+      ap (flatMap summary) (sym (lists-of-both level s))
+      ∙ (flatMap-map summary (λ (both : List ℕ × List ℕ). both .0) (bothLeft level s)
+      ∙ (flatMap-same (λ (both : List ℕ × List ℕ). summary (both .0)) (λ (both : List ℕ × List ℕ). summaryWords (entry both)) (bothLeft level s)
+      (λ both i. summary-words (both .0) (both-inside both i .0) (entry both) refl)
+      ∙ sym (flatMap-map summaryWords entry (bothLeft level s))))
 
   possible-are : possibleFrom (λ (orbit : ℕ). edgeFigureWords) (level .shelf .orbits) 0 (ownersIn level s) (edgesIn level s) ≡ flatMap (counted figureWords) (map (keptPossible 0) kept)
   possible-are =

@@ -6,8 +6,11 @@ ghost use mathlib.Core.Path.{_≡_};
 ghost use mathlib.Core.List.{_∷_, [], flatMap};
 ghost use Prim.Native.Nat.{_+_, _*_, _-_, _/_, _≤_, _<_};
 ghost use lib.ListN.{length, getD, drop};
-ghost use Rattle.pool.specs.Pool.{count};
-ghost use Rattle.definitions.specs.Job.{counted, figureWords, compoundWords, answerWords};
+ghost use Rattle.laws.specs.Segments.{part};
+ghost use Rattle.pool.specs.Pool.{count, Sound};
+ghost use Rattle.order.specs.Areas.{listAt};
+ghost use Rattle.order.specs.Numbers.{ItemsBelow};
+ghost use Rattle.definitions.specs.Job.{counted, figureWords, entryWords, compoundWords, answerWords};
 ghost use Rattle.definitions.specs.Figures.{dyad, compoundsFrom};
 ghost use Rattle.definitions.specs.Recursion.{vertexRidge, swappedEnds, separateEnds};
 ghost use Rattle.orbits.specs.Workspace.{orbitsIn};
@@ -17,8 +20,8 @@ ghost use Rattle.shapes.specs.EdgeSets.{polygon};
 ghost use Rattle.figure_words.specs.Wrote.{Wrote};
 ghost use Rattle.possible_facets.specs.Facets.{listWords, Firsts};
 ghost use Rattle.edge_marks.specs.Marks.{marksOf};
-ghost use Rattle.shelf.specs.Leaves.{listsLeft};
-ghost use Rattle.writing.specs.Standing.{ListsStanding, Standing, ownersIn, edgesIn, entryFrom, summaryFrom};
+ghost use Rattle.shelf.specs.Leaves.{listsLeft, bothLeft};
+ghost use Rattle.writing.specs.Standing.{ListsStanding, Standing, ownersIn, edgesIn, bothWords, entryFrom, summaryFrom};
 ghost use Rattle.writing.specs.Written.{WroteAnswer};
 ghost use Rattle.entry_lists.specs.Counts.{countWords};
 
@@ -46,19 +49,20 @@ pub fn entry_marks(ws: &[u8], level: Level, rows: &[u8], m: usize, k: usize) -> 
     )
 }
 
-// The split list of entry k.
-pub fn write_entry_list(
+// A list of the pool that lies in so many bytes from a place on.
+fn write_pool_list(
     answer: &mut [u8],
     at: usize,
     ws: &[u8],
     level: Level,
     firsts: &[usize; 256],
-    k: usize,
+    from: usize,
+    bytes: usize,
+    number: usize,
 ) -> usize
-    requires { ⌜ ListsStanding level (now ws) × Firsts (ownersIn level (now ws)) (now firsts) × (k < level .count) ⌝ }
-    ensures { λ r. ⌜ Wrote (now (answer .entry)) at (now (answer .exit)) r (listWords (ownersIn level (now (ws .entry))) (getD (listsLeft level (now (ws .entry))) k [])) ⌝ }
+    requires { ⌜ ListsStanding level (now ws) × Firsts (ownersIn level (now ws)) (now firsts) × (from + bytes ≤ length (now ws)) × Sound 2 1024 (part from bytes (now ws)) × (number < count (part from bytes (now ws))) × ItemsBelow (level .shelf .facets) (listAt 1024 (part from bytes (now ws)) number) ⌝ }
+    ensures { λ r. ⌜ Wrote (now (answer .entry)) at (now (answer .exit)) r (listWords (ownersIn level (now (ws .entry))) (listAt 1024 (part from bytes (now (ws .entry))) number)) ⌝ }
 {
-    let lists = level.lists;
     let owners = level.shelf.owners;
     let ridges = level.shelf.ridges;
     entry_lists::write_list(
@@ -67,17 +71,33 @@ pub fn write_entry_list(
         &ws[owners..ridges],
         level.shelf.facets,
         firsts,
-        &ws[lists..],
-        Area {
-            most: 1024,
-            bytes: level.bytes,
-            count: level.count,
-        },
-        k,
+        &ws[from..from + bytes],
+        number,
     )
 }
 
-// How many entries there are, and each: its split list, and the polygon of all row images of its facets' edges.
+// The two lists of entry k: split, and as the search emitted it. Its place has the number that both lists have in their pools.
+pub fn write_entry_lists(
+    answer: &mut [u8],
+    at: usize,
+    ws: &[u8],
+    level: Level,
+    firsts: &[usize; 256],
+    k: usize,
+) -> usize
+    requires { ⌜ ListsStanding level (now ws) × Firsts (ownersIn level (now ws)) (now firsts) × (k < level .count) ⌝ }
+    ensures { λ r. ⌜ Wrote (now (answer .entry)) at (now (answer .exit)) r (bothWords (ownersIn level (now (ws .entry))) (getD (bothLeft level (now (ws .entry))) k ([], []))) ⌝ }
+{
+    let lists = level.lists;
+    let bytes = level.bytes;
+    let emitted = level.emitted;
+    let extent = level.extent;
+    let number = words::get_u16(ws, lists + bytes + 2 * k) as usize;
+    let before = write_pool_list(answer, at, ws, level, firsts, lists, bytes, number);
+    write_pool_list(answer, before, ws, level, firsts, emitted, extent, number)
+}
+
+// How many entries there are, and each: its split list, the list before splitting, and the polygon of all row images of its facets' edges.
 fn write_entries(
     answer: &mut [u8],
     at: usize,
@@ -88,7 +108,7 @@ fn write_entries(
     n: usize,
 ) -> usize
     requires { ⌜ Standing m (now rows) level (now ws) × (n < 4294967296) ⌝ }
-    ensures { λ r. ⌜ Wrote (now (answer .entry)) at (now (answer .exit)) r (counted (entryFrom n (rowsIn 32 m (now (rows .entry))) (ownersIn level (now (ws .entry))) (edgesIn level (now (ws .entry)))) (listsLeft level (now (ws .entry)))) ⌝ }
+    ensures { λ r. ⌜ Wrote (now (answer .entry)) at (now (answer .exit)) r (counted (entryFrom n (rowsIn 32 m (now (rows .entry))) (ownersIn level (now (ws .entry))) (edgesIn level (now (ws .entry)))) (bothLeft level (now (ws .entry)))) ⌝ }
 {
     let owners = level.shelf.owners;
     let ridges = level.shelf.ridges;
@@ -98,7 +118,7 @@ fn write_entries(
     let mut k = 0;
     while k < count {
         let marks = entry_marks(ws, level, rows, m, k);
-        cursor = write_entry_list(answer, cursor, ws, level, &firsts, k);
+        cursor = write_entry_lists(answer, cursor, ws, level, &firsts, k);
         cursor = edge_marks::write_marked(answer, cursor, n, &marks);
         k += 1;
     }
@@ -192,7 +212,7 @@ pub fn write_answer(
 
 // ---- rank 2
 
-// What every answer of rank 2 has behind its counts and before its ridges: the end of the one entry, which is the segment.
+// The figure of the one entry of rank 2: the segment.
 fn write_segment(answer: &mut [u8], at: usize) -> usize
     ensures { λ r. ⌜ Wrote (now (answer .entry)) at (now (answer .exit)) r (figureWords dyad) ⌝ }
 {
@@ -218,16 +238,36 @@ fn write_vertex(answer: &mut [u8], at: usize, v: u32) -> usize
     figure_words::push_three(answer, second, 1, 1, v)
 }
 
+// The one entry where the ends are of one orbit: its list, the same list before splitting, and the segment.
+fn write_swapped_entry(answer: &mut [u8], at: usize) -> usize
+    ensures { λ r. ⌜ Wrote (now (answer .entry)) at (now (answer .exit)) r (counted entryWords (swappedEnds 0 .entries)) ⌝ }
+{
+    let list = figure_words::push_three(answer, at, 1, 1, 0);
+    let before = figure_words::push_three(answer, list, 0, 1, 0);
+    let figure = figure_words::push(answer, before, 0);
+    write_segment(answer, figure)
+}
+
+// The one entry where each end is an orbit.
+fn write_separate_entry(answer: &mut [u8], at: usize) -> usize
+    ensures { λ r. ⌜ Wrote (now (answer .entry)) at (now (answer .exit)) r (counted entryWords (separateEnds 0 .entries)) ⌝ }
+{
+    let list = figure_words::push_three(answer, at, 1, 2, 0);
+    let before = figure_words::push_three(answer, list, 0, 1, 0);
+    let first = figure_words::push_three(answer, before, 2, 0, 0);
+    let second = figure_words::push(answer, first, 1);
+    let figure = figure_words::push(answer, second, 0);
+    write_segment(answer, figure)
+}
+
 // The answer where some row changes the two ends.
 pub fn write_swapped(answer: &mut [u8], at: usize, budget: u32, left: u32) -> usize
     requires { ⌜ left ≤ budget ⌝ }
     ensures { λ r. ⌜ Wrote (now (answer .entry)) at (now (answer .exit)) r (answerWords budget (swappedEnds left)) ⌝ }
 {
     let counts = figure_words::push_three(answer, at, budget - left, 1, 2);
-    let entries = figure_words::push_three(answer, counts, 1, 1, 0);
-    let list = figure_words::push(answer, entries, 0);
-    let segment = write_segment(answer, list);
-    let vertex = write_vertex(answer, segment, 0);
+    let entries = write_swapped_entry(answer, counts);
+    let vertex = write_vertex(answer, entries, 0);
     let compounds = figure_words::push(answer, vertex, 0);
     write_segment_summary(answer, compounds)
 }
@@ -238,11 +278,9 @@ pub fn write_separate(answer: &mut [u8], at: usize, budget: u32, left: u32) -> u
     ensures { λ r. ⌜ Wrote (now (answer .entry)) at (now (answer .exit)) r (answerWords budget (separateEnds left)) ⌝ }
 {
     let counts = figure_words::push_three(answer, at, budget - left, 2, 1);
-    let entries = figure_words::push_three(answer, counts, 1, 1, 2);
-    let list = figure_words::push_three(answer, entries, 0, 0, 1);
-    let items = figure_words::push(answer, list, 0);
-    let segment = write_segment(answer, items);
-    let first = write_vertex(answer, segment, 0);
+    let last = figure_words::push(answer, counts, 1);
+    let entries = write_separate_entry(answer, last);
+    let first = write_vertex(answer, entries, 0);
     let second = write_vertex(answer, first, 1);
     let compounds = figure_words::push(answer, second, 0);
     write_segment_summary(answer, compounds)

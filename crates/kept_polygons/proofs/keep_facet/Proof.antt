@@ -5,6 +5,7 @@ use mathlib.Core.Bool.{Bool}
 use mathlib.Core.List.{List}
 use native.Mathlib.Omega.{arith}
 use lib.ListN.{length, length-drop}
+use Rattle.words.specs.Words.{put-length}
 use Rattle.shelf.specs.Keeps.{raised}
 use Rattle.keep.specs.Storing.{room-fewer, room-beside}
 use Rattle.keep.specs.Stocked.{within-both, edges-within, places-within, fits-after}
@@ -102,7 +103,10 @@ store-facet-requires c κs = let s = c .before .before .before .before .before .
     (fits-after {shelf = s .args .shelf} f far, omega (arith, s .pre .3, s .pre .4))
 
 same-length : tie.Need-same-length
-same-length c = search needs
+same-length c =
+    let label = c .before .before .before .before .before .before .raise .result in
+    ap length (c .before .before .store-facet .ensures)
+    ∙ (put-length 2 _ _ _ ∙ (put-length 4 _ _ label ∙ (c .before .before .before .before .before .before .before .before .before .before .before .before .before .before .store-places .ensures .beside .long ∙ c .before .before .before .before .before .before .before .before .before .before .before .before .before .before .before .before .before .before .store-edges .ensures .beside .long)))
 
 returns : tie.Need-returns
 unfolding codesOf

@@ -103,7 +103,7 @@ loop-less c = search needs
 
 loop-again : tie.Need-loop-again Inv-loop μ-loop
 loop-again c = let s = c .before .before .before .before .before .before .before .before .before .before .before .before .before .before in let p = c .before .before .before .before .before .before .before .before .before .before .before .before .loop in (
-  omega arith,
+  omega (arith, c .before .before .before .before .before .before .before .before .before .before .before .loop-test .taken),
   λ n m rows inner l.
       let g = p .inv .1 n m rows inner l in
       let tail = behind-lent g (s .args .at) (omega (arith, s .pre .0, s .pre .1)) in

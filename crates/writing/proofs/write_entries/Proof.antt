@@ -10,18 +10,17 @@ use lib.Seq.{take-all}
 use Rattle.definitions.specs.Job.{counted, figureWords}
 use Rattle.openers.specs.Rows.{rowsIn}
 use Rattle.shapes.specs.EdgeSets.{polygon}
-use Rattle.shelf.specs.Leaves.{listsLeft}
-use Rattle.possible_facets.specs.Facets.{listWords}
-use Rattle.edge_marks.specs.Marks.{edgesMarked}
+use Rattle.shelf.specs.Leaves.{bothLeft, both-length, first-of-both}
+use Rattle.edge_marks.specs.Marks.{marksOf, edgesMarked}
 use Rattle.figure_words.specs.Wrote.{Wrote, wrote-none, wrote-then, wrote-as}
-use Rattle.writing.specs.Standing.{ownersIn, edgesIn, entryFrom}
-use Rattle.writing.specs.Asked.{many-lists, owners-asked}
+use Rattle.writing.specs.Standing.{ownersIn, edgesIn, bothWords, entryFrom}
+use Rattle.writing.specs.Asked.{owners-asked}
 use Rattle.figure_words.specs.Laws.{flat-more}
 use Rattle.writing.proofs.write_entries.Statement.{statement}
 use Rattle.writing.proofs.write_entries.Tie as tie
 
 abbrev Inv-loop : tie.InvT-loop
-Inv-loop answer₀ at ws level rows m n owners ridges firsts count cursor₀ k₀ answer cursor k = (k ≤ count) × Wrote answer₀ cursor₀ answer cursor (flatMap (entryFrom n (rowsIn 32 m rows) (ownersIn level ws) (edgesIn level ws)) (take k (listsLeft level ws)))
+Inv-loop answer₀ at ws level rows m n owners ridges firsts count cursor₀ k₀ answer cursor k = (k ≤ count) × Wrote answer₀ cursor₀ answer cursor (flatMap (entryFrom n (rowsIn 32 m rows) (ownersIn level ws) (edgesIn level ws)) (take k (bothLeft level ws)))
 
 abbrev μ-loop : tie.MeasureT-loop
 μ-loop answer₀ at ws level rows m n owners ridges firsts count cursor₀ k₀ answer cursor k = count - k
@@ -51,8 +50,8 @@ loop-holds c = (omega arith, wrote-none _ _)
 entry-marks-requires : tie.Need-entry-marks-requires Inv-loop μ-loop
 entry-marks-requires c κs = search needs
 
-write-entry-list-requires : tie.Need-write-entry-list-requires Inv-loop μ-loop
-write-entry-list-requires c κs = let s = c .before .before .before .before .before .before .before .before .before .before .before .before .before .before in (s .pre .0 .listed, c .before .before .before .before .before .before .before .before .before .first-facets .ensures, omega arith)
+write-entry-lists-requires : tie.Need-write-entry-lists-requires Inv-loop μ-loop
+write-entry-lists-requires c κs = let s = c .before .before .before .before .before .before .before .before .before .before .before .before .before .before in (s .pre .0 .listed, c .before .before .before .before .before .before .before .before .before .first-facets .ensures, omega arith)
 
 write-marked-requires : tie.Need-write-marked-requires Inv-loop μ-loop
 write-marked-requires c κs = search needs
@@ -66,12 +65,13 @@ loop-less c = search needs
 loop-again : tie.Need-loop-again Inv-loop μ-loop
 unfolding entryFrom
 loop-again c = let l = c .before .before .before .before .before .before .before .before .before .before .before .before .loop in let s = c .before .before .before .before .before .before .before .before .before .before .before .before .before .before .before .before .before .before .before .before .before .before in
-    let lists = listsLeft (s .args .level) (s .args .ws .now) in
+    let lists = bothLeft (s .args .level) (s .args .ws .now) in
     let rows = rowsIn 32 (s .args .m) (s .args .rows .now) in
     let owners = ownersIn (s .args .level) (s .args .ws .now) in
     let edges = edgesIn (s .args .level) (s .args .ws .now) in
-    let here : l .k < length lists = omega (arith, many-lists (s .pre .0 .listed), c .before .before .before .before .before .before .before .before .before .before .before .loop-test .taken) in
-    (omega (arith, c .before .before .before .before .before .before .before .before .before .before .before .loop-test .taken), wrote-as (wrote-then (l .inv .1) (wrote-then (c .before .before .before .before .before .before .before .write-entry-list .ensures) (c .before .before .write-marked .ensures))) (ap (λ (marks : List Bool). flatMap (entryFrom (s .args .n) rows owners edges) (take (l .k) lists) ++ (listWords owners (getD lists (l .k) []) ++ figureWords (polygon (s .args .n) (edgesMarked marks)))) (c .before .before .before .before .before .before .before .before .before .before .entry-marks .ensures) ∙ flat-more (entryFrom (s .args .n) rows owners edges) lists (l .k) [] here))
+    let here : l .k < length lists = omega (arith, both-length (s .args .level) (s .args .ws .now), c .before .before .before .before .before .before .before .before .before .before .before .loop-test .taken) in
+    let marked = c .before .before .before .before .before .before .before .before .before .before .entry-marks .ensures ∙ ap (marksOf rows edges) (sym (first-of-both (s .args .level) (s .args .ws .now) (s .pre .0 .listed .area) (l .k) (c .before .before .before .before .before .before .before .before .before .before .before .loop-test .taken))) in
+    (omega (arith, c .before .before .before .before .before .before .before .before .before .before .before .loop-test .taken), wrote-as (wrote-then (l .inv .1) (wrote-then (c .before .before .before .before .before .before .before .write-entry-lists .ensures) (c .before .before .write-marked .ensures))) (ap (λ (marks : List Bool). flatMap (entryFrom (s .args .n) rows owners edges) (take (l .k) lists) ++ (bothWords owners (getD lists (l .k) ([], [])) ++ figureWords (polygon (s .args .n) (edgesMarked marks)))) marked ∙ flat-more (entryFrom (s .args .n) rows owners edges) lists (l .k) ([], []) here))
 
 same-length : tie.Need-same-length Inv-loop μ-loop
 same-length c = c .before .loop .inv .1 .long ∙ c .before .before .before .before .push .ensures .long
@@ -79,9 +79,9 @@ same-length c = c .before .loop .inv .1 .long ∙ c .before .before .before .bef
 returns : tie.Need-returns Inv-loop μ-loop
 unfolding counted
 returns c = let l = c .before .loop in let s = c .before .before .before .before .before .before .before .before .before .before .before in
-    let lists = listsLeft (s .args .level) (s .args .ws .now) in
+    let lists = bothLeft (s .args .level) (s .args .ws .now) in
     let entry = entryFrom (s .args .n) (rowsIn 32 (s .args .m) (s .args .rows .now)) (ownersIn (s .args .level) (s .args .ws .now)) (edgesIn (s .args .level) (s .args .ws .now)) in
-    let many = many-lists (s .pre .0 .listed) in
+    let many = both-length (s .args .level) (s .args .ws .now) in
     let all = take-all (l .k) lists (omega (arith, many, c .loop-test .left)) in
     wrote-as (wrote-then (c .before .before .before .before .push .ensures) (l .inv .1)) (λ t. sym many t ∷ flatMap entry (all t))
 
@@ -99,7 +99,7 @@ write-entries-spec =
     push-requires
     loop-holds
     entry-marks-requires
-    write-entry-list-requires
+    write-entry-lists-requires
     write-marked-requires
     add-k
     loop-less

@@ -12,17 +12,11 @@ sub-push-three c = search needs
 push-three-requires : tie.Need-push-three-requires
 push-three-requires c κs = search needs
 
-push-three-requires-2 : tie.Need-push-three-requires-2
-push-three-requires-2 c κs = search needs
-
-push-three-requires-3 : tie.Need-push-three-requires-3
-push-three-requires-3 c κs = search needs
-
 push-requires : tie.Need-push-requires
 push-requires c κs = search needs
 
-write-segment-requires : tie.Need-write-segment-requires
-write-segment-requires c κs = search needs
+write-separate-entry-requires : tie.Need-write-separate-entry-requires
+write-separate-entry-requires c κs = search needs
 
 write-vertex-requires : tie.Need-write-vertex-requires
 write-vertex-requires c κs = search needs
@@ -37,10 +31,10 @@ write-segment-summary-requires : tie.Need-write-segment-summary-requires
 write-segment-summary-requires c κs = search needs
 
 same-length : tie.Need-same-length
-same-length c = c .before .before .write-segment-summary .ensures .long ∙ (c .before .before .before .before .before .before .push2 .ensures .long ∙ (c .before .before .before .before .before .before .before .before .before .before .write-vertex2 .ensures .long ∙ (c .before .before .before .before .before .before .before .before .before .before .before .before .before .before .write-vertex .ensures .long ∙ (c .before .before .before .before .before .before .before .before .before .before .before .before .before .before .before .before .before .before .write-segment .ensures .long ∙ (c .before .before .before .before .before .before .before .before .before .before .before .before .before .before .before .before .before .before .before .before .before .before .push .ensures .long ∙ (c .before .before .before .before .before .before .before .before .before .before .before .before .before .before .before .before .before .before .before .before .before .before .before .before .before .before .push-three3 .ensures .long ∙ (c .before .before .before .before .before .before .before .before .before .before .before .before .before .before .before .before .before .before .before .before .before .before .before .before .before .before .before .before .before .before .push-three2 .ensures .long ∙ c .before .before .before .before .before .before .before .before .before .before .before .before .before .before .before .before .before .before .before .before .before .before .before .before .before .before .before .before .before .before .before .before .before .before .push-three .ensures .long)))))))
+same-length c = c .before .before .write-segment-summary .ensures .long ∙ (c .before .before .before .before .before .before .push2 .ensures .long ∙ (c .before .before .before .before .before .before .before .before .before .before .write-vertex2 .ensures .long ∙ (c .before .before .before .before .before .before .before .before .before .before .before .before .before .before .write-vertex .ensures .long ∙ (c .before .before .before .before .before .before .before .before .before .before .before .before .before .before .before .before .before .before .write-separate-entry .ensures .long ∙ (c .before .before .before .before .before .before .before .before .before .before .before .before .before .before .before .before .before .before .before .before .before .before .push .ensures .long ∙ c .before .before .before .before .before .before .before .before .before .before .before .before .before .before .before .before .before .before .before .before .before .before .before .before .before .before .push-three .ensures .long)))))
 
 returns : tie.Need-returns
-returns c = let s = c .before .before .before .before .before .before .before .before .before .before .before .before .before .before .before .before .before .before .before .before .before .before .before .before .before .before .before .before .before .before .before .before .before .before .before .before .before in wrote-as (wrote-then (c .before .before .before .before .before .before .before .before .before .before .before .before .before .before .before .before .before .before .before .before .before .before .before .before .before .before .before .before .before .before .before .before .before .before .push-three .ensures) (wrote-then (c .before .before .before .before .before .before .before .before .before .before .before .before .before .before .before .before .before .before .before .before .before .before .before .before .before .before .before .before .before .before .push-three2 .ensures) (wrote-then (c .before .before .before .before .before .before .before .before .before .before .before .before .before .before .before .before .before .before .before .before .before .before .before .before .before .before .push-three3 .ensures) (wrote-then (c .before .before .before .before .before .before .before .before .before .before .before .before .before .before .before .before .before .before .before .before .before .before .push .ensures) (wrote-then (c .before .before .before .before .before .before .before .before .before .before .before .before .before .before .before .before .before .before .write-segment .ensures) (wrote-then (c .before .before .before .before .before .before .before .before .before .before .before .before .before .before .write-vertex .ensures) (wrote-then (c .before .before .before .before .before .before .before .before .before .before .write-vertex2 .ensures) (wrote-then (c .before .before .before .before .before .before .push2 .ensures) (c .before .before .write-segment-summary .ensures))))))))) (separate-words (s .args .budget) (s .args .left))
+returns c = let s = c .before .before .before .before .before .before .before .before .before .before .before .before .before .before .before .before .before .before .before .before .before .before .before .before .before .before .before .before .before in wrote-as (wrote-then (c .before .before .before .before .before .before .before .before .before .before .before .before .before .before .before .before .before .before .before .before .before .before .before .before .before .before .push-three .ensures) (wrote-then (c .before .before .before .before .before .before .before .before .before .before .before .before .before .before .before .before .before .before .before .before .before .before .push .ensures) (wrote-then (c .before .before .before .before .before .before .before .before .before .before .before .before .before .before .before .before .before .before .write-separate-entry .ensures) (wrote-then (c .before .before .before .before .before .before .before .before .before .before .before .before .before .before .write-vertex .ensures) (wrote-then (c .before .before .before .before .before .before .before .before .before .before .write-vertex2 .ensures) (wrote-then (c .before .before .before .before .before .before .push2 .ensures) (c .before .before .write-segment-summary .ensures))))))) (separate-words (s .args .budget) (s .args .left))
 
 pub write-separate-spec : {M : Type 1} → statement M
 write-separate-spec =
@@ -48,10 +42,8 @@ write-separate-spec =
     (tie.spec
     sub-push-three
     push-three-requires
-    push-three-requires-2
-    push-three-requires-3
     push-requires
-    write-segment-requires
+    write-separate-entry-requires
     write-vertex-requires
     write-vertex-requires-2
     push-requires-2

@@ -11,20 +11,14 @@ sub-push-three c = search needs
 push-three-requires : tie.Need-push-three-requires
 push-three-requires c κs = search needs
 
-push-three-requires-2 : tie.Need-push-three-requires-2
-push-three-requires-2 c κs = search needs
-
-push-requires : tie.Need-push-requires
-push-requires c κs = search needs
-
-write-segment-requires : tie.Need-write-segment-requires
-write-segment-requires c κs = search needs
+write-swapped-entry-requires : tie.Need-write-swapped-entry-requires
+write-swapped-entry-requires c κs = search needs
 
 write-vertex-requires : tie.Need-write-vertex-requires
 write-vertex-requires c κs = search needs
 
-push-requires-2 : tie.Need-push-requires-2
-push-requires-2 c κs = search needs
+push-requires : tie.Need-push-requires
+push-requires c κs = search needs
 
 write-segment-summary-requires : tie.Need-write-segment-summary-requires
 write-segment-summary-requires c κs = search needs
@@ -33,7 +27,7 @@ same-length : tie.Need-same-length
 same-length c = search needs
 
 returns : tie.Need-returns
-returns c = let s = c .before .before .before .before .before .before .before .before .before .before .before .before .before .before .before .before .before .before .before .before .before .before .before .before .before .before .before .before .before in wrote-as (wrote-then (c .before .before .before .before .before .before .before .before .before .before .before .before .before .before .before .before .before .before .before .before .before .before .before .before .before .before .push-three .ensures) (wrote-then (c .before .before .before .before .before .before .before .before .before .before .before .before .before .before .before .before .before .before .before .before .before .before .push-three2 .ensures) (wrote-then (c .before .before .before .before .before .before .before .before .before .before .before .before .before .before .before .before .before .before .push .ensures) (wrote-then (c .before .before .before .before .before .before .before .before .before .before .before .before .before .before .write-segment .ensures) (wrote-then (c .before .before .before .before .before .before .before .before .before .before .write-vertex .ensures) (wrote-then (c .before .before .before .before .before .before .push2 .ensures) (c .before .before .write-segment-summary .ensures))))))) (swapped-words (s .args .budget) (s .args .left))
+returns c = let s = c .before .before .before .before .before .before .before .before .before .before .before .before .before .before .before .before .before .before .before .before .before in wrote-as (wrote-then (c .before .before .before .before .before .before .before .before .before .before .before .before .before .before .before .before .before .before .push-three .ensures) (wrote-then (c .before .before .before .before .before .before .before .before .before .before .before .before .before .before .write-swapped-entry .ensures) (wrote-then (c .before .before .before .before .before .before .before .before .before .before .write-vertex .ensures) (wrote-then (c .before .before .before .before .before .before .push .ensures) (c .before .before .write-segment-summary .ensures))))) (swapped-words (s .args .budget) (s .args .left))
 
 pub write-swapped-spec : {M : Type 1} → statement M
 write-swapped-spec =
@@ -41,11 +35,9 @@ write-swapped-spec =
     (tie.spec
     sub-push-three
     push-three-requires
-    push-three-requires-2
-    push-requires
-    write-segment-requires
+    write-swapped-entry-requires
     write-vertex-requires
-    push-requires-2
+    push-requires
     write-segment-summary-requires
     same-length
     returns)
