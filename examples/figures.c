@@ -125,6 +125,8 @@ static void print_entries(const uint8_t *at)
             printf(" %" PRIu32 ".%" PRIu32, orbit, next(&at));
         }
         printf("\n");
+        for (uint32_t pairs = next(&at); pairs > 0; pairs--)
+            next(&at), next(&at); /* the list before splitting */
         skip_figure(&at);
     }
 }

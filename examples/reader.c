@@ -1,6 +1,7 @@
 /*
- * Reads an answer on standard input and prints what it says: each figure with its list and
- * the number of its elements by rank, and the compounds.
+ * Reads an answer on standard input and prints what it says: each figure with its split
+ * list, its list before splitting and the number of its elements by rank, and the
+ * compounds.
  *
  *     cc -I include examples/reader.c -o reader
  *     ./register --raw examples/cube.txt | ./reader
@@ -32,16 +33,24 @@ static uint8_t *read_all(size_t *length)
     return NULL;
 }
 
-static void print_entry(struct register_reader *reader, uint32_t number)
+static void print_list(struct register_reader *reader)
 {
-    uint32_t elements[MOST_RANKS];
     uint32_t pairs = register_count(reader);
 
-    printf("%" PRIu32 ":", number);
     for (uint32_t i = 0; i < pairs && !reader->spoilt; i++) {
         uint32_t orbit = register_word(reader);
         printf(" %" PRIu32 ".%" PRIu32, orbit, register_word(reader));
     }
+}
+
+static void print_entry(struct register_reader *reader, uint32_t number)
+{
+    uint32_t elements[MOST_RANKS];
+
+    printf("%" PRIu32 ":", number);
+    print_list(reader);
+    printf("; before splitting");
+    print_list(reader);
     uint32_t ranks = register_figure(reader, elements, MOST_RANKS);
     printf("; elements");
     for (uint32_t r = 0; r < ranks && r < MOST_RANKS; r++)

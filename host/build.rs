@@ -138,11 +138,18 @@ const FACETING_PATCHES: &[Patch] = &[
         put: "watch::due(facets_queue.pop_back())",
         times: 1,
     },
-    // Refusal 15, at a closed verdict.
+    // Refusal 15, at a closed verdict; and the list as it is before splitting.
     Patch {
         find: "let mut new_facets = Vec",
-        put: "watch::emits(output.len());
+        put: "watch::emits(rank, output.len(), &facets);
             let mut new_facets = Vec",
+        times: 1,
+    },
+    // The entries are about to be sorted by their split lists.
+    Patch {
+        find: "output.sort_by(",
+        put: "watch::sorts(rank, output.iter().map(|found| &found.1).collect());
+    output.sort_by(",
         times: 1,
     },
     // The uniform filter leans on files that are not here; it is never asked for.

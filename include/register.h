@@ -83,15 +83,18 @@ enum register_refusal {
  *     it (accepted-words).
  *   - At ranks 3 and 4 the list is sound and complete [13.8]. A choice takes one
  *     or more possible facets, never two of one orbit; it is closed if they add
- *     up to 0 or 2 in every ridge orbit. Each entry belongs to a closed choice.
- *     If there is no entry limit, each closed choice has an entry. It has just
- *     one where a facet's places in one ridge orbit always have the same share.
- *     An entry limit m lets no more than max(m, 1) entries pass; under the same
- *     condition they belong to different choices, and there are max(m, 1), or
- *     one for each closed choice if those are fewer.
+ *     up to 0 or 2 in every ridge orbit. Each entry belongs to a closed choice,
+ *     which its record names: the facets of its list before splitting. If there
+ *     is no entry limit, each closed choice has an entry. Where a facet's places
+ *     in one ridge orbit always have the same share it has just one: the choices
+ *     that the records name, in the entries' order, are all closed choices, once
+ *     each. An entry limit m lets no more than max(m, 1) entries pass; under the
+ *     same condition they name different choices, and there are max(m, 1), or one
+ *     for each closed choice if those are fewer.
  *     Closed is a matter of these sums [1.3]. Whether each ridge of a figure lies
  *     in just two of its facets is another question: [1.4] to [1.6].
- *   - Entries stand in ascending order of their lists.
+ *   - Entries stand in ascending order of their split lists, equal ones in the
+ *     order in which the search emitted them.
  *   - The summary of an entry counts the points at which an edge of its figure ends,
  *     each once, its edges and its facets [12.5] (used-are-ends).
  *   - At ranks 3 and 4, if the rows are closed under composition (any row after

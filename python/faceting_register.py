@@ -71,9 +71,11 @@ class Refused(Exception):
 
 @dataclass(frozen=True)
 class Entry:
-    """A listed figure: pairs of an orbit and a possible facet, and what they build."""
+    """A listed figure: pairs of an orbit and a possible facet, compound facets split into
+    their parts; the pairs before splitting; and what they build."""
 
     parts: list
+    before: list
     figure: list
     points: int
     edges: int
@@ -165,7 +167,7 @@ class _Words:
         return self.word(), self.word(), self.word()
 
     def entry(self):
-        return self.many(self.pair), self.figure()
+        return self.many(self.pair), self.many(self.pair), self.figure()
 
 
 def read_answer(answer):
@@ -176,7 +178,7 @@ def read_answer(answer):
     entries = words.many(words.entry)
     facets = [words.many(words.figure) for _ in counts]
     compounds = words.many(words.triple)
-    listed = [Entry(parts, figure, *words.triple()) for parts, figure in entries]
+    listed = [Entry(*entry, *words.triple()) for entry in entries]
     if words.at != len(words.words):
         raise ValueError("something follows the answer")
     return Answer(examined, counts, listed, facets, compounds)

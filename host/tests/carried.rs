@@ -58,6 +58,7 @@ fn what_names_no_element_is_not_carried() {
 fn with(figures: &[Figure]) -> Answer {
     let entry = |figure: &Figure| Entry {
         list: vec![(0, 0)],
+        before: vec![(0, 0)],
         figure: figure.clone(),
     };
     Answer {

@@ -24,10 +24,12 @@ fn sample() -> Answer {
         entries: vec![
             Entry {
                 list: vec![(0, 0)],
+                before: vec![(0, 0)],
                 figure: Figure::default(),
             },
             Entry {
                 list: vec![(0, 0), (1, 5)],
+                before: vec![(0, 3)],
                 figure: triangle(),
             },
         ],
@@ -77,34 +79,42 @@ const PLACES: &[(usize, &str)] = &[
     (1, "number of orbits: A has 2, B has 66"),
     (3, "count of orbit 1: A has 2, B has 66"),
     (4, "number of entries: A has 2, B has 66"),
-    (5, "list length of entry 0: A has 1, B has 65"),
+    (5, "length of the list of entry 0: A has 1, B has 65"),
     (
-        13,
+        8,
+        "length of the list before splitting of entry 0: A has 1, B has 65",
+    ),
+    (
+        16,
         "facet of item 1 in the list of entry 1: A has 5, B has 69",
     ),
     (
-        14,
+        19,
+        "facet of item 0 in the list before splitting of entry 1: A has 3, B has 67",
+    ),
+    (
+        20,
         "number of ranks in the figure of entry 1: A has 4, B has 68",
     ),
     (
-        24,
+        30,
         "number of elements in rank 2 of the figure of entry 1: A has 3, B has 67",
     ),
     (
-        30,
+        36,
         "sub 1 of element 1 in rank 2 of the figure of entry 1: A has 2, B has 66",
     ),
     (
-        39,
+        45,
         "number of possible facets of orbit 0: A has 1, B has 65",
     ),
     (
-        65,
+        71,
         "number of possible facets of orbit 1: A has 0, B has 64",
     ),
-    (66, "size of the compound map: A has 1, B has 65"),
-    (68, "first component of compound 0: A has 0, B has 64"),
-    (74, "edges in the summary of entry 1: A has 3, B has 67"),
+    (72, "size of the compound map: A has 1, B has 65"),
+    (74, "first component of compound 0: A has 0, B has 64"),
+    (80, "edges in the summary of entry 1: A has 3, B has 67"),
 ];
 
 #[test]
@@ -124,7 +134,7 @@ fn results_are_told_in_words() {
         &[answered(sample().bytes())],
         std::slice::from_ref(&refused),
     );
-    let words = "case 12 (lattice): A answers with 304 bytes, B refuses with 16 \
+    let words = "case 12 (lattice): A answers with 328 bytes, B refuses with 16 \
         (a list is due when the budget is used up)";
     assert_eq!(lines, [words]);
     let poisoned = outcome(12, -16, vec![0, 0, 0, 0, 0, 165, 0, 0]);
@@ -161,8 +171,8 @@ fn answers_of_different_length_are_told_with_their_first_word() {
         outcome(12, code, buffer)
     };
     let lines = differences(&[padded(a)], &[padded(b)]);
-    let words = "case 12 (lattice): A answers with 304 bytes, B answers with 316 bytes; \
-        first in word 66, size of the compound map: A has 1, B has 2";
+    let words = "case 12 (lattice): A answers with 328 bytes, B answers with 340 bytes; \
+        first in word 72, size of the compound map: A has 1, B has 2";
     assert_eq!(lines, [words]);
 }
 
@@ -206,7 +216,7 @@ fn an_answer_is_shown_readably() {
     for line in [
         "examined 9 lists",
         "2 hyperplane orbits, counts: 4 2",
-        "entry 1: (0,0) (1,5); points 3, edges 3, facets 3",
+        "entry 1: (0,0) (1,5); before splitting (0,3); points 3, edges 3, facets 3",
         "  rank 2: [0 1] [0 2] [1 2]",
         "possible facet (0,0)",
         "entry 1 is made of entries 0 and 0",

@@ -33,6 +33,13 @@ fn a_compound_facet_is_split_at_its_own_place() {
         &format!("points\n0 0 0\n0 0 1\n0 1 0\n1 0 0\n{rows}"),
     );
     assert_eq!(found.entries[1].list, [(0, 0), (1, 0), (1, 2), (2, 0)]);
+    assert_eq!(found.entries[1].before, [(0, 0), (1, 1), (2, 0)]);
+    let compound = [((1, 1), vec![(1, 0), (1, 2)])];
+    assert_eq!(found.entries[1].compound_facets(), compound);
+    for e in [0, 2] {
+        assert_eq!(found.entries[e].before, found.entries[e].list);
+        assert_eq!(found.entries[e].compound_facets(), []);
+    }
     assert_eq!(found.compounds, [[1, 0, 2]]);
 }
 

@@ -7,6 +7,7 @@ use std::io::Write;
 use std::path::{Path, PathBuf};
 use std::process::Command;
 
+use faceting_register::answer::Pair;
 use faceting_register::register::{NotLinked, LINKED};
 use faceting_register::request::{ask, LONGEST};
 use faceting_register::{Answer, Register, Stop};
@@ -18,6 +19,7 @@ use common::{CORNER, SQUARE};
 
 const CUBE: &str = include_str!("../../examples/cube.txt");
 const PENTAGON: &str = include_str!("../../examples/pentagon.txt");
+const COMPOUND: &str = include_str!("../../examples/corner-compound.txt");
 
 fn repository() -> PathBuf {
     Path::new(env!("CARGO_MANIFEST_DIR")).join("..")
@@ -68,18 +70,16 @@ fn reader(place: &Place) -> Option<PathBuf> {
 /// What the reader prints of an answer.
 fn told(answer: &Answer) -> String {
     let entry = |(e, entry): (usize, &faceting_register::Entry)| {
-        let parts: String = entry
-            .list
-            .iter()
-            .map(|(o, f)| format!(" {o}.{f}"))
-            .collect();
+        let pairs =
+            |list: &[Pair]| -> String { list.iter().map(|(o, f)| format!(" {o}.{f}")).collect() };
+        let (parts, before) = (pairs(&entry.list), pairs(&entry.before));
         let ranks: String = entry
             .figure
             .ranks
             .iter()
             .map(|rank| format!(" {}", rank.len()))
             .collect();
-        format!("{e}:{parts}; elements{ranks}\n")
+        format!("{e}:{parts}; before splitting{before}; elements{ranks}\n")
     };
     let entries: String = answer.entries.iter().enumerate().map(entry).collect();
     let compound = |[a, b, c]: &[u32; 3]| format!("{a} is made of {b} and {c}\n");
@@ -97,7 +97,7 @@ fn the_reader_in_c_reads_answers_and_survives_damage() {
     let (Some(program), Some(mut way)) = (reader(&place), ways().pop()) else {
         return;
     };
-    for set in [CUBE, PENTAGON, CORNER] {
+    for set in [CUBE, PENTAGON, CORNER, COMPOUND] {
         let job = text::encode(set).expect("the set is a job");
         let bytes = ask(way.engine.as_mut(), &job, LONGEST).expect("an answer");
         let (answer, _) = Answer::read(&bytes).expect("an answer");
@@ -201,7 +201,9 @@ for name in sys.argv[1:]:
     try:
         found = register.answer(asked)
         edges = [entry.edges for entry in found.entries]
+        before = [entry.before for entry in found.entries if entry.before != entry.parts]
         print(hashlib.sha256(register.answer_bytes(asked)).hexdigest(), len(found.compounds), edges)
+        print(before)
     except Refused as refused:
         print("refused", refused.number)
 cube = [(x, y, z) for z in (-1.0, 1.0) for y in (-1.0, 1.0) for x in (-1.0, 1.0)]
@@ -248,7 +250,15 @@ fn python_comes_to_the_same_as_rust() {
     let place = Place::new("installed-python");
     let Some(usr) = installed(&place) else { return };
     let budget = format!("{CORNER}budget 9\n");
-    let sets = [SQUARE, CUBE, CORNER, PENTAGON, "points\n0 0\n", &budget];
+    let sets = [
+        SQUARE,
+        CUBE,
+        CORNER,
+        PENTAGON,
+        COMPOUND,
+        "points\n0 0\n",
+        &budget,
+    ];
     let mut register = Register::open().expect("the library is linked");
     let mut wanted = String::new();
     let mut words = vec!["-c".to_string(), ASKED.to_string()];
@@ -262,6 +272,7 @@ fn python_comes_to_the_same_as_rust() {
             Err(Stop::Broken(words)) => panic!("{words}"),
         };
     }
+    assert!(wanted.contains("\n[[(0, 0), (1, 1), (2, 0)]]\n"));
     wanted += "CKBF-JN37-ED4Y\n";
     for more in ["limit 3\nmin 0.5\ntolerance 0.001\n", "rule 2\n"] {
         let job = text::encode(&format!("{SQUARE}{more}")).expect("a job");
@@ -366,5 +377,10 @@ fn summary(bytes: &[u8]) -> String {
     let (answer, _) = Answer::read(bytes).expect("an answer");
     let edges: Vec<u32> = answer.summaries.iter().map(|summary| summary[1]).collect();
     let hash = facetings_host::report::hash::sha256(bytes);
-    format!("{hash} {} {edges:?}\n", answer.compounds.len())
+    let before = answer.entries.iter().map(|entry| &entry.before);
+    let split: Vec<&Vec<Pair>> = before
+        .zip(&answer.entries)
+        .filter_map(|(before, entry)| (*before != entry.list).then_some(before))
+        .collect();
+    format!("{hash} {} {edges:?}\n{split:?}\n", answer.compounds.len())
 }

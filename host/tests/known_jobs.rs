@@ -15,7 +15,8 @@ fn rank_2_two_points() {
     let plain = answer(&oracle, "rank 2\npoints\n0\n1\n");
     assert_eq!(plain.counts, [1, 1]);
     assert_eq!(plain.entries[0].list, [(0, 0), (1, 0)]);
-    assert_eq!(plain.bytes().len(), 176);
+    assert_eq!(plain.entries[0].before, [(0, 0), (1, 0)]);
+    assert_eq!(plain.bytes().len(), 196);
     let swapped = answer(&oracle, "rank 2\npoints\n0\n1\ngenerators\n1 0\n");
     assert_eq!(swapped.counts, [2]);
     assert_eq!(swapped.entries[0].list, [(0, 0)]);

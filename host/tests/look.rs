@@ -43,6 +43,7 @@ fn answer(figures: Vec<Figure>) -> Answer {
     let summaries = figures.iter().map(Figure::summary).collect();
     let entry = |figure| Entry {
         list: vec![],
+        before: vec![],
         figure,
     };
     Answer {

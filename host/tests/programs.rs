@@ -9,15 +9,17 @@ use std::process::Command;
 
 use faceting_register::register::{NotLinked, LINKED};
 use faceting_register::request::{ask, LONGEST};
-use faceting_register::Refusal;
+use faceting_register::{Answer, Entry, Refusal};
 use facetings_host::format::text;
 
-use common::format::{refusal_numbers, worked_example};
+use common::format::{entry_lists, refusal_numbers, worked_example};
 use common::place::{Done, Place};
-use common::ways::ways;
+use common::ways::{ways, Way};
+use common::WORKSPACE;
 
 const HEADER: &str = include_str!("../../include/register.h");
 const SQUARE: &str = include_str!("../../examples/square.txt");
+const COMPOUND: &str = include_str!("../../examples/corner-compound.txt");
 
 /// What both programs print.
 const PRINTED: &str = "figures: 1\n0: 0.0\n";
@@ -36,6 +38,43 @@ fn the_worked_example_is_what_an_engine_answers() {
     for mut way in ways() {
         let found = ask(way.engine.as_mut(), &job, LONGEST);
         assert_eq!(found.as_ref(), Ok(&answer), "{}", way.name);
+    }
+}
+
+/// The job with a compound facet has the lists of the page, in its bytes too, and is
+/// refused with 17 in a buffer that is one word short.
+#[test]
+fn the_lists_of_the_page_are_what_an_engine_answers() {
+    let job = text::encode(COMPOUND).expect("the example is a job");
+    for mut way in ways() {
+        let bytes = ask(way.engine.as_mut(), &job, LONGEST).expect("an answer");
+        let (answer, _) = Answer::read(&bytes).expect("an answer");
+        let lists = |entry: &Entry| [entry.list.clone(), entry.before.clone()];
+        let lists: Vec<_> = answer.entries.iter().map(lists).collect();
+        assert_eq!(lists, entry_lists(), "{}", way.name);
+        let told = [4, 0, 0, 1, 0, 1, 2, 2, 0, 3, 0, 0, 1, 1, 2, 0_u32];
+        let told: Vec<u8> = told.iter().flat_map(|word| word.to_le_bytes()).collect();
+        assert!(bytes.windows(told.len()).any(|part| part == told));
+        one_word_short(&mut way, &job, &bytes);
+        let segment = text::encode("rank 2\npoints\n0\n1\n").expect("a job");
+        let bytes = ask(way.engine.as_mut(), &segment, LONGEST).expect("an answer");
+        let (answer, _) = Answer::read(&bytes).expect("an answer");
+        assert_eq!(answer.entries[0].before, answer.entries[0].list);
+        one_word_short(&mut way, &segment, &bytes);
+    }
+}
+
+fn one_word_short(way: &mut Way, job: &[u8], right: &[u8]) {
+    for (room, code) in [
+        (right.len(), right.len() as i64),
+        (right.len() - 4, Refusal::Room.code()),
+    ] {
+        let mut buffer = vec![0xa5; room];
+        assert_eq!(way.engine.answer(job, WORKSPACE, &mut buffer), code);
+        match code < 0 {
+            true => assert!(buffer.iter().all(|byte| *byte == 0), "{}", way.name),
+            false => assert_eq!(buffer, right, "{}", way.name),
+        }
     }
 }
 

@@ -263,11 +263,14 @@ fn entry(value: &Value) -> Entry {
         _ => panic!("{pair:?} is no pair"),
     };
     let names = [
-        "edges", "facets", "figure", "look", "measured", "number", "parts", "points",
+        "before", "edges", "facets", "figure", "look", "measured", "number", "parts", "points",
+        "split",
     ];
     assert_eq!(value.names(), names);
+    let list = |name| value.field(name).list().iter().map(pair).collect();
     Entry {
-        list: value.field("parts").list().iter().map(pair).collect(),
+        list: list("parts"),
+        before: list("before"),
         figure: figure(value.field("figure")),
     }
 }
@@ -526,6 +529,40 @@ fn page_and_json_name_engine_version_and_job() {
         assert_eq!(limits.field("entries").word(), 9);
         assert_eq!(limits.field("budget").word(), 77);
     }
+}
+
+const COMPOUND: &str = include_str!("../../examples/corner-compound.txt");
+
+/// The choice before splitting, the facet that was split, and what it was split into.
+#[test]
+fn a_compound_facet_is_told_whole_and_by_its_parts() {
+    on_each("compound", |place, run| {
+        place.write("corner.txt", COMPOUND);
+        place.write("square.txt", SQUARE);
+        let page = run(&["corner.txt"]).fine();
+        for line in [
+            "\n      1       4      6       6  0.0 1.0 1.2 2.0\n",
+            "\n  entry 1, before splitting: 0.0 1.1 2.0; 1.1 is 1.0 and 1.2 together\n",
+        ] {
+            assert!(page.contains(line), "{line} is not in:\n{page}");
+        }
+        assert_eq!(page.matches(", before splitting: ").count(), 1);
+        let value = Value::read(&run(&["--json", "corner.txt"]).fine());
+        let entries = value.field("entries").list();
+        let pairs = |value: &Value| value.list().iter().map(Value::words).collect::<Vec<_>>();
+        let before = [vec![0, 0], vec![1, 1], vec![2, 0]];
+        assert_eq!(pairs(entries[1].field("before")), before);
+        let [split] = entries[1].field("split").list() else {
+            panic!("one facet is split")
+        };
+        assert_eq!(split.names(), ["facet", "into"]);
+        assert_eq!(split.field("facet").words(), [1, 1]);
+        assert_eq!(pairs(split.field("into")), [vec![1, 0], vec![1, 2]]);
+        for e in [0, 2] {
+            assert!(entries[e].field("split").list().is_empty());
+        }
+        assert!(!run(&["square.txt"]).fine().contains("before splitting: "));
+    });
 }
 
 /// The grid: eight figures, of which two close, and lines with three points.

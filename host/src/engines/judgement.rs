@@ -53,6 +53,9 @@ pub struct Events {
     pub examined: u32,
     /// The orbits of the outermost call, also where the run was refused later.
     pub orbits: Vec<Orbit>,
+    /// The lists that the outermost call emitted, before splitting, as its entries
+    /// stand; at rank 2 no list is emitted.
+    pub before: Vec<Vec<(usize, usize)>>,
     /// A share of 0.
     pub zero_shares: bool,
     /// Two different shares of a facet in a ridge orbit.

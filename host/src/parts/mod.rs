@@ -3,8 +3,7 @@
 //! is the answer's; what is measured comes from the job's points, flattened as the
 //! register sees them, and is the host's own look.
 //!
-//! A compound facet that the register has split stands here as its components; the
-//! answer does not tell which of them were one facet before.
+//! A compound facet that the register has split stands here as its components.
 
 pub mod cycles;
 pub mod facet;

@@ -3,7 +3,8 @@
 
 use std::fmt::{self, Display, Formatter, Write};
 
-use faceting_register::{Answer, Entry, Figure, Job};
+use faceting_register::answer::Pair;
+use faceting_register::{Answer, Figure, Job};
 
 use super::look::Look;
 use super::margin::{Distance, Margin};
@@ -235,14 +236,13 @@ fn entries(report: &Report) -> Json {
 }
 
 fn one(report: &Report, e: usize) -> Json {
-    let Entry {
-        list: parts,
-        figure: built,
-    } = &report.answer.entries[e];
+    let entry = &report.answer.entries[e];
+    let built = &entry.figure;
     let [points, edges, facets] = report.answer.summaries[e];
-    let pair = |&(orbit, facet): &(u32, u32)| numbers(&[orbit, facet]);
     Json::Object(vec![
-        ("parts", list(parts, pair)),
+        ("parts", list(&entry.list, pair)),
+        ("before", list(&entry.before, pair)),
+        ("split", list(&entry.compound_facets(), compound_facet)),
         ("points", number(points)),
         ("edges", number(edges)),
         ("facets", number(facets)),
@@ -251,6 +251,15 @@ fn one(report: &Report, e: usize) -> Json {
         ("number", Json::Text(lasting(&report.job, built))),
         ("measured", entry_json(&report.parts.entries[e], built)),
     ])
+}
+
+fn pair(&(orbit, facet): &Pair) -> Json {
+    numbers(&[orbit, facet])
+}
+
+/// A compound facet whole, and what stands for it in the parts.
+fn compound_facet((whole, parts): &(Pair, Vec<Pair>)) -> Json {
+    Json::Object(vec![("facet", pair(whole)), ("into", list(parts, pair))])
 }
 
 /// The host's own look at an entry.

@@ -2,6 +2,7 @@
 
 use std::fmt::Write;
 
+use faceting_register::answer::Pair;
 use faceting_register::{Answer, Figure};
 
 /// Every part of the answer, named.
@@ -15,12 +16,12 @@ pub fn show(answer: &Answer) -> String {
     );
     let _ = writeln!(text, "{} entries", answer.entries.len());
     for (e, entry) in answer.entries.iter().enumerate() {
-        let list: Vec<String> = entry
-            .list
-            .iter()
-            .map(|(a, b)| format!("({a},{b})"))
-            .collect();
-        let _ = writeln!(text, "entry {e}: {}{}", list.join(" "), summary(answer, e));
+        let (list, before) = (pairs(&entry.list), pairs(&entry.before));
+        let summary = summary(answer, e);
+        let _ = writeln!(
+            text,
+            "entry {e}: {list}; before splitting {before}{summary}"
+        );
         show_figure(&mut text, &entry.figure);
     }
     for (o, orbit) in answer.facets.iter().enumerate() {
@@ -34,6 +35,11 @@ pub fn show(answer: &Answer) -> String {
         let _ = writeln!(text, "entry {a} is made of entries {b} and {c}");
     }
     text
+}
+
+fn pairs(list: &[Pair]) -> String {
+    let pairs: Vec<String> = list.iter().map(|(a, b)| format!("({a},{b})")).collect();
+    pairs.join(" ")
 }
 
 fn summary(answer: &Answer, e: usize) -> String {

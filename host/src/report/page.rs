@@ -4,6 +4,7 @@
 
 use std::fmt::Write;
 
+use faceting_register::answer::Pair;
 use faceting_register::job::{RULE_VERSION, TOLERANCE_VERSION};
 use faceting_register::Answer;
 
@@ -38,11 +39,13 @@ Which figures are plain is what a second proved call writes. All else stands in 
 answer. A figure's points are those at which one of its edges ends. It closes in itself
 where each of its ridges (at rank 3 a point, at rank 4 an edge) lies in exactly two of its
 facets. It is in pieces where its facets fall apart into groups without a common ridge. It
-is a compound where its parts are those of two other entries together. It is plain where
-an ordered walk, which may miss one, finds no other entry's parts among its own. A row
-carries a figure to itself where the images of its edges are its edges, of its polygons
-its polygons, and so up to its facets. Lengths are in the units of the points. The angle
-of a joint is that between its two facets, at most 180°.
+is a compound where its parts are those of two other entries together. A facet can be a
+compound of others in its plane: their parts then stand for it among the figure's, and the
+list before splitting has it whole. A figure is plain where an ordered walk, which may
+miss one, finds no other entry's parts among its own. A row carries a figure to itself
+where the images of its edges are its edges, of its polygons its polygons, and so up to
+its facets. Lengths are in the units of the points. The angle of a joint is that between
+its two facets, at most 180°.
 ";
 
 /// The whole page, each line ended.
@@ -183,12 +186,20 @@ fn put_entries(text: &mut String, report: &Report) {
     let _ = writeln!(text, "  entry  points  edges  facets  parts (orbit.facet)");
     let rows = answer.entries.iter().zip(&answer.summaries);
     for (e, (entry, [points, edges, facets])) in rows.enumerate() {
-        let parts: Vec<String> = entry.list.iter().map(part).collect();
-        let parts = parts.join(" ");
+        let parts = facets_in_a_row(&entry.list);
         let _ = writeln!(
             text,
             "  {e:>5}  {points:>6}  {edges:>5}  {facets:>6}  {parts}"
         );
+    }
+    for (e, entry) in answer.entries.iter().enumerate() {
+        let compound = entry.compound_facets();
+        if !compound.is_empty() {
+            let whole = facets_in_a_row(&entry.before);
+            let split: Vec<String> = compound.iter().map(split_words).collect();
+            let split = split.join("; ");
+            let _ = writeln!(text, "  entry {e}, before splitting: {whole}; {split}");
+        }
     }
     let several = report.job.rows.len() > 1;
     if let Some(carried) = report.carried.as_ref().filter(|_| several) {
@@ -261,8 +272,19 @@ fn seen(look: &Look) -> Vec<String> {
     [open, pieces, equals].into_iter().flatten().collect()
 }
 
-fn part((orbit, facet): &(u32, u32)) -> String {
+fn part((orbit, facet): &Pair) -> String {
     format!("{orbit}.{facet}")
+}
+
+fn facets_in_a_row(list: &[Pair]) -> String {
+    let facets: Vec<String> = list.iter().map(part).collect();
+    facets.join(" ")
+}
+
+/// A compound facet and its parts: 1.1 is 1.0 and 1.2 together.
+fn split_words((whole, parts): &(Pair, Vec<Pair>)) -> String {
+    let parts: Vec<String> = parts.iter().map(part).collect();
+    format!("{} is {} together", part(whole), parts.join(" and "))
 }
 
 fn put_compounds(text: &mut String, answer: &Answer) {

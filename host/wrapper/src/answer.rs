@@ -11,13 +11,31 @@ pub struct Figure {
     pub ranks: Vec<Vec<Vec<u32>>>,
 }
 
-/// A split list and its figure.
+/// A facet: an orbit and the number of a possible facet of that orbit.
+pub type Pair = (u32, u32);
+
+/// An entry's lists and its figure.
 #[derive(Clone, Debug, PartialEq, Eq)]
 pub struct Entry {
-    /// Pairs of an orbit and a possible facet of that orbit.
-    pub list: Vec<(u32, u32)>,
+    /// Its facets, compound ones split into their parts.
+    pub list: Vec<Pair>,
+    /// Its facets before splitting: the choice that it belongs to.
+    pub before: Vec<Pair>,
     /// What they build.
     pub figure: Figure,
+}
+
+impl Entry {
+    /// The facets that were split, each with its parts. A choice has no two facets of
+    /// one orbit, so the parts are the items of the split list with the facet's orbit.
+    pub fn compound_facets(&self) -> Vec<(Pair, Vec<Pair>)> {
+        let parts = |&whole: &Pair| {
+            let own = self.list.iter().filter(|part| part.0 == whole.0);
+            (whole, own.copied().collect::<Vec<Pair>>())
+        };
+        let split = |(whole, parts): &(Pair, Vec<Pair>)| parts[..] != [*whole];
+        self.before.iter().map(parts).filter(split).collect()
+    }
 }
 
 /// Everything that an answer says.
@@ -72,8 +90,10 @@ impl Answer {
         words.extend(&self.counts);
         words.push(self.entries.len() as u32);
         for entry in &self.entries {
-            words.push(entry.list.len() as u32);
-            words.extend(entry.list.iter().flat_map(|&(a, b)| [a, b]));
+            for list in [&entry.list, &entry.before] {
+                words.push(list.len() as u32);
+                words.extend(list.iter().flat_map(|&(a, b)| [a, b]));
+            }
             entry.figure.write(&mut words);
         }
         for orbit in &self.facets {
@@ -238,14 +258,23 @@ impl<'a> Reader<'a> {
     }
 
     fn entry(&mut self, e: usize) -> Result<Entry, Damage> {
-        let length = self.count(|| format!("list length of entry {e}"))?;
-        let list = many(length, |i| {
-            let orbit = self.word(|| format!("orbit of item {i} in the list of entry {e}"))?;
-            let facet = self.word(|| format!("facet of item {i} in the list of entry {e}"))?;
-            Ok((orbit, facet))
-        })?;
+        let list = self.list(|| format!("list of entry {e}"))?;
+        let before = self.list(|| format!("list before splitting of entry {e}"))?;
         let figure = self.figure(|| format!("the figure of entry {e}"))?;
-        Ok(Entry { list, figure })
+        Ok(Entry {
+            list,
+            before,
+            figure,
+        })
+    }
+
+    fn list(&mut self, which: impl Fn() -> String) -> Result<Vec<Pair>, Damage> {
+        let length = self.count(|| format!("length of the {}", which()))?;
+        many(length, |i| {
+            let orbit = self.word(|| format!("orbit of item {i} in the {}", which()))?;
+            let facet = self.word(|| format!("facet of item {i} in the {}", which()))?;
+            Ok((orbit, facet))
+        })
     }
 
     fn orbit(&mut self, o: usize) -> Result<Vec<Figure>, Damage> {
@@ -290,4 +319,22 @@ impl<'a> Reader<'a> {
 
 fn many<T>(count: usize, one: impl FnMut(usize) -> Result<T, Damage>) -> Result<Vec<T>, Damage> {
     (0..count).map(one).collect()
+}
+
+#[cfg(test)]
+mod tests {
+    use super::*;
+
+    #[test]
+    fn compound_facets_have_the_parts_of_their_orbit() {
+        let entry = |list: &[Pair], before: &[Pair]| Entry {
+            list: list.to_vec(),
+            before: before.to_vec(),
+            figure: Figure::default(),
+        };
+        let split = entry(&[(0, 0), (2, 4), (2, 1), (1, 3)], &[(0, 0), (2, 7), (1, 3)]);
+        assert_eq!(split.compound_facets(), [((2, 7), vec![(2, 4), (2, 1)])]);
+        let same = entry(&[(0, 0), (2, 4)], &[(0, 0), (2, 4)]);
+        assert_eq!(same.compound_facets(), []);
+    }
 }

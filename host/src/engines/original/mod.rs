@@ -10,6 +10,7 @@ mod watch;
 use std::collections::{BTreeMap, VecDeque};
 use std::io::Write;
 
+use faceting_register::answer::Pair;
 use faceting_register::{Answer, Entry, Figure, Job, Stop};
 
 use crate::engines::judgement::{Bounds, Events};
@@ -76,15 +77,21 @@ pub fn faceting(job: &Job, bounds: &Bounds) -> (Result<Answer, Stop>, Events) {
         offset: Point::from(&job.offset),
     };
     let (found, events) = watched(bounds, job, || cut::run(plane, job));
-    (found.map(|found| answer(events.examined, found)), events)
+    (found.map(|found| answer(job, &events, found)), events)
 }
 
-fn answer(examined: u32, (entries, counts, facets, compounds): Found) -> Answer {
-    let entry = |(ranks, list): (Ranks, Vec<(usize, usize)>)| Entry {
-        list: list
-            .into_iter()
-            .map(|(a, b)| (a as u32, b as u32))
-            .collect(),
+fn answer(job: &Job, events: &Events, found: Found) -> Answer {
+    let (entries, counts, facets, compounds) = found;
+    let pairs = |list: &[(usize, usize)]| -> Vec<Pair> {
+        list.iter().map(|&(a, b)| (a as u32, b as u32)).collect()
+    };
+    // At rank 2 no list is emitted, and none is split.
+    let entry = |(e, (ranks, list)): (usize, (Ranks, Vec<(usize, usize)>))| Entry {
+        before: match job.rank {
+            2 => pairs(&list),
+            _ => pairs(&events.before[e]),
+        },
+        list: pairs(&list),
         figure: renumbered(ranks),
     };
     let orbit = |figures: Vec<Ranks>| figures.into_iter().map(renumbered).collect();
@@ -93,9 +100,9 @@ fn answer(examined: u32, (entries, counts, facets, compounds): Found) -> Answer 
         .map(|(&a, &(b, c))| [a, b, c].map(|entry| entry as u32))
         .collect();
     compounds.sort_unstable();
-    let entries: Vec<Entry> = entries.into_iter().map(entry).collect();
+    let entries: Vec<Entry> = entries.into_iter().enumerate().map(entry).collect();
     Answer {
-        examined,
+        examined: events.examined,
         counts: counts.into_iter().map(|count| count as u32).collect(),
         summaries: entries.iter().map(|e| e.figure.summary()).collect(),
         entries,

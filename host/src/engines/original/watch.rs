@@ -12,6 +12,7 @@ use crate::engines::judgement::{Bounds, Events, Inner, Orbit};
 
 struct Watch {
     bounds: Bounds,
+    rank: usize,
     tolerance: f64,
     rule: u8,
     budget: u32,
@@ -30,6 +31,7 @@ pub fn watched<T>(
 ) -> (Result<T, Stop>, Events) {
     let watch = Watch {
         bounds: bounds.clone(),
+        rank: job.rank.into(),
         tolerance: job.tolerance,
         rule: job.rule,
         budget: job.budget,
@@ -173,12 +175,30 @@ pub(super) fn due<T>(list: Option<T>) -> Option<T> {
     list
 }
 
-/// A closed list is about to join that many entries.
-pub(super) fn emits(entries: usize) {
+/// A closed list is about to join that many entries. Those of the outermost call are
+/// kept as they are before splitting.
+pub(super) fn emits(rank: usize, entries: usize, list: &[(usize, usize)]) {
     look(|w| {
         w.events.too_many_entries |= entries >= w.bounds.entries;
         refuse_if(entries >= w.bounds.entries, Refusal::Facets)?;
         w.events.most_entries = w.events.most_entries.max(entries + 1);
+        if rank == w.rank {
+            w.events.before.push(list.to_vec());
+        }
+        Ok(())
+    })
+}
+
+/// The entries of a call, which have these split lists, are about to be sorted by them,
+/// equal ones kept as they came; so are the lists before splitting.
+pub(super) fn sorts(rank: usize, split: Vec<&Vec<(usize, usize)>>) {
+    look(|w| {
+        if rank == w.rank {
+            let emitted = std::mem::take(&mut w.events.before);
+            let mut order: Vec<usize> = (0..emitted.len()).collect();
+            order.sort_by_key(|&number| split[number]);
+            w.events.before = order.iter().map(|&k| emitted[k].clone()).collect();
+        }
         Ok(())
     })
 }
