@@ -8,7 +8,7 @@ use std::slice::{from_raw_parts, from_raw_parts_mut};
 use faceting_register::job::accept;
 use faceting_register::register::Exported;
 use faceting_register::request::USUAL_ROOM;
-use faceting_register::{Engine, Refusal};
+use faceting_register::{Engine, Entry, Refusal, Stop};
 use facetings_host::cases::generator::{case, kind_named, KINDS};
 use facetings_host::cases::known_jobs::KNOWN_JOBS;
 use facetings_host::cases::{Case, Room};
@@ -82,6 +82,7 @@ fn the_register_answers_generated_cases_as_the_original() {
     }
     let [open, closed] = &trials.figures;
     assert!(open.moved > 0 && closed.all > 0 && closed.moved == 0);
+    assert!(trials.lists.split > 0 && trials.lists.all > trials.lists.split);
 }
 
 /// A call as the register's contract has it, with slices again.
@@ -198,6 +199,69 @@ stand_in!(writes_to_its_job, call, {
     }
     call.answer()
 });
+
+/// The original's answer with every entry altered, in a buffer that is long enough.
+fn altered(call: Call, alter: impl Fn(&mut Entry)) -> i64 {
+    let oracle = Oracle::open().expect("tests with stand-ins have the original");
+    call.answer.fill(0);
+    let mut answer = match oracle.judge(call.job, call.workspace.len()).result {
+        Ok(answer) => answer,
+        Err(Stop::Refused(refusal)) => return refusal.code(),
+        Err(Stop::Broken(words)) => panic!("{words}"),
+    };
+    answer.entries.iter_mut().for_each(alter);
+    let bytes = answer.bytes();
+    match call.answer.get_mut(..bytes.len()) {
+        Some(front) => front.copy_from_slice(&bytes),
+        None => return Refusal::Room.code(),
+    }
+    bytes.len() as i64
+}
+
+stand_in!(right_but_slower, call, altered(call, |_| {}));
+stand_in!(split_list_twice, call, {
+    altered(call, |entry| entry.before = entry.list.clone())
+});
+stand_in!(lists_exchanged, call, {
+    altered(call, |entry| {
+        std::mem::swap(&mut entry.before, &mut entry.list)
+    })
+});
+
+/// A job with an entry whose facet is split, as a case.
+fn compound_facet() -> Case {
+    let text = include_str!("../../examples/corner-compound.txt");
+    Case {
+        number: 0,
+        seed: 0,
+        kind: "compound facet".into(),
+        workspace: WORKSPACE,
+        room: Room::Bytes(USUAL_ROOM),
+        job: common::job(text),
+    }
+}
+
+/// Where nothing but the lists before splitting differs, it is said.
+#[test]
+fn lists_before_splitting_are_compared_by_themselves() {
+    let Some(oracle) = oracle() else { return };
+    let aside = "; the same with the lists before splitting left aside";
+    let tried: [(Exported, Option<bool>); 3] = [
+        (right_but_slower, None),
+        (split_list_twice, Some(true)),
+        (lists_exchanged, Some(false)),
+    ];
+    for (function, alone) in tried {
+        let mut register = Guard::over(function);
+        let mut trials = Trials::new(&oracle, &mut register);
+        let lines = trials.case(&compound_facet());
+        let told = lines.first().map(|line| line.ends_with(aside));
+        assert_eq!(told, alone, "{lines:?}");
+        if alone.is_none() {
+            assert_eq!((trials.lists.all, trials.lists.split), (3, 1));
+        }
+    }
+}
 
 /// The differences that the trials tell of a stand-in.
 fn differences(oracle: &Oracle, function: Exported) -> usize {

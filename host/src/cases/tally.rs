@@ -41,6 +41,9 @@ const EVENTS: &[Event] = &[
         j.answered(|a| a.has_reordered_entries())
     }),
     ("compounds", |j, _| j.answered(|a| !a.compounds.is_empty())),
+    ("compound facets split", |j, _| {
+        j.answered(|a| a.entries.iter().any(|e| e.before != e.list))
+    }),
     ("crowded line", |j, _| j.events.crowded_line),
     ("set smaller than its tuple", |j, _| j.events.small_set),
     ("14 with too few vectors", |j, _| j.events.short_refit),

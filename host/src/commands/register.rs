@@ -8,7 +8,7 @@ use facetings_host::cases::generator::{case, case_within, kind_named, Kind};
 use facetings_host::cases::known_jobs::KNOWN_JOBS;
 use facetings_host::cases::record::record;
 use facetings_host::cases::{Case, Room};
-use facetings_host::compare::trials::{Figures, Trials};
+use facetings_host::compare::trials::{Figures, Lists, Trials};
 use facetings_host::engines::guard::Guard;
 
 use super::streams::chosen_kind;
@@ -32,6 +32,8 @@ longer, and as a copy with one altered byte. Buffers are poisoned, the workspace
 as the call before left it, and marked bytes around all three slices are looked at.
 Where a job's rows are closed under composition, every row has to carry every figure
 of its answer to itself; where they are not, it is counted how many it does not.
+The lists before splitting are held to those that the Rust has when it begins to split
+them; where nothing else differs, the difference says so.
 Prints the first difference of each call, until D cases have one (default: 10), how
 often each result and rare event was reached, and the rate. Exit status 1 if any
 call differs. The register is linked where 'rt staticlib register' has left it
@@ -173,6 +175,10 @@ fn told(trials: &Trials, cases: usize, seconds: f64) -> String {
         let Figures { all, moved } = figures;
         text += &format!("{all:>8}  figures, {rows}: {moved} carried elsewhere by some row\n");
     }
+    let Lists { all, split } = &trials.lists;
+    text += &format!(
+        "{all:>8}  lists before splitting beside the Rust's own: {split} with a compound facet\n"
+    );
     text + &format!(
         "{cases} cases, {} calls in {seconds:.1} s, {:.0} cases a second; the Rust took {:.2} s, the register {:.2} s\n",
         trials.call_count(),

@@ -1,8 +1,10 @@
 //! A job is judged once by the original, which takes the time, and put to another
 //! engine in many ways: with buffers exactly full and a byte too short, with lengths
 //! around every bound, and as a damaged copy. Every byte and every refusal must be
-//! what the original's verdict says. The figures of each answer are looked at too:
-//! rows that are closed under composition carry them to themselves.
+//! what the original's verdict says; where only the lists before splitting differ from
+//! those that the original had before it split them, it is said. The figures of each
+//! answer are looked at too: rows that are closed under composition carry them to
+//! themselves.
 
 use std::collections::BTreeMap;
 use std::time::{Duration, Instant};
@@ -170,6 +172,15 @@ pub struct Figures {
     pub moved: usize,
 }
 
+/// How many lists before splitting were compared with the original's own.
+#[derive(Default)]
+pub struct Lists {
+    /// All of them, one for each entry.
+    pub all: usize,
+    /// Those that are another than the entry's split list.
+    pub split: usize,
+}
+
 /// The engine that is tried, with the memory that it is lent.
 pub struct Trials<'a> {
     oracle: &'a Oracle,
@@ -183,6 +194,8 @@ pub struct Trials<'a> {
     /// The figures of the answers: of jobs whose rows are not closed under
     /// composition, and of jobs whose rows are.
     pub figures: [Figures; 2],
+    /// The lists of the answers.
+    pub lists: Lists,
     /// The time that each side took.
     pub original_time: Duration,
     /// The time that the engine took.
@@ -200,6 +213,7 @@ impl<'a> Trials<'a> {
             tally: Tally::default(),
             calls: BTreeMap::new(),
             figures: Default::default(),
+            lists: Lists::default(),
             original_time: Duration::ZERO,
             engine_time: Duration::ZERO,
         }
@@ -256,7 +270,7 @@ impl<'a> Trials<'a> {
         calls.answered += usize::from(code >= 0);
         let words = self
             .wrong(trial, code, verdict.expected(trial))
-            .or_else(|| self.moved(trial, code))?;
+            .or_else(|| self.looked(trial, code))?;
         let Case { number, kind, .. } = case;
         Some(format!("case {number} ({kind}), {}: {words}", trial.name))
     }
@@ -285,16 +299,25 @@ impl<'a> Trials<'a> {
             buffer,
         };
         let given = side(code, self.answer.slice().to_vec());
-        difference(&side(right, zeroed), &given)
+        let words = difference(&side(right, zeroed), &given)?;
+        Some(words + aside(bytes, self.answer.slice()))
     }
 
-    /// A figure that a row carries elsewhere, though it should not.
-    fn moved(&mut self, trial: &Trial, code: i64) -> Option<String> {
+    /// A look at an answer that is the original's.
+    fn looked(&mut self, trial: &Trial, code: i64) -> Option<String> {
         if trial.name != EXACTLY_FULL || code < 0 {
             return None;
         }
         let (answer, _) = Answer::read(self.answer.slice()).ok()?;
-        let carried = Carried::of(&Job::read(&trial.job)?, &answer)?;
+        self.lists.all += answer.entries.len();
+        let split = answer.entries.iter().filter(|e| e.before != e.list);
+        self.lists.split += split.count();
+        self.moved(trial, &answer)
+    }
+
+    /// A figure that a row carries elsewhere, though it should not.
+    fn moved(&mut self, trial: &Trial, answer: &Answer) -> Option<String> {
+        let carried = Carried::of(&Job::read(&trial.job)?, answer)?;
         let figures = &mut self.figures[usize::from(carried.closed)];
         figures.all += carried.elsewhere.len();
         figures.moved += carried.moved();
@@ -304,6 +327,25 @@ impl<'a> Trials<'a> {
     /// How many calls were made.
     pub fn call_count(&self) -> usize {
         self.calls.values().map(|calls| calls.all).sum()
+    }
+}
+
+/// The answer with its lists before splitting left aside.
+fn without_lists(mut answer: Answer) -> Answer {
+    answer
+        .entries
+        .iter_mut()
+        .for_each(|entry| entry.before.clear());
+    answer
+}
+
+/// Whether all that differs are the lists before splitting.
+fn aside(right: &[u8], given: &[u8]) -> &'static str {
+    let read = |bytes| Answer::read(bytes).ok();
+    let read = |bytes| read(bytes).map(|(answer, _)| without_lists(answer));
+    match (read(right), read(given)) {
+        (Some(a), Some(b)) if a == b => "; the same with the lists before splitting left aside",
+        _ => "",
     }
 }
 
