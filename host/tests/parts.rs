@@ -4,13 +4,16 @@
 
 mod common;
 
+use std::collections::BTreeMap;
 use std::path::Path;
 
 use faceting_register::{answer, Answer, Job};
 use facetings_host::format::vertex_set;
 use facetings_host::parts::joints::Joint;
 use facetings_host::parts::names::words;
+use facetings_host::parts::wholes::Whole;
 use facetings_host::parts::Parts;
+use facetings_host::report::look::looks;
 use facetings_host::report::parts::entry_words;
 
 use common::ways::ways;
@@ -236,6 +239,146 @@ fn a_facet_that_falls_apart_is_two_triangles() {
     assert_eq!(hexagram.polygons().len(), 2);
     let name = words(hexagram, &parts.shapes);
     assert_eq!(name, format!("two triangles, side {:.4}", 6_f64.sqrt()));
+}
+
+/// The entries that have these parts alone, and so many edges.
+fn with_parts(found: &Answer, parts: &Parts, wanted: &[(usize, &str)], edges: u32) -> Vec<usize> {
+    let wanted: Vec<(usize, String)> = wanted.iter().map(|&(n, s)| (n, s.into())).collect();
+    let is_it = |&e: &usize| kinds(parts, e) == wanted && found.summaries[e][1] == edges;
+    (0..found.entries.len()).filter(is_it).collect()
+}
+
+/// How many compound facets an entry has, and how many parts of which sides each.
+fn compounds(parts: &Parts, entry: usize) -> Vec<(usize, Vec<(usize, f64)>)> {
+    let side = |&(shape, count): &(usize, usize)| {
+        let facet = &parts.shapes.facets[parts.shapes.firsts[shape]];
+        (count, facet.polygons()[0].sides[0])
+    };
+    let whole = |whole: &Whole| (whole.count, whole.parts.iter().map(side).collect());
+    parts.entries[entry].wholes.iter().map(whole).collect()
+}
+
+/// 20 points, 60 edges, 40 triangles in 20 planes, two in each: by turns alone the two
+/// are facets by themselves, and their compound is split; mirrors hold them together.
+#[test]
+fn the_compound_of_ten_tetrahedra_has_two_triangles_in_each_of_its_planes() {
+    let Some((found, parts)) = measured(&example("dodecahedron-turns.txt")) else {
+        return;
+    };
+    let [e] = with_parts(&found, &parts, &[(40, "triangle")], 60)[..] else {
+        panic!("it is listed once")
+    };
+    let angle = (1.0_f64 / 3.0).acos().to_degrees();
+    let (joints, joined) = only_joints(&parts.entries[e].joints);
+    assert!(joints == 60 && (joined - angle).abs() < 1e-9);
+    assert_eq!(looks(&found)[e].pieces, 10);
+    let [(20, two)] = &compounds(&parts, e)[..] else {
+        panic!("20 facets are compounds")
+    };
+    let side = 8_f64.sqrt();
+    assert!(matches!(two[..], [(2, found)] if (found - side).abs() < 1e-9));
+    let whole = parts.entries[e].wholes[0].shape;
+    assert!(whole >= parts.used && whole < parts.told);
+    let facet = &parts.shapes.facets[parts.shapes.firsts[whole]];
+    assert_eq!(words(facet, &parts.shapes), "two triangles, side 2.8284");
+    let told = entry_words(&parts, &parts.entries[e], 4);
+    let of_these = "; of these 20 × P compound of 2 × C triangle, side 2.8284; 60 joints";
+    assert!(told.contains(of_these), "{told}");
+
+    let (found, parts) = measured(&example("dodecahedron.txt")).expect("an engine");
+    let [e] = with_parts(&found, &parts, &[(20, "two triangles")], 60)[..] else {
+        panic!("it is listed once")
+    };
+    assert!(compounds(&parts, e).is_empty());
+    assert_eq!(parts.told, parts.used);
+}
+
+/// The faces of the two tetrahedra in a cube have the octahedron of the cube's face
+/// centres in their planes: a triangle with that of the middles of its sides.
+#[test]
+fn two_tetrahedra_and_their_octahedron_lie_in_eight_planes() {
+    let Some((found, parts)) = measured(&example("cube-face-centres.txt")) else {
+        return;
+    };
+    let triangles = [(8, "triangle"), (8, "triangle")];
+    let [e] = with_parts(&found, &parts, &triangles, 24)[..] else {
+        panic!("it is listed once")
+    };
+    let joints = &parts.entries[e].joints;
+    let third = 1.0_f64 / 3.0;
+    let wanted = [third, -third].map(|cosine| cosine.acos().to_degrees());
+    for (joint, angle) in joints.iter().zip(wanted) {
+        let measured = joint.angle.expect("an angle");
+        assert!(joint.count == 12 && (measured - angle).abs() < 1e-9);
+    }
+    let [(8, both)] = &compounds(&parts, e)[..] else {
+        panic!("8 facets are compounds")
+    };
+    let [(1, large), (1, small)] = both[..] else {
+        panic!("of two triangles that differ")
+    };
+    assert!((large - 8_f64.sqrt()).abs() < 1e-9 && (small - 2_f64.sqrt()).abs() < 1e-9);
+}
+
+/// A hexagonal prism, by the turns and mirrors of a triangular one that has every other
+/// corner: its two triangular prisms together, with a hexagram at either end.
+#[test]
+fn two_triangular_prisms_have_a_hexagram_at_either_end() {
+    let corner = |k: usize, height: usize| {
+        let turn = std::f64::consts::TAU * k as f64 / 6.0;
+        format!("{:.17} {:.17} {height}\n", turn.cos(), turn.sin())
+    };
+    let points: String = (0..12).map(|v| corner(v % 6, v / 6)).collect();
+    let row = |to: fn(usize) -> usize, swap: usize| {
+        let image = |v: usize| to(v % 6) % 6 + 6 * ((v / 6 + swap) % 2);
+        let row: Vec<String> = (0..12).map(|v| image(v).to_string()).collect();
+        row.join(" ") + "\n"
+    };
+    let rows = row(|k| k + 2, 0) + &row(|k| 6 - k, 0) + &row(|k| k, 1);
+    let text = format!("points\n{points}generators\n{rows}");
+    let job = vertex_set::read("prism.txt", text.as_bytes())
+        .remove(0)
+        .read_job()
+        .expect("a job");
+    let Some((found, parts)) = measured(&job) else {
+        return;
+    };
+    let both = [(6, "rectangle"), (4, "triangle")];
+    let listed = with_parts(&found, &parts, &both, 18);
+    let [e] = listed[..] else {
+        panic!("it is listed once, not at {listed:?}")
+    };
+    assert_eq!(looks(&found)[e].pieces, 2);
+    assert!(found.compounds.iter().any(|triple| triple[0] as usize == e));
+    let [(2, two)] = &compounds(&parts, e)[..] else {
+        panic!("either end is a compound")
+    };
+    assert!(matches!(two[..], [(2, side)] if (side - 3_f64.sqrt()).abs() < 1e-9));
+}
+
+/// Parts of compound facets are facets of the figure, as often as it has them.
+#[test]
+fn compound_facets_take_no_more_parts_than_there_are() {
+    for name in ["dodecahedron-turns.txt", "cube-face-centres.txt"] {
+        let Some((found, parts)) = measured(&example(name)) else {
+            return;
+        };
+        let mut seen = 0;
+        for (entry, listed) in parts.entries.iter().zip(&found.entries) {
+            assert_eq!(entry.wholes.is_empty(), listed.before == listed.list);
+            let mut left: BTreeMap<usize, usize> = entry.counts.iter().copied().collect();
+            for whole in &entry.wholes {
+                seen += whole.count;
+                for (shape, count) in &whole.parts {
+                    let there = left.get_mut(shape).expect("the figure has the shape");
+                    *there = there
+                        .checked_sub(whole.count * count)
+                        .expect("so many facets");
+                }
+            }
+        }
+        assert!(seen > 0, "{name}");
+    }
 }
 
 /// A row that is no symmetry carries a square to what lies in no plane: it is counted,

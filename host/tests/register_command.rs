@@ -565,6 +565,55 @@ fn a_compound_facet_is_told_whole_and_by_its_parts() {
     });
 }
 
+/// The two tetrahedra in the cube and the octahedron of its face centres.
+#[test]
+fn a_compound_facet_is_measured_whole() {
+    on_each("whole", |place, run| {
+        place.write(
+            "cube.txt",
+            include_str!("../../examples/cube-face-centres.txt"),
+        );
+        let page = run(&["cube.txt"]).fine();
+        let made = "1 × B triangle, side 2.8284 and 1 × C triangle, side 1.4142";
+        for line in [
+            "\nParts, measured: 5 shapes and 1 compound facet\n",
+            "\n  F compound: triangle, side 2.8284 and triangle, side 1.4142\n",
+            &format!("; of these 8 × F compound of {made}; 12 joints, angle 70.53° B–B; "),
+        ] {
+            assert!(page.contains(line), "{line} is not in:\n{page}");
+        }
+        let value = Value::read(&run(&["--json", "cube.txt"]).fine());
+        let shapes = value.field("shapes").list();
+        let compound: Vec<bool> = shapes
+            .iter()
+            .map(|shape| shape.field("compound").truth())
+            .collect();
+        assert_eq!(compound, [false, false, false, false, false, true]);
+        assert_eq!(shapes[5].field("polygons").list().len(), 2);
+        let measured = value.field("entries").list()[11].field("measured");
+        let [whole] = measured.field("compounds").list() else {
+            panic!("one kind of compound facet")
+        };
+        assert_eq!(whole.names(), ["count", "parts", "shape"]);
+        assert_eq!(whole.field("shape").text(), "F");
+        assert_eq!(whole.field("count").word(), 8);
+        let part = |part: &Value| {
+            (
+                part.field("shape").text().to_string(),
+                part.field("count").word(),
+            )
+        };
+        let parts: Vec<(String, u32)> = whole.field("parts").list().iter().map(part).collect();
+        assert_eq!(parts, [("B".into(), 1), ("C".into(), 1)]);
+        run(&["--html", "cube.txt", "-o", "out"]).fine();
+        let page = String::from_utf8(place.read("out/cube.html")).expect("text");
+        assert!(page.contains(&format!("; of these 8 × F compound of {made}; ")));
+        assert!(
+            page.contains("<li>F compound: triangle, side 2.8284 and triangle, side 1.4142</li>")
+        );
+    });
+}
+
 /// The grid: eight figures, of which two close, and lines with three points.
 const GRID: &str = "points\n0 0\n1 0\n2 0\n0 1\n1 1\n2 1\n0 2\n1 2\n2 2\ngenerators\n0 3 6 1 4 7 2 5 8\n2 5 8 1 4 7 0 3 6\n";
 

@@ -3,7 +3,8 @@
 //! is the answer's; what is measured comes from the job's points, flattened as the
 //! register sees them, and is the host's own look.
 //!
-//! A compound facet that the register has split stands here as its components.
+//! A compound facet that the register has split stands among a figure's facets as its
+//! parts, and is told whole beside them.
 
 pub mod cycles;
 pub mod facet;
@@ -12,6 +13,7 @@ pub mod joints;
 pub mod names;
 pub mod polygon;
 pub mod shapes;
+pub mod wholes;
 
 use std::collections::BTreeMap;
 
@@ -22,13 +24,17 @@ use crate::report::look::facet_rank;
 use facet::{edges_of, Edges, Facet};
 use joints::{joints, Joint, Loose};
 use shapes::Shapes;
+use wholes::{wholes, Counts, Whole};
 
 /// The parts of every figure of an answer.
 pub struct Parts {
     /// Facets and their shapes. Those that figures use come first, in their order.
     pub shapes: Shapes,
-    /// How many shapes the figures use.
+    /// How many shapes the figures use: those of the parts to be cut.
     pub used: usize,
+    /// How many shapes are told: behind those that are used, the shapes that only
+    /// compound facets have, whole.
+    pub told: usize,
     /// For each entry.
     pub entries: Vec<EntryParts>,
     /// For each orbit the numbers of its possible facets.
@@ -41,8 +47,10 @@ pub struct Parts {
 pub struct EntryParts {
     /// The numbers of its facets, in the figure's order.
     pub facets: Vec<usize>,
-    /// How many facets of each shape, ascending by shape.
-    pub counts: Vec<(usize, usize)>,
+    /// How many facets of each shape.
+    pub counts: Counts,
+    /// The compound facets that some of them are the parts of, by kind.
+    pub wholes: Vec<Whole>,
     /// Where two facets meet, by kind.
     pub joints: Vec<Joint>,
     /// Ridges that lie in another number of facets than two.
@@ -54,8 +62,12 @@ impl Parts {
     pub fn of(job: &Job, answer: &Answer) -> Parts {
         let mut shapes = Shapes::among(flattened(job), job.tolerance);
         let figures = answer.entries.iter().map(|entry| &entry.figure);
-        let entries: Vec<EntryParts> = figures.map(|f| entry(f, &mut shapes)).collect();
+        let mut entries: Vec<EntryParts> = figures.map(|f| entry(f, &mut shapes)).collect();
         let used = shapes.firsts.len();
+        for (parts, entry) in entries.iter_mut().zip(&answer.entries) {
+            parts.wholes = wholes(job, answer, entry, &mut shapes);
+        }
+        let told = shapes.firsts.len();
         let mut number = |figure: &Figure| possible(figure, &mut shapes);
         let orbits = answer.facets.iter();
         let possible = orbits.map(|orbit| orbit.iter().map(&mut number).collect());
@@ -63,6 +75,7 @@ impl Parts {
             possible: possible.collect(),
             true_to_size: true_to_size(&job.points, shapes.points(), job.tolerance),
             used,
+            told,
             entries,
             shapes,
         }
@@ -93,6 +106,7 @@ fn entry(figure: &Figure, shapes: &mut Shapes) -> EntryParts {
     });
     EntryParts {
         counts: counts.into_iter().collect(),
+        wholes: Vec::new(),
         facets,
         joints,
         loose,
@@ -101,11 +115,14 @@ fn entry(figure: &Figure, shapes: &mut Shapes) -> EntryParts {
 
 /// A possible facet; its edges end at points of the job.
 fn possible(figure: &Figure, shapes: &mut Shapes) -> usize {
+    match figure.ranks.get(2).map_or(&[][..], Vec::as_slice) {
+        [end] if end.len() == 1 => shapes.add(Facet::point(end[0])),
+        _ => shapes.number(possible_edges(figure)),
+    }
+}
+
+fn possible_edges(figure: &Figure) -> Edges {
     let elements = figure.ranks.get(2).map_or(&[][..], Vec::as_slice);
     let ends = |edge: &Vec<u32>| edge[..].try_into().ok();
-    let edges: Edges = elements.iter().filter_map(ends).collect();
-    match elements {
-        [end] if end.len() == 1 => shapes.add(Facet::point(end[0])),
-        _ => shapes.number(edges),
-    }
+    elements.iter().filter_map(ends).collect()
 }

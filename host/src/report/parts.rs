@@ -14,6 +14,7 @@ use crate::parts::joints::{Joint, Loose};
 use crate::parts::names::{degrees, edge_length, in_order, words};
 use crate::parts::polygon::Polygon;
 use crate::parts::shapes::letter;
+use crate::parts::wholes::Whole;
 use crate::parts::{EntryParts, Parts};
 
 /// The rank at which elements are polygons.
@@ -51,13 +52,13 @@ pub fn put_parts(text: &mut String, report: &Report) {
     if parts.entries.is_empty() {
         return;
     }
-    let shapes = counted(parts.used, "shape", "shapes");
+    let shapes = counted(parts.used, "shape", "shapes") + &compound_count(parts);
     let place = match parts.true_to_size {
         true => "",
         false => " in the flat that the set is seen in",
     };
     let _ = writeln!(text, "\nParts, measured{place}: {shapes}");
-    for shape in 0..parts.used {
+    for shape in 0..parts.told {
         let facet = &parts.shapes.facets[parts.shapes.firsts[shape]];
         let corners = corner_words(facet);
         let _ = writeln!(text, "  {}{corners}", shape_words(parts, shape));
@@ -71,10 +72,25 @@ pub fn put_parts(text: &mut String, report: &Report) {
     }
 }
 
+/// How many shapes compound facets have whole, beside those of the parts.
+fn compound_count(parts: &Parts) -> String {
+    match parts.told - parts.used {
+        0 => String::new(),
+        some => format!(
+            " and {}",
+            counted(some, "compound facet", "compound facets")
+        ),
+    }
+}
+
 /// A shape's letter, name and lengths.
 pub fn shape_words(parts: &Parts, shape: usize) -> String {
     let facet = &parts.shapes.facets[parts.shapes.firsts[shape]];
-    format!("{} {}", letter(shape), words(facet, &parts.shapes))
+    let name = words(facet, &parts.shapes);
+    match shape < parts.used {
+        true => format!("{} {name}", letter(shape)),
+        false => format!("{} compound: {name}", letter(shape)),
+    }
 }
 
 /// The angles at a polygon's corners, once where they are all the same.
@@ -90,15 +106,26 @@ fn corner_words(facet: &Facet) -> String {
     format!(", corners {}", told.join(" "))
 }
 
-/// 6 × A square, side 2.0000; 12 joints, angle 90.00° A–A
+/// 6 × A square, side 2.0000; 12 joints, angle 90.00° A–A. Compound facets stand behind
+/// the parts: 4 × A triangle, side 1.0000; of these 2 × B compound of 2 × A triangle, ..
 pub fn entry_words(parts: &Parts, entry: &EntryParts, rank: u8) -> String {
     let part =
         |&(shape, count): &(usize, usize)| format!("{count} × {}", shape_words(parts, shape));
+    let whole = |Whole {
+                     count,
+                     shape,
+                     parts,
+                 }: &Whole| {
+        let made: Vec<String> = parts.iter().map(part).collect();
+        let (letter, made) = (letter(*shape), made.join(" and "));
+        format!("of these {count} × {letter} compound of {made}")
+    };
     let joint = |joint: &Joint| joint_words(joint, rank);
     let loose = |loose: &Loose| loose_words(loose, rank);
     let counts = entry.counts.iter().map(part);
     let joints = entry.joints.iter().map(joint);
     let all: Vec<String> = counts
+        .chain(entry.wholes.iter().map(whole))
         .chain(joints)
         .chain(entry.loose.iter().map(loose))
         .collect();
@@ -130,7 +157,7 @@ fn loose_words(loose: &Loose, rank: u8) -> String {
     format!("{ridges} in {}, no joint", counted(loose.facets, one, many))
 }
 
-/// The shapes that figures use.
+/// The shapes that figures use, and those that only compound facets have.
 pub fn shapes_json(parts: &Parts) -> Json {
     let shape = |shape: usize| {
         let facet = &parts.shapes.facets[parts.shapes.firsts[shape]];
@@ -141,11 +168,12 @@ pub fn shapes_json(parts: &Parts) -> Json {
         Json::Object(vec![
             ("letter", Json::Text(letter(shape))),
             ("words", Json::Text(words(facet, &parts.shapes))),
+            ("compound", Json::Truth(shape >= parts.used)),
             ("length", length),
             ("polygons", list(facet.polygons(), polygon_json)),
         ])
     };
-    Json::List((0..parts.used).map(shape).collect())
+    Json::List((0..parts.told).map(shape).collect())
 }
 
 fn polygon_json(polygon: &Polygon) -> Json {
@@ -165,6 +193,13 @@ pub fn entry_json(entry: &EntryParts, figure: &Figure) -> Json {
             ("count", number(count)),
         ])
     };
+    let whole = |whole: &Whole| {
+        Json::Object(vec![
+            ("shape", Json::Text(letter(whole.shape))),
+            ("count", number(whole.count)),
+            ("parts", list(&whole.parts, part)),
+        ])
+    };
     let joint = |joint: &Joint| {
         let between = list(&joint.between, |&shape| Json::Text(letter(shape)));
         let angle = joint.angle.map_or(Json::Null, Json::Float);
@@ -182,6 +217,7 @@ pub fn entry_json(entry: &EntryParts, figure: &Figure) -> Json {
     };
     Json::Object(vec![
         ("shapes", list(&entry.counts, part)),
+        ("compounds", list(&entry.wholes, whole)),
         ("joints", list(&entry.joints, joint)),
         ("loose", list(&entry.loose, loose)),
         ("ways", list(&ways(figure), ways_json)),

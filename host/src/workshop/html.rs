@@ -217,14 +217,21 @@ fn row(report: &Report, painter: &Painter, e: usize) -> String {
 }
 
 fn shapes(report: &Report) -> String {
+    // Compound facets are drawn as their parts, and have no colour of their own.
+    let key = |shape: usize| match shape < report.parts.used {
+        true => {
+            let class = colour::face(shape);
+            let square = format!("<rect class=\"{class}\" width=\"100%\" height=\"100%\"/>");
+            tag("svg class=\"key\" aria-hidden=\"true\"", square)
+        }
+        false => String::new(),
+    };
     let shape = |shape: usize| {
-        let class = colour::face(shape);
-        let square = format!("<rect class=\"{class}\" width=\"100%\" height=\"100%\"/>");
-        let key = tag("svg class=\"key\" aria-hidden=\"true\"", square);
+        let key = key(shape);
         let words = escaped(&shape_words(&report.parts, shape));
         tag("li", format!("{key}{words}")) + "\n"
     };
-    let list: String = (0..report.parts.used).map(shape).collect();
+    let list: String = (0..report.parts.told).map(shape).collect();
     section("shapes", "Shapes, measured", &tag("ul", list))
 }
 
