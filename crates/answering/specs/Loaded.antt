@@ -8,7 +8,8 @@ use native.Mathlib.Omega.{arith}
 use lib.ListN.{length}
 use Rattle.definitions.specs.Outcome.{Outcome, refused, answered, andThen}
 use Rattle.definitions.specs.Recursion as recursion
-use Rattle.definitions.specs.Faceting.{faceting}
+use Rattle.definitions.specs.Faceting.{Way, plainWay, facetingWith}
+use Rattle.definitions.specs.NobleCalls.{faceting-with}
 use Rattle.definitions.specs.Job as job
 use Rattle.definitions.specs.Job.{Bytes, readJob, planeOf, bounds1, tests, workspaceFor, callOf, answerBytes, alone}
 use Rattle.laws.specs.Refusals.{firstRefused, pass-all-refused, pass-all-passed}
@@ -28,6 +29,8 @@ use Rattle.job.specs.Passed.{refused-means, passed-means, own-passed, passed-ex
 use Rattle.calls.specs.declared.Rules.{Rules}
 use Rattle.call_search.specs.Stocks.{callRules}
 use Rattle.calls.specs.declared.Called.{Called}
+use Rattle.faceting.specs.declared.Way as code
+use Rattle.faceting.specs.Ways.{wayOf, WayFits, way-takes}
 use Rattle.faceting.specs.Asked.{Asked}
 use Rattle.inner_answers.specs.Says.{Says}
 use Rattle.answering.specs.Said as said
@@ -52,6 +55,24 @@ pub record Loaded (bytes : Bytes) (f : Fields) (plane : Subspace) (points : Poin
 pub record JobCalled (bytes : Bytes) (f : Fields) (rows : List ℕ) (called : Called) (s : List ℕ) : Type 0 where
   pub said : Said (f .rank) (f .n) (f .count) rows (f .budget) (callOf bounds1 (readJob bytes)) called s
   pub rows-are : rowsIn (f .n) (f .count) rows ≡ readJob bytes .rows
+
+-- the outermost call of a job in a way of its own
+unfoldable pub callBy : Way → job.Job → Outcome recursion.Answer
+callBy way own = facetingWith way (own .rank - 2) (job.rulesOf bounds1 own) (planeOf own) (own .points) (own .rows) (own .budget)
+
+-- what it says
+pub record CalledIn (way : Way) (bytes : Bytes) (f : Fields) (rows : List ℕ) (called : Called) (s : List ℕ) : Type 0 where
+  pub said : Said (f .rank) (f .n) (f .count) rows (f .budget) (callBy way (readJob bytes)) called s
+  pub rows-are : rowsIn (f .n) (f .count) rows ≡ readJob bytes .rows
+
+-- without a package it is the job's call
+pub called-plainly : (bytes : Bytes) (f : Fields) (rows : List ℕ) (called : Called) (s : List ℕ) → CalledIn plainWay bytes f rows called s → JobCalled bytes f rows called s
+unfolding callBy callOf
+called-plainly bytes f rows called s d = record {
+  said = subst (λ (call : recursion.Call). Said (f .rank) (f .n) (f .count) rows (f .budget) (call (planeOf (readJob bytes)) (readJob bytes .points) (readJob bytes .rows) (readJob bytes .budget)) called s)
+      (faceting-with (readJob bytes .rank - 2) (job.rulesOf bounds1 (readJob bytes))) (d .said);
+  rows-are = d .rows-are;
+}
 
 module _ (bytes : Bytes) (workspace : ℕ) (f : Fields) (passed : Passed f ≡ checkedOf bytes workspace) where
   none-fails : firstRefused (tests bytes workspace) ≡ none
@@ -99,9 +120,9 @@ module _ (bytes : Bytes) (workspace : ℕ) (f : Fields) (passed : Passed f ≡ c
     permute = permutations-of (f .n) (f .count) rows (counts .n-most) (l .rows-room) (rw (l .rows-held, counts .n-is) (passed-rows bytes workspace none-fails))
 
     -- what the call is asked
-    pub call-asked : (ws : List ℕ) → length ws ≡ workspace → Asked (f .rank) plane points rows (f .count) rules ws
+    pub call-asked : (ws : List ℕ) → length ws ≡ workspace → (way : code.Way) (globals full : List ℕ) → WayFits (f .n) way globals full → Asked (f .rank) plane points rows (f .count) rules ws way globals full
     unfolding jobRules bounds1 callRules workspaceFor
-    call-asked ws long = record {
+    call-asked ws long way globals full fits = record {
       rank-least = counts .rank-least;
       rank-most = counts .rank-most;
       points-fit = l .points-held .fits;
@@ -115,6 +136,7 @@ module _ (bytes : Bytes) (workspace : ℕ) (f : Fields) (passed : Passed f ≡ c
       entries-are = ap (λ (r : recursion.Rules). r .bounds .entries) (l .rules-are);
       room-three = λ e. let k = room-at 3 e in omega arith;
       room-four = λ e. let k = room-at 4 e in omega arith;
+      way-fits = subst (λ (n : ℕ). WayFits n way globals full) (sym (l .points-n)) fits;
     }
 
     -- the rules are the job's
@@ -123,28 +145,30 @@ module _ (bytes : Bytes) (workspace : ℕ) (f : Fields) (passed : Passed f ≡ c
     rules-job = l .rules-are ∙ (λ i. record { tolerance = counts .tolerance-is i; lengths = record { shortest = counts .min-is i; longest = counts .max-is i }; entryLimit = counts .entries-is i; bounds = bounds1; rule = counts .rule-is i })
 
     -- what the call on what is loaded says
-    call-said : (called : Called) (s : List ℕ) → length s ≡ workspace
-        → Says (f .rank - 2) (callRules rules) (subspaceOf plane) (pointsOf points) (rowsIn (points .n) (f .count) rows) (f .budget) called s
-        → Said (f .rank) (f .n) (f .count) rows (f .budget) (faceting (f .rank - 2) (callRules rules) (subspaceOf plane) (pointsOf points) (rowsIn (f .n) (f .count) rows) (f .budget)) called s
-    call-said called s long h =
-        let asked = call-asked s long in
-        let n-is : points .n ≡ length (pointsOf points) = l .points-held .n-is ∙ ap length (sym (l .points-held .means)) in
-        let own : length (pointsOf points) ≡ f .n = sym n-is ∙ l .points-n in
-        subst (λ (n : ℕ). Said (f .rank) n (f .count) rows (f .budget) (faceting (f .rank - 2) (callRules rules) (subspaceOf plane) (pointsOf points) (rowsIn n (f .count) rows) (f .budget)) called s) own
-        (said.call-said (callRules rules) (subspaceOf plane) (pointsOf points) (f .count) rows (f .budget) s (asked .rank-least) (asked .rank-most) (rw (← n-is) (asked .given)) (rw (← n-is) (rows-fit (asked .permute))) (asked .rows-few) (asked .room-four) called (rw (← n-is) h))
+    module _ (way : code.Way) (globals full : List ℕ) (fits : WayFits (f .n) way globals full) (called : Called) (s : List ℕ) (long : length s ≡ workspace)
+        (h : Says (wayOf (points .n) way globals full) (f .rank - 2) (callRules rules) (subspaceOf plane) (pointsOf points) (rowsIn (points .n) (f .count) rows) (f .budget) called s) where
+      abbrev goes : ℕ → Way
+      goes n = wayOf n way globals full
 
-    -- the same, of the definition's own rules, plane, points and rows
-    pub job-called : (called : Called) (s : List ℕ) → length s ≡ workspace
-        → Says (f .rank - 2) (callRules rules) (subspaceOf plane) (pointsOf points) (rowsIn (points .n) (f .count) rows) (f .budget) called s → JobCalled bytes f rows called s
-    unfolding callOf
-    job-called called s long h =
-        let own = readJob bytes in
-        let is : faceting (f .rank - 2) (callRules rules) (subspaceOf plane) (pointsOf points) (rowsIn (f .n) (f .count) rows) (f .budget) ≡ callOf bounds1 own =
-        λ i. faceting (counts .rank-is i - 2) (rules-job i) (l .plane-held .means i) (l .points-held .means i) (l .rows-held i) (counts .budget-is i) in
-        record {
-          said = subst (λ (call : Outcome recursion.Answer). Said (f .rank) (f .n) (f .count) rows (f .budget) call called s) is (call-said called s long h);
-          rows-are = l .rows-held;
-        }
+      call-said : Said (f .rank) (f .n) (f .count) rows (f .budget) (facetingWith (goes (f .n)) (f .rank - 2) (callRules rules) (subspaceOf plane) (pointsOf points) (rowsIn (f .n) (f .count) rows) (f .budget)) called s
+      call-said =
+          let asked = call-asked s long way globals full fits in
+          let n-is : points .n ≡ length (pointsOf points) = l .points-held .n-is ∙ ap length (sym (l .points-held .means)) in
+          let own : length (pointsOf points) ≡ f .n = sym n-is ∙ l .points-n in
+          subst (λ (n : ℕ). Said (f .rank) n (f .count) rows (f .budget) (facetingWith (goes n) (f .rank - 2) (callRules rules) (subspaceOf plane) (pointsOf points) (rowsIn n (f .count) rows) (f .budget)) called s) own
+          (said.call-said (goes (length (pointsOf points))) (way-takes (length (pointsOf points)) way globals full) (callRules rules) (subspaceOf plane) (pointsOf points) (f .count) rows (f .budget) s (asked .rank-least) (asked .rank-most) (rw (← n-is) (asked .given)) (rw (← n-is) (rows-fit (asked .permute))) (asked .rows-few) (asked .room-four) called (rw (← n-is) h))
+
+      -- the same, of the definition's own rules, plane, points and rows
+      pub job-called : CalledIn (goes (f .n)) bytes f rows called s
+      unfolding callBy
+      job-called =
+          let own = readJob bytes in
+          let is : facetingWith (goes (f .n)) (f .rank - 2) (callRules rules) (subspaceOf plane) (pointsOf points) (rowsIn (f .n) (f .count) rows) (f .budget) ≡ callBy (goes (f .n)) own =
+          λ i. facetingWith (goes (f .n)) (counts .rank-is i - 2) (rules-job i) (l .plane-held .means i) (l .points-held .means i) (l .rows-held i) (counts .budget-is i) in
+          record {
+            said = subst (λ (call : Outcome recursion.Answer). Said (f .rank) (f .n) (f .count) rows (f .budget) call called s) is call-said;
+            rows-are = l .rows-held;
+          }
 
   -- what the job gets by itself is its call's answer
   pub alone-passed : alone bytes workspace ≡ andThen (callOf bounds1 (readJob bytes)) (λ (a : recursion.Answer). answered (answerBytes (f .budget) a))

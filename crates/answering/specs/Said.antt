@@ -11,8 +11,9 @@ use Rattle.definitions.specs.Vectors.{Vec}
 use Rattle.definitions.specs.Subspace.{Subspace}
 use Rattle.definitions.specs.Orbits.{Row}
 use Rattle.definitions.specs.Recursion.{Rules, Answer, swappedEnds, separateEnds}
-use Rattle.definitions.specs.Faceting.{faceting}
+use Rattle.definitions.specs.Faceting.{Way, facetingWith}
 use Rattle.openers.specs.Rows.{rowsIn, RowsFit}
+use Rattle.shapes.specs.Answered.{TakesSome}
 use Rattle.shapes.specs.Calls.{Given}
 use Rattle.shapes.specs.Kept.{Kept}
 use Rattle.shelf.specs.Leaves.{answerLeft}
@@ -20,7 +21,7 @@ use Rattle.kept_edges.specs.Edges.{edgeAnswer}
 use Rattle.calls.specs.declared.Called.{Called}
 use Rattle.calls.specs.declared.Called.the-variants.{Refused, Ends, Left}
 use Rattle.inner_answers.specs.Says.{Says}
-use Rattle.answering.specs.Spent.{call-spends}
+use Rattle.answering.specs.Spent.{call-spends-with}
 use Rattle.answering.specs.Writable.{Writable, keptBy, call-writable}
 
 -- the outcome of a call of rank 3 + more, or of rank 2, from what the code gives back and what it left
@@ -49,12 +50,12 @@ unfolding edgeAnswer swappedEnds separateEnds
 ends-left true rest = refl
 ends-left false rest = refl
 
-module _ (rules : Rules) (plane : Subspace) (points : List Vec) (m : ℕ) (rows : List ℕ) (budget : ℕ) (s : List ℕ) where
+module _ (way : Way) (takes : TakesSome way) (rules : Rules) (plane : Subspace) (points : List Vec) (m : ℕ) (rows : List ℕ) (budget : ℕ) (s : List ℕ) where
   abbrev call : ℕ → Outcome Answer
-  call k = faceting k rules plane points (rowsIn (length points) m rows) budget
+  call k = facetingWith way k rules plane points (rowsIn (length points) m rows) budget
 
   abbrev saysAt : ℕ → Called → Type 0
-  saysAt k called = Says k rules plane points (rowsIn (length points) m rows) budget called s
+  saysAt k called = Says way k rules plane points (rowsIn (length points) m rows) budget called s
 
   pub call-said : {rank : ℕ} → 2 ≤ rank → rank ≤ 4 → Given points (rowsIn (length points) m rows) → RowsFit (length points) m rows → m ≤ 120 → (rank ≡ 4 → 4194304 ≤ length s)
       → (called : Called) → saysAt (rank - 2) called → Said rank (length points) m rows budget (call (rank - 2)) called s
@@ -66,7 +67,7 @@ module _ (rules : Rules) (plane : Subspace) (points : List Vec) (m : ℕ) (rows 
       go zero e (Ends swapped rest) h = record {
         kept = [];
         is = h;
-        can-write = (subst (λ (x : ℕ). x ≤ budget) (ends-left swapped rest) (call-spends 0 rules plane points (rowsIn (length points) m rows) budget (edgeAnswer swapped rest) h), omega arith);
+        can-write = (subst (λ (x : ℕ). x ≤ budget) (ends-left swapped rest) (call-spends-with way 0 rules plane points (rowsIn (length points) m rows) budget (edgeAnswer swapped rest) h), omega arith);
       }
       go zero e (Left level rest) h = absurd h
       go (suc more) e (Refused number) h = record { kept = []; is = h; can-write = tt }
@@ -74,11 +75,11 @@ module _ (rules : Rules) (plane : Subspace) (points : List Vec) (m : ℕ) (rows 
       go (suc more) e (Left level rest) h =
           let less : rank - 3 ≡ more = omega arith in
           record {
-            kept = keptBy more rules plane points m rows budget level rest s h;
+            kept = keptBy way takes more rules plane points m rows budget level rest s h;
             is = rw less (h .is);
             can-write = (
               omega arith,
               rank-most,
-              rw less (call-writable more rules plane points m rows budget level rest s h (omega arith) given rows-fit few-rows (λ q. room (omega arith))),
+              rw less (call-writable way takes more rules plane points m rows budget level rest s h (omega arith) given rows-fit few-rows (λ q. room (omega arith))),
             );
           }

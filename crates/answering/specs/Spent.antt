@@ -14,7 +14,7 @@ use Rattle.definitions.specs.Subspace.{Subspace, flatten, fromPoints}
 use Rattle.definitions.specs.Orbits.{Row, Orbit, image, pointAt}
 use Rattle.definitions.specs.Search.{Facet, Table, Item, Verdict, over, closed, openAt, EntryLimits, Found, limitReached, emit, emitIf, judge, totals, putIn, examine, search, starts}
 use Rattle.definitions.specs.Recursion.{Rules, Answer, Inner, InnerCalls, innerCall, innerCalls, beforeThese, rowsWithin, edgeCall, swappedEnds, separateEnds, callOnSet}
-use Rattle.definitions.specs.Faceting.{Prepared, orbitsOf, prepare, searchFrom, tableFor, entryLimits, finish, faceting, prepareFrom, answerFrom}
+use Rattle.definitions.specs.Faceting.{Way, plainWay, Prepared, orbitsOf, prepareWith, prepare, searchFrom, tableFor, entryLimits, finish, faceting, facetingWith, prepareFrom, answerFrom}
 use Rattle.laws.specs.Outcomes.{answered-before, not-refused-if}
 use Rattle.shapes.specs.Answered.{answers-equal}
 
@@ -42,12 +42,12 @@ module _ (t : Table) (limits : EntryLimits) where
   examine-spends zero (item ∷ pending) emitted found e = let z : _≡_ {A = ℕ} 0 1 = cc in absurd (omega arith)
   examine-spends (suc left) [] emitted found e = subst (λ (f : Found). f .left ≤ suc left) (answers-equal (record { lists = emitted; left = suc left }) found e) (omega arith)
   examine-spends (suc left) (item ∷ pending) emitted found e =
-      emit-spends (judge (totals t (item .list))) (item .list) left (suc left) emitted found (examine t limits left (reverseAux (putIn t item (judge (totals t (item .list)))) pending)) (omega arith)
-      (λ lists q. let k = examine-spends left (reverseAux (putIn t item (judge (totals t (item .list)))) pending) lists found q in omega arith) e
+      emit-spends (judge (totals t (item .list))) (item .list) left (suc left) emitted found (examine t limits left (reverseAux (putIn (limits .extended) t item (judge (totals t (item .list)))) pending)) (omega arith)
+      (λ lists q. let k = examine-spends left (reverseAux (putIn (limits .extended) t item (judge (totals t (item .list)))) pending) lists found q in omega arith) e
 
 search-spends : (rules : Rules) (p : Prepared) (found : Found) → searchFrom rules p ≡ answered found → found .left ≤ p .left
 unfolding searchFrom search
-search-spends rules p found e = examine-spends (tableFor p) (entryLimits rules) (p .left) (reverseAux (starts (tableFor p)) []) [] found e
+search-spends rules p found e = examine-spends (tableFor p) (entryLimits rules (p .extended)) (p .left) (reverseAux (starts (tableFor p)) []) [] found e
 
 -- ---- the inner calls
 
@@ -98,21 +98,34 @@ one-spends more rules flat rows spends orbit budget i e =
     let k = spends plane points (rowsWithin (orbit .vertices) rows) budget (b .0) (b .1) in
     omega arith
 
-pub call-spends : (n : ℕ) (rules : Rules) (plane : Subspace) (points : List Vec) (rows : List Row) (budget : ℕ) (a : Answer) → faceting n rules plane points rows budget ≡ answered a → a .left ≤ budget
-unfolding answerFrom faceting prepareFrom prepare finish
-call-spends zero rules plane points rows budget a e = edge-spends plane points rows budget a e
-call-spends (suc more) rules plane points rows budget a e =
+-- a call in any way, whose inner calls leave no more than they were given
+way-spends : (way : Way) (more : ℕ) (rules : Rules)
+    → ((plane : Subspace) (points : List Vec) (rows : List Row) (budget : ℕ) (a : Answer) → faceting more rules plane points rows budget ≡ answered a → a .left ≤ budget)
+    → (plane : Subspace) (points : List Vec) (rows : List Row) (budget : ℕ) (a : Answer) → facetingWith way (suc more) rules plane points rows budget ≡ answered a → a .left ≤ budget
+unfolding answerFrom facetingWith prepareFrom prepareWith finish
+way-spends way more rules spends plane points rows budget a e =
     let flat = map (flatten plane) points in
-    let orbits = orbitsOf more rules plane points rows in
+    let all = orbitsOf more rules plane points rows in
+    let orbits = way .keeps all in
     let inner = innerCall (suc more) rules (faceting more rules) flat rows in
     let calls = innerCalls inner (rules .bounds .facets) orbits 0 budget in
-    let next : InnerCalls → Outcome Prepared = λ done. answered (record { more = more; points = length points; rows = rows; inner = done .calls; left = done .left }) in
-    let p = answered-before (prepare more rules (faceting more rules) plane points rows budget) (λ (x : Prepared). andThen (searchFrom rules x) (λ (f : Found). answered (finish x f))) a e in
+    let next : InnerCalls → Outcome Prepared = λ done. answered (record { more = more; points = length points; rows = rows; inner = done .calls; left = done .left; extended = way .extended }) in
+    let p = answered-before (prepareWith way more rules (faceting more rules) plane points rows budget) (λ (x : Prepared). andThen (searchFrom rules x) (λ (f : Found). answered (finish x f))) a e in
     let f = answered-before (searchFrom rules (p .0)) (λ (x : Found). answered (finish (p .0) x)) a (p .2) in
-    let b = not-refused-if (ltb (rules .bounds .orbits) (length orbits)) 13 (λ u. andThen calls next) (p .0) (p .1) in
+    let b = not-refused-if (ltb (rules .bounds .orbits) (length all)) 13 (λ u. andThen calls next) (p .0) (p .1) in
     let c = answered-before calls next (p .0) (b .1) in
-    let left-is : c .0 .left ≡ p .0 .left = ap (λ (x : Prepared). x .left) (answers-equal (record { more = more; points = length points; rows = rows; inner = c .0 .calls; left = c .0 .left }) (p .0) (c .2)) in
+    let left-is : c .0 .left ≡ p .0 .left = ap (λ (x : Prepared). x .left) (answers-equal (record { more = more; points = length points; rows = rows; inner = c .0 .calls; left = c .0 .left; extended = way .extended }) (p .0) (c .2)) in
     let rest-is : f .0 .left ≡ a .left = ap (λ (x : Answer). x .left) (answers-equal (finish (p .0) (f .0)) a (f .2)) in
-    let before = inner-spends inner (rules .bounds .facets) (one-spends more rules flat rows (λ plane points rows budget a e. call-spends more rules plane points rows budget a e)) orbits 0 budget (c .0) (c .1) in
+    let before = inner-spends inner (rules .bounds .facets) (one-spends more rules flat rows spends) orbits 0 budget (c .0) (c .1) in
     let searched = search-spends rules (p .0) (f .0) (f .1) in
     omega arith
+
+pub call-spends : (n : ℕ) (rules : Rules) (plane : Subspace) (points : List Vec) (rows : List Row) (budget : ℕ) (a : Answer) → faceting n rules plane points rows budget ≡ answered a → a .left ≤ budget
+unfolding faceting facetingWith prepare
+call-spends zero rules plane points rows budget a e = edge-spends plane points rows budget a e
+call-spends (suc more) rules plane points rows budget a e = way-spends plainWay more rules (call-spends more rules) plane points rows budget a e
+
+pub call-spends-with : (way : Way) (n : ℕ) (rules : Rules) (plane : Subspace) (points : List Vec) (rows : List Row) (budget : ℕ) (a : Answer) → facetingWith way n rules plane points rows budget ≡ answered a → a .left ≤ budget
+unfolding facetingWith
+call-spends-with way zero rules plane points rows budget a e = edge-spends plane points rows budget a e
+call-spends-with way (suc more) rules plane points rows budget a e = way-spends way more rules (call-spends more rules) plane points rows budget a e

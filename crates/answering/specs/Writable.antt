@@ -8,11 +8,11 @@ use lib.ListN.{length, take, drop}
 use Rattle.definitions.specs.Vectors.{Vec}
 use Rattle.definitions.specs.Subspace.{Subspace}
 use Rattle.definitions.specs.Recursion.{Rules}
-use Rattle.definitions.specs.Faceting.{faceting}
+use Rattle.definitions.specs.Faceting.{Way, faceting}
 use Rattle.definitions.specs.Job.{answerWords}
 use Rattle.pool.specs.Pool.{count}
 use Rattle.openers.specs.Rows.{rowsIn, RowsFit}
-use Rattle.shapes.specs.Answered.{preparation}
+use Rattle.shapes.specs.Answered.{TakesSome, preparation-with}
 use Rattle.shapes.specs.Calls.{Given}
 use Rattle.shapes.specs.Kept.{Kept, keptOf}
 use Rattle.shapes.specs.KeptSizes.{KeptSized, kept-sized}
@@ -33,7 +33,7 @@ use Rattle.polygons.specs.Arranges.{images-room, order-asks, standing-after, im
 use Rattle.polygons.specs.Orders.{Ordered}
 use Rattle.polygons.specs.declared.Images.{Images}
 use Rattle.inner_answers.specs.Says.{AnswerStands}
-use Rattle.answering.specs.Spent.{call-spends}
+use Rattle.answering.specs.Spent.{call-spends-with}
 
 pub record Writable (more n m : ℕ) (rows : List ℕ) (kept : List Kept) (level : Level) (budget rest : ℕ) (s : List ℕ) : Type 0 where
   pub rows-fit : RowsFit n m rows
@@ -101,8 +101,8 @@ module _ {n m : ℕ} {rows : List ℕ} {kept : List Kept} {level : Level} {budge
 
 -- ---- what a call leaves is so
 
-module _ (more : ℕ) (rules : Rules) (plane : Subspace) (points : List Vec) (m : ℕ) (rows : List ℕ) (budget : ℕ) (level : Level) (rest : ℕ) (s : List ℕ)
-    (stands : AnswerStands more rules plane points (rowsIn (length points) m rows) budget level rest s) where
+module _ (way : Way) (takes : TakesSome way) (more : ℕ) (rules : Rules) (plane : Subspace) (points : List Vec) (m : ℕ) (rows : List ℕ) (budget : ℕ) (level : Level) (rest : ℕ) (s : List ℕ)
+    (stands : AnswerStands way more rules plane points (rowsIn (length points) m rows) budget level rest s) where
   -- what it keeps
   abbrev pub keptBy : List Kept
   keptBy = map keptOf (stands .before .inner)
@@ -116,10 +116,10 @@ module _ (more : ℕ) (rules : Rules) (plane : Subspace) (points : List Vec) (m 
     edges = record { each = λ k i. sized k i .edges-many; proper = λ k i l j. sized k i .edges-set l j .proper };
     few-edges = record { few = λ k i. sized k i .few-edges (fits .n-fits) };
     leaves = stands .leaves;
-    spent = call-spends (suc more) rules plane points (rowsIn (length points) m rows) budget (answerLeft more (length points) (rowsIn (length points) m rows) keptBy level s rest) (stands .is);
+    spent = call-spends-with way (suc more) rules plane points (rowsIn (length points) m rows) budget (answerLeft more (length points) (rowsIn (length points) m rows) keptBy level s rest) (stands .is);
     ends = stands .ends;
     room = room;
   }
     where
       sized : (k : Kept) → Mem k keptBy → KeptSized more (length points) (rowsIn (length points) m rows) k
-      sized = kept-sized more rules plane points (rowsIn (length points) m rows) (stands .before) few given (preparation more rules (faceting more rules) plane points (rowsIn (length points) m rows) budget (stands .before) (stands .prepared))
+      sized = kept-sized more rules plane points (rowsIn (length points) m rows) (stands .before) few given (preparation-with way takes more rules (faceting more rules) plane points (rowsIn (length points) m rows) budget (stands .before) (stands .prepared))

@@ -2,15 +2,20 @@
 // room, or the length of one that stands there: the exported functions make their return codes of that.
 use calls::Called;
 use calls::Rules;
+use faceting::Way;
 use job::Checked;
 use load::EntryLimit;
 use load::Fields;
 use search::Limit;
 use shelf::Level;
+use tallies::FullSet;
 ghost use mathlib.Core.Path.{_≡_};
+ghost use mathlib.Core.Bool.{true};
 ghost use mathlib.Core.List.{List};
 ghost use Prim.Native.Nat.{_-_, _≤_};
 ghost use lib.ListN.{length, replicate};
+ghost use Rattle.definitions.specs.Outcome.{Outcome};
+ghost use Rattle.definitions.specs.Recursion.{Answer};
 ghost use Rattle.definitions.specs.Job.{answerWords, alone};
 ghost use Rattle.openers.specs.Rows.{rowsIn};
 ghost use Rattle.shapes.specs.Kept.{Kept};
@@ -23,8 +28,11 @@ ghost use Rattle.search.specs.Outcomes.{searchLimit};
 ghost use Rattle.call_search.specs.Stocks.{callRules};
 ghost use Rattle.figure_words.specs.Wrote.{Wrote};
 ghost use Rattle.answering.specs.Writable.{Writable};
+ghost use Rattle.answering.specs.Said.{Said};
+ghost use Rattle.answering.specs.Answered.{bytesOf};
 ghost use Rattle.answering.specs.Closed.{writtenIn, bufferIn, writtenTo, bufferTo};
-ghost use Rattle.answering.specs.Loaded.{jobRules, JobCalled};
+ghost use Rattle.faceting.specs.Ways.{wayOf, WayFits};
+ghost use Rattle.answering.specs.Loaded.{jobRules, JobCalled, CalledIn};
 
 // ---- loading and calling
 
@@ -60,10 +68,18 @@ fn rules_of(fields: Fields) -> Rules
 // The bytes of a job's rows in a call: 32 to a row, 120 rows at most.
 pub const ROWS_ROOM: usize = 3840;
 
-// A job that passed the refusals before the call, loaded and called [12.1]. Its rows stay with the caller, who needs them for what the call leaves.
-pub fn call_job(job: &[u8], fields: Fields, ws: &mut [u8], rows: &mut [u8]) -> Called
-    requires { ⌜ (Passed fields ≡ checkedOf (now job) (length (now ws))) × (length (now rows) ≡ 3840) ⌝ }
-    ensures { λ r. ⌜ JobCalled (now (job .entry)) fields (now (rows .exit)) r (now (ws .exit)) ⌝ }
+// A job that passed the refusals before the call, loaded and called in a way [12.1] [17.10]. Its rows stay with the caller, who needs them for what the call leaves.
+pub fn call_in_way(
+    job: &[u8],
+    fields: Fields,
+    ws: &mut [u8],
+    rows: &mut [u8],
+    way: Way,
+    globals: &[u8],
+    full: &[u8],
+) -> Called
+    requires { ⌜ (Passed fields ≡ checkedOf (now job) (length (now ws))) × (length (now rows) ≡ 3840) × WayFits (fields .n) way (now globals) (now full) ⌝ }
+    ensures { λ r. ⌜ CalledIn (wayOf (fields .n) way (now (globals .entry)) (now (full .entry))) (now (job .entry)) fields (now (rows .exit)) r (now (ws .exit)) ⌝ }
 {
     let rank = fields.rank;
     let m = fields.count;
@@ -72,7 +88,41 @@ pub fn call_job(job: &[u8], fields: Fields, ws: &mut [u8], rows: &mut [u8]) -> C
     let points = load::points_of(job, fields);
     let rules = rules_of(fields);
     load::load_rows(job, fields, rows);
-    faceting::faceting(rank, plane, points, rows, m, rules, budget, ws)
+    faceting::faceting(
+        rank,
+        plane,
+        points,
+        rows,
+        m,
+        rules,
+        budget,
+        ws,
+        way,
+        globals,
+        full,
+    )
+}
+
+// The way of a call without a package, which has no full set.
+fn plain_way() -> Way
+    ensures { λ r. ⌜ r .plain ≡ true ⌝ }
+{
+    Way {
+        plain: true,
+        whole: FullSet {
+            size: 0,
+            rows: 0,
+            count: 0,
+        },
+    }
+}
+
+// The job's own call, without a package: it reads neither global numbers nor full rows, so that any bytes may stand for them.
+pub fn call_job(job: &[u8], fields: Fields, ws: &mut [u8], rows: &mut [u8]) -> Called
+    requires { ⌜ (Passed fields ≡ checkedOf (now job) (length (now ws))) × (length (now rows) ≡ 3840) ⌝ }
+    ensures { λ r. ⌜ JobCalled (now (job .entry)) fields (now (rows .exit)) r (now (ws .exit)) ⌝ }
+{
+    call_in_way(job, fields, ws, rows, plain_way(), job, job)
 }
 
 // ---- writing what a call leaves
@@ -166,28 +216,44 @@ pub fn close(answer: &mut [u8], at: usize) -> Written
     Written::Wrote(at)
 }
 
-// A job that passed the refusals before the call, called, and what its call says written into the cleared buffer.
-fn write_job(job: &[u8], fields: Fields, ws: &mut [u8], answer: &mut [u8]) -> Written
-    requires { ⌜ (Passed fields ≡ checkedOf (now job) (length (now ws))) × (now answer ≡ replicate (length (now answer)) 0) ⌝ }
-    ensures result { λ r. ⌜ r ≡ writtenIn (length (now (answer .entry))) (alone (now (job .entry)) (length (now (ws .entry)))) ⌝ }
-    ensures buffer { λ _. ⌜ now (answer .exit) ≡ bufferIn (length (now (answer .entry))) (alone (now (job .entry)) (length (now (ws .entry)))) ⌝ }
+// What a call says, written into the cleared buffer.
+pub fn write_called(
+    called: Called,
+    fields: Fields,
+    rows: &[u8],
+    ws: &mut [u8],
+    answer: &mut [u8],
+) -> Written
+    requires { ⌜ (now answer ≡ replicate (length (now answer)) 0) × ((call : Outcome Answer) × Said (fields .rank) (fields .n) (fields .count) (now rows) (fields .budget) call called (now ws)) ⌝ }
+    ensures result { λ r. ⌜ ((call : Outcome Answer) → Said (fields .rank) (fields .n) (fields .count) (now (rows .entry)) (fields .budget) call called (now (ws .entry)) → r ≡ writtenIn (length (now (answer .entry))) (bytesOf (fields .budget) call)) ⌝ }
+    ensures buffer { λ _. ⌜ ((call : Outcome Answer) → Said (fields .rank) (fields .n) (fields .count) (now (rows .entry)) (fields .budget) call called (now (ws .entry)) → now (answer .exit) ≡ bufferIn (length (now (answer .entry))) (bytesOf (fields .budget) call)) ⌝ }
 {
     let rank = fields.rank;
     let n = fields.n;
     let m = fields.count;
     let budget = fields.budget;
-    let mut rows = [0; ROWS_ROOM];
-    match call_job(job, fields, ws, &mut rows) {
+    match called {
         Called::Refused(number) => Written::Refused(number),
         Called::Ends(swapped, rest) => {
             let end = write_ends(answer, swapped, budget, rest);
             close(answer, end)
         }
         Called::Left(level, rest) => {
-            let end = write_left(answer, ws, rank, level, &rows, m, n, budget, rest);
+            let end = write_left(answer, ws, rank, level, rows, m, n, budget, rest);
             close(answer, end)
         }
     }
+}
+
+// A job that passed the refusals before the call, called, and what its call says written into the cleared buffer.
+fn write_job(job: &[u8], fields: Fields, ws: &mut [u8], answer: &mut [u8]) -> Written
+    requires { ⌜ (Passed fields ≡ checkedOf (now job) (length (now ws))) × (now answer ≡ replicate (length (now answer)) 0) ⌝ }
+    ensures result { λ r. ⌜ r ≡ writtenIn (length (now (answer .entry))) (alone (now (job .entry)) (length (now (ws .entry)))) ⌝ }
+    ensures buffer { λ _. ⌜ now (answer .exit) ≡ bufferIn (length (now (answer .entry))) (alone (now (job .entry)) (length (now (ws .entry)))) ⌝ }
+{
+    let mut rows = [0; ROWS_ROOM];
+    let called = call_job(job, fields, ws, &mut rows);
+    write_called(called, fields, &rows, ws, answer)
 }
 
 // Any job, answered into a cleared buffer.

@@ -14,7 +14,7 @@ use Rattle.definitions.specs.Vectors.{Vec, minus}
 use Rattle.definitions.specs.Subspace.{Subspace, residual, isHyperplane, flatten}
 use Rattle.definitions.specs.Orbits.{Row, Limits, Orbit, pointAt, vertexOpeners, tooShort, tooLong, pairOpeners, pairsFrom, tuples, setImage, mostVertices}
 use Rattle.definitions.specs.Recursion.{Rules, Bounds, Answer, Call, Inner, edgeCall, callOnSet}
-use Rattle.definitions.specs.Faceting.{Prepared, prepareFrom, answerFrom}
+use Rattle.definitions.specs.Faceting.{plainWay, Prepared, prepareFrom, answerFrom}
 use Rattle.definitions.specs.Job.{Bytes, Job, readJob, tests, passAll, rulesOf, planeOf, answerBytes, fitting}
 
 module _ (norm : Vec → Float) where
@@ -84,7 +84,7 @@ module _ (norm : Vec → Float) where
   prepareBy more rules call plane points rows =
       let flat = map (flatten plane) points in
       let orbits = hyperplaneOrbitsBy (rules .tolerance) (rules .lengths) (rules .rule) more points flat rows in
-      prepareFrom orbits (innerCallBy (suc more) rules call flat rows) more rules (length points) rows
+      prepareFrom plainWay orbits (innerCallBy (suc more) rules call flat rows) more rules (length points) rows
 
   unfoldable pub facetingBy : ℕ → Rules → Call
   facetingBy zero rules = edgeCall

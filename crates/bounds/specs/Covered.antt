@@ -13,7 +13,7 @@ use Rattle.definitions.specs.Vectors.{Vec, norm, normalised, minus}
 use Rattle.definitions.specs.Subspace.{Subspace, residual, distance, addPoint, addPoints, fromPoints, isHyperplane}
 use Rattle.definitions.specs.Orbits.{Row, Limits, Orbit, pointAt, vertexOpeners, tooShort, tooLong, breaksLimit, pairOpeners, pairsFrom, tuples, pointsNear, setImage, mostVertices, hyperplanes, hyperplaneOrbits}
 use Rattle.definitions.specs.Recursion.{Rules, Answer, Call, Inner, callOnSet, innerCall, rowsWithin}
-use Rattle.definitions.specs.Faceting.{Prepared, orbitsOf, prepareFrom, prepare, answerFrom, faceting}
+use Rattle.definitions.specs.Faceting.{plainWay, Prepared, orbitsOf, prepareFrom, prepareWith, prepare, answerFrom, faceting}
 use Rattle.bounds.specs.Sizes.{Each}
 use Rattle.bounds.specs.Fits.{AddTakes, at-first, behind, FitTakes, fitting}
 use Rattle.bounds.specs.Calls.{Takes, in-length, in-fit, in-distance, Occurs, inner, flattened, chosen, through}
@@ -143,10 +143,10 @@ module _ (other : Vec → Float) where
         → callBy (through (rules .tolerance) plane points vertices) (chosen plane points vertices) rows budget
         ≡ call (through (rules .tolerance) plane points vertices) (chosen plane points vertices) rows budget) → (rows : List Row) (budget : ℕ)
         → prepareBy other more rules callBy plane points rows budget ≡ prepare more rules call plane points rows budget
-    unfolding prepareBy prepare orbitsOf flattened
+    unfolding prepareBy prepareWith prepare orbitsOf flattened
     prepare-same {more = more} {plane = plane} {points = points} c callBy call same rows budget =
         let flat = flattened plane points in
-        let prepared : List Orbit → (Orbit → ℕ → Outcome Inner) → Outcome Prepared = λ orbits one. prepareFrom orbits one more rules (length points) rows budget in
+        let prepared : List Orbit → (Orbit → ℕ → Outcome Inner) → Outcome Prepared = λ orbits one. prepareFrom plainWay orbits one more rules (length points) rows budget in
         ap (λ (orbits : List Orbit). prepared orbits (innerCallBy other (suc more) rules callBy flat rows))
         (orbits-same (rules .tolerance) plane points (λ v k. agree .at c k) (rules .lengths) (rules .rule) more rows)
         ∙ ap (prepared (hyperplaneOrbits (rules .tolerance) (rules .lengths) (rules .rule) more points flat rows)) (fun-ext (λ orbit. fun-ext (λ left. inner-same c callBy call same rows orbit left)))

@@ -6,7 +6,7 @@ use Prim.Native.Nat.{ℕ, suc, _+_, _≤_}
 use Rattle.definitions.specs.Outcome as result
 use Rattle.definitions.specs.Search.{Found}
 use Rattle.definitions.specs.Recursion.{Answer}
-use Rattle.definitions.specs.Faceting.{prepare, searchFrom, finish, faceting}
+use Rattle.definitions.specs.Faceting.{Way, prepareWith, searchFrom, finish, faceting, facetingWith}
 use Rattle.shelf.specs.declared.Level.{Level}
 use Rattle.shelf.specs.Leaves.{Leaves, answerLeft}
 use Rattle.calls.specs.declared.Rules.{Rules}
@@ -32,9 +32,9 @@ Searched k rules (Left level rest) s = Answers k rules level rest s
 
 -- ---- the whole call
 
-module _ (k : Stock) (rules : Rules) (budget : ℕ) (prepared : prepare (k .more) (callRules rules) (faceting (k .more) (callRules rules)) (k .plane) (k .points) (k .rows) budget ≡ result.answered (k .prepared)) where
+module _ (way : Way) (k : Stock) (rules : Rules) (budget : ℕ) (prepared : prepareWith way (k .more) (callRules rules) (faceting (k .more) (callRules rules)) (k .plane) (k .points) (k .rows) budget ≡ result.answered (k .prepared)) where
   abbrev call : result.Outcome Answer
-  call = faceting (suc (k .more)) (callRules rules) (k .plane) (k .points) (k .rows) budget
+  call = facetingWith way (suc (k .more)) (callRules rules) (k .plane) (k .points) (k .rows) budget
 
   abbrev next : Found → result.Outcome Answer
   next found = result.answered (finish (k .prepared) found)
@@ -42,10 +42,10 @@ module _ (k : Stock) (rules : Rules) (budget : ℕ) (prepared : prepare (k .more
   -- what the search says is what the call says
   pub searched-refused : (number : ℕ) (s : List ℕ) → Searched k rules (Refused number) s → call ≡ result.refused number
   unfolding Searched result.andThen
-  searched-refused number s e = call-searched (k .more) (callRules rules) (k .plane) (k .points) (k .rows) budget (k .prepared) prepared ∙ ap (λ (o : result.Outcome Found). result.andThen o next) e
+  searched-refused number s e = call-searched way (k .more) (callRules rules) (k .plane) (k .points) (k .rows) budget (k .prepared) prepared ∙ ap (λ (o : result.Outcome Found). result.andThen o next) e
 
   pub searched-answered : (level : Level) (rest : ℕ) (s : List ℕ) → Searched k rules (Left level rest) s → call ≡ result.answered (answerLeft (k .more) (pointsIn k) (k .rows) (keptIn k) level s rest)
   unfolding Searched result.andThen
   searched-answered level rest s a =
-      call-searched (k .more) (callRules rules) (k .plane) (k .points) (k .rows) budget (k .prepared) prepared
+      call-searched way (k .more) (callRules rules) (k .plane) (k .points) (k .rows) budget (k .prepared) prepared
       ∙ (ap (λ (o : result.Outcome Found). result.andThen o next) (a .is-found) ∙ ap result.answered (a .answer))

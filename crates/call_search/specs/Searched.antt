@@ -1,6 +1,7 @@
 -- From what a call keeps to its answer in the workspace: the tables are laid, the search runs in the workspace from the owners on, and the lists that it emitted are made the call's entries, at
 -- rank 3 as they are, at rank 4 split. Leans on Stocks and Answers, on the search's searchOutcome and on the laws of emitted lists.
 use mathlib.Core.Path.{_≡_, refl, sym, ap, _∙_, subst}
+use mathlib.Core.Bool.{Bool}
 use mathlib.Core.List.{List, [], _++_, map}
 use Prim.Native.Nat.{ℕ, zero, suc, _+_, _-_, _≤_}
 use native.Mathlib.Omega.{arith}
@@ -146,7 +147,7 @@ front-kept o f s t h e q =
     let inner : take 2048 (drop o t) ≡ take 2048 (drop o s) = sym (take-take 2048 f (drop o t) h) ∙ (ap (take 2048) q ∙ take-take 2048 f (drop o s) h) in
     take-add o 2048 t ∙ ((λ i. e i ++ inner i) ∙ sym (take-add o 2048 s))
 
-module _ (k : Stock) (shelf : Shelf) (rank : ℕ) (rows : List ℕ) (m : ℕ) (rules : Rules) (left : ℕ) (s : List ℕ) (st : Stocked k shelf rank rows m rules left s) where
+module _ (k : Stock) (shelf : Shelf) (rank : ℕ) (rows : List ℕ) (m : ℕ) (rules : Rules) (extended : Bool) (left : ℕ) (s : List ℕ) (st : Stocked k shelf rank rows m rules extended left s) where
   -- the table that the workspace has
   abbrev pub table : Table
   table = keptTable (rowsIn (pointsIn k) m rows) (keptIn k)
@@ -175,11 +176,11 @@ module _ (k : Stock) (shelf : Shelf) (rank : ℕ) (rows : List ℕ) (m : ℕ) (r
       at-rank (suc (suc more)) few e = absurd (omega arith)
 
   -- the search of the tables is the call's
-  pub search-is : (a : Areas) → a .bound ≡ 1024 → def.search table (entryLimitsOf a (rules .limit)) left ≡ searchFrom (callRules rules) (k .prepared)
+  pub search-is : (a : Areas) → a .bound ≡ 1024 → def.search table (entryLimitsOf a (record { limit = rules .limit; extended = extended })) left ≡ searchFrom (callRules rules) (k .prepared)
   unfolding searchFrom entryLimits entryLimitsOf callRules
   search-is a bound =
       let same : a .bound ≡ rules .entries = bound ∙ sym (st .few-entries) in
-      λ i. def.search (sym table-is i) (record { limit = searchLimit (rules .limit); bound = same i }) (st .left-is i)
+      λ i. def.search (sym table-is i) (record { limit = searchLimit (rules .limit); bound = same i; extended = st .extended-is i }) (st .left-is i)
 
   -- ---- what the search leaves
 
@@ -278,7 +279,7 @@ module _ (k : Stock) (shelf : Shelf) (rank : ℕ) (rows : List ℕ) (m : ℕ) (r
         front-kept (shelf .owners) (a .frames) s1 now (p .frames) (back-front (shelf .owners) s1 u inside long-u) (ap (take (a .frames)) tail-is ∙ tables)
         ∙ (sym (take-take (shelf .owners + 2048) (shelf .end) s1 (p .owners)) ∙ (ap (take (shelf .owners + 2048)) front1 ∙ take-take (shelf .owners + 2048) (shelf .end) s (p .owners)))
 
-    module _ (o : Outcome) (said : searchOutcome table a o u ≡ def.search table (entryLimitsOf a (rules .limit)) left) where
+    module _ (o : Outcome) (said : searchOutcome table a o u ≡ def.search table (entryLimitsOf a (record { limit = rules .limit; extended = extended })) left) where
       whole : searchOutcome table a o u ≡ searchFrom (callRules rules) (k .prepared)
       whole = said ∙ search-is a (placed a is .bound)
 
@@ -306,7 +307,7 @@ module _ (k : Stock) (shelf : Shelf) (rank : ℕ) (rows : List ℕ) (m : ℕ) (r
 
   module _ (desk : Desk) (desk-is : desk ≡ deskFor rank) where
     on-desk : (most : ℕ) × (ridges : ℕ) × Given (pointsIn k) most ridges m rows (keptIn k) shelf desk s
-    on-desk = subst (λ (d : Desk). (most : ℕ) × (ridges : ℕ) × Given (pointsIn k) most ridges m rows (keptIn k) shelf d s) (sym desk-is) (tables-asked k shelf rank rows m rules left s st)
+    on-desk = subst (λ (d : Desk). (most : ℕ) × (ridges : ℕ) × Given (pointsIn k) most ridges m rows (keptIn k) shelf d s) (sym desk-is) (tables-asked k shelf rank rows m rules extended left s st)
 
     pub given-tables : (n : ℕ) × (most : ℕ) × (ridges : ℕ) × (kept : List Kept) × Given n most ridges m rows kept shelf desk s
     given-tables = (pointsIn k, on-desk .0, on-desk .1, keptIn k, on-desk .2)
@@ -324,7 +325,7 @@ module _ (k : Stock) (shelf : Shelf) (rank : ℕ) (rows : List ℕ) (m : ℕ) (r
       -- ---- what the search said
 
       module _ (long1 : length s1 ≡ length s) (o : Outcome) (u : List ℕ) (long-u : length u ≡ length (take (length s1 - shelf .owners) (drop (shelf .owners) s1)))
-          (said : (t : Table) → Inputs t a (take (length s1 - shelf .owners) (drop (shelf .owners) s1)) → searchOutcome t a o u ≡ def.search t (entryLimitsOf a (rules .limit)) left)
+          (said : (t : Table) → Inputs t a (take (length s1 - shelf .owners) (drop (shelf .owners) s1)) → searchOutcome t a o u ≡ def.search t (entryLimitsOf a (record { limit = rules .limit; extended = extended })) left)
           (many : (t : Table) → countedLists t a o u) (tables : take (a .frames) u ≡ take (a .frames) (take (length s1 - shelf .owners) (drop (shelf .owners) s1))) where
         tail-long : length u ≡ length (drop (shelf .owners) s1)
         tail-long = long-u ∙ ap length (lent-tail (shelf .owners) s1)

@@ -1,6 +1,7 @@
 -- What a call has when its search begins: all inner calls are made and kept in the workspace. Its tables can be laid, at rank 3 and at rank 4. Leans on the desks, on what is kept of inner calls
 -- and how much that can be.
 use mathlib.Core.Path.{_≡_, sym, ap, _∙_, subst}
+use mathlib.Core.Bool.{Bool}
 use mathlib.Core.List.{List, map}
 use Prim.Native.Nat.{ℕ, zero, suc, _+_, _-_, _≤_}
 use native.Mathlib.Omega.{arith}
@@ -56,13 +57,14 @@ abbrev pub keptIn : Stock → List Kept
 keptIn k = map keptOf (k .prepared .inner)
 
 -- it stands in the workspace: its rows in bytes, and on the shelf of its rank what it keeps
-pub record Stocked (k : Stock) (shelf : Shelf) (rank : ℕ) (rows : List ℕ) (m : ℕ) (rules : Rules) (left : ℕ) (s : List ℕ) : Type 0 where
+pub record Stocked (k : Stock) (shelf : Shelf) (rank : ℕ) (rows : List ℕ) (m : ℕ) (rules : Rules) (extended : Bool) (left : ℕ) (s : List ℕ) : Type 0 where
   pub few-more : k .more ≤ 1
   pub rank-is : rank ≡ 3 + k .more
   pub given : Given (k .points) (k .rows)
   pub few-points : pointsIn k ≤ 20
   pub made : Preparation (k .more) (callRules rules) (faceting (k .more) (callRules rules)) (k .plane) (k .points) (k .rows) (k .prepared)
   pub left-is : left ≡ k .prepared .left
+  pub extended-is : extended ≡ k .prepared .extended
   pub few-entries : rules .entries ≡ 1024
   pub rows-are : k .rows ≡ rowsIn (pointsIn k) m rows
   pub rows-fit : RowsFit (pointsIn k) m rows
@@ -83,7 +85,7 @@ pub shelf-four : (shelf : Shelf) (rank : ℕ) → (rank ≡ 3 → ⊥) → shelf
 unfolding shelfFour
 shelf-four shelf rank n o h = let q = sym (at-four rank n) in (o ∙ ap (λ (x : Shelf). x .owners) q, h ∙ ap (λ (x : Shelf). x .end) q)
 
-module _ (k : Stock) (shelf : Shelf) (rank : ℕ) (rows : List ℕ) (m : ℕ) (rules : Rules) (left : ℕ) (s : List ℕ) (st : Stocked k shelf rank rows m rules left s) where
+module _ (k : Stock) (shelf : Shelf) (rank : ℕ) (rows : List ℕ) (m : ℕ) (rules : Rules) (extended : Bool) (left : ℕ) (s : List ℕ) (st : Stocked k shelf rank rows m rules extended left s) where
   rows-many : length (k .rows) ≤ 120
   unfolding rowsIn
   rows-many = let e = ap length (st .rows-are) ∙ length-rows 32 (pointsIn k) m rows in omega (arith, st .rows-few)

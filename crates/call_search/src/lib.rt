@@ -8,6 +8,7 @@ ghost use Rattle.call_search.specs.Searched.{ListsReady, EntriesListed};
 use calls::Called;
 use calls::Rules;
 use facets::Areas;
+use search::Course;
 use search::Outcome;
 use shares::Desk;
 use shelf::Level;
@@ -55,7 +56,8 @@ fn list_entries(ws: &mut [u8], shelf: Shelf, rank: usize, areas: Areas) -> Level
     entries::split_entries(ws, shelf, at, bytes)
 }
 
-// The second half of a call: from what it keeps of its inner calls to its answer, or a refusal. The search is given the workspace from the owners on.
+// The second half of a call: from what it keeps of its inner calls to its answer, or a refusal. The search is given the workspace from the owners on, and
+// told whether closed lists are extended.
 pub fn search_call(
     ws: &mut [u8],
     shelf: Shelf,
@@ -63,16 +65,21 @@ pub fn search_call(
     rows: &[u8],
     m: usize,
     rules: Rules,
+    extended: bool,
     left: u32,
 ) -> Called
-    requires { ⌜ ((k : Stock) × Stocked k shelf rank (now rows) m rules left (now ws)) ⌝ }
-    ensures { λ r. ⌜ ((k : Stock) → Stocked k shelf rank (now (rows .entry)) m rules left (now (ws .entry)) → Searched k rules r (now (ws .exit))) ⌝ }
+    requires { ⌜ ((k : Stock) × Stocked k shelf rank (now rows) m rules extended left (now ws)) ⌝ }
+    ensures { λ r. ⌜ ((k : Stock) → Stocked k shelf rank (now (rows .entry)) m rules extended left (now (ws .entry)) → Searched k rules r (now (ws .exit))) ⌝ }
 {
     let owners = shelf.owners;
     let limit = rules.limit;
+    let course = Course {
+        limit: limit,
+        extended: extended,
+    };
     let desk = desk_for(rank);
     let areas = ridges::lay_tables(rows, m, shelf, desk, ws);
-    let outcome = search::search(&mut ws[owners..], areas, limit, left);
+    let outcome = search::search(&mut ws[owners..], areas, course, left);
     match outcome {
         Outcome::Refused(number) => Called::Refused(number),
         Outcome::Found(_, rest) => {

@@ -13,7 +13,7 @@ use Rattle.definitions.specs.Subspace.{Subspace, flatten, fromPoints}
 use Rattle.definitions.specs.Orbits.{Row, Orbit, pointAt}
 use Rattle.definitions.specs.Search.{Found}
 use Rattle.definitions.specs.Recursion.{Rules, Answer, Call, Inner, InnerCalls, innerCall, innerCalls, beforeThese, rowsWithin, callOnSet}
-use Rattle.definitions.specs.Faceting.{Prepared, orbitsOf, prepare, searchFrom, finish, faceting, prepareFrom, answerFrom}
+use Rattle.definitions.specs.Faceting.{Way, Prepared, orbitsOf, prepareWith, searchFrom, finish, faceting, facetingWith, prepareFrom, answerFrom}
 use Rattle.shapes.specs.Answered.{facetNumber, facetSum}
 
 -- ---- tests
@@ -138,51 +138,55 @@ module _ (inner : Orbit → ℕ → Outcome Inner) (bound : ℕ) where
   unfolding innerCalls andThen behind
   reached-all {orbits} {budget} {done} {left} r = r .whole ∙ ap (λ (l : List Inner). answered (record { calls = l; left = left })) (append-nil done)
 
--- ---- the whole call
+-- ---- the whole call, in any way
 
-module _ (more : ℕ) (rules : Rules) (plane : Subspace) (points : List Vec) (rows : List Row) (budget : ℕ) where
+module _ (way : Way) (more : ℕ) (rules : Rules) (plane : Subspace) (points : List Vec) (rows : List Row) (budget : ℕ) where
   abbrev flat : List Vec
   flat = map (flatten plane) points
 
-  abbrev orbits : List Orbit
-  orbits = orbitsOf more rules plane points rows
+  abbrev all : List Orbit
+  all = orbitsOf more rules plane points rows
+
+  -- the orbits that are kept
+  abbrev pub keptOrbits : List Orbit
+  keptOrbits = way .keeps all
 
   -- one orbit's inner call
   abbrev pub innerOf : Orbit → ℕ → Outcome Inner
   innerOf = innerCall (suc more) rules (faceting more rules) flat rows
 
   abbrev whole : Outcome InnerCalls
-  whole = innerCalls innerOf (rules .bounds .facets) orbits 0 budget
+  whole = innerCalls innerOf (rules .bounds .facets) keptOrbits 0 budget
 
   abbrev preparedBy : InnerCalls → Prepared
-  preparedBy done = record { more = more; points = length points; rows = rows; inner = done .calls; left = done .left }
+  preparedBy done = record { more = more; points = length points; rows = rows; inner = done .calls; left = done .left; extended = way .extended }
 
-  -- refusal 13
-  pub call-thirteen : rules .bounds .orbits < length orbits → faceting (suc more) rules plane points rows budget ≡ refused 13
-  unfolding answerFrom faceting prepareFrom prepare andThen
+  -- refusal 13, of all orbits
+  pub call-thirteen : rules .bounds .orbits < length all → facetingWith way (suc more) rules plane points rows budget ≡ refused 13
+  unfolding answerFrom facetingWith prepareFrom prepareWith andThen
   call-thirteen h =
       ap (answerFrom rules)
-      (refused-where (ltb (rules .bounds .orbits) (length orbits)) 13 (λ u. andThen whole (λ (done : InnerCalls). answered (preparedBy done))) (lt→ltb (rules .bounds .orbits) (length orbits) h))
+      (refused-where (ltb (rules .bounds .orbits) (length all)) 13 (λ u. andThen whole (λ (done : InnerCalls). answered (preparedBy done))) (lt→ltb (rules .bounds .orbits) (length all) h))
 
-  module _ (few : length orbits ≤ rules .bounds .orbits) where
-    to-inner : prepare more rules (faceting more rules) plane points rows budget ≡ andThen whole (λ (done : InnerCalls). answered (preparedBy done))
-    unfolding prepareFrom prepare
-    to-inner = passed-where (ltb (rules .bounds .orbits) (length orbits)) 13 (λ u. andThen whole (λ (done : InnerCalls). answered (preparedBy done))) (not-above (rules .bounds .orbits) (length orbits) few)
+  module _ (few : length all ≤ rules .bounds .orbits) where
+    to-inner : prepareWith way more rules (faceting more rules) plane points rows budget ≡ andThen whole (λ (done : InnerCalls). answered (preparedBy done))
+    unfolding prepareFrom prepareWith
+    to-inner = passed-where (ltb (rules .bounds .orbits) (length all)) 13 (λ u. andThen whole (λ (done : InnerCalls). answered (preparedBy done))) (not-above (rules .bounds .orbits) (length all) few)
 
     -- an inner call is refused
-    pub call-inner-refused : (number : ℕ) → whole ≡ refused number → faceting (suc more) rules plane points rows budget ≡ refused number
-    unfolding answerFrom faceting andThen
+    pub call-inner-refused : (number : ℕ) → whole ≡ refused number → facetingWith way (suc more) rules plane points rows budget ≡ refused number
+    unfolding answerFrom facetingWith andThen
     call-inner-refused number e =
         ap (answerFrom rules)
         (to-inner ∙ ap (λ (o : Outcome InnerCalls). andThen o (λ (done : InnerCalls). answered (preparedBy done))) e)
 
     -- all are made
-    pub call-prepared : (done : InnerCalls) → whole ≡ answered done → prepare more rules (faceting more rules) plane points rows budget ≡ answered (preparedBy done)
+    pub call-prepared : (done : InnerCalls) → whole ≡ answered done → prepareWith way more rules (faceting more rules) plane points rows budget ≡ answered (preparedBy done)
     unfolding andThen
     call-prepared done e = to-inner ∙ ap (λ (o : Outcome InnerCalls). andThen o (λ (d : InnerCalls). answered (preparedBy d))) e
 
   -- what the search says is what the call says
-  pub call-searched : (p : Prepared) → prepare more rules (faceting more rules) plane points rows budget ≡ answered p
-      → faceting (suc more) rules plane points rows budget ≡ andThen (searchFrom rules p) (λ (found : Found). answered (finish p found))
-  unfolding answerFrom faceting andThen
+  pub call-searched : (p : Prepared) → prepareWith way more rules (faceting more rules) plane points rows budget ≡ answered p
+      → facetingWith way (suc more) rules plane points rows budget ≡ andThen (searchFrom rules p) (λ (found : Found). answered (finish p found))
+  unfolding answerFrom facetingWith andThen
   call-searched p e = ap (answerFrom rules) e

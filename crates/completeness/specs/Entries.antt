@@ -14,6 +14,8 @@ use Rattle.definitions.specs.Search.{Facet, Table, Found}
 use Rattle.definitions.specs.Recursion.{Rules, Entry}
 use Rattle.definitions.specs.Faceting.{Prepared, tableFor, entryOf, entriesOf, compareEntries, entryLimits, searchFrom}
 use Rattle.definitions.specs.Demands.{choiceOf, isClosedChoice, isOrderOf, equalShares, EntryOfChoice, choicesOf, AllClosedChoices, EntriesComplete}
+use Rattle.definitions.specs.Noble.{AllMinimalChoices}
+use Rattle.definitions.specs.NobleCalls.{MinimalEntries}
 use Rattle.laws.specs.Lists.{Mem, here, there, in-map, of-map}
 use Rattle.laws.specs.Orders.{pair-lists}
 use Rattle.laws.specs.Pairs.{Pairs, pairs→nodup, pairs-take, in-take}
@@ -24,6 +26,7 @@ use Rattle.completeness.specs.Choices.{ClosedChoice, closed-choice-of, s
 use Rattle.completeness.specs.Complete.{every-choice}
 use Rattle.completeness.specs.OneOrder.{one-order}
 use Rattle.completeness.specs.Unique.{Other, lists-differ, choices-differ}
+use Rattle.completeness.specs.Minimal.{minimal-choices}
 
 -- ---- the choices of all emitted lists
 
@@ -71,9 +74,9 @@ module _ (rules : Rules) (p : Prepared) (found : Found) (is-found : searchFrom r
   abbrev sorted : List (List Facet)
   sorted = sortBy (byKey compareEntries (entryOf p)) (found .lists)
 
-  emitted-cut : found .lists ≡ cut (rules .entryLimit) 0 (closedLists true t)
+  emitted-cut : found .lists ≡ cut (rules .entryLimit) 0 (closedLists (p .extended) t)
   unfolding searchFrom entryLimits
-  emitted-cut = search-emits t (entryLimits rules) (p .left) found is-found
+  emitted-cut = search-emits t (entryLimits rules (p .extended)) (p .left) found is-found
 
   entries-sorted : entries ≡ map (entryOf p) sorted
   unfolding entriesOf
@@ -83,13 +86,13 @@ module _ (rules : Rules) (p : Prepared) (found : Found) (is-found : searchFrom r
   sorted-perm = sort-perm (byKey compareEntries (entryOf p)) (found .lists)
 
   -- what is emitted is among the closed lists of the tree, whatever the limit
-  in-tree : (l : List Facet) → Mem l sorted → Mem l (closedLists true t)
+  in-tree : (l : List Facet) → Mem l sorted → Mem l (closedLists (p .extended) t)
   unfolding cut
   in-tree l h = go (rules .entryLimit) (subst (λ (s : List (List Facet)). Mem l s) emitted-cut (perm-member sorted-perm l h))
     where
-      go : (limit : Option ℕ) → Mem l (cut limit 0 (closedLists true t)) → Mem l (closedLists true t)
+      go : (limit : Option ℕ) → Mem l (cut limit 0 (closedLists (p .extended) t)) → Mem l (closedLists (p .extended) t)
       go none k = k
-      go (some m) k = in-take (max (m - 0) 1) l (closedLists true t) k
+      go (some m) k = in-take (max (m - 0) 1) l (closedLists (p .extended) t) k
 
   of-entry : (e : Entry) → Mem e entries → (l : List Facet) × Mem l sorted × (e ≡ entryOf p l)
   of-entry e h = of-map (entryOf p) e sorted (subst (λ (s : List Entry). Mem e s) entries-sorted h)
@@ -104,7 +107,7 @@ module _ (rules : Rules) (p : Prepared) (found : Found) (is-found : searchFrom r
 
   own-choice : (l : List Facet) → Mem l sorted → T (isClosedChoice t (choiceOf l)) × EntryOfChoice p (entryOf p l) (choiceOf l)
   unfolding entryOf
-  own-choice l h = let r = emitted-order true t l (in-tree l h) in (r .1, record { taken-so = r .0; entry = refl })
+  own-choice l h = let r = emitted-order (p .extended) t l (in-tree l h) in (r .1, record { taken-so = r .0; entry = refl })
 
   every-entry : (e : Entry) → Mem e entries → T (isClosedChoice t (choiceOf (e .before))) × EntryOfChoice p e (choiceOf (e .before))
   unfolding entryOf
@@ -112,53 +115,76 @@ module _ (rules : Rules) (p : Prepared) (found : Found) (is-found : searchFrom r
       let r = of-entry e h in
       subst (λ (x : Entry). T (isClosedChoice t (choiceOf (x .before))) × EntryOfChoice p x (choiceOf (x .before))) (sym (r .2)) (own-choice (r .0) (r .1))
 
-  -- ---- without a limit
-
-  all-emitted : rules .entryLimit ≡ none → List·Permᴰ (closedLists true t) sorted
-  unfolding cut
-  all-emitted e =
-      subst (λ (s : List (List Facet)). List·Permᴰ s sorted) (emitted-cut ∙ ap (λ (limit : Option ℕ). cut limit 0 (closedLists true t)) e) (Permᴰ·symm sorted-perm)
-
-  has-entry : rules .entryLimit ≡ none → (c : List Facet) → T (isClosedChoice t c) → (e : Entry) × Mem e entries × EntryOfChoice p e c
-  unfolding entryOf
-  has-entry e c h =
-      let r = every-choice t c h in (
-        entryOf p (r .0),
-        subst (λ (s : List Entry). Mem (entryOf p (r .0)) s) (sym entries-sorted) (in-map (entryOf p) (r .0) sorted (perm-member (all-emitted e) (r .0) (r .1))),
-        record { taken-so = r .2; entry = refl },
-      )
-
-  -- ---- with a limit m
-
-  some-emitted : (m : ℕ) → rules .entryLimit ≡ some m → found .lists ≡ take (max (m - 0) 1) (closedLists true t)
-  unfolding cut
-  some-emitted m e = emitted-cut ∙ ap (λ (limit : Option ℕ). cut limit 0 (closedLists true t)) e
-
-  entries-number : (m : ℕ) → rules .entryLimit ≡ some m → length entries ≡ min (max m 1) (length (closedLists true t))
-  entries-number m e =
-      let a : max (m - 0) 1 ≡ max m 1 = omega arith in
-      entries-length ∙ ap length (some-emitted m e) ∙ length-take (max (m - 0) 1) (closedLists true t) ∙ ap (λ (n : ℕ). min n (length (closedLists true t))) a
-
-  differ : (m : ℕ) → rules .entryLimit ≡ some m → T (equalShares t) → List·Nodup (map choiceOf sorted)
-  differ m e equal =
-      pairs→nodup (map choiceOf sorted)
-      (pairs-perm NotSame not-same-flip (Permᴰ·map choiceOf (Permᴰ·symm sorted-perm))
-      (choices-differ (found .lists) (subst (Pairs Other) (sym (some-emitted m e)) (pairs-take Other (max (m - 0) 1) (closedLists true t) (lists-differ true t equal)))))
-
   ascend : Pairwise (λ (d e : Entry). T (not (isGt (compareEntries d e)))) entries
   unfolding entriesOf compareEntries
   ascend = sort-ascends comparePairs pair-lists (λ (e : Entry). e .list) (map (entryOf p) (found .lists))
 
-  pub entries-complete : EntriesComplete (rules .entryLimit) p (found .lists) entries
-  entries-complete = record {
-    every-entry = every-entry;
-    every-choice = has-entry;
-    one-to-one = λ e equal. subst (AllClosedChoices t) (sym choices-sorted) (all-choices t equal sorted (all-emitted e));
-    one-order = one-order t;
-    at-most = λ m e. let n = entries-number m e in omega arith;
-    different-choices = λ m e equal. subst List·Nodup (sym choices-sorted) (differ m e equal);
-    number = λ m e equal.
-        (map choiceOf (closedLists true t), all-choices t equal (closedLists true t) (Permᴰ·refl (closedLists true t)), entries-number m e ∙ ap (min (max m 1)) (sym (length-map (closedLists true t) choiceOf)));
-    ascending = ascend;
-    exactly = refl;
-  }
+  -- ---- closed lists are extended
+
+  module _ (plain : p .extended ≡ true) where
+    plain-cut : found .lists ≡ cut (rules .entryLimit) 0 (closedLists true t)
+    plain-cut = emitted-cut ∙ ap (λ (extended : Bool). cut (rules .entryLimit) 0 (closedLists extended t)) plain
+
+    -- without a limit
+    all-emitted : rules .entryLimit ≡ none → List·Permᴰ (closedLists true t) sorted
+    unfolding cut
+    all-emitted e =
+        subst (λ (s : List (List Facet)). List·Permᴰ s sorted) (plain-cut ∙ ap (λ (limit : Option ℕ). cut limit 0 (closedLists true t)) e) (Permᴰ·symm sorted-perm)
+
+    has-entry : rules .entryLimit ≡ none → (c : List Facet) → T (isClosedChoice t c) → (e : Entry) × Mem e entries × EntryOfChoice p e c
+    unfolding entryOf
+    has-entry e c h =
+        let r = every-choice t c h in (
+          entryOf p (r .0),
+          subst (λ (s : List Entry). Mem (entryOf p (r .0)) s) (sym entries-sorted) (in-map (entryOf p) (r .0) sorted (perm-member (all-emitted e) (r .0) (r .1))),
+          record { taken-so = r .2; entry = refl },
+        )
+
+    -- with a limit m
+
+    some-emitted : (m : ℕ) → rules .entryLimit ≡ some m → found .lists ≡ take (max (m - 0) 1) (closedLists true t)
+    unfolding cut
+    some-emitted m e = plain-cut ∙ ap (λ (limit : Option ℕ). cut limit 0 (closedLists true t)) e
+
+    entries-number : (m : ℕ) → rules .entryLimit ≡ some m → length entries ≡ min (max m 1) (length (closedLists true t))
+    entries-number m e =
+        let a : max (m - 0) 1 ≡ max m 1 = omega arith in
+        entries-length ∙ ap length (some-emitted m e) ∙ length-take (max (m - 0) 1) (closedLists true t) ∙ ap (λ (n : ℕ). min n (length (closedLists true t))) a
+
+    differ : (m : ℕ) → rules .entryLimit ≡ some m → T (equalShares t) → List·Nodup (map choiceOf sorted)
+    differ m e equal =
+        pairs→nodup (map choiceOf sorted)
+        (pairs-perm NotSame not-same-flip (Permᴰ·map choiceOf (Permᴰ·symm sorted-perm))
+        (choices-differ (found .lists) (subst (Pairs Other) (sym (some-emitted m e)) (pairs-take Other (max (m - 0) 1) (closedLists true t) (lists-differ true t equal)))))
+
+    pub entries-complete : EntriesComplete (rules .entryLimit) p (found .lists) entries
+    entries-complete = record {
+      every-entry = every-entry;
+      every-choice = has-entry;
+      one-to-one = λ e equal. subst (AllClosedChoices t) (sym choices-sorted) (all-choices t equal sorted (all-emitted e));
+      one-order = one-order t;
+      at-most = λ m e. let n = entries-number m e in omega arith;
+      different-choices = λ m e equal. subst List·Nodup (sym choices-sorted) (differ m e equal);
+      number = λ m e equal.
+          (map choiceOf (closedLists true t), all-choices t equal (closedLists true t) (Permᴰ·refl (closedLists true t)), entries-number m e ∙ ap (min (max m 1)) (sym (length-map (closedLists true t) choiceOf)));
+      ascending = ascend;
+      exactly = refl;
+    }
+
+  -- ---- closed lists are not extended
+
+  module _ (shortened : p .extended ≡ false) where
+    all-minimal : rules .entryLimit ≡ none → List·Permᴰ (closedLists false t) sorted
+    unfolding cut
+    all-minimal e =
+        subst (λ (s : List (List Facet)). List·Permᴰ s sorted)
+        (emitted-cut ∙ (λ i. cut (e i) 0 (closedLists (shortened i) t))) (Permᴰ·symm sorted-perm)
+
+    -- what is demanded of a call with a package
+    pub minimal-entries : MinimalEntries (rules .entryLimit) p (found .lists) entries
+    minimal-entries = record {
+      every-entry = every-entry;
+      minimal = λ e equal. subst (AllMinimalChoices t) (sym choices-sorted) (minimal-choices t equal sorted (all-minimal e));
+      ascending = ascend;
+      exactly = refl;
+    }

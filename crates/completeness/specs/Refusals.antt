@@ -15,7 +15,7 @@ use Rattle.definitions.specs.Subspace.{Subspace, fromPoints, flatten}
 use Rattle.definitions.specs.Orbits.{Row, Orbit, pointAt}
 use Rattle.definitions.specs.Search.{Facet, Table, Found, Item, Verdict, over, closed, openAt, EntryLimits, limitReached, emit, emitIf, examine, search, judge, totals, putIn, starts}
 use Rattle.definitions.specs.Recursion.{Rules, Call, Inner, edgeCall, innerCall, innerCalls, rowsWithin, callOnSet}
-use Rattle.definitions.specs.Faceting.{prepare, faceting, searchFrom, orbitsOf, prepareFrom, answerFrom}
+use Rattle.definitions.specs.Faceting.{Way, plainWay, prepareWith, prepare, faceting, facetingWith, searchFrom, orbitsOf, prepareFrom, answerFrom}
 use Rattle.definitions.specs.Job.{Bytes, Test, tests, passAll, callOf, between, fitting, outcomeWithin, outcome, codeOf, headerTests, valueTests, jobTests, workspaceTests}
 use Rattle.laws.specs.Bools.{both, first, second, left-of, right-of, either}
 use Rattle.laws.specs.Lists.{Mem, here, there, all-of}
@@ -94,8 +94,8 @@ examined-within t limits zero (item ∷ pending) emitted = one-number 16 (omega 
 examined-within t limits (suc left) [] emitted = by-answer
 examined-within t limits (suc left) (item ∷ pending) emitted =
     let verdict = judge (totals t (item .list)) in
-    emitted-within verdict limits (item .list) left emitted (examine t limits left (reverseAux (putIn t item verdict) pending))
-    (λ lists. examined-within t limits left (reverseAux (putIn t item verdict) pending) lists)
+    emitted-within verdict limits (item .list) left emitted (examine t limits left (reverseAux (putIn (limits .extended) t item verdict) pending))
+    (λ lists. examined-within t limits left (reverseAux (putIn (limits .extended) t item verdict) pending) lists)
 
 pub search-refusals : (t : Table) (limits : EntryLimits) (budget : ℕ) → RefusedWithin 15 16 (search t limits budget)
 unfolding search
@@ -123,18 +123,29 @@ refit-within wanted rules call h flat rows orbit budget =
     by-test (not (eqb (length (plane .basis)) wanted)) 14 _ (omega arith, omega arith)
     (by-then (call plane points (rowsWithin (orbit .vertices) rows) budget) _ (h plane points (rowsWithin (orbit .vertices) rows) budget) (λ a. by-answer))
 
-pub call-refusals : (more : ℕ) (rules : Rules) (plane : Subspace) (points : List Vec) (rows : List Row) (budget : ℕ) → RefusedWithin 13 16 (faceting more rules plane points rows budget)
-unfolding answerFrom faceting edgeCall prepareFrom prepare searchFrom
-call-refusals zero rules plane points rows budget = by-answer
-call-refusals (suc more) rules plane points rows budget =
+-- from the orbits on, with inner calls that are so refused
+way-refusals : (way : Way) (more : ℕ) (rules : Rules) (call : Call) → ((plane : Subspace) (points : List Vec) (rows : List Row) (budget : ℕ) → RefusedWithin 13 16 (call plane points rows budget))
+    → (plane : Subspace) (points : List Vec) (rows : List Row) (budget : ℕ) → RefusedWithin 13 16 (answerFrom rules (prepareWith way more rules call plane points rows budget))
+unfolding answerFrom prepareFrom prepareWith searchFrom
+way-refusals way more rules call h plane points rows budget =
     let flat = map (flatten plane) points in
     let orbits = orbitsOf more rules plane points rows in
-    let call = faceting more rules in
-    by-then (prepare more rules call plane points rows budget) _
+    by-then (prepareWith way more rules call plane points rows budget) _
     (by-test (ltb (rules .bounds .orbits) (length orbits)) 13 _ (omega arith, omega arith)
-    (by-then (innerCalls (innerCall (suc more) rules call flat rows) (rules .bounds .facets) orbits 0 budget) _
-    (inner-within (innerCall (suc more) rules call flat rows) (rules .bounds .facets) (refit-within (suc more) rules call (call-refusals more rules) flat rows) orbits 0 budget) (λ done. by-answer)))
+    (by-then (innerCalls (innerCall (suc more) rules call flat rows) (rules .bounds .facets) (way .keeps orbits) 0 budget) _
+    (inner-within (innerCall (suc more) rules call flat rows) (rules .bounds .facets) (refit-within (suc more) rules call h flat rows) (way .keeps orbits) 0 budget) (λ done. by-answer)))
     (λ p. by-then (searchFrom rules p) _ (wider _ _ (λ n h. (omega arith, h .1)) (search-refusals _ _ _)) (λ found. by-answer))
+
+pub call-refusals : (more : ℕ) (rules : Rules) (plane : Subspace) (points : List Vec) (rows : List Row) (budget : ℕ) → RefusedWithin 13 16 (faceting more rules plane points rows budget)
+unfolding faceting edgeCall prepare
+call-refusals zero rules plane points rows budget = by-answer
+call-refusals (suc more) rules plane points rows budget = way-refusals plainWay more rules (faceting more rules) (call-refusals more rules) plane points rows budget
+
+-- the same of a call in a way of its own
+pub call-refusals-with : (way : Way) (more : ℕ) (rules : Rules) (plane : Subspace) (points : List Vec) (rows : List Row) (budget : ℕ) → RefusedWithin 13 16 (facetingWith way more rules plane points rows budget)
+unfolding facetingWith edgeCall
+call-refusals-with way zero rules plane points rows budget = by-answer
+call-refusals-with way (suc more) rules plane points rows budget = way-refusals way more rules (faceting more rules) (call-refusals more rules) plane points rows budget
 
 -- ---- a job: 1 to 17, 22 and 25
 

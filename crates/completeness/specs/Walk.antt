@@ -90,12 +90,13 @@ verdictOf t item = judge (totals t (item .list))
 unfoldable pub children : Bool → Table → Item → List Item
 children extended t item = childrenBy extended t item (verdictOf t item)
 
--- the definition's search extends closed lists
-pub put-in : (t : Table) (item : Item) (v : Verdict) → childrenBy true t item v ≡ putIn t item v
+-- these are what the definition's search puts in
+pub put-in : (extended : Bool) (t : Table) (item : Item) (v : Verdict) → childrenBy extended t item v ≡ putIn extended t item v
 unfolding childrenBy putIn
-put-in t item over = refl
-put-in t item (openAt ridge) = refl
-put-in t item closed = refl
+put-in extended t item over = refl
+put-in extended t item (openAt ridge) = refl
+put-in true t item closed = refl
+put-in false t item closed = refl
 
 -- what a list emits itself
 unfoldable pub ownBy : List Facet → Verdict → List (List Facet)
@@ -227,16 +228,16 @@ module _ (t : Table) (limits : EntryLimits) where
   -- what is promised of a search that goes on from a store
   abbrev Emits : ℕ → List Item → Type 0
   Emits left pending = (emitted : List (List Facet)) (found : Found) → examine t limits left pending emitted ≡ answered found
-      → found .lists ≡ emitted ++ cut (limits .limit) (length emitted) (closedAmong true t pending)
+      → found .lists ≡ emitted ++ cut (limits .limit) (length emitted) (closedAmong (limits .extended) t pending)
 
   -- a closed list is emitted, and the search stops or goes on
   emit-law : (l : List Facet) (left : ℕ) (pending : List Item) → Emits left pending → (emitted : List (List Facet)) (found : Found)
-      → emit limits l left emitted (examine t limits left pending) ≡ answered found → found .lists ≡ emitted ++ cut (limits .limit) (length emitted) (l ∷ closedAmong true t pending)
+      → emit limits l left emitted (examine t limits left pending) ≡ answered found → found .lists ≡ emitted ++ cut (limits .limit) (length emitted) (l ∷ closedAmong (limits .extended) t pending)
   unfolding emit refuseIf
   emit-law l left pending ih emitted found e = go (leb (limits .bound) (length emitted)) e
     where
       rest : List (List Facet)
-      rest = closedAmong true t pending
+      rest = closedAmong (limits .extended) t pending
 
       stops : T (limitReached (limits .limit) (suc (length emitted))) → found .lists ≡ emitted ++ (l ∷ []) → found .lists ≡ emitted ++ cut (limits .limit) (length emitted) (l ∷ rest)
       stops h q = q ∙ ap (λ (x : List (List Facet)). emitted ++ x) (sym (cut-last (limits .limit) (length emitted) l rest h))
@@ -260,14 +261,14 @@ module _ (t : Table) (limits : EntryLimits) where
       go false q = by-limit (limitReached (limits .limit) (length (emitted ++ (l ∷ [])))) refl q
 
   by-verdict : (l : List Facet) (left : ℕ) (pending : List Item) → Emits left pending → (v : Verdict) (emitted : List (List Facet)) (found : Found)
-      → emitIf v limits l left emitted (examine t limits left pending) ≡ answered found → found .lists ≡ emitted ++ cut (limits .limit) (length emitted) (ownBy l v ++ closedAmong true t pending)
+      → emitIf v limits l left emitted (examine t limits left pending) ≡ answered found → found .lists ≡ emitted ++ cut (limits .limit) (length emitted) (ownBy l v ++ closedAmong (limits .extended) t pending)
   unfolding emitIf ownBy
   by-verdict l left pending ih over emitted found e = ih emitted found e
   by-verdict l left pending ih (openAt ridge) emitted found e = ih emitted found e
   by-verdict l left pending ih closed emitted found e = emit-law l left pending ih emitted found e
 
   ended : (emitted : List (List Facet)) (left : ℕ) (found : Found) → answered (record { lists = emitted; left = left }) ≡ answered found
-      → found .lists ≡ emitted ++ cut (limits .limit) (length emitted) (closedAmong true t [])
+      → found .lists ≡ emitted ++ cut (limits .limit) (length emitted) (closedAmong (limits .extended) t [])
   unfolding flatMap
   ended emitted left found e =
       same-lists (record { lists = emitted; left = left }) found e
@@ -275,13 +276,13 @@ module _ (t : Table) (limits : EntryLimits) where
 
   -- the latest item taken, and what it puts in put in
   abbrev after : Item → List Item → List Item
-  after item pending = reverseAux (putIn t item (judge (totals t (item .list)))) pending
+  after item pending = reverseAux (putIn (limits .extended) t item (judge (totals t (item .list)))) pending
 
-  taken : (item : Item) (pending : List Item) → closedAmong true t (item ∷ pending) ≡ ownBy (item .list) (judge (totals t (item .list))) ++ closedAmong true t (after item pending)
+  taken : (item : Item) (pending : List Item) → closedAmong (limits .extended) t (item ∷ pending) ≡ ownBy (item .list) (judge (totals t (item .list))) ++ closedAmong (limits .extended) t (after item pending)
   unfolding children own verdictOf
   taken item pending =
-      yields-cons (children true t) (own t) (unused t) (falls true t) item pending
-      ∙ ap (λ (l : List Item). ownBy (item .list) (judge (totals t (item .list))) ++ closedAmong true t (reverseAux l pending)) (put-in t item (judge (totals t (item .list))))
+      yields-cons (children (limits .extended) t) (own t) (unused t) (falls (limits .extended) t) item pending
+      ∙ ap (λ (l : List Item). ownBy (item .list) (judge (totals t (item .list))) ++ closedAmong (limits .extended) t (reverseAux l pending)) (put-in (limits .extended) t item (judge (totals t (item .list))))
 
   pub examine-emits : (left : ℕ) (pending : List Item) → Emits left pending
   unfolding examine
@@ -293,6 +294,6 @@ module _ (t : Table) (limits : EntryLimits) where
       ∙ ap (λ (x : List (List Facet)). emitted ++ cut (limits .limit) (length emitted) x) (sym (taken item pending))
 
   -- without a limit all closed lists of the tree in order, and with a limit m the first max(m, 1) of them
-  pub search-emits : (budget : ℕ) (found : Found) → search t limits budget ≡ answered found → found .lists ≡ cut (limits .limit) 0 (closedLists true t)
+  pub search-emits : (budget : ℕ) (found : Found) → search t limits budget ≡ answered found → found .lists ≡ cut (limits .limit) 0 (closedLists (limits .extended) t)
   unfolding search
   search-emits budget found e = examine-emits budget (reverseAux (starts t) []) [] found e

@@ -1,5 +1,6 @@
 -- The call, by recursion on the rank: docs/SPECIFICATION.md, chapter 9. In the Rust it is `faceting_subdim`. It
 -- ties Orbits, Recursion, Search and Figures together.
+use mathlib.Core.Bool.{Bool, true}
 use mathlib.Core.List.{List, [], map, flatMap}
 use Prim.Native.Nat.{ℕ, zero, suc, Ordering}
 use lib.Dec.{ltb}
@@ -13,31 +14,46 @@ use Rattle.definitions.specs.Figures.{Figure, moveEnds, figureOf, partsO
 use Rattle.definitions.specs.Search.{Facet, Table, EntryLimits, Found, search}
 use Rattle.definitions.specs.Recursion.{Rules, Entry, Answer, Call, Inner, InnerCalls, edgeCall, innerCall, innerCalls, moveSorted, tableOf}
 
+-- [17.8] How a call goes about its work: which of its hyperplane orbits it keeps, and whether it extends closed lists.
+pub record Way : Type 0 where
+  pub keeps : List Orbit → List Orbit
+  pub extended : Bool
+
+-- [9.1] the way of every call without a package: all orbits, and closed lists are extended
+unfoldable pub plainWay : Way
+plainWay = record { keeps = λ orbits. orbits; extended = true }
+
 -- [9.1] What a call above rank 2 has before its search: its rank − 3, its number of points and its rows, its inner
--- calls, and what is left of the budget.
+-- calls, what is left of the budget, and whether closed lists are extended.
 pub record Prepared : Type 0 where
   pub more : ℕ
   pub points : ℕ
   pub rows : List Row
   pub inner : List Inner
   pub left : ℕ
+  pub extended : Bool
 
 -- [9.1] the hyperplane orbits of a call above rank 2, whose points are flattened by its plane
 unfoldable pub orbitsOf : ℕ → Rules → Subspace → List Vec → List Row → List Orbit
 orbitsOf more rules plane points rows = hyperplaneOrbits (rules .tolerance) (rules .lengths) (rules .rule) more points (map (flatten plane) points) rows
 
--- [9.1] From the orbits on: not more than the bound, or 13, and the inner calls made. `inner` makes one of them.
-unfoldable pub prepareFrom : List Orbit → (Orbit → ℕ → Outcome Inner) → ℕ → Rules → ℕ → List Row → ℕ → Outcome Prepared
-prepareFrom orbits inner more rules n rows budget =
+-- [9.1] From the orbits on: all of them not more than the bound, or 13, and the inner calls made on those that are
+-- kept. `inner` makes one of them.
+unfoldable pub prepareFrom : Way → List Orbit → (Orbit → ℕ → Outcome Inner) → ℕ → Rules → ℕ → List Row → ℕ → Outcome Prepared
+prepareFrom way orbits inner more rules n rows budget =
     refuseIf (ltb (rules .bounds .orbits) (length orbits)) 13 (λ u.
-    andThen (innerCalls inner (rules .bounds .facets) orbits 0 budget) (λ (done : InnerCalls).
-    answered (record { more = more; points = n; rows = rows; inner = done .calls; left = done .left })))
+    andThen (innerCalls inner (rules .bounds .facets) (way .keeps orbits) 0 budget) (λ (done : InnerCalls).
+    answered (record { more = more; points = n; rows = rows; inner = done .calls; left = done .left; extended = way .extended })))
 
 -- [9.1] A call up to its search: its orbits are found and the inner calls made. `call` is the call of the rank below.
-unfoldable pub prepare : ℕ → Rules → Call → Subspace → List Vec → List Row → ℕ → Outcome Prepared
-prepare more rules call plane points rows =
+unfoldable pub prepareWith : Way → ℕ → Rules → Call → Subspace → List Vec → List Row → ℕ → Outcome Prepared
+prepareWith way more rules call plane points rows =
     let inner = innerCall (suc more) rules call (map (flatten plane) points) rows in
-    prepareFrom (orbitsOf more rules plane points rows) inner more rules (length points) rows
+    prepareFrom way (orbitsOf more rules plane points rows) inner more rules (length points) rows
+
+-- [9.1] the plain call up to its search
+unfoldable pub prepare : ℕ → Rules → Call → Subspace → List Vec → List Row → ℕ → Outcome Prepared
+prepare = prepareWith plainWay
 
 -- [9.1] the table that the call searches
 unfoldable pub tableFor : Prepared → Table
@@ -86,8 +102,8 @@ entriesOf p lists = sortBy compareEntries (map (entryOf p) lists)
 -- ---- the call
 
 -- [9.1] the limits of the call's search
-unfoldable pub entryLimits : Rules → EntryLimits
-entryLimits rules = record { limit = rules .entryLimit; bound = rules .bounds .entries }
+unfoldable pub entryLimits : Rules → Bool → EntryLimits
+entryLimits rules extended = record { limit = rules .entryLimit; bound = rules .bounds .entries; extended = extended }
 
 -- [9.6] the answer, once the search has ended
 unfoldable pub finish : Prepared → Found → Answer
@@ -103,7 +119,7 @@ finish p found =
 
 -- [9.1] the search of a call, with the budget that its inner calls left
 unfoldable pub searchFrom : Rules → Prepared → Outcome Found
-searchFrom rules p = search (tableFor p) (entryLimits rules) (p .left)
+searchFrom rules p = search (tableFor p) (entryLimits rules (p .extended)) (p .left)
 
 -- [9.1] from the inner calls on: the search and the answer
 unfoldable pub answerFrom : Rules → Outcome Prepared → Outcome Answer
@@ -116,3 +132,9 @@ unfoldable pub faceting : ℕ → Rules → Call
 faceting zero rules = edgeCall
 faceting (suc more) rules = λ plane points rows budget.
     answerFrom rules (prepare more rules (faceting more rules) plane points rows budget)
+
+-- [17.8] The call of rank 2 + n in a way of its own. Its inner calls are plain, and rank 2 has no orbits to keep.
+unfoldable pub facetingWith : Way → ℕ → Rules → Call
+facetingWith way zero rules = edgeCall
+facetingWith way (suc more) rules = λ plane points rows budget.
+    answerFrom rules (prepareWith way more rules (faceting more rules) plane points rows budget)

@@ -15,6 +15,7 @@ pub mod Symmetry
 pub mod Batch
 pub mod Prices
 pub mod Noble
+pub mod NobleCalls
 pub mod Plain
 pub mod Open
 pub mod Labels

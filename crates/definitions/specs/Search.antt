@@ -106,11 +106,13 @@ openNext table item ridge =
 unfoldable pub closedNext : Table → Item → List Item
 closedNext table item = map (λ (f : Facet). joined item (f .0) f) (keep (mayJoin item) (allFacets table))
 
--- [7.8] the lists that an examined list puts in, in the order in which they are put in
-unfoldable pub putIn : Table → Item → Verdict → List Item
-putIn table item over = []
-putIn table item (openAt ridge) = openNext table item ridge
-putIn table item closed = closedNext table item
+-- [7.8] the lists that an examined list puts in, in the order in which they are put in; [17.9] a closed one puts in
+-- none where closed lists are not extended
+unfoldable pub putIn : Bool → Table → Item → Verdict → List Item
+putIn extended table item over = []
+putIn extended table item (openAt ridge) = openNext table item ridge
+putIn true table item closed = closedNext table item
+putIn false table item closed = []
 
 -- ---- the search
 
@@ -124,10 +126,12 @@ unfoldable pub limitReached : Option ℕ → ℕ → Bool
 limitReached none emitted = false
 limitReached (some m) emitted = leb m emitted
 
--- [7.9] the entry limit, and the number of entries past which a call is refused with 15
+-- [7.9] the entry limit, the number of entries past which a call is refused with 15, and [17.9] whether closed lists
+-- are extended
 pub record EntryLimits : Type 0 where
   pub limit : Option ℕ
   pub bound : ℕ
+  pub extended : Bool
 
 -- [7.9] One more list is emitted, or 15. Then the limit is asked, and `next` goes on with what is emitted.
 unfoldable pub emit : EntryLimits → List Facet → ℕ → List (List Facet) → (List (List Facet) → Outcome Found) → Outcome Found
@@ -150,7 +154,7 @@ examine table limits zero (item ∷ pending) emitted = refused 16
 examine table limits (suc left) [] emitted = answered (record { lists = emitted; left = suc left })
 examine table limits (suc left) (item ∷ pending) emitted =
     let verdict = judge (totals table (item .list)) in
-    emitIf verdict limits (item .list) left emitted (examine table limits left (reverseAux (putIn table item verdict) pending))
+    emitIf verdict limits (item .list) left emitted (examine table limits left (reverseAux (putIn (limits .extended) table item verdict) pending))
 
 -- [7.8] [7.10] from the lists of single facets on
 unfoldable pub search : Table → EntryLimits → ℕ → Outcome Found

@@ -16,7 +16,7 @@ use Rattle.laws.specs.Lists.{Mem, here, there, of-map}
 use Rattle.laws.specs.Orders.{nats}
 use Rattle.laws.specs.Ascending.{ascends-distinct}
 use Rattle.laws.specs.Ranges.{distinct-below}
-use Rattle.shapes.specs.Answered.{facetNumber, facetSum, Preparation, answered-call}
+use Rattle.shapes.specs.Answered.{facetNumber, facetSum, Preparation, answered-call, made-few}
 use Rattle.shapes.specs.Calls.{inner-set}
 use Rattle.shapes.specs.CallOrbits.{call-orbits-most}
 use Rattle.shapes.specs.Emitted.{entry-of-list}
@@ -41,8 +41,7 @@ few-items rules plane points rows budget a e h l m =
     let p = c .before in
     let each = c .prepared .inner .each in
     let sum = one-each (p .inner) (λ i j. ap length (rank-two rules _ _ _ (each i j .budget) (i .answer) (each i j .is) .entries)) in
-    let many = length-map (p .inner) (λ (i : Inner). i .orbit) in
-    let same = ap length (c .prepared .inner .of-orbits) in
+    let many = made-few (c .prepared) in
     let few = call-orbits-most rules plane points rows h in
     let r = of-map (λ (x : Entry). x .list) l (entriesOf p (c .found .lists)) (subst (λ (b : Answer). Mem l (listsOf b)) (c .is) m) in
     let q = entry-of-list rules p (c .found) (c .is-found) (r .0) (r .1) in

@@ -3,5 +3,6 @@
 pub mod Tolerances
 pub mod Rows
 pub mod Packages
+pub mod NobleJobs
 pub mod PlainEntries
 pub mod Quotes

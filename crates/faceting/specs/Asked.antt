@@ -11,8 +11,10 @@ use Rattle.space.specs.Meaning.{SubspaceFits, PointsFit, pointsOf}
 use Rattle.stabilizers.specs.Permutations.{Permutations}
 use Rattle.shapes.specs.Calls.{Given}
 use Rattle.calls.specs.declared.Rules.{Rules}
+use Rattle.faceting.specs.declared.Way.{Way}
+use Rattle.faceting.specs.Ways.{WayFits}
 
-pub record Asked (rank : ℕ) (plane : Subspace) (points : Points) (rows : List ℕ) (m : ℕ) (rules : Rules) (ws : List ℕ) : Type 0 where
+pub record Asked (rank : ℕ) (plane : Subspace) (points : Points) (rows : List ℕ) (m : ℕ) (rules : Rules) (ws : List ℕ) (way : Way) (globals full : List ℕ) : Type 0 where
   pub rank-least : 2 ≤ rank
   pub rank-most : rank ≤ 4
   pub points-fit : PointsFit points
@@ -26,3 +28,4 @@ pub record Asked (rank : ℕ) (plane : Subspace) (points : Points) (rows : List 
   pub entries-are : rules .entries ≡ 1024
   pub room-three : rank ≡ 3 → 524288 ≤ length ws
   pub room-four : rank ≡ 4 → 4194304 ≤ length ws
+  pub way-fits : WayFits (points .n) way globals full

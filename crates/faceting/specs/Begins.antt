@@ -17,6 +17,7 @@ use Rattle.definitions.specs.Vectors.{Vec}
 use Rattle.definitions.specs.Subspace.{Subspace, flatten, fromPoints}
 use Rattle.definitions.specs.Orbits.{Row, Orbit, pointAt}
 use Rattle.definitions.specs.Recursion.{rowsWithin}
+use Rattle.definitions.specs.Faceting.{plainWay}
 use Rattle.laws.specs.Lists.{Mem, member-at}
 use Rattle.laws.specs.Segments.{part, part-take}
 use Rattle.laws.specs.Sets.{verticesFrom, verticesOf}
@@ -37,7 +38,7 @@ use Rattle.calls.specs.declared.Called.{Called}
 use Rattle.keep.specs.Adding.{orbitAt}
 use Rattle.inner_answers.specs.State as state
 use Rattle.inner_answers.specs.Spaces.{Laid}
-use Rattle.inner_answers.specs.Says.{Site, Fitting, Turn, Says, SiteState, siteOrbits, siteOrbit, sitePoints, sitePlane, siteRows}
+use Rattle.inner_answers.specs.Says.{Site, Fitting, Turn, Says, SiteState, allOrbits, siteOrbits, siteOrbit, sitePoints, sitePlane, siteRows}
 
 -- the lowest n bits tell which of the first n vertices a set has
 low-bits : (v n x : ℕ) → verticesFrom v n (x % 2 ^ n) ≡ verticesFrom v n x
@@ -50,12 +51,12 @@ low-bits v (suc n) x =
     let rest : verticesFrom (suc v) n (x % 2 ^ suc n / 2) ≡ verticesFrom (suc v) n (x / 2) = ap (verticesFrom (suc v) n) half ∙ low-bits (suc v) n (x / 2) in
     λ t. cond (eqb (low t) 1) (v ∷ rest t) (rest t)
 
-module _ (g : Site) (shelf : Shelf) (left i : ℕ) (s : List ℕ) (st : SiteState g shelf left i s) (below : i < length (siteOrbits g)) where
+module _ (g : Site) (fitting : Fitting g) (shelf : Shelf) (left i : ℕ) (s : List ℕ) (st : SiteState g shelf left i s) (below : i < length (siteOrbits g)) where
   -- the next orbit is one of the call's
-  next-orbit : Mem (siteOrbit g i s) (siteOrbits g)
+  next-orbit : Mem (siteOrbit g i s) (allOrbits g)
   next-orbit =
-      subst (λ (o : Orbit). Mem o (siteOrbits g)) (state.next-is (g .more) (g .rules) (g .plane) (g .points) (g .rows) (g .budget) (length (g .points)) shelf left i s st below)
-      (member-at (siteOrbits g) i (siteOrbit g i s) below)
+      fitting .takes .among (allOrbits g) (siteOrbit g i s) (subst (λ (o : Orbit). Mem o (siteOrbits g)) (state.next-is (g .way) (g .more) (g .rules) (g .plane) (g .points) (g .rows) (g .budget) (length (g .points)) shelf left i s st below)
+      (member-at (siteOrbits g) i (siteOrbit g i s) below))
 
   next-set : VertexSet (length (g .points)) (siteOrbit g i s .vertices)
   next-set = call-orbit-set (g .more) (g .rules) (g .plane) (g .points) (g .rows) (siteOrbit g i s) next-orbit
@@ -166,7 +167,7 @@ module _ (g : Site) (shelf : Shelf) (left i : ℕ) (s u : List ℕ) (fitting : F
 
     -- the inner call was made, and the turn has all that the keeping of its answer asks
     pub turn-called : (called : Called) (rows : List ℕ) (m : ℕ) → eqb (length (sitePlane g i s .basis)) (suc (g .more)) ≡ true
-        → Says (g .more) (g .rules) (sitePlane g i s) (sitePoints g i s) (siteRows g i s) left called (drop (shelf .end) u)
+        → Says plainWay (g .more) (g .rules) (sitePlane g i s) (sitePoints g i s) (siteRows g i s) left called (drop (shelf .end) u)
         → siteRows g i s ≡ rowsIn (length (sitePoints g i s)) m rows → RowsFit (length (sitePoints g i s)) m rows → m ≤ 120
         → Given (sitePoints g i s) (siteRows g i s) → Laid shelf (shelfFor (3 + g .more)) → Turn g shelf left i called rows m u
     turn-called called rows m fits says rows-are rows-fit few given laid =
@@ -176,7 +177,7 @@ module _ (g : Site) (shelf : Shelf) (left i : ℕ) (s u : List ℕ) (fitting : F
           state-is = state-behind;
           below = below;
           fits = subst (λ (p : Pair). eqb (length (planeWith p .basis)) (suc (g .more)) ≡ true) o fits;
-          says = subst (λ (p : Pair). Says (g .more) (g .rules) (planeWith p) (pointsWith p) (rowsWith p) left called (drop (shelf .end) u)) o says;
+          says = subst (λ (p : Pair). Says plainWay (g .more) (g .rules) (planeWith p) (pointsWith p) (rowsWith p) left called (drop (shelf .end) u)) o says;
           rows-are = subst (λ (p : Pair). rowsWith p ≡ rowsIn (length (pointsWith p)) m rows) o rows-are;
           rows-fit = subst (λ (p : Pair). RowsFit (length (pointsWith p)) m rows) o rows-fit;
           rows-few = few;

@@ -7,7 +7,7 @@ use mathlib.Core.Option.{some, none}
 use mathlib.Core.List.{List, [], map}
 use Prim.Native.Nat.{ℕ, suc, _+_, _*_, _-_, _%_, _^_, _≤_, _<_}
 use native.Mathlib.Omega.{arith}
-use lib.Dec.{eqb}
+use lib.Dec.{T, eqb}
 use lib.ListN.{length, take, drop, length-map}
 use Rattle.definitions.specs.Outcome as result
 use Rattle.definitions.specs.Job.{numberAt}
@@ -16,7 +16,8 @@ use Rattle.definitions.specs.Subspace.{Subspace, flatten, fromPoints}
 use Rattle.definitions.specs.Orbits.{Row, image, pointAt, hyperplaneOrbits}
 use Rattle.definitions.specs.Lists.{anyOf}
 use Rattle.definitions.specs.Recursion.{rowsWithin, edgeCall, swappedEnds, separateEnds}
-use Rattle.definitions.specs.Faceting.{orbitsOf, faceting}
+use Rattle.definitions.specs.Faceting as def
+use Rattle.definitions.specs.Faceting.{plainWay, orbitsOf}
 use Rattle.laws.specs.Segments.{le-or-lt}
 use Rattle.laws.specs.Sets.{verticesOf}
 use Rattle.openers.specs.Rows.{rowsIn, RowsFit, writtenRows}
@@ -28,9 +29,10 @@ use Rattle.stabilizers.specs.Permutations.{Permutations, rows-fit}
 use Rattle.sets.specs.Refitting.{Refitted, refittedPlane, fitted}
 use Rattle.sets.specs.declared.Fit.{Fit}
 use Rattle.sets.specs.declared.Fit.the-variants.{Fitted, Refused as RefusedFit}
-use Rattle.orbits.specs.Answers.{answerIn, orbitsOrRefusal, CallFits}
+use Rattle.orbits.specs.Answers.{answerIn, CallFits}
 use Rattle.orbits.specs.declared.Answer.{Answer}
 use Rattle.orbits.specs.declared.Answer.the-variants.{Orbits, Refused as RefusedAnswer}
+use Rattle.shapes.specs.Answered.{TakesSome}
 use Rattle.shapes.specs.Calls.{Given}
 use Rattle.shapes.specs.Kept.{keptOf}
 use Rattle.shelf.specs.Keeps.{ShelfFits, Keeps, Ridges}
@@ -47,20 +49,22 @@ use Rattle.faceting.specs.Asked.{Asked}
 use Rattle.inner_answers.specs.Spaces.{Laid}
 use Rattle.call_search.specs.Stocks.{Stock, Stocked, callRules}
 use Rattle.call_search.specs.Answers.{Searched}
-use Rattle.inner_answers.specs.Says.{Site, SiteState, siteOrbits, siteWhole, siteOrbit, sitePoints, sitePlane, siteRows, Says, Turn, Fitting}
+use Rattle.inner_answers.specs.Says.{Site, SiteState, allOrbits, siteOrbits, siteWhole, siteOrbit, sitePoints, sitePlane, siteRows, Says, Turn, Fitting}
 use Rattle.inner_answers.specs.Turns as turns
 use Rattle.faceting.specs.Begins as begins
 use Rattle.inner_answers.specs.Stored.{OneMore}
-use Rattle.faceting.specs.Starts.{found-too-many, found-few, found-count, loop-starts, shelf-empty}
+use Rattle.faceting.specs.declared.Way.{Way}
+use Rattle.faceting.specs.Ways.{wayOf, WayFits, way-takes, takenOrRefusal, found-too-many, found-few, found-count}
+use Rattle.faceting.specs.Starts.{loop-starts, shelf-empty}
 use Rattle.faceting.specs.Finishes as finishes
 use Rattle.faceting.specs.Finishes.{site}
 
 -- the definition's call that the loop belongs to, by what the code holds
-abbrev pub siteIn : Subspace → List Vec → ℕ → Points → List ℕ → ℕ → Rules → ℕ → Site
-siteIn plane points rank flat rows m rules budget = site (rank - 3) rules plane points (rowsIn (flat .n) m rows) budget
+abbrev pub siteIn : def.Way → Subspace → List Vec → ℕ → Points → List ℕ → ℕ → Rules → ℕ → Site
+siteIn way plane points rank flat rows m rules budget = site way (rank - 3) rules plane points (rowsIn (flat .n) m rows) budget
 
 -- what is alike in every turn of a loop that began with this workspace
-pub record Loop (plane : Subspace) (points : List Vec) (rank : ℕ) (flat : Points) (rows : List ℕ) (m : ℕ) (rules : Rules) (budget count : ℕ) (ws : List ℕ) : Type 0 where
+pub record Loop (way : def.Way) (plane : Subspace) (points : List Vec) (rank : ℕ) (flat : Points) (rows : List ℕ) (m : ℕ) (rules : Rules) (budget count : ℕ) (ws : List ℕ) : Type 0 where
   pub rank-least : 3 ≤ rank
   pub rank-most : rank ≤ 4
   pub flat-fits : PointsFit flat
@@ -72,31 +76,33 @@ pub record Loop (plane : Subspace) (points : List Vec) (rank : ℕ) (flat : Poin
   pub few-orbits : rules .orbits ≤ 256
   pub few-facets : rules .facets ≤ 1024
   pub entries-are : rules .entries ≡ 1024
-  pub found : count ≡ length (siteOrbits (siteIn plane points rank flat rows m rules budget))
-  pub few-found : count ≤ rules .orbits
-  pub first : SiteState (siteIn plane points rank flat rows m rules budget) (shelfFor rank) budget 0 ws
+  pub found : count ≡ length (siteOrbits (siteIn way plane points rank flat rows m rules budget))
+  pub few-found : length (allOrbits (siteIn way plane points rank flat rows m rules budget)) ≤ rules .orbits
+  pub takes : TakesSome way
+  pub first : SiteState (siteIn way plane points rank flat rows m rules budget) (shelfFor rank) budget 0 ws
   pub room-three : rank ≡ 3 → 524288 ≤ length ws
   pub room-four : rank ≡ 4 → 4194304 ≤ length ws
 
 -- ---- the ranks
 
-abbrev SaysOf : ℕ → Rules → Subspace → List Vec → List Row → ℕ → Called → List ℕ → Type 0
-SaysOf more rules = Says more (callRules rules)
+abbrev SaysOf : def.Way → ℕ → Rules → Subspace → List Vec → List Row → ℕ → Called → List ℕ → Type 0
+SaysOf way more rules = Says way more (callRules rules)
 
 -- at rank 2 the rows alone answer
-pub says-ends : (rank : ℕ) (rules : Rules) (plane : Subspace) (points : List Vec) (rows : List Row) (budget : ℕ) (swapped : Bool) (s : List ℕ) → rank ≡ 2
-    → swapped ≡ anyOf (λ (row : Row). eqb 1 (image row 0)) rows → SaysOf (rank - 2) rules plane points rows budget (Ends swapped budget) s
-unfolding Says faceting edgeCall edgeAnswer
-says-ends rank rules plane points rows budget swapped s e is =
+pub says-ends : (way : def.Way) (rank : ℕ) (rules : Rules) (plane : Subspace) (points : List Vec) (rows : List Row) (budget : ℕ) (swapped : Bool) (s : List ℕ) → rank ≡ 2
+    → swapped ≡ anyOf (λ (row : Row). eqb 1 (image row 0)) rows → SaysOf way (rank - 2) rules plane points rows budget (Ends swapped budget) s
+unfolding Says def.facetingWith edgeCall edgeAnswer
+says-ends way rank rules plane points rows budget swapped s e is =
     let q : 0 ≡ rank - 2 = omega arith in
-    subst (λ (more : ℕ). SaysOf more rules plane points rows budget (Ends swapped budget) s) q (ap (λ (b : Bool). result.answered (cond b (swappedEnds budget) (separateEnds budget))) (sym is))
+    subst (λ (more : ℕ). SaysOf way more rules plane points rows budget (Ends swapped budget) s) q (ap (λ (b : Bool). result.answered (cond b (swappedEnds budget) (separateEnds budget))) (sym is))
 
 -- a call of rank 3 + more, by its rank, and by any number that is the number of points
-pub says-rank : (rank : ℕ) → 3 ≤ rank → (n k : ℕ) → n ≡ k → (rules : Rules) (plane : Subspace) (points : List Vec) (rows : List ℕ) (m budget : ℕ) (r : Called) (s : List ℕ)
-    → SaysOf (suc (rank - 3)) rules plane points (rowsIn n m rows) budget r s → SaysOf (rank - 2) rules plane points (rowsIn k m rows) budget r s
-says-rank rank least n k e rules plane points rows m budget r s a =
+pub says-rank : (way : Way) (globals full : List ℕ) (rank : ℕ) → 3 ≤ rank → (n k : ℕ) → n ≡ k → (rules : Rules) (plane : Subspace) (points : List Vec) (rows : List ℕ) (m budget : ℕ) (r : Called) (s : List ℕ)
+    → SaysOf (wayOf n way globals full) (suc (rank - 3)) rules plane points (rowsIn n m rows) budget r s → SaysOf (wayOf k way globals full) (rank - 2) rules plane points (rowsIn k m rows) budget r s
+says-rank way globals full rank least n k e rules plane points rows m budget r s a =
     let q : suc (rank - 3) ≡ rank - 2 = omega arith in
-    subst (λ (x : ℕ). SaysOf (rank - 2) rules plane points (rowsIn x m rows) budget r s) e (subst (λ (more : ℕ). SaysOf more rules plane points (rowsIn n m rows) budget r s) q a)
+    subst (λ (x : ℕ). SaysOf (wayOf x way globals full) (rank - 2) rules plane points (rowsIn x m rows) budget r s) e
+    (subst (λ (more : ℕ). SaysOf (wayOf n way globals full) more rules plane points (rowsIn n m rows) budget r s) q a)
 
 fits-more : (shelf : Shelf) (a b : ℕ) → ShelfFits shelf a → a ≤ b → ShelfFits shelf b
 fits-more shelf a b f h = record {
@@ -124,10 +130,14 @@ behind-four rank e = subst (λ (x : Shelf). x .end ≤ 4194304 - 524288) (at-fou
 
 -- ---- the start
 
-module _ (rank : ℕ) (plane : stored.Subspace) (points : Points) (rows : List ℕ) (m : ℕ) (rules : Rules) (budget : ℕ) (ws : List ℕ) (asked : Asked rank plane points rows m rules ws) (above : 3 ≤ rank)
+module _ (rank : ℕ) (plane : stored.Subspace) (points : Points) (rows : List ℕ) (m : ℕ) (rules : Rules) (budget : ℕ) (ws : List ℕ) (way : Way) (globals full : List ℕ) (asked : Asked rank plane points rows m rules ws way globals full) (above : 3 ≤ rank)
     (flat : Points) (holds : HoldsPoints flat (plane .rank) (map (flatten (subspaceOf plane)) (pointsOf points))) (same-n : flat .n ≡ points .n) where
+  -- how the call goes
+  abbrev goes : def.Way
+  goes = wayOf (flat .n) way globals full
+
   abbrev called : Site
-  called = siteIn (subspaceOf plane) (pointsOf points) rank flat rows m rules budget
+  called = siteIn goes (subspaceOf plane) (pointsOf points) rank flat rows m rules budget
 
   permute : Permutations (flat .n) m rows
   permute = subst (λ (n : ℕ). Permutations n m rows) (sym same-n) (asked .permute)
@@ -136,36 +146,37 @@ module _ (rank : ℕ) (plane : stored.Subspace) (points : Points) (rows : List �
   enough = ⊎-elim (λ h. asked .room-three (omega arith)) (λ h. omega (arith, asked .room-four (omega (arith, asked .rank-most)))) (le-or-lt rank 3)
 
   -- what the start of a call is asked
-  pub start-asks : CallFits points flat m rows × (rules .orbits ≤ 256) × (124928 ≤ length ws) × ShelfFits (shelfFor rank) (length ws) × (3 ≤ rank)
+  pub start-asks : CallFits points flat m rows × (rules .orbits ≤ 256) × (124928 ≤ length ws) × ShelfFits (shelfFor rank) (length ws) × (3 ≤ rank) × WayFits (flat .n) way globals full
   start-asks = (
     record { points-fit = asked .points-fit; flat-fit = holds .fits; same-n = sym same-n; permute = permute; few = asked .rows-few },
     asked .few-orbits,
     omega (arith, enough),
     shelf-fits rank (length ws) above (asked .rank-most) (asked .room-three) (asked .room-four),
     above,
+    subst (λ (n : ℕ). WayFits n way globals full) (sym same-n) (asked .way-fits),
   )
 
   module _ (r : Answer) (u : List ℕ)
-      (answers : answerIn (flat .n) r u ≡ orbitsOrRefusal (rules .orbits) (hyperplaneOrbits (rules .tolerance) (limitsOf (rules .min) (rules .max)) (rules .rule) (rank - 3) (pointsOf points) (pointsOf flat) (rowsIn (flat .n) m rows))) where
-    found-for : answerIn (flat .n) r u ≡ orbitsOrRefusal (callRules rules .bounds .orbits) (siteOrbits called)
+      (answers : answerIn (flat .n) r u ≡ takenOrRefusal goes (rules .orbits) (hyperplaneOrbits (rules .tolerance) (limitsOf (rules .min) (rules .max)) (rules .rule) (rank - 3) (pointsOf points) (pointsOf flat) (rowsIn (flat .n) m rows))) where
+    found-for : answerIn (flat .n) r u ≡ takenOrRefusal goes (callRules rules .bounds .orbits) (allOrbits called)
     unfolding callRules orbitsOf
     found-for =
-        subst (λ (ps : List Vec). answerIn (flat .n) r u ≡ orbitsOrRefusal (rules .orbits) (hyperplaneOrbits (rules .tolerance) (limitsOf (rules .min) (rules .max)) (rules .rule) (rank - 3) (pointsOf points) ps (rowsIn (flat .n) m rows))) (holds .means) answers
+        subst (λ (ps : List Vec). answerIn (flat .n) r u ≡ takenOrRefusal goes (rules .orbits) (hyperplaneOrbits (rules .tolerance) (limitsOf (rules .min) (rules .max)) (rules .rule) (rank - 3) (pointsOf points) ps (rowsIn (flat .n) m rows))) (holds .means) answers
 
     -- refusal 13
-    pub start-refused : r ≡ RefusedAnswer → SaysOf (rank - 2) rules (subspaceOf plane) (pointsOf points) (rowsIn (points .n) m rows) budget (Refused 13) u
+    pub start-refused : r ≡ RefusedAnswer → SaysOf (wayOf (points .n) way globals full) (rank - 2) rules (subspaceOf plane) (pointsOf points) (rowsIn (points .n) m rows) budget (Refused 13) u
     start-refused e =
-        says-rank rank above (flat .n) (points .n) same-n rules (subspaceOf plane) (pointsOf points) rows m budget (Refused 13) u
-        (finishes.says-thirteen (rank - 3) rules (subspaceOf plane) (pointsOf points) (rowsIn (flat .n) m rows) budget u
-        (found-too-many (callRules rules .bounds .orbits) (siteOrbits called) (flat .n) u (subst (λ (a : Answer). answerIn (flat .n) a u ≡ orbitsOrRefusal (callRules rules .bounds .orbits) (siteOrbits called)) e found-for)))
+        says-rank way globals full rank above (flat .n) (points .n) same-n rules (subspaceOf plane) (pointsOf points) rows m budget (Refused 13) u
+        (finishes.says-thirteen goes (rank - 3) rules (subspaceOf plane) (pointsOf points) (rowsIn (flat .n) m rows) budget u
+        (found-too-many goes (callRules rules .bounds .orbits) (allOrbits called) (flat .n) u (subst (λ (a : Answer). answerIn (flat .n) a u ≡ takenOrRefusal goes (callRules rules .bounds .orbits) (allOrbits called)) e found-for)))
 
     -- or the loop begins
     pub begun : (count : ℕ) → r ≡ Orbits count → ((k : ℕ) → Keeps k (shelfFor rank) [] u × Ridges (shelfFor rank) [] u) → length u ≡ length ws
-        → Loop (subspaceOf plane) (pointsOf points) rank flat rows m rules budget count u
+        → Loop goes (subspaceOf plane) (pointsOf points) rank flat rows m rules budget count u
     unfolding callRules
     begun count e cleared long =
-        let all = subst (λ (a : Answer). answerIn (flat .n) a u ≡ orbitsOrRefusal (callRules rules .bounds .orbits) (siteOrbits called)) e found-for in
-        let many = found-count (callRules rules .bounds .orbits) (siteOrbits called) (flat .n) u count all in
+        let all = subst (λ (a : Answer). answerIn (flat .n) a u ≡ takenOrRefusal goes (callRules rules .bounds .orbits) (allOrbits called)) e found-for in
+        let many = found-count goes (callRules rules .bounds .orbits) (allOrbits called) (flat .n) u count all in
         let size : flat .n ≡ length (pointsOf points) = same-n ∙ sym (points-length points) in
         record {
           rank-least = above;
@@ -180,8 +191,9 @@ module _ (rank : ℕ) (plane : stored.Subspace) (points : Points) (rows : List �
           few-facets = asked .few-facets;
           entries-are = asked .entries-are;
           found = many;
-          few-found = omega (arith, many, found-few (callRules rules .bounds .orbits) (siteOrbits called) (flat .n) u count all);
-          first = loop-starts called (shelfFor rank) (flat .n) count u u size all (asked .few-orbits) refl (cleared (length (pointsOf points)) .0) (cleared (length (pointsOf points)) .1);
+          few-found = found-few goes (callRules rules .bounds .orbits) (allOrbits called) (flat .n) u count all;
+          takes = way-takes (flat .n) way globals full;
+          first = loop-starts called (way-takes (flat .n) way globals full) (shelfFor rank) (flat .n) count u u size all (asked .few-orbits) refl (cleared (length (pointsOf points)) .0) (cleared (length (pointsOf points)) .1);
           room-three = λ q. omega (arith, asked .room-three q);
           room-four = λ q. omega (arith, asked .room-four q);
         }
@@ -201,9 +213,9 @@ is-fitted Fitted x p true e q = refl
 is-fitted Fitted x p false e q = cc
 is-fitted RefusedFit x p b e q = cc
 
-module _ {plane : Subspace} {points : List Vec} {rank : ℕ} {flat : Points} {rows : List ℕ} {m : ℕ} {rules : Rules} {budget count : ℕ} {ws : List ℕ} (l : Loop plane points rank flat rows m rules budget count ws) where
+module _ {way : def.Way} {plane : Subspace} {points : List Vec} {rank : ℕ} {flat : Points} {rows : List ℕ} {m : ℕ} {rules : Rules} {budget count : ℕ} {ws : List ℕ} (l : Loop way plane points rank flat rows m rules budget count ws) where
   abbrev g : Site
-  g = siteIn plane points rank flat rows m rules budget
+  g = siteIn way plane points rank flat rows m rules budget
 
   few-more : rank - 3 ≤ 1
   few-more = omega (arith, l .rank-most)
@@ -211,9 +223,10 @@ module _ {plane : Subspace} {points : List Vec} {rank : ℕ} {flat : Points} {ro
   fitting-is : Fitting g
   unfolding callRules
   fitting-is = record {
+    takes = l .takes;
     few-more = few-more;
     few-points = omega (arith, l .size, l .flat-fits .n-fits);
-    few-orbits = omega (arith, l .found, l .few-found, l .few-orbits);
+    few-orbits = omega (arith, l .takes .no-more (allOrbits g), l .few-found, l .few-orbits);
     few-facets = l .few-facets;
     few-entries = omega (arith, l .entries-are);
   }
@@ -239,7 +252,7 @@ module _ {plane : Subspace} {points : List Vec} {rank : ℕ} {flat : Points} {ro
 
     module _ (set : ℕ) (set-is : set ≡ numberAt s (8 * shelf .orbits) 4 % 2 ^ flat .n) where
       vertices-are : verticesOf (flat .n) set ≡ siteOrbit g (shelf .orbits) s .vertices
-      vertices-are = begins.next-vertices g shelf left (shelf .orbits) s st next-below (flat .n) m set rows (l .size) refl (l .permute) set-is
+      vertices-are = begins.next-vertices g fitting-is shelf left (shelf .orbits) s st next-below (flat .n) m set rows (l .size) refl (l .permute) set-is
 
       points-are : map (pointAt (pointsOf flat)) (verticesOf (flat .n) set) ≡ sitePoints g (shelf .orbits) s
       points-are = λ t. map (pointAt (l .flat-is t)) (vertices-are t)
@@ -264,7 +277,7 @@ module _ {plane : Subspace} {points : List Vec} {rank : ℕ} {flat : Points} {ro
         pub refit-refused : next .refitted .fit ≡ RefusedFit → siteWhole g ≡ result.refused 14
         unfolding refittedPlane
         refit-refused e =
-            turns.turn-refit (rank - 3) (callRules rules) plane points (rowsIn (flat .n) m rows) budget (length points) shelf left (shelf .orbits) s st next-below
+            turns.turn-refit way (rank - 3) (callRules rules) plane points (rowsIn (flat .n) m rows) budget (length points) shelf left (shelf .orbits) s st next-below
             (not-fitted (next .refitted .fit) (subspaceOf (next .refitted .plane)) (sitePlane g (shelf .orbits) s) (eqb (length (sitePlane g (shelf .orbits) s .basis)) (suc (rank - 3))) e (next-refits .answer))
 
         module _ (e : next .refitted .fit ≡ Fitted) where
@@ -273,27 +286,27 @@ module _ {plane : Subspace} {points : List Vec} {rank : ℕ} {flat : Points} {ro
           fits-so = is-fitted (next .refitted .fit) (subspaceOf (next .refitted .plane)) (sitePlane g (shelf .orbits) s) (eqb (length (sitePlane g (shelf .orbits) s .basis)) (suc (rank - 3))) e (next-refits .answer)
 
           given-next : Given (sitePoints g (shelf .orbits) s) (siteRows g (shelf .orbits) s)
-          given-next = begins.next-given g shelf left (shelf .orbits) s st next-below (l .given) fits-so
+          given-next = begins.next-given g fitting-is shelf left (shelf .orbits) s st next-below (l .given) fits-so
 
           room-for : 32 * m ≤ length out
           room-for = omega (arith, out-long, l .rows-few)
 
           few-next : next .m ≤ 120
-          few-next = rw many (begins.next-few g shelf left (shelf .orbits) s st next-below (flat .n) m set rows (l .size) refl (l .permute) set-is out room-for out-long)
+          few-next = rw many (begins.next-few g fitting-is shelf left (shelf .orbits) s st next-below (flat .n) m set rows (l .size) refl (l .permute) set-is out room-for out-long)
 
           rows-next : siteRows g (shelf .orbits) s ≡ rowsIn (length (sitePoints g (shelf .orbits) s)) (next .m) inner
-          rows-next = rw (many, written) (begins.next-rows g shelf left (shelf .orbits) s st next-below (flat .n) m set rows (l .size) refl (l .permute) set-is out room-for)
+          rows-next = rw (many, written) (begins.next-rows g fitting-is shelf left (shelf .orbits) s st next-below (flat .n) m set rows (l .size) refl (l .permute) set-is out room-for)
 
           permute-next : Permutations (length (sitePoints g (shelf .orbits) s)) (next .m) inner
-          permute-next = rw (many, written) (begins.next-permute g shelf left (shelf .orbits) s st next-below (flat .n) m set rows (l .size) refl (l .permute) set-is out room-for)
+          permute-next = rw (many, written) (begins.next-permute g fitting-is shelf left (shelf .orbits) s st next-below (flat .n) m set rows (l .size) refl (l .permute) set-is out room-for)
 
           rows-stored : siteRows g (shelf .orbits) s ≡ rowsIn (next .points .n) (next .m) inner
           rows-stored = rows-next ∙ ap (λ (n : ℕ). rowsIn n (next .m) inner) (sym (next-holds .n-is))
 
           -- so the inner call may be made, behind the shelf
           pub inner-asks : (tail : List ℕ) → Laid shelf (shelfFor rank) → length s ≡ length ws → length tail ≡ length s - shelf .end
-              → Asked (rank - 1) (next .refitted .plane) (next .points) inner (next .m) rules tail
-          inner-asks tail laid long rest = record {
+              → (plain : Way) (globals full : List ℕ) → plain .plain ≡ true → Asked (rank - 1) (next .refitted .plane) (next .points) inner (next .m) rules tail plain globals full
+          inner-asks tail laid long rest plain globals full is-plain = record {
             rank-least = omega (arith, l .rank-least);
             rank-most = omega (arith, l .rank-most);
             points-fit = next-holds .fits;
@@ -307,48 +320,49 @@ module _ {plane : Subspace} {points : List Vec} {rank : ℕ} {flat : Points} {ro
             entries-are = l .entries-are;
             room-three = λ q. let four : rank ≡ 4 = omega (arith, l .rank-least) in omega (arith, l .room-four four, behind-four rank four, laid .end, long, rest);
             room-four = λ q. omega (arith, q, l .rank-most);
+            way-fits = record { pack = λ e. absurd (subst T (sym is-plain ∙ e) tt) };
           }
 
           -- and what it says is the turn's
           pub turned : (called : Called) (u : List ℕ) → Laid shelf (shelfFor rank) → take (shelf .end) u ≡ take (shelf .end) s → length u ≡ length s
-              → SaysOf (rank - 1 - 2) rules (subspaceOf (next .refitted .plane)) (pointsOf (next .points)) (rowsIn (next .points .n) (next .m) inner) left called (drop (shelf .end) u)
+              → SaysOf plainWay (rank - 1 - 2) rules (subspaceOf (next .refitted .plane)) (pointsOf (next .points)) (rowsIn (next .points .n) (next .m) inner) left called (drop (shelf .end) u)
               → Turn g shelf left (shelf .orbits) called inner (next .m) u
           turned called u laid front long says =
               let q : rank - 1 - 2 ≡ rank - 3 = omega arith in
               let r : rank ≡ 3 + (rank - 3) = omega (arith, l .rank-least) in
-              let at-rank = subst (λ (more : ℕ). SaysOf more rules (subspaceOf (next .refitted .plane)) (pointsOf (next .points)) (rowsIn (next .points .n) (next .m) inner) left called (drop (shelf .end) u)) q says in
-              let at-plane = subst (λ (p : Subspace). SaysOf (rank - 3) rules p (pointsOf (next .points)) (rowsIn (next .points .n) (next .m) inner) left called (drop (shelf .end) u)) (next-refits .holds .means) at-rank in
-              let at-points = subst (λ (ps : List Vec). SaysOf (rank - 3) rules (sitePlane g (shelf .orbits) s) ps (rowsIn (next .points .n) (next .m) inner) left called (drop (shelf .end) u)) (next-holds .means) at-plane in
-              let at-rows = subst (λ (rs : List Row). SaysOf (rank - 3) rules (sitePlane g (shelf .orbits) s) (sitePoints g (shelf .orbits) s) rs left called (drop (shelf .end) u)) (sym rows-stored) at-points in
+              let at-rank = subst (λ (more : ℕ). SaysOf plainWay more rules (subspaceOf (next .refitted .plane)) (pointsOf (next .points)) (rowsIn (next .points .n) (next .m) inner) left called (drop (shelf .end) u)) q says in
+              let at-plane = subst (λ (p : Subspace). SaysOf plainWay (rank - 3) rules p (pointsOf (next .points)) (rowsIn (next .points .n) (next .m) inner) left called (drop (shelf .end) u)) (next-refits .holds .means) at-rank in
+              let at-points = subst (λ (ps : List Vec). SaysOf plainWay (rank - 3) rules (sitePlane g (shelf .orbits) s) ps (rowsIn (next .points .n) (next .m) inner) left called (drop (shelf .end) u)) (next-holds .means) at-plane in
+              let at-rows = subst (λ (rs : List Row). SaysOf plainWay (rank - 3) rules (sitePlane g (shelf .orbits) s) (sitePoints g (shelf .orbits) s) rs left called (drop (shelf .end) u)) (sym rows-stored) at-points in
               begins.turn-called g shelf left (shelf .orbits) s u fitting-is st front long next-below called inner (next .m) fits-so at-rows rows-next (rows-fit permute-next) few-next given-next
               (subst (λ (k : ℕ). Laid shelf (shelfFor k)) r laid)
 
   -- ---- the end
 
   -- a refusal met in a turn is the call's
-  pub loop-refused : (number : ℕ) (s : List ℕ) → siteWhole g ≡ result.refused number → SaysOf (suc (rank - 3)) rules plane points (rowsIn (flat .n) m rows) budget (Refused number) s
+  pub loop-refused : (number : ℕ) (s : List ℕ) → siteWhole g ≡ result.refused number → SaysOf way (suc (rank - 3)) rules plane points (rowsIn (flat .n) m rows) budget (Refused number) s
   unfolding callRules
   loop-refused number s e =
-      finishes.says-refused (rank - 3) rules plane points (rowsIn (flat .n) m rows) budget (omega (arith, l .found, l .few-found)) number s e
+      finishes.says-refused way (rank - 3) rules plane points (rowsIn (flat .n) m rows) budget (l .few-found) number s e
 
   module _ (shelf : Shelf) (left : ℕ) (s : List ℕ) (st : SiteState g shelf left (shelf .orbits) s) (laid : Laid shelf (shelfFor rank)) (all : count ≤ shelf .orbits) (long : length s ≡ length ws) where
     pub every : length (siteOrbits g) ≤ shelf .orbits
     every = omega (arith, l .found)
 
-    pub few : length (siteOrbits g) ≤ callRules rules .bounds .orbits
+    pub few : length (allOrbits g) ≤ callRules rules .bounds .orbits
     unfolding callRules
-    few = omega (arith, l .found, l .few-found)
+    few = l .few-found
 
     abbrev pub stock : Stock
-    stock = finishes.stock (rank - 3) rules plane points (rowsIn (flat .n) m rows) budget few shelf left (shelf .orbits) s st every
+    stock = finishes.stock way (rank - 3) rules plane points (rowsIn (flat .n) m rows) budget few shelf left (shelf .orbits) s st every
 
     -- all inner calls are made and kept: what the search asks
-    pub all-kept : Stocked stock shelf rank rows m rules left s
-    all-kept =
-        finishes.stocked (rank - 3) rules plane points (rowsIn (flat .n) m rows) budget few shelf left (shelf .orbits) s st every rank rows m few-more (omega (arith, l .rank-least)) (l .given)
+    pub all-kept : (extended : Bool) → extended ≡ way .extended → Stocked stock shelf rank rows m rules extended left s
+    all-kept extended extended-is =
+        finishes.stocked way (rank - 3) rules plane points (rowsIn (flat .n) m rows) budget few shelf left (shelf .orbits) s st every (l .takes) extended extended-is rank rows m few-more (omega (arith, l .rank-least)) (l .given)
         (fitting-is .few-points) (l .entries-are) (ap (λ (n : ℕ). rowsIn n m rows) (l .size)) (subst (λ (n : ℕ). RowsFit n m rows) (l .size) (rows-fit (l .permute))) (l .rows-few) laid
         (λ q. omega (arith, l .room-three q, long)) (λ q. omega (arith, l .room-four q, long))
 
     -- and what it says is what the call says
-    pub loop-searched : (r : Called) (u : List ℕ) → Searched stock rules r u → SaysOf (suc (rank - 3)) rules plane points (rowsIn (flat .n) m rows) budget r u
-    loop-searched r u a = finishes.says-searched (rank - 3) rules plane points (rowsIn (flat .n) m rows) budget few shelf left (shelf .orbits) s st every r u a
+    pub loop-searched : (r : Called) (u : List ℕ) → Searched stock rules r u → SaysOf way (suc (rank - 3)) rules plane points (rowsIn (flat .n) m rows) budget r u
+    loop-searched r u a = finishes.says-searched way (rank - 3) rules plane points (rowsIn (flat .n) m rows) budget few shelf left (shelf .orbits) s st every r u a

@@ -217,7 +217,7 @@ module _ (t : Table) (limits : EntryLimits) where
 
   -- a list judged, by its verdict
   judged : (left : ℕ) (item : Item) (later : List Item) (emitted : List (List Facet)) (v : Verdict) → judge (totals t (item .list)) ≡ v
-      → examine t limits (suc left) (item ∷ later) emitted ≡ emitIf v limits (item .list) left emitted (examine t limits left (reverseAux (putIn t item v) later))
+      → examine t limits (suc left) (item ∷ later) emitted ≡ emitIf v limits (item .list) left emitted (examine t limits left (reverseAux (putIn (limits .extended) t item v) later))
   unfolding examine
   judged left item later emitted v e = rw e refl
 
@@ -261,14 +261,26 @@ module _ (t : Table) (limits : EntryLimits) where
       → examine t limits (suc left) (item ∷ later) emitted ≡ answered (record { lists = emitted ++ (item .list ∷ []); left = left })
   unfolding emitIf
   examine-stop left item later emitted e h r =
-      judged left item later emitted closed e ∙ emit-one (item .list) left emitted (examine t limits left (reverseAux (putIn t item closed) later)) true h r
+      judged left item later emitted closed e ∙ emit-one (item .list) left emitted (examine t limits left (reverseAux (putIn (limits .extended) t item closed) later)) true h r
 
+  -- and where it is not reached, the list is extended
   pub examine-closed : (left : ℕ) (item : Item) (frames : List Frame) (emitted : List (List Facet)) → judge (totals t (item .list)) ≡ closed → length emitted < limits .bound
-      → limitReached (limits .limit) (suc (length emitted)) ≡ false
+      → limitReached (limits .limit) (suc (length emitted)) ≡ false → limits .extended ≡ true
       → examine t limits (suc left) (item ∷ pending t frames) emitted
       ≡ examine t limits left (pending t (entered t (item .list) (item .mark) none ∷ frames)) (emitted ++ (item .list ∷ []))
   unfolding emitIf putIn pending
-  examine-closed left item frames emitted e h r =
+  examine-closed left item frames emitted e h r x =
       judged left item (pending t frames) emitted closed e
-      ∙ (emit-one (item .list) left emitted (examine t limits left (reverseAux (putIn t item closed) (pending t frames))) false h r
-      ∙ ap (λ (l : List Item). examine t limits left (reverseAux l (pending t frames)) (emitted ++ (item .list ∷ []))) (enter-closed t item))
+      ∙ (emit-one (item .list) left emitted (examine t limits left (reverseAux (putIn (limits .extended) t item closed) (pending t frames))) false h r
+      ∙ (ap (λ (b : Bool). examine t limits left (reverseAux (putIn b t item closed) (pending t frames)) (emitted ++ (item .list ∷ []))) x
+      ∙ ap (λ (l : List Item). examine t limits left (reverseAux l (pending t frames)) (emitted ++ (item .list ∷ []))) (enter-closed t item)))
+
+  -- or not
+  pub examine-kept : (left : ℕ) (item : Item) (frames : List Frame) (emitted : List (List Facet)) → judge (totals t (item .list)) ≡ closed → length emitted < limits .bound
+      → limitReached (limits .limit) (suc (length emitted)) ≡ false → limits .extended ≡ false
+      → examine t limits (suc left) (item ∷ pending t frames) emitted ≡ examine t limits left (pending t frames) (emitted ++ (item .list ∷ []))
+  unfolding emitIf putIn
+  examine-kept left item frames emitted e h r x =
+      judged left item (pending t frames) emitted closed e
+      ∙ (emit-one (item .list) left emitted (examine t limits left (reverseAux (putIn (limits .extended) t item closed) (pending t frames))) false h r
+      ∙ ap (λ (b : Bool). examine t limits left (reverseAux (putIn b t item closed) (pending t frames)) (emitted ++ (item .list ∷ []))) x)

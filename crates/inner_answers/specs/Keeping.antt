@@ -10,12 +10,12 @@ use Rattle.definitions.specs.Job.{numberAt}
 use Rattle.definitions.specs.Subspace.{flatten}
 use Rattle.definitions.specs.Orbits.{Row, pointAt}
 use Rattle.definitions.specs.Recursion.{Rules, Entry, Answer, Inner, swappedEnds, separateEnds}
-use Rattle.definitions.specs.Faceting.{faceting}
+use Rattle.definitions.specs.Faceting.{plainWay, prepare, faceting, facetingWith}
 use Rattle.laws.specs.Sets.{verticesOf}
 use Rattle.stabilizers.specs.Places.{vertices-few}
 use Rattle.orbits.specs.Numbers.{orbitOf}
 use Rattle.openers.specs.Rows.{rowsIn, RowsFit}
-use Rattle.shapes.specs.Answered.{Preparation, preparation}
+use Rattle.shapes.specs.Answered.{Preparation, plain-takes, preparation-with}
 use Rattle.shapes.specs.Calls.{Given}
 use Rattle.shapes.specs.Kept.{Kept, keptOf}
 use Rattle.shapes.specs.KeptSizes.{few-counts}
@@ -64,10 +64,10 @@ module _ (g : Site) (shelf : Shelf) (left i : ℕ) (called : Called) (rows : Lis
 
   -- refusal 15
   pub too-many : (a : Answer) → faceting (g .more) (g .rules) (sitePlane g i s) (sitePoints g i s) (siteRows g i s) left ≡ answered a → g .rules .bounds .facets < shelf .facets + length (a .entries) → siteWhole g ≡ refused 15
-  too-many a is k = turns.turn-full (g .more) (g .rules) (g .plane) (g .points) (g .rows) (g .budget) n shelf left i s (t .state-is) (t .below) (t .fits) a is k
+  too-many a is k = turns.turn-full (g .way) (g .more) (g .rules) (g .plane) (g .points) (g .rows) (g .budget) n shelf left i s (t .state-is) (t .below) (t .fits) a is k
 
   pub inner-refusal : (number : ℕ) → faceting (g .more) (g .rules) (sitePlane g i s) (sitePoints g i s) (siteRows g i s) left ≡ refused number → siteWhole g ≡ refused number
-  inner-refusal number e = turns.turn-refused (g .more) (g .rules) (g .plane) (g .points) (g .rows) (g .budget) n shelf left i s (t .state-is) (t .below) (t .fits) number e
+  inner-refusal number e = turns.turn-refused (g .way) (g .more) (g .rules) (g .plane) (g .points) (g .rows) (g .budget) n shelf left i s (t .state-is) (t .below) (t .fits) number e
 
   -- the answer is kept
   pub next-state : (a : Answer) → faceting (g .more) (g .rules) (sitePlane g i s) (sitePoints g i s) (siteRows g i s) left ≡ answered a → shelf .facets + length (a .entries) ≤ g .rules .bounds .facets
@@ -76,9 +76,9 @@ module _ (g : Site) (shelf : Shelf) (left i : ℕ) (called : Called) (rows : Lis
       → SiteState g r (a .left) (i + 1) u
   next-state a is room amounts r u keeps ridges front =
       let more = g .more in
-      state.state-next more (g .rules) (g .plane) (g .points) (g .rows) (g .budget) n shelf left i s (t .state-is) (t .below) (record { orbit = siteOrbit g i s; answer = a })
-      (turns.turn-answered more (g .rules) (g .plane) (g .points) (g .rows) (g .budget) n shelf left i s (t .state-is) (t .below) (t .fits) a is)
-      (turns.turn-room more (g .rules) (g .plane) (g .points) (g .rows) (g .budget) n shelf left i s (t .state-is) (t .below) (t .fits) a is room) r u keeps ridges front (t .fitting .few-orbits) amounts
+      state.state-next (g .way) more (g .rules) (g .plane) (g .points) (g .rows) (g .budget) n shelf left i s (t .state-is) (t .below) (record { orbit = siteOrbit g i s; answer = a })
+      (turns.turn-answered (g .way) more (g .rules) (g .plane) (g .points) (g .rows) (g .budget) n shelf left i s (t .state-is) (t .below) (t .fits) a is)
+      (turns.turn-room (g .way) more (g .rules) (g .plane) (g .points) (g .rows) (g .budget) n shelf left i s (t .state-is) (t .below) (t .fits) a is room) r u keeps ridges front (t .fitting .few-orbits) amounts
 
 -- ---- rank 3
 
@@ -90,10 +90,10 @@ one-entry false rest = (refl, refl)
 module _ (g : Site) (shelf : Shelf) (left i : ℕ) (swapped : Bool) (rest : ℕ) (rows : List ℕ) (m : ℕ) (s : List ℕ) (t : Turn g shelf left i (Ends swapped rest) rows m s) where
   -- only the inner calls of rank 3 answer with ends alone
   pub ends-three : (g .more ≡ 0) × (faceting (g .more) (g .rules) (sitePlane g i s) (sitePoints g i s) (siteRows g i s) left ≡ answered (edgeAnswer swapped rest))
-  unfolding Says
+  unfolding Says facetingWith faceting prepare
   ends-three = go (g .more) (t .says)
     where
-      go : (more : ℕ) → Says more (g .rules) (sitePlane g i s) (sitePoints g i s) (siteRows g i s) left (Ends swapped rest) (drop (shelf .end) s)
+      go : (more : ℕ) → Says plainWay more (g .rules) (sitePlane g i s) (sitePoints g i s) (siteRows g i s) left (Ends swapped rest) (drop (shelf .end) s)
           → (more ≡ 0) × (faceting more (g .rules) (sitePlane g i s) (sitePoints g i s) (siteRows g i s) left ≡ answered (edgeAnswer swapped rest))
       go zero e = (refl, e)
       go (suc more) e = absurd e
@@ -142,12 +142,12 @@ module _ (g : Site) (shelf : Shelf) (left : ℕ) (level : Level) (rest : ℕ) (r
   many-points = length-map (siteOrbit g i₀ s .vertices) (pointAt (map (flatten (g .plane)) (g .points)))
 
   -- only the inner calls of rank 4 leave their answer in the workspace
-  pub left-four : (g .more ≡ 1) × AnswerStands 0 (g .rules) (sitePlane g i₀ s) (sitePoints g i₀ s) (siteRows g i₀ s) left level rest behind
+  pub left-four : (g .more ≡ 1) × AnswerStands plainWay 0 (g .rules) (sitePlane g i₀ s) (sitePoints g i₀ s) (siteRows g i₀ s) left level rest behind
   unfolding Says
   left-four = go (g .more) (t .fitting .few-more) (t .says)
     where
-      go : (more : ℕ) → more ≤ 1 → Says more (g .rules) (sitePlane g i₀ s) (sitePoints g i₀ s) (siteRows g i₀ s) left (Left level rest) behind
-          → (more ≡ 1) × AnswerStands 0 (g .rules) (sitePlane g i₀ s) (sitePoints g i₀ s) (siteRows g i₀ s) left level rest behind
+      go : (more : ℕ) → more ≤ 1 → Says plainWay more (g .rules) (sitePlane g i₀ s) (sitePoints g i₀ s) (siteRows g i₀ s) left (Left level rest) behind
+          → (more ≡ 1) × AnswerStands plainWay 0 (g .rules) (sitePlane g i₀ s) (sitePoints g i₀ s) (siteRows g i₀ s) left level rest behind
       go zero few e = absurd e
       go (suc zero) few e = (refl, e)
       go (suc (suc more)) few e = absurd (omega arith)
@@ -164,16 +164,18 @@ module _ (g : Site) (shelf : Shelf) (left : ℕ) (level : Level) (rest : ℕ) (r
 
   -- the inner call's answer is what stands behind the shelf
   pub left-answer : faceting (g .more) (g .rules) (sitePlane g i₀ s) (sitePoints g i₀ s) (siteRows g i₀ s) left ≡ answered leftAnswer
+  unfolding facetingWith faceting prepare
   left-answer =
       ap (λ (more : ℕ). faceting more (g .rules) (sitePlane g i₀ s) (sitePoints g i₀ s) (siteRows g i₀ s) left) (left-four .0)
       ∙ (left-four .1 .is ∙ (λ q. answered (answerLeft 0 (many-points q) (own-rows q) innerKept level behind rest)))
 
   pub left-edges : EdgesLeft width m innerKept level rows behind
+  unfolding facetingWith faceting prepare
   left-edges =
       let st = left-four .1 in
       let R = rowsIn (length (sitePoints g i₀ s)) m rows in
       let e = t .rows-are in
-      let prep = preparation 0 (g .rules) (faceting 0 (g .rules)) (sitePlane g i₀ s) (sitePoints g i₀ s) (siteRows g i₀ s) left (st .before) (st .prepared) in
+      let prep = preparation-with plainWay plain-takes 0 (g .rules) (faceting 0 (g .rules)) (sitePlane g i₀ s) (sitePoints g i₀ s) (siteRows g i₀ s) left (st .before) (st .prepared) in
       subst (λ (k : ℕ). EdgesLeft k m innerKept level rows behind) many-points
       (edges-left (g .rules) (sitePlane g i₀ s) (sitePoints g i₀ s) rows m left (st .before) level behind rest
       (subst (Given (sitePoints g i₀ s)) e (t .given))

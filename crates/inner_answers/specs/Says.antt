@@ -10,15 +10,17 @@ use Rattle.definitions.specs.Vectors.{Vec}
 use Rattle.definitions.specs.Subspace.{Subspace, flatten, fromPoints}
 use Rattle.definitions.specs.Orbits.{Row, Orbit, pointAt}
 use Rattle.definitions.specs.Recursion.{Rules, InnerCalls, innerCalls, rowsWithin}
-use Rattle.definitions.specs.Faceting.{Prepared, orbitsOf, prepare, faceting}
+use Rattle.definitions.specs.Faceting.{Way, plainWay, Prepared, orbitsOf, prepareWith, faceting, facetingWith}
 use Rattle.openers.specs.Rows.{rowsIn, RowsFit}
 use Rattle.orbits.specs.Numbers.{orbitOf}
+use Rattle.shapes.specs.Answered.{TakesSome}
 use Rattle.shapes.specs.Calls.{Given}
 use Rattle.shapes.specs.Kept.{keptOf}
 use Rattle.shelf.specs.Leaves.{Leaves, answerLeft}
 use Rattle.shelf.specs.declared.Shelf.{Shelf}
 use Rattle.shelf.specs.declared.Level.{Level}
 use Rattle.calls.specs.Layouts.{shelfFor}
+use Rattle.calls.specs.Steps.{keptOrbits}
 use Rattle.calls.specs.declared.Called.{Called}
 use Rattle.calls.specs.declared.Called.the-variants.{Refused, Ends, Left}
 use Rattle.keep.specs.Adding.{orbitAt}
@@ -30,24 +32,25 @@ use Rattle.inner_answers.specs.Spaces.{Laid}
 
 -- A call of rank 3 + more is answered, and its answer stands in the workspace. Wherever its entries lie, they end before the byte 3,211,264: at rank 4 the images of all facets, at most 1,024 under
 -- 120 rows, have room behind them.
-pub record AnswerStands (more : ℕ) (rules : Rules) (plane : Subspace) (points : List Vec) (rows : List Row) (budget : ℕ) (level : Level) (rest : ℕ) (s : List ℕ) : Type 0 where
+pub record AnswerStands (way : Way) (more : ℕ) (rules : Rules) (plane : Subspace) (points : List Vec) (rows : List Row) (budget : ℕ) (level : Level) (rest : ℕ) (s : List ℕ) : Type 0 where
   pub before : Prepared
-  pub prepared : prepare more rules (faceting more rules) plane points rows budget ≡ answered before
+  pub prepared : prepareWith way more rules (faceting more rules) plane points rows budget ≡ answered before
   pub leaves : Leaves more (length points) rows (map keptOf (before .inner)) level s
-  pub is : faceting (suc more) rules plane points rows budget ≡ answered (answerLeft more (length points) rows (map keptOf (before .inner)) level s rest)
+  pub is : facetingWith way (suc more) rules plane points rows budget ≡ answered (answerLeft more (length points) rows (map keptOf (before .inner)) level s rest)
   pub ends : level .lists + (level .bytes + 6144) ≤ 3211264
 
 -- what a call of rank 2 + more says: only rank 2 answers with ends alone
-unfoldable pub Says : ℕ → Rules → Subspace → List Vec → List Row → ℕ → Called → List ℕ → Type 0
-Says zero rules plane points rows budget (Refused number) s = faceting 0 rules plane points rows budget ≡ refused number
-Says zero rules plane points rows budget (Ends swapped rest) s = faceting 0 rules plane points rows budget ≡ answered (edgeAnswer swapped rest)
-Says zero rules plane points rows budget (Left level rest) s = ⊥
-Says (suc more) rules plane points rows budget (Refused number) s = faceting (suc more) rules plane points rows budget ≡ refused number
-Says (suc more) rules plane points rows budget (Ends swapped rest) s = ⊥
-Says (suc more) rules plane points rows budget (Left level rest) s = AnswerStands more rules plane points rows budget level rest s
+unfoldable pub Says : Way → ℕ → Rules → Subspace → List Vec → List Row → ℕ → Called → List ℕ → Type 0
+Says way zero rules plane points rows budget (Refused number) s = facetingWith way 0 rules plane points rows budget ≡ refused number
+Says way zero rules plane points rows budget (Ends swapped rest) s = facetingWith way 0 rules plane points rows budget ≡ answered (edgeAnswer swapped rest)
+Says way zero rules plane points rows budget (Left level rest) s = ⊥
+Says way (suc more) rules plane points rows budget (Refused number) s = facetingWith way (suc more) rules plane points rows budget ≡ refused number
+Says way (suc more) rules plane points rows budget (Ends swapped rest) s = ⊥
+Says way (suc more) rules plane points rows budget (Left level rest) s = AnswerStands way more rules plane points rows budget level rest s
 
 -- the definition's call that the loop belongs to
 pub record Site : Type 0 where
+  pub way : Way
   pub more : ℕ
   pub rules : Rules
   pub plane : Subspace
@@ -55,15 +58,19 @@ pub record Site : Type 0 where
   pub rows : List Row
   pub budget : ℕ
 
+-- its orbits: all of them, and those that are kept
+abbrev pub allOrbits : Site → List Orbit
+allOrbits g = orbitsOf (g .more) (g .rules) (g .plane) (g .points) (g .rows)
+
 abbrev pub siteOrbits : Site → List Orbit
-siteOrbits g = orbitsOf (g .more) (g .rules) (g .plane) (g .points) (g .rows)
+siteOrbits g = keptOrbits (g .way) (g .more) (g .rules) (g .plane) (g .points) (g .rows) (g .budget)
 
 abbrev pub SiteState : Site → Shelf → ℕ → ℕ → List ℕ → Type 0
-SiteState g shelf left i s = State (g .more) (g .rules) (g .plane) (g .points) (g .rows) (g .budget) (length (g .points)) shelf left i s
+SiteState g shelf left i s = State (g .way) (g .more) (g .rules) (g .plane) (g .points) (g .rows) (g .budget) (length (g .points)) shelf left i s
 
 -- what the inner calls of the whole come to
 abbrev pub siteWhole : Site → Outcome InnerCalls
-siteWhole g = innerCalls (state.inner (g .more) (g .rules) (g .plane) (g .points) (g .rows) (g .budget) (length (g .points))) (g .rules .bounds .facets) (siteOrbits g) 0 (g .budget)
+siteWhole g = innerCalls (state.inner (g .way) (g .more) (g .rules) (g .plane) (g .points) (g .rows) (g .budget) (length (g .points))) (g .rules .bounds .facets) (siteOrbits g) 0 (g .budget)
 
 -- the next orbit, its points and its plane
 abbrev pub siteOrbit : Site → ℕ → List ℕ → Orbit
@@ -80,6 +87,7 @@ siteRows g i s = rowsWithin (siteOrbit g i s .vertices) (g .rows)
 
 -- what is alike in every turn
 pub record Fitting (g : Site) : Type 0 where
+  pub takes : TakesSome (g .way)
   pub few-more : g .more ≤ 1
   pub few-points : length (g .points) ≤ 20
   pub few-orbits : length (siteOrbits g) ≤ 256
@@ -92,7 +100,7 @@ pub record Turn (g : Site) (shelf : Shelf) (left i : ℕ) (called : Called) (row
   pub state-is : SiteState g shelf left i s
   pub below : i < length (siteOrbits g)
   pub fits : eqb (length (sitePlane g i s .basis)) (suc (g .more)) ≡ true
-  pub says : Says (g .more) (g .rules) (sitePlane g i s) (sitePoints g i s) (siteRows g i s) left called (drop (shelf .end) s)
+  pub says : Says plainWay (g .more) (g .rules) (sitePlane g i s) (sitePoints g i s) (siteRows g i s) left called (drop (shelf .end) s)
   pub rows-are : siteRows g i s ≡ rowsIn (length (sitePoints g i s)) m rows
   pub rows-fit : RowsFit (length (sitePoints g i s)) m rows
   pub rows-few : m ≤ 120

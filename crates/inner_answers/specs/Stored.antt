@@ -9,7 +9,8 @@ use lib.ListN.{length, drop}
 use Rattle.definitions.specs.Outcome.{refused}
 use Rattle.definitions.specs.Job.{numberAt}
 use Rattle.definitions.specs.Recursion.{Inner}
-use Rattle.definitions.specs.Faceting.{faceting}
+use Rattle.definitions.specs.Faceting.{plainWay, orbitsOf, prepare, faceting, facetingWith}
+use Rattle.shapes.specs.Answered.{TakesSome}
 use Rattle.laws.specs.Sets.{verticesOf}
 use Rattle.orbits.specs.Numbers.{orbitOf}
 use Rattle.shapes.specs.FewOrbits.{pairs-few}
@@ -26,7 +27,7 @@ use Rattle.keep.specs.Storing.{beside-take}
 use Rattle.keep.specs.Stocked.{ShelfWritten}
 use Rattle.kept_polygons.specs.Whole.{InnerLeft, innerAnswer, PolygonRoom}
 use Rattle.inner_answers.specs.Spaces.{Laid}
-use Rattle.inner_answers.specs.Says.{Site, Turn, Says, SiteState, siteOrbits, siteOrbit, sitePoints, sitePlane, siteRows, siteWhole}
+use Rattle.inner_answers.specs.Says.{Site, Turn, Says, SiteState, allOrbits, siteOrbits, siteOrbit, sitePoints, sitePlane, siteRows, siteWhole}
 use Rattle.inner_answers.specs.Keeping as keeping
 use Rattle.inner_answers.specs.declared.Stored.{Stored}
 use Rattle.inner_answers.specs.declared.Stored.the-variants.{Refused as RefusedStored, Kept as KeptStored}
@@ -41,11 +42,13 @@ Storing g shelf (RefusedStored number) u = siteWhole g ≡ refused number
 Storing g shelf (KeptStored r rest) u = OneMore g shelf r rest u
 
 -- the orbits of a call of rank 3 are 190 at most
-few-three : (g : Site) → g .more ≡ 0 → length (g .points) ≤ 20 → length (siteOrbits g) ≤ 190
-few-three g e few =
-    pairs-few (length (g .points)) (length (siteOrbits g)) few
-    (subst (λ (more : ℕ). 2 * length (siteOrbits (record { more = more; rules = g .rules; plane = g .plane; points = g .points; rows = g .rows; budget = g .budget })) + length (g .points) ≤ length (g .points) * length (g .points)) (sym e)
-    (call-orbits-few (g .rules) (g .plane) (g .points) (g .rows)))
+few-three : (g : Site) → TakesSome (g .way) → g .more ≡ 0 → length (g .points) ≤ 20 → length (siteOrbits g) ≤ 190
+few-three g takes e few =
+    let all = pairs-few (length (g .points)) (length (allOrbits g)) few
+    (subst (λ (more : ℕ). 2 * length (orbitsOf more (g .rules) (g .plane) (g .points) (g .rows)) + length (g .points) ≤ length (g .points) * length (g .points)) (sym e)
+    (call-orbits-few (g .rules) (g .plane) (g .points) (g .rows))) in
+    let fewer = takes .no-more (allOrbits g) in
+    omega arith
 
 laid-more : (shelf : Shelf) (k : ℕ) → Laid (withFacets shelf k) shelf
 unfolding withFacets
@@ -53,11 +56,11 @@ laid-more shelf k = record { edges = refl; labels = refl; owners = refl; ridges 
 
 -- a refusal is passed on
 pub refusal-stored : (g : Site) (shelf : Shelf) (left number : ℕ) (rows : List ℕ) (m : ℕ) (s : List ℕ) → Turn g shelf left (shelf .orbits) (Refused number) rows m s → siteWhole g ≡ refused number
-unfolding Says
+unfolding Says facetingWith faceting prepare
 refusal-stored g shelf left number rows m s t =
     keeping.inner-refusal g shelf left (shelf .orbits) (Refused number) rows m s t number (go (g .more) (t .says))
   where
-    go : (more : ℕ) → Says more (g .rules) (sitePlane g (shelf .orbits) s) (sitePoints g (shelf .orbits) s) (siteRows g (shelf .orbits) s) left (Refused number) (drop (shelf .end) s)
+    go : (more : ℕ) → Says plainWay more (g .rules) (sitePlane g (shelf .orbits) s) (sitePoints g (shelf .orbits) s) (siteRows g (shelf .orbits) s) left (Refused number) (drop (shelf .end) s)
         → faceting more (g .rules) (sitePlane g (shelf .orbits) s) (sitePoints g (shelf .orbits) s) (siteRows g (shelf .orbits) s) left ≡ refused number
     go zero e = e
     go (suc more) e = e
@@ -72,7 +75,7 @@ module _ (g : Site) (shelf : Shelf) (left : ℕ) (swapped : Bool) (rest : ℕ) (
       subst (λ (x : ℕ). (x ≤ 20) × (2 ≤ length (verticesOf x (numberAt s (8 * shelf .orbits) 4))) × ((kept : List Kept) × Keeps x shelf kept s × Ridges shelf kept s × RoomFor shelf kept 1 1 2 2)) (sym n-is) (
         t .fitting .few-points,
         keeping.two-vertices g shelf left (shelf .orbits) (Ends swapped rest) rows m s t,
-        (kept, t .state-is .keeps, t .state-is .ridges, keeping.ends-room g shelf left (shelf .orbits) swapped rest rows m s t (few-three g (keeping.ends-three g shelf left (shelf .orbits) swapped rest rows m s t .0) (t .fitting .few-points))),
+        (kept, t .state-is .keeps, t .state-is .ridges, keeping.ends-room g shelf left (shelf .orbits) swapped rest rows m s t (few-three g (t .fitting .takes) (keeping.ends-three g shelf left (shelf .orbits) swapped rest rows m s t .0) (t .fitting .few-points))),
       )
 
   pub edge-full : (bound : ℕ) → bound ≡ g .rules .bounds .facets → bound < shelf .facets + 1 → siteWhole g ≡ refused 15

@@ -31,7 +31,7 @@ fn has_mark(job: &[u8]) -> bool
     job[2] == 84
 }
 
-fn between(lowest: usize, highest: usize, x: usize) -> bool
+pub fn between(lowest: usize, highest: usize, x: usize) -> bool
     ensures { λ r. ⌜ r ≡ between lowest highest x ⌝ }
 {
     lowest <= x && x <= highest
@@ -131,7 +131,7 @@ fn floats_good(job: &[u8], fields: Fields) -> bool
 // ---- rows
 
 // Whether each of the n bytes from a place on is its own number.
-fn is_identity(job: &[u8], at: usize, n: usize) -> bool
+pub fn is_identity(job: &[u8], at: usize, n: usize) -> bool
     requires { ⌜ at + n ≤ length (now job) ⌝ }
     ensures { λ r. ⌜ r ≡ sameNats (take n (drop at (now (job .entry)))) (countFrom 0 n) ⌝ }
 {
@@ -166,7 +166,7 @@ fn is_permutation(job: &[u8], at: usize, n: usize) -> bool
     true
 }
 
-fn rows_good(job: &[u8], at: usize, n: usize, count: usize) -> bool
+pub fn rows_good(job: &[u8], at: usize, n: usize, count: usize) -> bool
     requires { ⌜ (n ≤ 20) × (at + n * count ≤ length (now job)) ⌝ }
     ensures { λ r. ⌜ r ≡ allOf (isPermutation n) (rowsAt (now (job .entry)) at n count) ⌝ }
 {
@@ -182,7 +182,7 @@ fn rows_good(job: &[u8], at: usize, n: usize, count: usize) -> bool
 
 // ---- workspace
 
-fn workspace_for(rank: usize) -> usize
+pub fn workspace_for(rank: usize) -> usize
     ensures { λ r. ⌜ r ≡ workspaceFor rank ⌝ }
 {
     if rank == 2 {
@@ -259,7 +259,7 @@ fn check_values(job: &[u8], fields: Fields) -> Checked
 }
 
 // The job's own refusals: what its bytes alone decide.
-fn check_job(job: &[u8]) -> Checked
+pub fn check_job(job: &[u8]) -> Checked
     ensures { λ r. ⌜ r ≡ checkedBy (jobTests (now (job .entry))) (now (job .entry)) ⌝ }
 {
     match check_header(job) {

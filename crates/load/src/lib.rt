@@ -14,7 +14,7 @@ ghost use Rattle.vectors.specs.Meaning.{five};
 ghost use Rattle.space.specs.Meaning.{HoldsSubspace, HoldsPoints};
 ghost use Rattle.load.specs.Places.{headerOf, placesOf, Counted, Exact};
 ghost use Rattle.openers.specs.Rows.{rowsIn, writtenRows};
-ghost use Rattle.load.specs.Meaning.{lengthLimit, entryLimitOf, fieldsOf};
+ghost use Rattle.load.specs.Meaning.{lengthLimit, entryLimitOf, fieldsOf, rowsAt};
 
 // ---- the header
 
@@ -263,20 +263,26 @@ pub fn points_of(job: &[u8], fields: Fields) -> Points
     points
 }
 
+// Rows of n bytes that stand one behind the other from a place on, copied to 32 bytes each.
+pub fn copy_rows(bytes: &[u8], at: usize, n: usize, count: usize, region: &mut [u8])
+    requires { ⌜ (n ≤ 32) × (at + n * count ≤ length (now bytes)) × (32 * count ≤ length (now region)) ⌝ }
+    ensures rows { λ _. ⌜ (rowsIn n count (now (region .exit)) ≡ rowsAt (now (bytes .entry)) at n count) × (length (now (region .exit)) ≡ length (now (region .entry))) ⌝ }
+    ensures region { λ _. ⌜ now (region .exit) ≡ writtenRows (rowsAt (now (bytes .entry)) at n count) 0 (now (region .entry)) ⌝ }
+{
+    let mut i = 0;
+    while i < count {
+        let from = at + n * i;
+        let to = from + n;
+        words::copy(region, 32 * i, &bytes[from..to]);
+        i += 1;
+    }
+}
+
 // Each row to a place of its own, 32 bytes apart, so that a row's number times a constant finds it. What stands between the rows and behind them stays.
 pub fn load_rows(job: &[u8], fields: Fields, region: &mut [u8])
     requires { ⌜ Exact (now job) × (fields ≡ fieldsOf (now job)) × (32 * fields .count ≤ length (now region)) ⌝ }
     ensures rows { λ _. ⌜ (rowsIn (fields .n) (fields .count) (now (region .exit)) ≡ readJob (now (job .entry)) .rows) × (length (now (region .exit)) ≡ length (now (region .entry))) ⌝ }
     ensures region { λ _. ⌜ now (region .exit) ≡ writtenRows (readJob (now (job .entry)) .rows) 0 (now (region .entry)) ⌝ }
 {
-    let n = fields.n;
-    let count = fields.count;
-    let at = fields.rows;
-    let mut i = 0;
-    while i < count {
-        let from = at + n * i;
-        let to = from + n;
-        words::copy(region, 32 * i, &job[from..to]);
-        i += 1;
-    }
+    copy_rows(job, fields.rows, fields.n, fields.count, region);
 }

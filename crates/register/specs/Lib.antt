@@ -3,3 +3,4 @@ pub mod Reading
 pub mod Demands
 pub mod Batches
 pub mod Plain
+pub mod Nobles

@@ -12,6 +12,7 @@ ghost use Rattle.definitions.specs.Symmetry.{Symmetric};
 ghost use Rattle.definitions.specs.Batch.{batch, Batched};
 ghost use Rattle.definitions.specs.Prices.{quote, quoteCode, slipLength, slip, withRoom};
 ghost use Rattle.definitions.specs.Plain.{plainOnes, splitLists, LeftOut};
+ghost use Rattle.definitions.specs.NobleCalls.{nobleOutcome, FirstDemand, SecondDemand, NobleComplete};
 ghost use Rattle.register.specs.Reading.{entriesRead, numbersRead};
 ghost use Rattle.register.specs.Batches.{Promised};
 
@@ -88,6 +89,31 @@ pub extern "C" fn register_plain(job: &[u8], workspace: &mut [u8], numbers: &mut
 {
     words::clear(numbers);
     match plain::plain_job(job, workspace, numbers) {
+        Written::Refused(number) => refusal(number),
+        Written::Short => NO_ROOM,
+        Written::Wrote(many) => many as i64,
+    }
+}
+
+// [17.10] The answer of a job with a package, in the first call's form: its length in bytes, or minus the number of its refusal. Code and buffer are the definition's, whatever the four slices are;
+// demands 1 and 2 follow. Of the entries read back from the buffer after an answer: each is that of a closed choice over the kept orbits, which its record names; without an entry limit and with equal
+// shares these are the closed choices with no closed choice properly inside, once each [17.11]; and rows that are closed carry each figure to itself [13.12].
+#[no_mangle]
+pub extern "C" fn register_noble(
+    job: &[u8],
+    pack: &[u8],
+    workspace: &mut [u8],
+    answer: &mut [u8],
+) -> i64
+    ensures code { λ r. ⌜ r ≡ codeOf (nobleOutcome (now (job .entry)) (now (pack .entry)) (length (now (workspace .entry))) (length (now (answer .entry)))) ⌝ }
+    ensures buffer { λ _. ⌜ now (answer .exit) ≡ bufferOf (length (now (answer .entry))) (nobleOutcome (now (job .entry)) (now (pack .entry)) (length (now (workspace .entry))) (length (now (answer .entry)))) ⌝ }
+    ensures first { λ r. ⌜ FirstDemand (nobleOutcome (now (job .entry)) (now (pack .entry)) (length (now (workspace .entry))) (length (now (answer .entry)))) (length (now (answer .entry))) r (now (answer .exit)) ⌝ }
+    ensures second { λ r. ⌜ SecondDemand (nobleOutcome (now (job .entry)) (now (pack .entry)) (length (now (workspace .entry))) (length (now (answer .entry)))) r (now (answer .exit)) ⌝ }
+    ensures third { λ _. ⌜ ((bytes : Bytes) → nobleOutcome (now (job .entry)) (now (pack .entry)) (length (now (workspace .entry))) (length (now (answer .entry))) ≡ answered bytes → NobleComplete (now (job .entry)) (now (pack .entry)) (entriesRead (now (answer .exit)))) ⌝ }
+    ensures symmetry { λ _. ⌜ ((bytes : Bytes) → nobleOutcome (now (job .entry)) (now (pack .entry)) (length (now (workspace .entry))) (length (now (answer .entry))) ≡ answered bytes → Symmetric (now (job .entry)) (entriesRead (now (answer .exit)))) ⌝ }
+{
+    words::clear(answer);
+    match nobles::noble_job(job, pack, workspace, answer) {
         Written::Refused(number) => refusal(number),
         Written::Short => NO_ROOM,
         Written::Wrote(many) => many as i64,

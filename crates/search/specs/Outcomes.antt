@@ -10,6 +10,7 @@ use Rattle.definitions.specs.Search.{Table}
 use Rattle.facets.specs.declared.Areas.{Areas}
 use Rattle.search.specs.declared.Limit.{Limit}
 use Rattle.search.specs.declared.Limit.the-variants.{Absent, Entries}
+use Rattle.search.specs.declared.Course.{Course}
 use Rattle.search.specs.declared.Outcome.{Outcome}
 use Rattle.search.specs.declared.Outcome.the-variants.{Found, Refused}
 use Rattle.facets.specs.Layout.{listsPart}
@@ -19,8 +20,8 @@ unfoldable pub searchLimit : Limit → Option ℕ
 searchLimit Absent = none
 searchLimit (Entries m) = some m
 
-unfoldable pub entryLimitsOf : Areas → Limit → def.EntryLimits
-entryLimitsOf a limit = record { limit = searchLimit limit; bound = a .bound }
+unfoldable pub entryLimitsOf : Areas → Course → def.EntryLimits
+entryLimitsOf a course = record { limit = searchLimit (course .limit); bound = a .bound; extended = course .extended }
 
 -- the searchOutcome with the lists that the workspace holds
 unfoldable pub searchOutcome : Table → Areas → Outcome → List ℕ → result.Outcome def.Found

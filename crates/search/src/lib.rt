@@ -21,6 +21,12 @@ pub enum Limit {
     Entries(u32),
 }
 
+// How the search goes: its limit on entries, and whether a closed list is extended.
+pub struct Course {
+    pub limit: Limit,
+    pub extended: bool,
+}
+
 // Found: how many lists, and what is left of the budget.
 pub enum Outcome {
     Found(u32, u32),
@@ -44,10 +50,10 @@ fn reached(limit: Limit, emitted: u32) -> bool
     }
 }
 
-// A closed list is emitted, and then extended by every facet above the mark. The limit is tested behind the emission.
-fn close(ws: &mut [u8], a: Areas, limit: Limit, depth: usize) -> Step
+// A closed list is emitted. The limit is tested behind the emission. Then the list is extended by every facet above the mark, or, where closed lists are not extended, withdrawn.
+fn close(ws: &mut [u8], a: Areas, course: Course, depth: usize) -> Step
     requires { ⌜ ((t : Table) × Judged t a (now ws) depth closed) ⌝ }
-    ensures { λ r. ⌜ ((t : Table) → Judged t a (now (ws .entry)) depth closed → Followed t a limit (now (ws .entry)) (now (ws .exit)) depth r) ⌝ }
+    ensures { λ r. ⌜ ((t : Table) → Judged t a (now (ws .entry)) depth closed → Followed t a course (now (ws .entry)) (now (ws .exit)) depth r) ⌝ }
 {
     let bound = a.bound;
     let lists = a.lists;
@@ -57,17 +63,22 @@ fn close(ws: &mut [u8], a: Areas, limit: Limit, depth: usize) -> Step
         return Step::Full;
     }
     emission::emit(ws, a, depth);
+    let limit = course.limit;
     if reached(limit, emitted + 1) {
         return Step::Stopped;
     }
-    depths::enter(ws, a, depth, 0);
-    Step::On(depth + 1)
+    if course.extended {
+        depths::enter(ws, a, depth, 0);
+        return Step::On(depth + 1);
+    }
+    depths::withdraw(ws, a, depth);
+    Step::On(depth)
 }
 
 // What the verdict says is done: a list that is over is dropped, one that is open is extended where it is open, a closed one is emitted.
-fn follow(ws: &mut [u8], a: Areas, limit: Limit, s: State) -> Step
+fn follow(ws: &mut [u8], a: Areas, course: Course, s: State) -> Step
     requires { ⌜ ((t : Table) × Judged t a (now ws) (s .depth) (verdict (s .verdict))) ⌝ }
-    ensures { λ r. ⌜ ((t : Table) → Judged t a (now (ws .entry)) (s .depth) (verdict (s .verdict)) → Followed t a limit (now (ws .entry)) (now (ws .exit)) (s .depth) r) ⌝ }
+    ensures { λ r. ⌜ ((t : Table) → Judged t a (now (ws .entry)) (s .depth) (verdict (s .verdict)) → Followed t a course (now (ws .entry)) (now (ws .exit)) (s .depth) r) ⌝ }
 {
     let depth = s.depth;
     let v = s.verdict;
@@ -80,7 +91,7 @@ fn follow(ws: &mut [u8], a: Areas, limit: Limit, s: State) -> Step
             depths::enter(ws, a, depth, ridge as usize + 1);
             Step::On(depth + 1)
         }
-        Verdict::Closed => close(ws, a, limit, depth),
+        Verdict::Closed => close(ws, a, course, depth),
     }
 }
 
@@ -126,9 +137,9 @@ fn found(ws: &[u8], a: Areas, left: u32) -> Outcome
 }
 
 // The search [7.8]: the lists emitted, in order, and what is left of the budget.
-pub fn search(ws: &mut [u8], a: Areas, limit: Limit, budget: u32) -> Outcome
+pub fn search(ws: &mut [u8], a: Areas, course: Course, budget: u32) -> Outcome
     requires { ⌜ ((t : Table) × Inputs t a (now ws)) ⌝ }
-    ensures found { λ r. ⌜ ((t : Table) → Inputs t a (now (ws .entry)) → searchOutcome t a r (now (ws .exit)) ≡ searchOf t (entryLimitsOf a limit) budget) ⌝ }
+    ensures found { λ r. ⌜ ((t : Table) → Inputs t a (now (ws .entry)) → searchOutcome t a r (now (ws .exit)) ≡ searchOf t (entryLimitsOf a course) budget) ⌝ }
     ensures many { λ r. ⌜ ((t : Table) → countedLists t a r (now (ws .exit))) ⌝ }
     ensures kept { λ _. ⌜ take (a .frames) (now (ws .exit)) ≡ take (a .frames) (now (ws .entry)) ⌝ }
 {
@@ -148,7 +159,7 @@ pub fn search(ws: &mut [u8], a: Areas, limit: Limit, budget: u32) -> Outcome
                 return Outcome::Refused(16);
             }
             s = visits::visit(ws, a, s, place);
-            let step = follow(ws, a, limit, s);
+            let step = follow(ws, a, course, s);
             match step {
                 Step::On(deep) => {
                     s = at_depth(s, deep);

@@ -16,7 +16,7 @@ use Rattle.definitions.specs.Recursion.{Rules, Answer, Inner, vertexRidge, swap
 use Rattle.definitions.specs.Faceting.{orbitsOf, Prepared, possibleFacets, finish, faceting}
 use Rattle.laws.specs.Bools.{true→holds}
 use Rattle.laws.specs.Lists.{Mem, in-map, of-map, count-at, count-length, any-witness, keep-few}
-use Rattle.shapes.specs.Answered.{answers-equal, Preparation, answered-call}
+use Rattle.shapes.specs.Answered.{answers-equal, Preparation, answered-call, made-orbit}
 use Rattle.shapes.specs.LowRanks.{RankTwo, rank-two}
 use Rattle.shapes.specs.Sets.{Rows}
 use Rattle.shapes.specs.Calls.{Given}
@@ -26,13 +26,10 @@ use Rattle.shapes.specs.CallOrbits.{call-orbit-counted}
 -- ---- orbits
 
 module _ (more : ℕ) (rules : Rules) (plane : Subspace) (points : List Vec) (rows : List Row) (p : Prepared) (made : Preparation more rules (faceting more rules) plane points rows p) where
-  call-orbit : (i : Inner) → Mem i (p .inner) → Mem (i .orbit) (orbitsOf more rules plane points rows)
-  call-orbit i m = subst (λ (os : List Orbit). Mem (i .orbit) os) (made .inner .of-orbits) (in-map (λ (j : Inner). j .orbit) i (p .inner) m)
-
   -- every orbit of a call has a set, and no more than rows
   pub call-counted : Given points rows → (i : Inner) → Mem i (p .inner) → Counted rows (i .orbit .count)
   call-counted given i m =
-      call-orbit-counted more rules plane points rows (given .rows-good) (i .orbit) (call-orbit i m)
+      call-orbit-counted more rules plane points rows (given .rows-good) (i .orbit) (made-orbit made i m)
 
 -- rows that keep a set are some of the rows
 pub within-few : (vertices : List ℕ) (rows : List Row) → length (rowsWithin vertices rows) ≤ length rows

@@ -15,21 +15,21 @@ use Rattle.definitions.specs.Orbits.{Row, Orbit}
 use Rattle.definitions.specs.Figures.{Figure, Compound, dyad, moveEnds, labelIrc}
 use Rattle.definitions.specs.Search.{Facet}
 use Rattle.definitions.specs.Recursion.{Rules, Bounds, Entry, Answer, Inner, vertexRidge, rowsWithin}
-use Rattle.definitions.specs.Faceting.{Prepared, possibleFacets, split, facetImages, entryOf, finish, faceting}
+use Rattle.definitions.specs.Faceting.{Way, facetingWith, Prepared, possibleFacets, split, facetImages, entryOf, finish, faceting}
 use Rattle.definitions.specs.Job.{counted, figureWords, facetWords, entryWords, compoundWords, summaryWords, answerWords}
 use Rattle.shapes.specs.AnswerSizes.{within-few}
 use Rattle.laws.specs.Lists.{Mem, in-map, of-map, of-count, count-length, in-replicate}
 use Rattle.laws.specs.Ascending.{Differ, Distinct}
 use Rattle.laws.specs.Pairs.{pairs-map}
 use Rattle.laws.specs.Ranges.{distinct-below}
-use Rattle.shapes.specs.Answered.{facetNumber, facetSum, AnsweredCall, answered-call}
+use Rattle.shapes.specs.Answered.{facetNumber, facetSum, TakesSome, AnsweredCall, answered-with, answered-call, made-orbit}
 use Rattle.shapes.specs.Emitted.{entry-of-list, found-facet}
 use Rattle.shapes.specs.LowRanks.{RankTwo, rank-two, innerAt, inner-at-member, facet-orbit, few-entries}
 use Rattle.shapes.specs.Compounds.{composed, compounds-ascend}
-use Rattle.shapes.specs.Calls.{Given, innerPoints, inner-given, facetRank, ShapedAnswer, shaped-answer}
+use Rattle.shapes.specs.Calls.{Given, innerPoints, inner-given, facetRank, ShapedAnswer, shaped-answer, answered-shaped}
 use Rattle.shapes.specs.EntryFigures.{facets-many, call-split, found-split-in-call}
 use Rattle.shapes.specs.Sizes.{found-length, split-length}
-use Rattle.shapes.specs.FewElements.{sizes, Few, step-few, mostElements, few-elements, inner-points, possible-few}
+use Rattle.shapes.specs.FewElements.{sizes, Few, step-few, mostElements, few-elements, answered-few, inner-points, possible-few}
 use Rattle.shapes.specs.CallOrbits.{call-orbit-counted}
 use Rattle.shapes.specs.FigureNumbers.{WordsBelow, none-below, more-below, joined-below, each-below, counted-below, OnGround, ground-wider, ground-moved, figure-ground, dyad-ground, ridge-ground, figure-below, summary-below}
 
@@ -136,8 +136,7 @@ module _ (most more : ℕ) (rules : Rules) (plane : Subspace) (points : List Vec
   -- an orbit has no more sets than there are rows
   count-below : (i : Inner) → Mem i (p .inner) → i .orbit .count < most
   count-below i m =
-      let is-orbit = subst (λ (os : List Orbit). Mem (i .orbit) os) (c .prepared .inner .of-orbits) (in-map (λ (j : Inner). j .orbit) i (p .inner) m) in
-      let k = call-orbit-counted more rules plane points rows (given .rows-good) (i .orbit) is-orbit .few in
+      let k = call-orbit-counted more rules plane points rows (given .rows-good) (i .orbit) (made-orbit (c .prepared) i m) .few in
       let r = under .few-rows in
       omega arith
 
@@ -270,20 +269,23 @@ unfolding vertexRidge sizes
 ridge-few w v h n (List·Memᴰ.List·Memᴰ·head q) = omega arith
 ridge-few w v h n (List·Memᴰ.List·Memᴰ·tail m) = elim m [ ]
 
--- entries stand on their call's points, at every rank
-pub entries-ground : (more : ℕ) (rules : Rules) (plane : Subspace) (points : List Vec) (rows : List Row) (budget : ℕ) (a : Answer) → Given points rows
-    → faceting more rules plane points rows budget ≡ answered a → (x : Entry) → Mem x (a .entries) → OnGround (length points) (x .figure)
+-- entries stand on their call's points, in an answered call above rank 2 and at every rank
+call-ground : (more : ℕ) (rules : Rules) (plane : Subspace) (points : List Vec) (rows : List Row) (a : Answer) → Given points rows → AnsweredCall more rules plane points rows a
+    → (x : Entry) → Mem x (a .entries) → OnGround (length points) (x .figure)
 unfolding finish entryOf
-entries-ground zero rules plane points rows budget a given e x i =
-    two-entry (OnGround (length points)) budget a (rank-two rules plane points rows budget a e) (dyad-ground (length points) (given .two)) x i
-entries-ground (suc more) rules plane points rows budget a given e x i =
-    let c = answered-call more rules plane points rows budget a e in
+call-ground more rules plane points rows a given c x i =
     let p = c .before in
     let r = entry-of-list rules p (c .found) (c .is-found) x (subst (λ (y : Answer). Mem x (y .entries)) (c .is) i) in
     let n = c .prepared .points-are in
     let two = given .two in
     subst (λ (y : Entry). OnGround (length points) (y .figure)) (sym (r .2))
     (subst (λ (k : ℕ). OnGround k (entryOf p (r .0) .figure)) n (figure-ground (p .more) (p .points) (flatMap (facetImages p) (split p (r .0))) (omega arith)))
+
+pub entries-ground : (more : ℕ) (rules : Rules) (plane : Subspace) (points : List Vec) (rows : List Row) (budget : ℕ) (a : Answer) → Given points rows
+    → faceting more rules plane points rows budget ≡ answered a → (x : Entry) → Mem x (a .entries) → OnGround (length points) (x .figure)
+entries-ground zero rules plane points rows budget a given e x i =
+    two-entry (OnGround (length points)) budget a (rank-two rules plane points rows budget a e) (dyad-ground (length points) (given .two)) x i
+entries-ground (suc more) rules plane points rows budget a given e x i = call-ground more rules plane points rows a given (answered-call more rules plane points rows budget a e) x i
 
 -- the possible facets of a call above rank 2, whose inner calls' entries have few elements
 module _ (more w : ℕ) (rules : Rules) (plane : Subspace) (points : List Vec) (rows : List Row) (a : Answer) (given : Given points rows) (c : AnsweredCall more rules plane points rows a) where
@@ -316,37 +318,56 @@ few-more : (v w : ℕ) (f : Figure) → v ≤ w → Few v f → Few w f
 few-more v w f h k n m = let j = k n m in omega arith
 
 -- where its entries and its inner calls' entries have at most so many elements in a rank; `spent` is the number from which what is left is taken, the budget of the call or any other
-pub call-words : (most more w : ℕ) (rules : Rules) (plane : Subspace) (points : List Vec) (rows : List Row) (budget : ℕ) (a : Answer) → Given points rows
-    → (e : faceting (suc more) rules plane points rows budget ≡ answered a) → Under most (suc more) (rules .bounds) (length points) (length rows) → w < most
+pub call-words : (most more w : ℕ) (rules : Rules) (plane : Subspace) (points : List Vec) (rows : List Row) (a : Answer) → Given points rows
+    → (c : AnsweredCall more rules plane points rows a) → Under most (suc more) (rules .bounds) (length points) (length rows) → w < most
     → ((x : Entry) → Mem x (a .entries) → Few w (x .figure))
-    → ((i : Inner) → Mem i (answered-call more rules plane points rows budget a e .before .inner) → (x : Entry) → Mem x (i .answer .entries) → Few w (x .figure))
+    → ((i : Inner) → Mem i (c .before .inner) → (x : Entry) → Mem x (i .answer .entries) → Few w (x .figure))
     → (spent : ℕ) → spent < most → WordsBelow most (answerWords spent a)
-call-words most more w rules plane points rows budget a given e under elements few inner-few spent few-spent =
-    let c = answered-call more rules plane points rows budget a e in
-    answer-below most (suc more) (length points) w spent a (shaped-answer (suc more) rules plane points rows budget a given e)
+call-words most more w rules plane points rows a given c under elements few inner-few spent few-spent =
+    answer-below most (suc more) (length points) w spent a (answered-shaped more rules plane points rows a given c)
     (record {
-      entry-ground = entries-ground (suc more) rules plane points rows budget a given e;
+      entry-ground = call-ground more rules plane points rows a given c;
       entry-few = few;
       possible-ground = facets-ground more w rules plane points rows a given c;
       possible-few = facets-few more w rules plane points rows a given c inner-few;
     }) (call-numbers most more rules plane points rows a given c under) (under .ranks) (under .few-points) elements few-spent
 
 -- where the inner calls' entries have at most v: so few that a further rank times as many fit
-pub words-from-inner : (most more v : ℕ) (rules : Rules) (plane : Subspace) (points : List Vec) (rows : List Row) (budget : ℕ) (a : Answer) → Given points rows
-    → (e : faceting (suc more) rules plane points rows budget ≡ answered a) → Under most (suc more) (rules .bounds) (length points) (length rows)
+pub words-from-inner : (most more v : ℕ) (rules : Rules) (plane : Subspace) (points : List Vec) (rows : List Row) (a : Answer) → Given points rows
+    → (c : AnsweredCall more rules plane points rows a) → Under most (suc more) (rules .bounds) (length points) (length rows)
     → v < most → length rows * rules .bounds .facets * v < most
-    → ((i : Inner) → Mem i (answered-call more rules plane points rows budget a e .before .inner) → (x : Entry) → Mem x (i .answer .entries) → Few v (x .figure))
+    → ((i : Inner) → Mem i (c .before .inner) → (x : Entry) → Mem x (i .answer .entries) → Few v (x .figure))
     → (spent : ℕ) → spent < most → WordsBelow most (answerWords spent a)
-words-from-inner most more v rules plane points rows budget a given e under small product inner-few =
-    let c = answered-call more rules plane points rows budget a e in
+words-from-inner most more v rules plane points rows a given c under small product inner-few =
     let own = max 1 (length rows * rules .bounds .facets * v) in
     let ranks = under .ranks in
-    call-words most more (max own v) rules plane points rows budget a given e under (omega arith)
+    call-words most more (max own v) rules plane points rows a given c under (omega arith)
     (λ x i. few-more own (max own v) (x .figure) (omega arith) (step-few more (length rows) (rules .bounds .facets) v rules plane points rows a given (omega arith) (omega arith) c inner-few x i))
     (λ j m x i. few-more v (max own v) (x .figure) (omega arith) (inner-few j m x i))
 
 -- and where these numbers are the computed ones
 module _ (most n r f : ℕ) (rules : Rules) (few-facets : rules .bounds .facets ≤ f) where
+  -- of an answered call above rank 2
+  answered-words : (more : ℕ) (plane : Subspace) (points : List Vec) (rows : List Row) (a : Answer) → Given points rows → length points ≤ n → length rows ≤ r
+      → AnsweredCall more rules plane points rows a → Under most (suc more) (rules .bounds) (length points) (length rows) → ((k : ℕ) → k ≤ suc more → mostElements n r f k < most)
+      → (spent : ℕ) → spent < most → WordsBelow most (answerWords spent a)
+  answered-words more plane points rows a given h k c under small spent few-spent =
+      let p = c .before in
+      let own = mostElements n r f (suc more) in
+      let inner = mostElements n r f more in
+      let own-small = small (suc more) (omega arith) in
+      let inner-small = small more (omega arith) in
+      call-words most more (max own inner) rules plane points rows a given c under (omega arith)
+      (λ x i. few-more own (max own inner) (x .figure) (omega arith) (answered-few rules n r f few-facets more plane points rows a given h k c x i))
+      (λ j m x i.
+      let call = c .prepared .inner .each j m in
+      let its = inner-points more rules plane points rows p (c .prepared) j m in
+      let rows-of = within-few (j .orbit .vertices) rows in
+      few-more inner (max own inner) (x .figure) (omega arith)
+      (few-elements rules n r f few-facets more _ (innerPoints plane points j) (rowsWithin (j .orbit .vertices) rows) (call .budget) (j .answer)
+      (inner-given more rules (faceting more rules) plane points rows p (c .prepared) (given .rows-good) j m) (omega arith) (omega arith) (call .is) x i))
+      spent few-spent
+
   pub words-below : (more : ℕ) (plane : Subspace) (points : List Vec) (rows : List Row) (budget : ℕ) (a : Answer) → Given points rows → length points ≤ n → length rows ≤ r
       → faceting more rules plane points rows budget ≡ answered a → Under most more (rules .bounds) (length points) (length rows) → ((k : ℕ) → k ≤ more → mostElements n r f k < most)
       → (spent : ℕ) → spent < most → WordsBelow most (answerWords spent a)
@@ -363,19 +384,12 @@ module _ (most n r f : ℕ) (rules : Rules) (few-facets : rules .bounds .facets 
         possible-few = two-possible (Few 1) budget a two (λ v. ridge-few 1 v (omega arith));
       }) (two-numbers most budget a (omega arith) two) (omega arith) (under .few-points) (omega arith) few-spent
   words-below (suc more) plane points rows budget a given h k e under small spent few-spent =
-      let c = answered-call more rules plane points rows budget a e in
-      let p = c .before in
-      let own = mostElements n r f (suc more) in
-      let inner = mostElements n r f more in
-      let own-small = small (suc more) (omega arith) in
-      let inner-small = small more (omega arith) in
-      call-words most more (max own inner) rules plane points rows budget a given e under (omega arith)
-      (λ x i. few-more own (max own inner) (x .figure) (omega arith) (few-elements rules n r f few-facets (suc more) plane points rows budget a given h k e x i))
-      (λ j m x i.
-      let call = c .prepared .inner .each j m in
-      let its = inner-points more rules plane points rows p (c .prepared) j m in
-      let rows-of = within-few (j .orbit .vertices) rows in
-      few-more inner (max own inner) (x .figure) (omega arith)
-      (few-elements rules n r f few-facets more _ (innerPoints plane points j) (rowsWithin (j .orbit .vertices) rows) (call .budget) (j .answer)
-      (inner-given more rules (faceting more rules) plane points rows p (c .prepared) (given .rows-good) j m) (omega arith) (omega arith) (call .is) x i))
-      spent few-spent
+      answered-words more plane points rows a given h k (answered-call more rules plane points rows budget a e) under small spent few-spent
+
+  -- with a package or without
+  pub words-below-with : (way : Way) → TakesSome way → (more : ℕ) (plane : Subspace) (points : List Vec) (rows : List Row) (budget : ℕ) (a : Answer) → Given points rows → length points ≤ n → length rows ≤ r
+      → facetingWith way more rules plane points rows budget ≡ answered a → Under most more (rules .bounds) (length points) (length rows) → ((k : ℕ) → k ≤ more → mostElements n r f k < most)
+      → (spent : ℕ) → spent < most → WordsBelow most (answerWords spent a)
+  unfolding facetingWith faceting
+  words-below-with way takes zero plane points rows budget a given h k e under small = words-below zero plane points rows budget a given h k e under small
+  words-below-with way takes (suc more) plane points rows budget a given h k e under small = answered-words more plane points rows a given h k (answered-with way takes more rules plane points rows budget a e) under small

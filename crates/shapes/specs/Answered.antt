@@ -1,4 +1,5 @@
--- What an answered call says of its parts: how it was prepared, that every inner call was answered, what its search found, and that the bounds hold. For every rank from 3, any rules.
+-- What an answered call says of its parts: how it was prepared, that every inner call was answered, what its search found, and that the bounds hold. For every rank from 3, any rules, with a package
+-- or without.
 -- Leans on the definitions and on completeness.
 use mathlib.Core.Path.{_≡_, refl, sym, ap, _∙_, subst}
 use mathlib.Core.Bool.{Bool, true, false, not}
@@ -13,9 +14,11 @@ use Rattle.definitions.specs.Subspace.{Subspace, flatten, fromPoints}
 use Rattle.definitions.specs.Orbits.{Row, Orbit, pointAt}
 use Rattle.definitions.specs.Search.{Facet, Table, Item, Verdict, over, closed, openAt, EntryLimits, Found, limitReached, emit, emitIf, judge, totals, putIn, examine, search, starts}
 use Rattle.definitions.specs.Recursion.{Rules, Answer, Call, Inner, InnerCalls, innerCall, innerCalls, beforeThese, rowsWithin, callOnSet}
-use Rattle.definitions.specs.Faceting.{Prepared, orbitsOf, prepare, searchFrom, finish, faceting, prepareFrom, answerFrom}
+use Rattle.definitions.specs.Faceting.{Way, plainWay, Prepared, orbitsOf, prepareWith, prepare, searchFrom, finish, faceting, facetingWith, prepareFrom, answerFrom}
+use Rattle.definitions.specs.Noble.{Package, keptBy}
+use Rattle.definitions.specs.NobleCalls.{nobleWay}
 use Rattle.laws.specs.Bools.{false→fails}
-use Rattle.laws.specs.Lists.{Mem}
+use Rattle.laws.specs.Lists.{Mem, in-map, kept, keep-few}
 use Rattle.laws.specs.Outcomes.{answered-before, not-refused-if}
 
 contents : {A : Type 0} → A → Outcome A → A
@@ -104,31 +107,75 @@ module _ (wanted : ℕ) (rules : Rules) (call : Call) (flat : List Vec) (rows : 
 
 -- ---- what a call has before its search
 
+-- the orbits that are kept are some of the call's
+pub record TakesSome (way : Way) : Type 0 where
+  pub among : (orbits : List Orbit) (o : Orbit) → Mem o (way .keeps orbits) → Mem o orbits
+  pub no-more : (orbits : List Orbit) → length (way .keeps orbits) ≤ length orbits
+
+pub plain-takes : TakesSome plainWay
+unfolding plainWay
+plain-takes = record { among = λ orbits o m. m; no-more = λ orbits. omega arith }
+
+pub noble-takes : (pack : Package) → TakesSome (nobleWay pack)
+unfolding nobleWay keptBy
+noble-takes pack = record { among = λ orbits o m. kept _ o orbits m .0; no-more = λ orbits. keep-few _ orbits }
+
 pub record Preparation (more : ℕ) (rules : Rules) (call : Call) (plane : Subspace) (points : List Vec) (rows : List Row) (p : Prepared) : Type 0 where
   pub more-is : p .more ≡ more
   pub points-are : p .points ≡ length points
   pub rows-are : p .rows ≡ rows
-  pub inner : AllInner (suc more) rules call (map (flatten plane) points) rows (orbitsOf more rules plane points rows) (p .inner)
+  pub orbits : List Orbit
+  pub inner : AllInner (suc more) rules call (map (flatten plane) points) rows orbits (p .inner)
+  pub among : (o : Orbit) → Mem o orbits → Mem o (orbitsOf more rules plane points rows)
+  pub no-more : length orbits ≤ length (orbitsOf more rules plane points rows)
   pub few-orbits : length (p .inner) ≤ rules .bounds .orbits
   pub few-facets : facetSum (p .inner) ≤ rules .bounds .facets
 
-pub preparation : (more : ℕ) (rules : Rules) (call : Call) (plane : Subspace) (points : List Vec) (rows : List Row) (budget : ℕ) (p : Prepared)
-    → prepare more rules call plane points rows budget ≡ answered p → Preparation more rules call plane points rows p
-unfolding prepareFrom prepare
-preparation more rules call plane points rows budget p e =
+pub preparation-with : (way : Way) → TakesSome way → (more : ℕ) (rules : Rules) (call : Call) (plane : Subspace) (points : List Vec) (rows : List Row) (budget : ℕ) (p : Prepared)
+    → prepareWith way more rules call plane points rows budget ≡ answered p → Preparation more rules call plane points rows p
+unfolding prepareFrom prepareWith
+preparation-with way takes more rules call plane points rows budget p e =
     let flat = map (flatten plane) points in
-    let orbits = orbitsOf more rules plane points rows in
+    let all = orbitsOf more rules plane points rows in
+    let orbits = way .keeps all in
     let calls = innerCalls (innerCall (suc more) rules call flat rows) (rules .bounds .facets) orbits 0 budget in
-    let next : InnerCalls → Outcome Prepared = λ done. answered (record { more = more; points = length points; rows = rows; inner = done .calls; left = done .left }) in
-    let a = not-refused-if (ltb (rules .bounds .orbits) (length orbits)) 13 (λ u. andThen calls next) p e in
+    let next : InnerCalls → Outcome Prepared = λ done. answered (record { more = more; points = length points; rows = rows; inner = done .calls; left = done .left; extended = way .extended }) in
+    let a = not-refused-if (ltb (rules .bounds .orbits) (length all)) 13 (λ u. andThen calls next) p e in
     let b = answered-before calls next p (a .1) in
-    let made : Prepared = record { more = more; points = length points; rows = rows; inner = b .0 .calls; left = b .0 .left } in
+    let made : Prepared = record { more = more; points = length points; rows = rows; inner = b .0 .calls; left = b .0 .left; extended = way .extended } in
     let r = all-inner (suc more) rules call flat rows (rules .bounds .facets) orbits 0 budget (b .0) (omega arith) (b .1) in
-    let k : length orbits ≤ rules .bounds .orbits = nltb→le (rules .bounds .orbits) (length orbits) (false→fails (a .0)) in
+    let k : length all ≤ rules .bounds .orbits = nltb→le (rules .bounds .orbits) (length all) (false→fails (a .0)) in
+    let fewer : length orbits ≤ length all = takes .no-more all in
     let m : length (b .0 .calls) ≡ length orbits = sym (length-map (b .0 .calls) (λ (i : Inner). i .orbit)) ∙ ap length (r .0 .of-orbits) in
     let s = r .1 in
-    let whole : Preparation more rules call plane points rows made = record { more-is = refl; points-are = refl; rows-are = refl; inner = r .0; few-orbits = omega arith; few-facets = omega arith } in
+    let whole : Preparation more rules call plane points rows made = record {
+      more-is = refl;
+      points-are = refl;
+      rows-are = refl;
+      orbits = orbits;
+      inner = r .0;
+      among = takes .among all;
+      no-more = fewer;
+      few-orbits = omega arith;
+      few-facets = omega arith;
+    } in
     subst (Preparation more rules call plane points rows) (answers-equal made p (b .2)) whole
+
+pub preparation : (more : ℕ) (rules : Rules) (call : Call) (plane : Subspace) (points : List Vec) (rows : List Row) (budget : ℕ) (p : Prepared)
+    → prepare more rules call plane points rows budget ≡ answered p → Preparation more rules call plane points rows p
+unfolding prepare
+preparation = preparation-with plainWay plain-takes
+
+module _ {more : ℕ} {rules : Rules} {call : Call} {plane : Subspace} {points : List Vec} {rows : List Row} {p : Prepared} (made : Preparation more rules call plane points rows p) where
+  -- an inner call is on an orbit of the call
+  pub made-orbit : (i : Inner) → Mem i (p .inner) → Mem (i .orbit) (orbitsOf more rules plane points rows)
+  made-orbit i m = made .among (i .orbit) (subst (λ (os : List Orbit). Mem (i .orbit) os) (made .inner .of-orbits) (in-map (λ (j : Inner). j .orbit) i (p .inner) m))
+
+  -- and there are no more of them
+  pub made-few : length (p .inner) ≤ length (orbitsOf more rules plane points rows)
+  made-few =
+      let e : length (p .inner) ≡ length (made .orbits) = sym (length-map (p .inner) (λ (i : Inner). i .orbit)) ∙ ap length (made .inner .of-orbits) in
+      omega (arith, made .no-more)
 
 -- ---- the whole call
 
@@ -139,20 +186,25 @@ pub record AnsweredCall (more : ℕ) (rules : Rules) (plane : Subspace) (points 
   pub is-found : searchFrom rules before ≡ answered found
   pub is : a ≡ finish before found
 
-pub answered-call : (more : ℕ) (rules : Rules) (plane : Subspace) (points : List Vec) (rows : List Row) (budget : ℕ) (a : Answer)
-    → faceting (suc more) rules plane points rows budget ≡ answered a → AnsweredCall more rules plane points rows a
-unfolding answerFrom faceting
-answered-call more rules plane points rows budget a e =
-    let first = prepare more rules (faceting more rules) plane points rows budget in
+pub answered-with : (way : Way) → TakesSome way → (more : ℕ) (rules : Rules) (plane : Subspace) (points : List Vec) (rows : List Row) (budget : ℕ) (a : Answer)
+    → facetingWith way (suc more) rules plane points rows budget ≡ answered a → AnsweredCall more rules plane points rows a
+unfolding answerFrom facetingWith
+answered-with way takes more rules plane points rows budget a e =
+    let first = prepareWith way more rules (faceting more rules) plane points rows budget in
     let p = answered-before first (λ (x : Prepared). andThen (searchFrom rules x) (λ (f : Found). answered (finish x f))) a e in
     let f = answered-before (searchFrom rules (p .0)) (λ (x : Found). answered (finish (p .0) x)) a (p .2) in
     record {
       before = p .0;
-      prepared = preparation more rules (faceting more rules) plane points rows budget (p .0) (p .1);
+      prepared = preparation-with way takes more rules (faceting more rules) plane points rows budget (p .0) (p .1);
       found = f .0;
       is-found = f .1;
       is = sym (answers-equal (finish (p .0) (f .0)) a (f .2));
     }
+
+pub answered-call : (more : ℕ) (rules : Rules) (plane : Subspace) (points : List Vec) (rows : List Row) (budget : ℕ) (a : Answer)
+    → faceting (suc more) rules plane points rows budget ≡ answered a → AnsweredCall more rules plane points rows a
+unfolding faceting facetingWith prepare
+answered-call = answered-with plainWay plain-takes
 
 -- ---- what the search found
 
@@ -194,8 +246,8 @@ module _ (t : Table) (limits : EntryLimits) where
           isRefused (answered x) = false
   examine-few (suc left) [] emitted found h e = subst (λ (f : Found). length (f .lists) ≤ limits .bound) (answers-equal (record { lists = emitted; left = suc left }) found e) h
   examine-few (suc left) (item ∷ pending) emitted found h e =
-      emit-few (judge (totals t (item .list))) (item .list) left emitted found (examine t limits left (reverseAux (putIn t item (judge (totals t (item .list)))) pending)) h
-      (λ lists k q. examine-few left (reverseAux (putIn t item (judge (totals t (item .list)))) pending) lists found k q) e
+      emit-few (judge (totals t (item .list))) (item .list) left emitted found (examine t limits left (reverseAux (putIn (limits .extended) t item (judge (totals t (item .list)))) pending)) h
+      (λ lists k q. examine-few left (reverseAux (putIn (limits .extended) t item (judge (totals t (item .list)))) pending) lists found k q) e
 
   pub search-few : (budget : ℕ) (found : Found) → search t limits budget ≡ answered found → length (found .lists) ≤ limits .bound
   unfolding search

@@ -20,7 +20,7 @@ use Rattle.laws.specs.Orders.{lt-compare}
 use Rattle.laws.specs.Sorting.{of-sorted}
 use Rattle.laws.specs.Ascending.{SameItems}
 use Rattle.laws.specs.Ranges.{Permutes, same-flatMap}
-use Rattle.shapes.specs.Answered.{Preparation, AnsweredCall, answered-call}
+use Rattle.shapes.specs.Answered.{Preparation, AnsweredCall, answered-call, made-orbit}
 use Rattle.shapes.specs.LowRanks.{RankTwo, rank-two}
 use Rattle.shapes.specs.Shape.{Element, Stack, Shaped, shaped-drop}
 use Rattle.shapes.specs.Move.{moved-shaped, raised-shaped}
@@ -43,8 +43,7 @@ module _ (more : ℕ) (rules : Rules) (call : Call) (plane : Subspace) (points :
   -- the vertices of an orbit's first set ascend, below the number of points
   pub inner-set : (i : Inner) → Mem i (p .inner) → VertexSet (length points) (i .orbit .vertices)
   inner-set i m =
-      call-orbit-set more rules plane points rows (i .orbit)
-      (subst (λ (os : List Orbit). Mem (i .orbit) os) (made .inner .of-orbits) (in-map (λ (j : Inner). j .orbit) i (p .inner) m))
+      call-orbit-set more rules plane points rows (i .orbit) (made-orbit made i m)
 
   pub inner-size : (i : Inner) → length (innerPoints plane points i) ≡ length (i .orbit .vertices)
   inner-size i = length-map (i .orbit .vertices) (pointAt (map (flatten plane) points))
@@ -252,6 +251,11 @@ pub shaped-answer : (more : ℕ) (rules : Rules) (plane : Subspace) (points : Li
     → faceting more rules plane points rows budget ≡ answered a → ShapedAnswer (length points) more a
 shaped-answer zero rules plane points rows budget a given e = two-shaped (length points) budget a (given .two) (rank-two rules plane points rows budget a e)
 shaped-answer (suc more) rules plane points rows budget a given e = step more rules plane points rows a given (answered-call more rules plane points rows budget a e) (shaped-answer more rules)
+
+-- every answered call above rank 2, with a package or without
+pub answered-shaped : (more : ℕ) (rules : Rules) (plane : Subspace) (points : List Vec) (rows : List Row) (a : Answer) → Given points rows → AnsweredCall more rules plane points rows a
+    → ShapedAnswer (length points) (suc more) a
+answered-shaped more rules plane points rows a given c = step more rules plane points rows a given c (shaped-answer more rules)
 
 -- ---- the set of an entry's facets decides its figure
 

@@ -54,16 +54,16 @@ table-facet rows inner f m =
 -- ---- the lists found
 
 module _ (rules : Rules) (p : Prepared) (found : Found) (is-found : searchFrom rules p ≡ answered found) where
-  found-in-tree : (l : List Facet) → Mem l (found .lists) → Mem l (closedLists true (tableFor p))
+  found-in-tree : (l : List Facet) → Mem l (found .lists) → Mem l (closedLists (p .extended) (tableFor p))
   unfolding searchFrom entryLimits cut
-  found-in-tree l m = go (rules .entryLimit) (subst (λ (s : List (List Facet)). Mem l s) (search-emits (tableFor p) (entryLimits rules) (p .left) found is-found) m)
+  found-in-tree l m = go (rules .entryLimit) (subst (λ (s : List (List Facet)). Mem l s) (search-emits (tableFor p) (entryLimits rules (p .extended)) (p .left) found is-found) m)
     where
-      go : (limit : Option ℕ) → Mem l (cut limit 0 (closedLists true (tableFor p))) → Mem l (closedLists true (tableFor p))
+      go : (limit : Option ℕ) → Mem l (cut limit 0 (closedLists (p .extended) (tableFor p))) → Mem l (closedLists (p .extended) (tableFor p))
       go none k = k
-      go (some many) k = in-take (max (many - 0) 1) l (closedLists true (tableFor p)) k
+      go (some many) k = in-take (max (many - 0) 1) l (closedLists (p .extended) (tableFor p)) k
 
   found-choice : (l : List Facet) → Mem l (found .lists) → ClosedChoice (tableFor p) (choiceOf l)
-  found-choice l m = closed-choice-of (tableFor p) (choiceOf l) (emitted-order true (tableFor p) l (found-in-tree l m) .1)
+  found-choice l m = closed-choice-of (tableFor p) (choiceOf l) (emitted-order (p .extended) (tableFor p) l (found-in-tree l m) .1)
 
   -- facets of the call alone
   pub found-facet : (l : List Facet) → Mem l (found .lists) → (f : Facet) → Mem f l → f .1 < getD (map facetNumber (p .inner)) (f .0) 0
@@ -72,7 +72,7 @@ module _ (rules : Rules) (p : Prepared) (found : Found) (is-found : searchFrom r
 
   -- no two from one orbit
   pub found-apart : (l : List Facet) → Mem l (found .lists) → Pairs OtherOrbit l
-  found-apart l m = emitted-order true (tableFor p) l (found-in-tree l m) .2
+  found-apart l m = emitted-order (p .extended) (tableFor p) l (found-in-tree l m) .2
 
   -- one at least
   pub found-some : (l : List Facet) → Mem l (found .lists) → 0 < length l
@@ -81,7 +81,7 @@ module _ (rules : Rules) (p : Prepared) (found : Found) (is-found : searchFrom r
   -- not too many lists
   pub found-few : length (found .lists) ≤ rules .bounds .entries
   unfolding searchFrom entryLimits
-  found-few = search-few (tableFor p) (entryLimits rules) (p .left) found is-found
+  found-few = search-few (tableFor p) (entryLimits rules (p .extended)) (p .left) found is-found
 
   -- an entry is a list found, split
   pub entry-of-list : (e : Entry) → Mem e (entriesOf p (found .lists)) → (l : List Facet) × Mem l (found .lists) × (e ≡ entryOf p l)

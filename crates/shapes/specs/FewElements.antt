@@ -243,21 +243,35 @@ module _ (rules : Rules) (n r f : ℕ) (few-facets : rules .bounds .facets ≤ f
       go k (List·Memᴰ.List·Memᴰ·tail (List·Memᴰ.List·Memᴰ·head q)) = omega arith
       go k (List·Memᴰ.List·Memᴰ·tail (List·Memᴰ.List·Memᴰ·tail m)) = elim m [ ]
 
-  pub few-elements : (more : ℕ) (plane : Subspace) (points : List Vec) (rows : List Row) (budget : ℕ) (a : Answer) → Given points rows → length points ≤ n → length rows ≤ r
+  -- what is known of all calls of a rank
+  abbrev FewAt : ℕ → Type 0
+  FewAt more = (plane : Subspace) (points : List Vec) (rows : List Row) (budget : ℕ) (a : Answer) → Given points rows → length points ≤ n → length rows ≤ r
       → faceting more rules plane points rows budget ≡ answered a → (x : Entry) → Mem x (a .entries) → Few (mostElements n r f more) (x .figure)
+
+  -- an answered call whose inner calls have few
+  few-from : (more : ℕ) (plane : Subspace) (points : List Vec) (rows : List Row) (a : Answer) → Given points rows → length points ≤ n → length rows ≤ r → AnsweredCall more rules plane points rows a → FewAt more
+      → (x : Entry) → Mem x (a .entries) → Few (mostElements n r f (suc more)) (x .figure)
   unfolding mostElements
-  few-elements zero plane points rows budget a given h k e x i = two-few plane points rows budget a e x i
-  few-elements (suc zero) plane points rows budget a given h k e x i =
-      let q = entry-polygon rules plane points rows a given (answered-call 0 rules plane points rows budget a e) x i in
+  few-from zero plane points rows a given h k c below x i =
+      let q = entry-polygon rules plane points rows a given c x i in
       polygon-few (length points) (q .0) (x .figure) h (q .1) (edges-few (length points) (q .0) (q .2))
-  few-elements (suc (suc more)) plane points rows budget a given h k e x i =
-      let c = answered-call (suc more) rules plane points rows budget a e in
+  few-from (suc more) plane points rows a given h k c below x i =
       let p = c .before in
       step-few (suc more) r f (mostElements n r f (suc more)) rules plane points rows a given few-facets k c
       (λ j m.
       let inner = c .prepared .inner .each j m in
       let its = inner-points (suc more) rules plane points rows p (c .prepared) j m in
       let own = within-few (j .orbit .vertices) rows in
-      few-elements (suc more) _ (innerPoints plane points j) (rowsWithin (j .orbit .vertices) rows) (inner .budget) (j .answer)
+      below _ (innerPoints plane points j) (rowsWithin (j .orbit .vertices) rows) (inner .budget) (j .answer)
       (inner-given (suc more) rules (faceting (suc more) rules) plane points rows p (c .prepared) (given .rows-good) j m) (omega arith) (omega arith) (inner .is))
       x i
+
+  pub few-elements : (more : ℕ) → FewAt more
+  unfolding mostElements
+  few-elements zero plane points rows budget a given h k e x i = two-few plane points rows budget a e x i
+  few-elements (suc more) plane points rows budget a given h k e x i = few-from more plane points rows a given h k (answered-call more rules plane points rows budget a e) (few-elements more) x i
+
+  -- every answered call above rank 2, with a package or without
+  pub answered-few : (more : ℕ) (plane : Subspace) (points : List Vec) (rows : List Row) (a : Answer) → Given points rows → length points ≤ n → length rows ≤ r → AnsweredCall more rules plane points rows a
+      → (x : Entry) → Mem x (a .entries) → Few (mostElements n r f (suc more)) (x .figure)
+  answered-few more plane points rows a given h k c = few-from more plane points rows a given h k c (few-elements more)

@@ -10,6 +10,8 @@ use Rattle.definitions.specs.Outcome.{answered}
 use Rattle.definitions.specs.Recursion.{Answer}
 use Rattle.definitions.specs.Job.{Bytes, little, numberAt, readJob, between, bounds1, rulesOf, planeOf, callOf, answerWords, headerTests, valueTests, jobTests}
 use Rattle.definitions.specs.Demands.{Accepted}
+use Rattle.definitions.specs.Noble.{Package}
+use Rattle.definitions.specs.NobleCalls.{nobleWay, nobleCallOf}
 use Rattle.laws.specs.Bools.{second}
 use Rattle.laws.specs.Lists.{Mem, here, there}
 use Rattle.laws.specs.Refusals.{AllPassed, passesAt, passed}
@@ -17,7 +19,8 @@ use Rattle.laws.specs.Pairs.{in-take}
 use Rattle.shapes.specs.Jobs.{RowsPassed, accepted-passed, points-length, rows-length, job-given, accepted-rows}
 use Rattle.shapes.specs.FewElements.{mostElements}
 use Rattle.shapes.specs.FigureNumbers.{WordsBelow}
-use Rattle.shapes.specs.AnswerWords.{words-below}
+use Rattle.shapes.specs.Answered.{noble-takes}
+use Rattle.shapes.specs.AnswerWords.{words-below, words-below-with}
 
 -- 2^32, the number of different u32
 abbrev pub u32s : ℕ
@@ -86,6 +89,21 @@ job-words bytes passed ranked a e =
     let fewer = leb→le (job .rowCount) 120 (second (leb 1 (job .rowCount)) (leb (job .rowCount) 120) (passed .some-row)) in
     let rank = leb→le (job .rank) 4 (second (leb 2 (job .rank)) (leb (job .rank) 4) ranked) in
     words-below u32s 20 120 1024 (rulesOf bounds1 job) (omega arith) (job .rank - 2) (planeOf job) (job .points) (job .rows) (job .budget) a (job-given bytes passed) (omega arith) (omega arith) e
+    (record { ranks = omega arith; few-points = omega arith; few-rows = omega arith; orbits = omega arith; facets = omega arith; entries = omega arith })
+    (λ k h. fewest k (omega arith))
+
+-- with a package too
+pub noble-words : (bytes : Bytes) (pack : Package) → RowsPassed (readJob bytes) → T (between 2 4 (readJob bytes .rank)) → (a : Answer) → nobleCallOf bounds1 (readJob bytes) pack ≡ answered a → (spent : ℕ) → spent < u32s
+    → WordsBelow u32s (answerWords spent a)
+unfolding between nobleCallOf bounds1 rulesOf
+noble-words bytes pack passed ranked a e =
+    let job = readJob bytes in
+    let n = points-length bytes in
+    let r = rows-length bytes in
+    let few = leb→le (job .n) 20 (second (leb 2 (job .n)) (leb (job .n) 20) (passed .enough)) in
+    let fewer = leb→le (job .rowCount) 120 (second (leb 1 (job .rowCount)) (leb (job .rowCount) 120) (passed .some-row)) in
+    let rank = leb→le (job .rank) 4 (second (leb 2 (job .rank)) (leb (job .rank) 4) ranked) in
+    words-below-with u32s 20 120 1024 (rulesOf bounds1 job) (omega arith) (nobleWay pack) (noble-takes pack) (job .rank - 2) (planeOf job) (job .points) (job .rows) (job .budget) a (job-given bytes passed) (omega arith) (omega arith) e
     (record { ranks = omega arith; few-points = omega arith; few-rows = omega arith; orbits = omega arith; facets = omega arith; entries = omega arith })
     (λ k h. fewest k (omega arith))
 

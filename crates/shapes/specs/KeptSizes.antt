@@ -20,7 +20,7 @@ use Rattle.laws.specs.Pairs.{pairs-map}
 use Rattle.laws.specs.Ascending.{Differ, Distinct, ascends-distinct}
 use Rattle.laws.specs.Places.{map-self}
 use Rattle.laws.specs.Ranges.{distinct-below}
-use Rattle.shapes.specs.Answered.{facetSum, Preparation, AnsweredCall, answered-call}
+use Rattle.shapes.specs.Answered.{facetSum, Preparation, AnsweredCall, answered-call, made-few}
 use Rattle.shapes.specs.Edges.{edgeFigure}
 use Rattle.shapes.specs.AnswerSizes.{call-counted, two-counted, two-counts, within-few}
 use Rattle.shapes.specs.LowRanks.{RankTwo, rank-two, edgeOf, inner-rank-two, one-edge, possible-edges, entry-list, entry-places}
@@ -45,9 +45,11 @@ use Rattle.shapes.specs.KeptTable.{inner-one-ridge}
 pub rank-three-orbits : (rules : Rules) (plane : Subspace) (points : List Vec) (rows : List Row) (p : Prepared) → Preparation 0 rules (faceting 0 rules) plane points rows p
     → 2 * length (p .inner) + length points ≤ length points * length points
 rank-three-orbits rules plane points rows p made =
-    let e : length (p .inner) ≡ length (orbitsOf 0 rules plane points rows) = sym (length-map (p .inner) (λ (i : Inner). i .orbit)) ∙ ap length (made .inner .of-orbits) in
     let k = call-orbits-few rules plane points rows in
-    omega arith
+    fewer (length points) (length (p .inner)) (length (orbitsOf 0 rules plane points rows)) (made-few made) k
+  where
+    fewer : (n m k : ℕ) → m ≤ k → 2 * k + n ≤ n * n → 2 * m + n ≤ n * n
+    fewer n m k h e = omega arith
 
 -- ---- answers of rank 2 and 3
 

@@ -13,7 +13,7 @@ use Rattle.definitions.specs.Recursion.{Rules, Entry, Answer, moveSorted}
 use Rattle.definitions.specs.Faceting.{Prepared, split, entryOf, searchFrom, finish, faceting}
 use Rattle.laws.specs.Lists.{Mem, in-map, of-map, in-flatMap, of-flatMap}
 use Rattle.laws.specs.Ascending.{SameItems, in-order-same}
-use Rattle.shapes.specs.Answered.{Preparation, answered-call}
+use Rattle.shapes.specs.Answered.{Preparation, AnsweredCall}
 use Rattle.shapes.specs.Emitted.{entry-of-list}
 use Rattle.shapes.specs.Sets.{row-into}
 use Rattle.shapes.specs.Calls.{Given, call-row}
@@ -74,12 +74,11 @@ module _ (more : ℕ) (rules : Rules) (plane : Subspace) (points : List Vec) (ro
       (move-in-order (image row) more all ∙ in-order-same (compareNested more) (nested-order more) (map (moved row) all) all (images-carried row i (split p l) inside))
       ∙ sym (is .0)
 
--- every entry of an answered call
-pub rows-carry : (more : ℕ) (rules : Rules) (plane : Subspace) (points : List Vec) (rows : List Row) (budget : ℕ) (a : Answer) → Given points rows → Composing (length points) rows
-    → faceting (suc more) rules plane points rows budget ≡ answered a → (e : Entry) → Mem e (a .entries) → (row : Row) → Mem row rows → moveSorted (image row) (e .figure) ≡ e .figure
+-- every entry of an answered call, with a package or without
+pub answered-carry : (more : ℕ) (rules : Rules) (plane : Subspace) (points : List Vec) (rows : List Row) (a : Answer) → Given points rows → Composing (length points) rows
+    → AnsweredCall more rules plane points rows a → (e : Entry) → Mem e (a .entries) → (row : Row) → Mem row rows → moveSorted (image row) (e .figure) ≡ e .figure
 unfolding finish
-rows-carry more rules plane points rows budget a given composing is e m row i =
-    let c = answered-call more rules plane points rows budget a is in
+answered-carry more rules plane points rows a given composing c e m row i =
     let p = c .before in
     let made = c .prepared in
     let own : Composing (p .points) (p .rows) = subst (λ (k : ℕ). Composing k (p .rows)) (sym (made .points-are)) (subst (Composing (length points)) (sym (made .rows-are)) composing) in

@@ -14,7 +14,9 @@ use Rattle.definitions.specs.Subspace.{Subspace}
 use Rattle.definitions.specs.Orbits.{Row, image}
 use Rattle.definitions.specs.Figures.{Elements, Figure, numberIn, renumber, sortRanks, sortStrong, moveEnds}
 use Rattle.definitions.specs.Recursion.{Bounds, Rules, Answer, moveSorted}
-use Rattle.definitions.specs.Faceting.{faceting}
+use Rattle.definitions.specs.Faceting.{faceting, facetingWith}
+use Rattle.definitions.specs.Noble.{Package}
+use Rattle.definitions.specs.NobleCalls.{nobleWay, nobleCallOf}
 use Rattle.definitions.specs.Job.{Bytes, readJob, between, bounds1, rulesOf, planeOf, callOf}
 use Rattle.definitions.specs.Demands.{Accepted}
 use Rattle.definitions.specs.Symmetry.{composed, closedRows, Carries, elementImage, RanksKept, CarriedByAll, Symmetric}
@@ -27,7 +29,8 @@ use Rattle.shapes.specs.Assemble.{lowestBy}
 use Rattle.shapes.specs.Gathered.{sortAll}
 use Rattle.shapes.specs.Calls.{Given}
 use Rattle.shapes.specs.Jobs.{RowsPassed, job-given, accepted-rows}
-use Rattle.shapes.specs.NestedRows.{Composing, rows-carry}
+use Rattle.shapes.specs.NestedRows.{Composing, answered-carry}
+use Rattle.shapes.specs.Answered.{AnsweredCall, answered-with, answered-call, noble-takes}
 use Rattle.shapes.specs.ClosedRows.{composed-at, composed-row, composed-onto}
 
 -- ---- the figures of a call
@@ -77,12 +80,17 @@ carried-kept row f carried = go (drop 2 f) (sym (moved-drop (image row) f) ∙ a
 
 -- ---- every call
 
+-- answered, with a package or without
+pub answered-carried : (more : ℕ) (rules : Rules) (plane : Subspace) (points : List Vec) (rows : List Row) (a : Answer) → Given points rows → T (closedRows rows)
+    → AnsweredCall more rules plane points rows a → CarriedByAll rows (a .entries)
+unfolding Carries
+answered-carried more rules plane points rows a given closed c =
+    let each = answered-carry more rules plane points rows a given (rows-compose (length points) rows (given .rows-good .permute) closed) c in
+    record { figures = each; ranks = λ e m row i. carried-kept row (e .figure) (each e m row i) }
+
 pub call-carried : (more : ℕ) (rules : Rules) (plane : Subspace) (points : List Vec) (rows : List Row) (budget : ℕ) (a : Answer) → Given points rows → T (closedRows rows)
     → faceting (suc more) rules plane points rows budget ≡ answered a → CarriedByAll rows (a .entries)
-unfolding Carries
-call-carried more rules plane points rows budget a given closed is =
-    let each = rows-carry more rules plane points rows budget a given (rows-compose (length points) rows (given .rows-good .permute) closed) is in
-    record { figures = each; ranks = λ e m row i. carried-kept row (e .figure) (each e m row i) }
+call-carried more rules plane points rows budget a given closed is = answered-carried more rules plane points rows a given closed (answered-call more rules plane points rows budget a is)
 
 -- ---- every job
 
@@ -103,6 +111,26 @@ job-symmetric bounds bytes passed a is = record {
   holds = λ rank closed.
       let job = readJob bytes in
       job-carried bounds bytes passed (leb→le 3 (job .rank) (first (leb 3 (job .rank)) (leb (job .rank) 4) rank)) closed a is;
+}
+
+-- and with a package
+noble-carried : (bounds : Bounds) (bytes : Bytes) (pack : Package) → RowsPassed (readJob bytes) → 3 ≤ readJob bytes .rank → T (closedRows (readJob bytes .rows)) → (a : Answer)
+    → nobleCallOf bounds (readJob bytes) pack ≡ answered a → CarriedByAll (readJob bytes .rows) (a .entries)
+unfolding nobleCallOf
+noble-carried bounds bytes pack passed least closed a is =
+    let job = readJob bytes in
+    let rules = rulesOf bounds job in
+    let k : job .rank - 2 ≡ suc (job .rank - 3) = omega arith in
+    answered-carried (job .rank - 3) rules (planeOf job) (job .points) (job .rows) a (job-given bytes passed) closed
+    (answered-with (nobleWay pack) (noble-takes pack) (job .rank - 3) rules (planeOf job) (job .points) (job .rows) (job .budget) a
+    (sym (ap (λ (n : ℕ). facetingWith (nobleWay pack) n rules (planeOf job) (job .points) (job .rows) (job .budget)) k) ∙ is))
+
+pub noble-symmetric : (bounds : Bounds) (bytes : Bytes) (pack : Package) → RowsPassed (readJob bytes) → (a : Answer) → nobleCallOf bounds (readJob bytes) pack ≡ answered a → Symmetric bytes (a .entries)
+unfolding between
+noble-symmetric bounds bytes pack passed a is = record {
+  holds = λ rank closed.
+      let job = readJob bytes in
+      noble-carried bounds bytes pack passed (leb→le 3 (job .rank) (first (leb 3 (job .rank)) (leb (job .rank) 4) rank)) closed a is;
 }
 
 pub accepted-symmetric : (bytes : Bytes) → Accepted bytes → (a : Answer) → callOf bounds1 (readJob bytes) ≡ answered a → Symmetric bytes (a .entries)

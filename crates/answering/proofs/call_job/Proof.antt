@@ -1,49 +1,20 @@
--- `answering::call_job` meets its contract: what is loaded is what the call asks, and the call on it is the job's. Assumes nothing.
-use mathlib.Core.Path.{_≡_}
-use native.Mathlib.Omega.{arith}
+-- `answering::call_job` meets its contract: without a package the call in the plain way is the job's own. Assumes nothing.
+use mathlib.Core.Path.{_≡_, sym, subst, _∙_}
 use borrow.Author.Needs.{needs}
-use lib.ListN.{length}
-use Rattle.answering.specs.Loaded.{exact, own-fields, counts, loads, call-asked, job-called}
+use lib.Dec.{T}
+use Rattle.definitions.specs.Faceting.{Way}
+use Rattle.faceting.specs.Ways.{way-plain}
+use Rattle.answering.specs.Loaded.{CalledIn, called-plainly}
 use Rattle.answering.proofs.call_job.Statement.{statement}
 use Rattle.answering.proofs.call_job.Tie as tie
 
--- What was loaded is what the call asks: the plane, the points, the rules and the rows.
+plain-way-requires : tie.Need-plain-way-requires
+plain-way-requires c κs = search needs
 
-plane-of-requires : tie.Need-plane-of-requires
-plane-of-requires c κs =
-    let at-start = c .before .before .before in
-    (exact (at-start .args .job .now) _ (at-start .args .fields) (at-start .pre .0), own-fields (at-start .args .job .now) _ (at-start .args .fields) (at-start .pre .0))
-
-points-of-requires : tie.Need-points-of-requires
-points-of-requires c κs =
-    let at-start = c .before .before .before .before in
-    (exact (at-start .args .job .now) _ (at-start .args .fields) (at-start .pre .0), own-fields (at-start .args .job .now) _ (at-start .args .fields) (at-start .pre .0))
-
-rules-of-requires : tie.Need-rules-of-requires
-rules-of-requires c κs = search needs
-
-load-rows-requires : tie.Need-load-rows-requires
-load-rows-requires c κs =
-    let at-start = c .before .before .before .before .before .before .before in
-    let job = at-start .args .job .now in
-    let fields = at-start .args .fields in (
-      exact job _ fields (at-start .pre .0),
-      own-fields job _ fields (at-start .pre .0),
-      omega (arith, counts job _ fields (at-start .pre .0) .count-most, at-start .pre .1),
-    )
-
-faceting-requires : tie.Need-faceting-requires
-faceting-requires c κs =
-    let at-load-rows = c .before .before .before .before in
-    let at-rules-of = at-load-rows .before .before in
-    let at-points-of = at-rules-of .before in
-    let at-plane-of = at-points-of .before in
-    let at-start = at-plane-of .before .before .before .before in
-    let job = at-start .args .job .now in
-    let size = length (at-start .args .ws .now) in
-    let rows = at-load-rows .load-rows .ensures .0 in
-    let loaded = loads job size (at-start .args .fields) (at-start .pre .0) (at-plane-of .plane-of .ensures) (at-points-of .points-of .ensures) (rows .0, omega (arith, rows .1, at-start .pre .1)) (at-rules-of .rules-of .ensures) in
-    call-asked job size (at-start .args .fields) (at-start .pre .0) loaded _ (search needs)
+call-in-way-requires : tie.Need-call-in-way-requires
+call-in-way-requires c κs =
+    let at-start = c .before .before .before .before .before .before in
+    (at-start .pre .0, at-start .pre .1, record { pack = λ e. absurd (subst T (sym (c .plain-way .ensures) ∙ e) tt) })
 
 same-length : tie.Need-same-length
 same-length c = search needs
@@ -53,19 +24,12 @@ same-length-2 c = search needs
 
 returns : tie.Need-returns
 returns c =
-    let at-faceting = c .before .before in
-    let at-load-rows = at-faceting .before .before .before .before .before in
-    let at-rules-of = at-load-rows .before .before in
-    let at-points-of = at-rules-of .before in
-    let at-plane-of = at-points-of .before in
-    let at-start = at-plane-of .before .before .before .before in
-    let job = at-start .args .job .now in
-    let size = length (at-start .args .ws .now) in
-    let rows = at-load-rows .load-rows .ensures .0 in
-    let loaded = loads job size (at-start .args .fields) (at-start .pre .0) (at-plane-of .plane-of .ensures) (at-points-of .points-of .ensures) (rows .0, omega (arith, rows .1, at-start .pre .1)) (at-rules-of .rules-of .ensures) in
-    let left = at-faceting .faceting .last .1 .1 .1 .1 .1 .1 .1 .0 in
-    let long : length left ≡ size = search needs in
-    job-called job size (at-start .args .fields) (at-start .pre .0) loaded _ left long (at-faceting .faceting .ensures)
+    let at-call = c .before .before .before .before in
+    let at-way = at-call .before in
+    let a = at-way .before .before .before .before .before .before .args in
+    let call = at-call .call-in-way in
+    called-plainly (a .job .now) (a .fields) (call .last .1 .1 .1 .0) (call .result) (call .last .1 .1 .0)
+    (subst (λ (w : Way). CalledIn w (a .job .now) (a .fields) (call .last .1 .1 .1 .0) (call .result) (call .last .1 .1 .0)) (way-plain (a .fields .n) (at-way .plain-way .result) (a .job .now) (a .job .now) (at-way .plain-way .ensures)) (call .ensures))
 
 pub call-job-spec : {M : Type 1} → statement M
-call-job-spec = tie.close (tie.spec plane-of-requires points-of-requires rules-of-requires load-rows-requires faceting-requires same-length same-length-2 returns)
+call-job-spec = tie.close (tie.spec plain-way-requires call-in-way-requires same-length same-length-2 returns)

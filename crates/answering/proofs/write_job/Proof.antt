@@ -1,8 +1,9 @@
--- `answering::write_job` meets its contract: in each of the three cases what the call says is the definition's outcome, and an answer's bytes are written. Assumes nothing.
-use native.Mathlib.Omega.{arith}
+-- `answering::write_job` meets its contract: what is written of the job's call is what the job gets by itself. Assumes nothing.
+use mathlib.Core.Path.{_≡_, sym, ap, _∙_}
 use borrow.Author.Needs.{needs}
 use lib.ListN.{length}
-use Rattle.answering.specs.Answered.{called-as, call-refuses, call-ends, call-leaves, refused-clauses, answered-clauses}
+use Rattle.answering.specs.Closed.{writtenIn, bufferIn}
+use Rattle.answering.specs.Answered.{alone-written}
 use Rattle.answering.proofs.write_job.Statement.{statement}
 use Rattle.answering.proofs.write_job.Tie as tie
 
@@ -12,107 +13,34 @@ slice-aggregate-call-job c = search needs
 call-job-requires : tie.Need-call-job-requires
 call-job-requires c κs = search needs
 
--- ---- a refusal
+slice-aggregate-write-called : tie.Need-slice-aggregate-write-called
+slice-aggregate-write-called c = search needs
 
-enum-known-number : tie.Need-enum-known-number
-enum-known-number c = search needs
+write-called-requires : tie.Need-write-called-requires
+write-called-requires c κs =
+    let at-call = c .before .before .before .before .before .before in
+    let at-start = at-call .before .before .before .before .before .before in
+    (at-start .pre .1, (_, at-call .call-job .ensures .said))
 
 same-length : tie.Need-same-length
 same-length c = search needs
 
-returns : tie.Need-returns
-returns c =
-    let at-number = c .before in
-    let at-call = at-number .before .before .before .before .before in
-    let at-start = at-call .before .before .before .before .before .before in
-    refused-clauses (at-start .args .job .now) (length (at-start .args .ws .now)) (at-start .args .fields) (at-start .pre .0)
-    (call-refuses (called-as (at-call .call-job .ensures) (at-number .number .given .1))) _ (at-start .pre .1)
-
--- ---- the ends of rank 2
-
-enum-known-swapped : tie.Need-enum-known-swapped
-enum-known-swapped c = search needs
-
-write-ends-requires : tie.Need-write-ends-requires
-write-ends-requires c κs =
-    let at-swapped = c .before .before in
-    let at-call = at-swapped .before .before .before .before .before in
-    call-ends (called-as (at-call .call-job .ensures) (at-swapped .swapped .given .1)) .1
-
-close-requires : tie.Need-close-requires
-close-requires c κs = search needs
-
 same-length-2 : tie.Need-same-length-2
 same-length-2 c = search needs
 
-same-length-3 : tie.Need-same-length-3
-same-length-3 c = search needs
-
-returns-2 : tie.Need-returns-2
-returns-2 c =
-    let at-close = c .before .before in
-    let at-write = at-close .before .before .before .before in
-    let at-swapped = at-write .before .before .before in
-    let at-call = at-swapped .before .before .before .before .before in
+returns : tie.Need-returns
+returns c =
+    let at-write = c .before .before .before .before in
+    let at-call = at-write .before .before .before .before .before .before .before in
     let at-start = at-call .before .before .before .before .before .before in
-    answered-clauses (at-start .args .job .now) (length (at-start .args .ws .now)) (at-start .args .fields) (at-start .pre .0)
-    (call-ends (called-as (at-call .call-job .ensures) (at-swapped .swapped .given .1)) .0) _ _ _ _ (at-start .pre .1) (omega arith) (at-write .write-ends .ensures)
-    (at-close .close .ensures .0) (at-close .close .ensures .1)
-
--- ---- what a call of rank 3 or 4 left
-
-enum-known-level : tie.Need-enum-known-level
-enum-known-level c = search needs
-
-slice-aggregate-write-left : tie.Need-slice-aggregate-write-left
-slice-aggregate-write-left c = search needs
-
-write-left-requires : tie.Need-write-left-requires
-write-left-requires c κs =
-    let at-level = c .before .before .before .before in
-    let at-call = at-level .before .before .before .before .before in
-    let left = call-leaves (called-as (at-call .call-job .ensures) (at-level .level .given .1)) in
-    (left .2, left .3, (left .0, left .4))
-
-close-requires-2 : tie.Need-close-requires-2
-close-requires-2 c κs = search needs
-
-same-length-4 : tie.Need-same-length-4
-same-length-4 c = search needs
-
-same-length-5 : tie.Need-same-length-5
-same-length-5 c = search needs
-
-returns-3 : tie.Need-returns-3
-returns-3 c =
-    let at-close = c .before .before in
-    let at-write = at-close .before .before .before .before .before .before in
-    let at-level = at-write .before .before .before .before .before in
-    let at-call = at-level .before .before .before .before .before in
-    let at-start = at-call .before .before .before .before .before .before in
-    let left = call-leaves (called-as (at-call .call-job .ensures) (at-level .level .given .1)) in
-    answered-clauses (at-start .args .job .now) (length (at-start .args .ws .now)) (at-start .args .fields) (at-start .pre .0)
-    (left .1) _ _ _ _ (at-start .pre .1) (omega arith) (at-write .write-left .ensures (left .0) (left .4)) (at-close .close2 .ensures .0) (at-close .close2 .ensures .1)
+    let a = at-start .args in
+    let room = length (a .answer .now) in
+    let said = at-call .call-job .ensures .said in
+    let alone-is = alone-written (a .job .now) (length (a .ws .now)) (a .fields) (at-start .pre .0) in (
+      at-write .write-called .ensures .0 _ said ∙ sym (ap (writtenIn room) alone-is),
+      at-write .write-called .ensures .1 _ said ∙ sym (ap (bufferIn room) alone-is),
+    )
 
 pub write-job-spec : {M : Type 1} → statement M
 write-job-spec =
-    tie.close
-    (tie.spec
-    slice-aggregate-call-job
-    call-job-requires
-    enum-known-number
-    enum-known-swapped
-    write-ends-requires
-    close-requires
-    enum-known-level
-    slice-aggregate-write-left
-    write-left-requires
-    close-requires-2
-    same-length
-    returns
-    same-length-2
-    same-length-3
-    returns-2
-    same-length-4
-    same-length-5
-    returns-3)
+    tie.close (tie.spec slice-aggregate-call-job call-job-requires slice-aggregate-write-called write-called-requires same-length same-length-2 returns)

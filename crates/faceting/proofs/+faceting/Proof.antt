@@ -22,6 +22,7 @@ use Rattle.calls.specs.declared.Called.the-variants.{Refused}
 use Rattle.definitions.specs.Outcome.{refused}
 use Rattle.sets.specs.declared.Fit.the-variants.{Refused as RefusedFit}
 use Rattle.inner_answers.specs.Says.{Site, SiteState, siteWhole, Turn}
+use Rattle.faceting.specs.Ways.{wayOf, way-extended}
 use Rattle.faceting.specs.Loops as loops
 use Rattle.faceting.specs.Loops.{Loop, siteIn}
 use borrow.Fn.Kinds.{In}
@@ -40,15 +41,15 @@ use Rattle.space.proofs.Points.flatten_all.Reads as flatten-all-reads
 use Rattle.faceting.proofs.+faceting.{statement}
 use Rattle.faceting.proofs.+faceting.Tie.{close}
 
-abbrev μ-faceting : Measures 2 faceting-kinds.ps ℕ
+abbrev μ-faceting : Measures 4 faceting-kinds.ps ℕ
 μ-faceting κs a = a .0
 
-abbrev faceting-at : ℕ → In 2 faceting-kinds.ps
-faceting-at t = and 2 faceting-kinds.ps (is 2 faceting-kinds.ps μ-faceting t) faceting.Pre
+abbrev faceting-at : ℕ → In 4 faceting-kinds.ps
+faceting-at t = and 4 faceting-kinds.ps (is 4 faceting-kinds.ps μ-faceting t) faceting.Pre
 
-abbrev faceting-below : ℕ → In 2 faceting-kinds.ps
+abbrev faceting-below : ℕ → In 4 faceting-kinds.ps
 faceting-below t =
-    and 2 faceting-kinds.ps (falls 2 faceting-kinds.ps _<_ μ-faceting t) faceting.Pre
+    and 4 faceting-kinds.ps (falls 4 faceting-kinds.ps _<_ μ-faceting t) faceting.Pre
 
 -- what is asked and learnt of each callee; the call itself, at ranks below
 abbrev claims : ℕ → faceting-lts.Claims
@@ -74,32 +75,32 @@ claims t = (
 )
 
 abbrev faceting-Inv-loop : faceting-lts.InvT-loop
-faceting-Inv-loop rank rows m rules budget ws₀ flat count shelf₀ left₀ ws shelf left =
+faceting-Inv-loop rank rows m rules budget ws₀ way globals full whole flat count shelf₀ left₀ ws shelf left =
     (length ws ≡ length ws₀) × Laid shelf (shelfFor rank)
-    × ((plane : Subspace) (points : List Vec) → Loop plane points rank flat rows m rules budget count ws₀ → SiteState (siteIn plane points rank flat rows m rules budget) shelf left (shelf .orbits) ws)
+    × ((plane : Subspace) (points : List Vec) → Loop (wayOf (flat .n) way globals full) plane points rank flat rows m rules budget count ws₀ → SiteState (siteIn (wayOf (flat .n) way globals full) plane points rank flat rows m rules budget) shelf left (shelf .orbits) ws)
 
 abbrev faceting-μ-loop : faceting-lts.MeasureT-loop
-faceting-μ-loop rank rows m rules budget ws₀ flat count shelf₀ left₀ ws shelf left = count - shelf .orbits
+faceting-μ-loop rank rows m rules budget ws₀ way globals full whole flat count shelf₀ left₀ ws shelf left = count - shelf .orbits
 
 abbrev Begun : ℕ → Type 0
 Begun t = faceting-lts.After-shelf-for (claims t) (faceting-at t) faceting.Post faceting-Inv-loop faceting-μ-loop
 
 -- the loop of this call, begun for a plane and points
 abbrev LoopAt : (t : ℕ) (c : Begun t) → Subspace → List Vec → Type 0
-LoopAt t c plane points = Loop plane points (c .before .before .before .before .before .before .before .before .before .before .before .before .args .rank) (c .before .before .before .before .before .before .before .before .flatten-all .result) (c .before .before .before .before .before .before .before .before .before .before .before .before .args .rows .now) (c .before .before .before .before .before .before .before .before .before .before .before .before .args .m) (c .before .before .before .before .before .before .before .before .before .before .before .before .args .rules) (c .before .before .before .before .before .before .before .before .before .before .before .before .args .budget) (c .before .before .found .given .0 .0) (c .before .before .before .before .before .before .start-call .last .0)
+LoopAt t c plane points = Loop (wayOf (c .before .before .before .before .before .before .before .before .flatten-all .result .n) (c .before .before .before .before .before .before .before .before .before .before .before .before .before .before .before .args .way) (c .before .before .before .before .before .before .before .before .before .before .before .before .before .before .before .args .globals .now) (c .before .before .before .before .before .before .before .before .before .before .before .before .before .before .before .args .full .now)) plane points (c .before .before .before .before .before .before .before .before .before .before .before .before .before .before .before .args .rank) (c .before .before .before .before .before .before .before .before .flatten-all .result) (c .before .before .before .before .before .before .before .before .before .before .before .before .before .before .before .args .rows .now) (c .before .before .before .before .before .before .before .before .before .before .before .before .before .before .before .args .m) (c .before .before .before .before .before .before .before .before .before .before .before .before .before .before .before .args .rules) (c .before .before .before .before .before .before .before .before .before .before .before .before .before .before .before .args .budget) (c .before .before .found .given .0 .0) (c .before .before .before .before .before .before .start-call .last .0)
 
 abbrev siteAt : (t : ℕ) (c : Begun t) → Subspace → List Vec → Site
-siteAt t c plane points = siteIn plane points (c .before .before .before .before .before .before .before .before .before .before .before .before .args .rank) (c .before .before .before .before .before .before .before .before .flatten-all .result) (c .before .before .before .before .before .before .before .before .before .before .before .before .args .rows .now) (c .before .before .before .before .before .before .before .before .before .before .before .before .args .m) (c .before .before .before .before .before .before .before .before .before .before .before .before .args .rules) (c .before .before .before .before .before .before .before .before .before .before .before .before .args .budget)
+siteAt t c plane points = siteIn (wayOf (c .before .before .before .before .before .before .before .before .flatten-all .result .n) (c .before .before .before .before .before .before .before .before .before .before .before .before .before .before .before .args .way) (c .before .before .before .before .before .before .before .before .before .before .before .before .before .before .before .args .globals .now) (c .before .before .before .before .before .before .before .before .before .before .before .before .before .before .before .args .full .now)) plane points (c .before .before .before .before .before .before .before .before .before .before .before .before .before .before .before .args .rank) (c .before .before .before .before .before .before .before .before .flatten-all .result) (c .before .before .before .before .before .before .before .before .before .before .before .before .before .before .before .args .rows .now) (c .before .before .before .before .before .before .before .before .before .before .before .before .before .before .before .args .m) (c .before .before .before .before .before .before .before .before .before .before .before .before .before .before .before .args .rules) (c .before .before .before .before .before .before .before .before .before .before .before .before .before .before .before .args .budget)
 
 -- it has begun for the call's own
-begun : (t : ℕ) (c : Begun t) → LoopAt t c (subspaceOf (c .before .before .before .before .before .before .before .before .before .before .before .before .args .plane)) (pointsOf (c .before .before .before .before .before .before .before .before .before .before .before .before .args .points))
+begun : (t : ℕ) (c : Begun t) → LoopAt t c (subspaceOf (c .before .before .before .before .before .before .before .before .before .before .before .before .before .before .before .args .plane)) (pointsOf (c .before .before .before .before .before .before .before .before .before .before .before .before .before .before .before .args .points))
 begun t c =
-    let a = c .before .before .before .before .before .before .before .before .before .before .before .before .args in
-    let asked = c .before .before .before .before .before .before .before .before .before .before .before .before .pre .1 in
+    let a = c .before .before .before .before .before .before .before .before .before .before .before .before .before .before .before .args in
+    let asked = c .before .before .before .before .before .before .before .before .before .before .before .before .before .before .before .pre .1 in
     let start = c .before .before .before .before .before .before .start-call in
     let flat = c .before .before .before .before .before .before .before .before .flatten-all in
-    let above : 3 ≤ a .rank = omega (arith, c .before .before .before .before .before .before .before .before .before .if1 .left, asked .rank-least) in
-    loops.begun (a .rank) (a .plane) (a .points) (a .rows .now) (a .m) (a .rules) (a .budget) (a .ws .now) asked above (flat .result) (flat .ensures .0) (flat .ensures .1) (start .result) (start .last .0) (start .ensures .0) _ (c .before .before .found .given .1) (start .ensures .1) (start .kept .0)
+    let above : 3 ≤ a .rank = omega (arith, c .before .before .before .before .before .before .before .before .before .before .if1 .left, asked .rank-least) in
+    loops.begun (a .rank) (a .plane) (a .points) (a .rows .now) (a .m) (a .rules) (a .budget) (a .ws .now) (a .way) (a .globals .now) (a .full .now) asked above (flat .result) (flat .ensures .0) (flat .ensures .1) (start .result) (start .last .0) (start .ensures .0) _ (c .before .before .found .given .1) (start .ensures .1) (start .kept .0)
 
 -- ---- what a turn's inner call is given
 
@@ -134,6 +135,7 @@ module _ (t : ℕ) (c : Made t) {plane : Subspace} {points : List Vec} (b : Loop
   behind-long = back-length (c .before .before .before .before .before .before .before .before .before .before .before .before .before .before .before .before .before .loop .shelf .end) (c .before .before .before .before .before .before .before .before .before .before .before .before .before .before .before .before .before .loop .ws) (c .before .before .before .before .faceting .last .1 .1 .1 .1 .1 .1 .1 .0) (state-at t (c .before .before .before .before .before .before .before .before .before) b .keeps .fits .ends) tail-long
 
   turn-at : Turn (siteAt t (c .before .before .before .before .before .before .before .before .before .before .before .before .before .before .before .before .before .before) plane points) (c .before .before .before .before .before .before .before .before .before .before .before .before .before .before .before .before .before .loop .shelf) (c .before .before .before .before .before .before .before .before .before .before .before .before .before .before .before .before .before .loop .left) (c .before .before .before .before .before .before .before .before .before .before .before .before .before .before .before .before .before .loop .shelf .orbits) (c .before .before .before .before .faceting .result) (c .before .before .before .before .before .before .before .before .before .before .before .next-call .last .1 .1 .1 .1 .1 .1 .0) (c .before .before .before .before .before .before .before .before .before .before .before .next-call .result .m) (behind t c)
+  unfolding wayOf
   turn-at =
       let l = c .before .before .before .before .before .before .before .before .before .before .before .before .before .before .before .before .before .loop in
       let next = c .before .before .before .before .before .before .before .before .before .before .before .next-call in
@@ -171,10 +173,10 @@ faceting-swaps-ends-requires t c κs = search needs
 
 faceting-returns : (t : ℕ) → faceting-lts.Need-returns (claims t) (faceting-at t) faceting.Post faceting-Inv-loop faceting-μ-loop
 faceting-returns t c =
-    let s = c .before .before .before .before in
+    let s = c .before .before .before .before .before .before in
     let a = s .args in
     let asked = s .pre .1 in
-    loops.says-ends (a .rank) (a .rules) (subspaceOf (a .plane)) (pointsOf (a .points)) (rowsIn (a .points .n) (a .m) (a .rows .now)) (a .budget) (c .swaps-ends .result) (a .ws .now) (c .before .if1 .taken)
+    loops.says-ends (wayOf (a .points .n) (a .way) (a .globals .now) (a .full .now)) (a .rank) (a .rules) (subspaceOf (a .plane)) (pointsOf (a .points)) (rowsIn (a .points .n) (a .m) (a .rows .now)) (a .budget) (c .swaps-ends .result) (a .ws .now) (c .before .if1 .taken)
     (c .swaps-ends .ensures (a .points .n) (omega (arith, asked .given .two, points-length (a .points))) (omega (arith, asked .points-fit .n-fits)))
 
 faceting-flatten-all-requires : (t : ℕ) → faceting-lts.Need-flatten-all-requires (claims t) (faceting-at t) faceting.Post faceting-Inv-loop faceting-μ-loop
@@ -182,10 +184,10 @@ faceting-flatten-all-requires t c κs = search needs
 
 faceting-start-call-requires : (t : ℕ) → faceting-lts.Need-start-call-requires (claims t) (faceting-at t) faceting.Post faceting-Inv-loop faceting-μ-loop
 faceting-start-call-requires t c κs =
-    let s = c .before .before .before .before .before in
+    let s = c .before .before .before .before .before .before .before .before in
     let a = s .args in
     let flat = c .before .flatten-all in
-    loops.start-asks (a .rank) (a .plane) (a .points) (a .rows .now) (a .m) (a .rules) (a .budget) (a .ws .now) (s .pre .1) (omega (arith, c .before .before .if1 .left, s .pre .1 .rank-least)) (flat .result) (flat .ensures .0) (flat .ensures .1)
+    loops.start-asks (a .rank) (a .plane) (a .points) (a .rows .now) (a .m) (a .rules) (a .budget) (a .ws .now) (a .way) (a .globals .now) (a .full .now) (s .pre .1) (omega (arith, c .before .before .before .if1 .left, s .pre .1 .rank-least)) (flat .result) (flat .ensures .0) (flat .ensures .1)
 
 faceting-enum-known-found : (t : ℕ) → faceting-lts.Need-enum-known-found (claims t) (faceting-at t) faceting.Post faceting-Inv-loop faceting-μ-loop
 faceting-enum-known-found t c = search needs
@@ -198,11 +200,11 @@ faceting-same-length t c = search needs
 
 faceting-returns-2 : (t : ℕ) → faceting-lts.Need-returns-2 (claims t) (faceting-at t) faceting.Post faceting-Inv-loop faceting-μ-loop
 faceting-returns-2 t c =
-    let s = c .before .before .before .before .before .before .before .before .before .before in
+    let s = c .before .before .before .before .before .before .before .before .before .before .before .before .before in
     let a = s .args in
     let flat = c .before .before .before .before .before .before .flatten-all in
     let start = c .before .before .before .before .start-call in
-    loops.start-refused (a .rank) (a .plane) (a .points) (a .rows .now) (a .m) (a .rules) (a .budget) (a .ws .now) (s .pre .1) (omega (arith, c .before .before .before .before .before .before .before .if1 .left, s .pre .1 .rank-least)) (flat .result) (flat .ensures .0) (flat .ensures .1)
+    loops.start-refused (a .rank) (a .plane) (a .points) (a .rows .now) (a .m) (a .rules) (a .budget) (a .ws .now) (a .way) (a .globals .now) (a .full .now) (s .pre .1) (omega (arith, c .before .before .before .before .before .before .before .before .if1 .left, s .pre .1 .rank-least)) (flat .result) (flat .ensures .0) (flat .ensures .1)
     (start .result) (start .last .0) (start .ensures .0) (c .enum-told .given .1)
 
 faceting-shelf-for-requires : (t : ℕ) → faceting-lts.Need-shelf-for-requires (claims t) (faceting-at t) faceting.Post faceting-Inv-loop faceting-μ-loop
@@ -221,7 +223,7 @@ faceting-set-at-requires t c κs =
     (omega (arith, st .keeps .fits .orbitRoom, st .keeps .fits .edgeRoom, st .keeps .fits .labelRoom, st .keeps .fits .ownerRoom, st .keeps .fits .ridgeRoom, st .keeps .fits .placeRoom, st .keeps .fits .ends, st .keeps .fewOrbits), b .flat-fits .n-fits)
 
 faceting-sub-next-call : (t : ℕ) → faceting-lts.Need-sub-next-call (claims t) (faceting-at t) faceting.Post faceting-Inv-loop faceting-μ-loop
-faceting-sub-next-call t c = c .before .before .before .before .before .before .before .before .before .before .before .before .before .before .before .before .before .pre .1 .rank-least
+faceting-sub-next-call t c = c .before .before .before .before .before .before .before .before .before .before .before .before .before .before .before .before .before .before .before .before .pre .1 .rank-least
 
 faceting-slice-aggregate-next-call : (t : ℕ) → faceting-lts.Need-slice-aggregate-next-call (claims t) (faceting-at t) faceting.Post faceting-Inv-loop faceting-μ-loop
 faceting-slice-aggregate-next-call t c = search needs
@@ -240,16 +242,16 @@ faceting-same-length-2 t c = c .before .before .before .before .before .before .
 faceting-returns-3 : (t : ℕ) → faceting-lts.Need-returns-3 (claims t) (faceting-at t) faceting.Post faceting-Inv-loop faceting-μ-loop
 faceting-returns-3 t c =
     let n = c .before .before in
-    let a = c .before .before .before .before .before .before .before .before .before .before .before .before .before .before .before .before .before .before .before .before .before .before .before .args in
+    let a = c .before .before .before .before .before .before .before .before .before .before .before .before .before .before .before .before .before .before .before .before .before .before .before .before .before .before .args in
     let b = begun t (c .before .before .before .before .before .before .before .before .before .before .before) in
-    loops.says-rank (a .rank) (b .rank-least) (c .before .before .before .before .before .before .before .before .before .before .before .before .before .before .before .before .before .before .before .flatten-all .result .n) (a .points .n) (c .before .before .before .before .before .before .before .before .before .before .before .before .before .before .before .before .before .before .before .flatten-all .ensures .1) (a .rules) (subspaceOf (a .plane)) (pointsOf (a .points)) (a .rows .now) (a .m) (a .budget) (Refused 14) (c .before .before .before .before .before .before .before .before .before .before .loop .ws)
+    loops.says-rank (a .way) (a .globals .now) (a .full .now) (a .rank) (b .rank-least) (c .before .before .before .before .before .before .before .before .before .before .before .before .before .before .before .before .before .before .before .flatten-all .result .n) (a .points .n) (c .before .before .before .before .before .before .before .before .before .before .before .before .before .before .before .before .before .before .before .flatten-all .ensures .1) (a .rules) (subspaceOf (a .plane)) (pointsOf (a .points)) (a .rows .now) (a .m) (a .budget) (Refused 14) (c .before .before .before .before .before .before .before .before .before .before .loop .ws)
     (loops.loop-refused b 14 (c .before .before .before .before .before .before .before .before .before .before .loop .ws) (refused-next t n b (c .enum-told2 .given .1)))
 
 faceting-enum-told-3 : (t : ℕ) → faceting-lts.Need-enum-told-3 (claims t) (faceting-at t) faceting.Post faceting-Inv-loop faceting-μ-loop
 faceting-enum-told-3 t c = search needs
 
 faceting-sub-faceting : (t : ℕ) → faceting-lts.Need-sub-faceting (claims t) (faceting-at t) faceting.Post faceting-Inv-loop faceting-μ-loop
-faceting-sub-faceting t c = omega (arith, c .before .before .before .before .before .before .before .before .before .before .before .before .before .before .before .before .before .before .before .before .before .before .before .pre .1 .rank-least)
+faceting-sub-faceting t c = omega (arith, c .before .before .before .before .before .before .before .before .before .before .before .before .before .before .before .before .before .before .before .before .before .before .before .before .before .before .pre .1 .rank-least)
 
 faceting-slice-aggregate-faceting : (t : ℕ) → faceting-lts.Need-slice-aggregate-faceting (claims t) (faceting-at t) faceting.Post faceting-Inv-loop faceting-μ-loop
 faceting-slice-aggregate-faceting t c = search needs
@@ -268,9 +270,9 @@ faceting-faceting-requires t c κs =
     let l = c .before .before .before .before .before .before .before .before .before .before .before .before .loop in
     let next = c .before .before .before .before .before .before .next-call in
     let b = begun t (c .before .before .before .before .before .before .before .before .before .before .before .before .before) in (
-      omega (arith, c .before .before .before .before .before .before .before .before .before .before .before .before .before .before .before .before .before .before .before .before .before .before .before .before .before .pre .0, b .rank-least),
+      omega (arith, c .before .before .before .before .before .before .before .before .before .before .before .before .before .before .before .before .before .before .before .before .before .before .before .before .before .before .before .before .pre .0, b .rank-least),
       loops.inner-asks b (l .shelf) (l .left) (l .ws) (state-at t (c .before .before .before .before) b) (c .before .before .before .before .before .before .before .before .before .before .if2 .taken) (c .before .before .before .before .before .before .before .before .set-at .result) (c .before .before .before .before .before .before .before .before .set-at .ensures .0) (next .result) _ (next .last .1 .1 .1 .1 .1 .1 .0) (search needs)
-          (next .ensures .0) (next .ensures .1 .0) (next .ensures .1 .1 .0) (next .ensures .1 .1 .1) (c .before .before .enum-told3 .given .1) _ (l .inv .1) (l .inv .0) (ap length (lent-tail (l .shelf .end) (l .ws)) ∙ length-drop (l .shelf .end) (l .ws)),
+          (next .ensures .0) (next .ensures .1 .0) (next .ensures .1 .1 .0) (next .ensures .1 .1 .1) (c .before .before .enum-told3 .given .1) _ (l .inv .1) (l .inv .0) (ap length (lent-tail (l .shelf .end) (l .ws)) ∙ length-drop (l .shelf .end) (l .ws)) _ _ _ refl,
     )
 
 faceting-slice-aggregate-keep-inner : (t : ℕ) → faceting-lts.Need-slice-aggregate-keep-inner (claims t) (faceting-at t) faceting.Post faceting-Inv-loop faceting-μ-loop
@@ -289,11 +291,11 @@ faceting-same-length-3 t c = long-at t (c .before .before .before .before .befor
 
 faceting-returns-4 : (t : ℕ) → faceting-lts.Need-returns-4 (claims t) (faceting-at t) faceting.Post faceting-Inv-loop faceting-μ-loop
 faceting-returns-4 t c =
-    let a = c .before .before .before .before .before .before .before .before .before .before .before .before .before .before .before .before .before .before .before .before .before .before .before .before .before .before .before .before .before .before .before .before .before .before .before .before .args in
+    let a = c .before .before .before .before .before .before .before .before .before .before .before .before .before .before .before .before .before .before .before .before .before .before .before .before .before .before .before .before .before .before .before .before .before .before .before .before .before .before .before .args in
     let flat = c .before .before .before .before .before .before .before .before .before .before .before .before .before .before .before .before .before .before .before .before .before .before .before .before .before .before .before .before .before .before .before .before .flatten-all in
     let b = begun t (c .before .before .before .before .before .before .before .before .before .before .before .before .before .before .before .before .before .before .before .before .before .before .before .before) in
     let u = c .before .before .before .before .before .keep-inner .last .0 in
-    loops.says-rank (a .rank) (b .rank-least) (flat .result .n) (a .points .n) (flat .ensures .1) (a .rules) (subspaceOf (a .plane)) (pointsOf (a .points)) (a .rows .now) (a .m) (a .budget) (Refused (c .before .stored .given .0 .0)) u
+    loops.says-rank (a .way) (a .globals .now) (a .full .now) (a .rank) (b .rank-least) (flat .result .n) (a .points .n) (flat .ensures .1) (a .rules) (subspaceOf (a .plane)) (pointsOf (a .points)) (a .rows .now) (a .m) (a .budget) (Refused (c .before .stored .given .0 .0)) u
     (loops.loop-refused b _ u (refused-at t (c .before .before .before .before .before) b _ (c .before .stored .given .1)))
 
 faceting-enum-known-stored-2 : (t : ℕ) → faceting-lts.Need-enum-known-stored-2 (claims t) (faceting-at t) faceting.Post faceting-Inv-loop faceting-μ-loop
@@ -313,22 +315,22 @@ faceting-search-call-requires : (t : ℕ) → faceting-lts.Need-search-call-requ
 faceting-search-call-requires t c κs =
     let l = c .before .before .before .loop in
     let b = begun t (c .before .before .before .before) in
-    (_, loops.all-kept b (l .shelf) (l .left) (l .ws) (l .inv .2 _ _ b) (l .inv .1) (omega (arith, c .before .if2 .left)) (l .inv .0))
+    (_, loops.all-kept b (l .shelf) (l .left) (l .ws) (l .inv .2 _ _ b) (l .inv .1) (omega (arith, c .before .if2 .left)) (l .inv .0) _ (way-extended _ _ _ _))
 
 faceting-same-length-4 : (t : ℕ) → faceting-lts.Need-same-length-4 (claims t) (faceting-at t) faceting.Post faceting-Inv-loop faceting-μ-loop
 faceting-same-length-4 t c = search needs
 
 faceting-returns-5 : (t : ℕ) → faceting-lts.Need-returns-5 (claims t) (faceting-at t) faceting.Post faceting-Inv-loop faceting-μ-loop
 faceting-returns-5 t c =
-    let a = c .before .before .before .before .before .before .before .before .before .before .before .before .before .before .before .before .before .before .before .args in
+    let a = c .before .before .before .before .before .before .before .before .before .before .before .before .before .before .before .before .before .before .before .before .before .before .args in
     let flat = c .before .before .before .before .before .before .before .before .before .before .before .before .before .before .before .flatten-all in
     let l = c .before .before .before .before .before .before .loop in
     let b = begun t (c .before .before .before .before .before .before .before) in
     let all : c .before .before .before .before .before .before .before .before .before .found .given .0 .0 ≤ l .shelf .orbits = omega (arith, c .before .before .before .before .if2 .left) in
     let r = c .before .before .search-call in
-    loops.says-rank (a .rank) (b .rank-least) (flat .result .n) (a .points .n) (flat .ensures .1) (a .rules) (subspaceOf (a .plane)) (pointsOf (a .points)) (a .rows .now) (a .m) (a .budget) (r .result) (r .last .0)
+    loops.says-rank (a .way) (a .globals .now) (a .full .now) (a .rank) (b .rank-least) (flat .result .n) (a .points .n) (flat .ensures .1) (a .rules) (subspaceOf (a .plane)) (pointsOf (a .points)) (a .rows .now) (a .m) (a .budget) (r .result) (r .last .0)
     (loops.loop-searched b (l .shelf) (l .left) (l .ws) (l .inv .2 _ _ b) (l .inv .1) all (l .inv .0) (r .result) (r .last .0)
-    (r .ensures _ (loops.all-kept b (l .shelf) (l .left) (l .ws) (l .inv .2 _ _ b) (l .inv .1) all (l .inv .0))))
+    (r .ensures _ (loops.all-kept b (l .shelf) (l .left) (l .ws) (l .inv .2 _ _ b) (l .inv .1) all (l .inv .0) _ (way-extended _ _ _ _))))
 
 pub +faceting-spec : {M : Type 1} → statement M
 +faceting-spec = close μ-faceting λ t. faceting-lts.spec (claims t)

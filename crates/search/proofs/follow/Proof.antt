@@ -49,7 +49,7 @@ same-length c = search needs
 
 returns : tie.Need-returns
 unfolding Followed verdict
-returns c = λ t j. let s = c .before .before .before .before .before .before .before in follow-over t (s .args .a) (s .args .limit) (s .args .ws .now) (c .before .before .withdraw .last .0) (s .args .s .depth) (rw (c .before .before .before .before .enum-told .given .1) at j) (c .before .before .withdraw .ensures t (j .stands))
+returns c = λ t j. let s = c .before .before .before .before .before .before .before in follow-over t (s .args .a) (s .args .course) (s .args .ws .now) (c .before .before .withdraw .last .0) (s .args .s .depth) (rw (c .before .before .before .before .enum-told .given .1) at j) (c .before .before .withdraw .ensures t (j .stands))
 
 same-length-2 : tie.Need-same-length-2
 same-length-2 c = search needs
@@ -59,7 +59,7 @@ unfolding Followed verdict
 returns-2 c =
     let at-v = c .before .before .before .before .before in
     λ t j. let s = at-v .before .before .before in let k : Judged t (s .args .a) (s .args .ws .now) (s .args .s .depth) (openAt (at-v .v .given .0 .0)) = rw (at-v .v .given .1) at j in
-    follow-open t (s .args .a) (s .args .limit) (s .args .ws .now) (c .before .before .enter .last .0) (s .args .s .depth) (at-v .v .given .0 .0) k (c .before .before .enter .ensures t (k .stands))
+    follow-open t (s .args .a) (s .args .course) (s .args .ws .now) (c .before .before .enter .last .0) (s .args .s .depth) (at-v .v .given .0 .0) k (c .before .before .enter .ensures t (k .stands))
 
 same-length-3 : tie.Need-same-length-3
 same-length-3 c = search needs

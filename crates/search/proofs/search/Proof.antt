@@ -14,10 +14,10 @@ use Rattle.search.proofs.search.Statement.{statement}
 use Rattle.search.proofs.search.Tie as tie
 
 abbrev Inv-loop : tie.InvT-loop
-Inv-loop ws₀ a limit budget s₀ ws s = (length ws ≡ length ws₀) × (take (a .frames) ws ≡ take (a .frames) ws₀) × ((t : Table) → Inputs t a ws₀ → Turn t a limit budget ws (s .depth) (s .left))
+Inv-loop ws₀ a course budget s₀ ws s = (length ws ≡ length ws₀) × (take (a .frames) ws ≡ take (a .frames) ws₀) × ((t : Table) → Inputs t a ws₀ → Turn t a course budget ws (s .depth) (s .left))
 
 abbrev μ-loop : tie.MeasureT-loop
-μ-loop ws₀ a limit budget s₀ ws s = s .left * (a .orbits + 2) + s .depth
+μ-loop ws₀ a course budget s₀ ws s = s .left * (a .orbits + 2) + s .depth
 
 start-requires : tie.Need-start-requires Inv-loop μ-loop
 start-requires c κs = search needs
@@ -26,7 +26,7 @@ loop-holds : tie.Need-loop-holds Inv-loop μ-loop
 loop-holds c = let s = c .before .before .before .before .before in let go = c .before .before .start .ensures (s .pre .0) (s .pre .1) in (
   refl,
   refl,
-  λ t h. turn-start t (s .args .a) (s .args .limit) (s .args .budget) (s .args .ws .now) (c .before .before .start .last .0)
+  λ t h. turn-start t (s .args .a) (s .args .course) (s .args .budget) (s .args .ws .now) (c .before .before .start .last .0)
       (c .before .before .start .ensures t (inputs-before t (s .args .a) (s .args .ws .now) (c .before .before .start .last .0) (s .pre .1 .fits) (go .tables) h)),
 )
 
@@ -57,7 +57,7 @@ loop-again c =
       c .before .before .back .kept .0 ∙ l .inv .0,
       c .before .before .back .ensures .2 (s .pre .0) (turn .stands) .tables ∙ l .inv .1,
       λ t h. let u = l .inv .2 t h in let n = next-holds t (s .args .a) (l .ws) (l .s .depth) (at-next .next .result) (u .stands) (at-if1 .if1 .taken) (at-next .next .ensures t (u .stands)) in
-          rw (c .before .before .back .ensures .0, c .before .before .back .ensures .1) (turn-back t (s .args .a) (s .args .limit) (s .args .budget) (l .ws) (l .s .depth) (l .s .left) u (at-if1 .if1 .taken) (c .before .before .back .last .0) (rw (at-if2 .if2 .taken) at n) (c .before .before .back .ensures .2 t (u .stands))),
+          rw (c .before .before .back .ensures .0, c .before .before .back .ensures .1) (turn-back t (s .args .a) (s .args .course) (s .args .budget) (l .ws) (l .s .depth) (l .s .left) u (at-if1 .if1 .taken) (c .before .before .back .last .0) (rw (at-if2 .if2 .taken) at n) (c .before .before .back .ensures .2 t (u .stands))),
     )
 
 same-length : tie.Need-same-length Inv-loop μ-loop
@@ -74,7 +74,7 @@ returns c =
     let s = at-start .before .before .before in
     let l = at-loop .loop in let go = at-start .start .ensures (s .pre .0) (s .pre .1) in let turn = l .inv .2 (s .pre .0) (go .stands .inputs) in (
       (λ t h. let back = at-start .start .ensures t h in let u = l .inv .2 t (back .stands .inputs) in let n = next-holds t (s .args .a) (l .ws) (l .s .depth) (at-next .next .result) (u .stands) (at-if1 .if1 .taken) (at-next .next .ensures t (u .stands)) in
-          turn-spent t (s .args .a) (s .args .limit) (s .args .budget) (l .ws) (l .s .depth) (l .s .left) u (at-if1 .if1 .taken) (at-next .next .result) n (omega (arith, c .before .before .if2 .left)) (c .if3 .taken)),
+          turn-spent t (s .args .a) (s .args .course) (s .args .budget) (l .ws) (l .s .depth) (l .s .left) u (at-if1 .if1 .taken) (at-next .next .result) n (omega (arith, c .before .before .if2 .left)) (c .if3 .taken)),
       ((λ t. tt), l .inv .1 ∙ go .tables),
     )
 
@@ -83,7 +83,7 @@ visit-requires c κs =
     let at-if2 = c .before .before .before in let at-next = at-if2 .before in let at-if1 = at-next .before .before in
     let at-loop = at-if1 .before .before in let at-start = at-loop .before .before .before in
     let s = at-start .before .before .before in
-    let l = at-loop .loop in let go = at-start .start .ensures (s .pre .0) (s .pre .1) in let turn = l .inv .2 (s .pre .0) (go .stands .inputs) in let n = next-holds (s .pre .0) (s .args .a) (l .ws) (l .s .depth) (at-next .next .result) (turn .stands) (at-if1 .if1 .taken) (at-next .next .ensures (s .pre .0) (turn .stands)) in (s .pre .0, turn-ready (s .pre .0) (s .args .a) (s .args .limit) (s .args .budget) (l .ws) (l .s .depth) (l .s .left) turn (at-if1 .if1 .taken) (at-next .next .result) n (omega (arith, at-if2 .if2 .left)), omega (arith, c .before .if3 .left))
+    let l = at-loop .loop in let go = at-start .start .ensures (s .pre .0) (s .pre .1) in let turn = l .inv .2 (s .pre .0) (go .stands .inputs) in let n = next-holds (s .pre .0) (s .args .a) (l .ws) (l .s .depth) (at-next .next .result) (turn .stands) (at-if1 .if1 .taken) (at-next .next .ensures (s .pre .0) (turn .stands)) in (s .pre .0, turn-ready (s .pre .0) (s .args .a) (s .args .course) (s .args .budget) (l .ws) (l .s .depth) (l .s .left) turn (at-if1 .if1 .taken) (at-next .next .result) n (omega (arith, at-if2 .if2 .left)), omega (arith, c .before .if3 .left))
 
 follow-requires : tie.Need-follow-requires Inv-loop μ-loop
 follow-requires c κs =
@@ -95,8 +95,8 @@ follow-requires c κs =
     let z : 0 < at-next .next .result = omega (arith, at-if2 .if2 .left) in
     let d : 0 < l .s .depth = at-if1 .if1 .taken in
     let p : 0 < l .s .left = omega (arith, at-if3 .if3 .left) in
-    let w = at-visit .visit .ensures .2 (s .pre .0) (turn-ready (s .pre .0) (s .args .a) (s .args .limit) (s .args .budget) (l .ws) (l .s .depth) (l .s .left) turn d (at-next .next .result) n z) in
-    let j = turn-judged (s .pre .0) (s .args .a) (s .args .limit) (s .args .budget) (l .ws) (l .s .depth) (l .s .left) turn d (at-next .next .result) n z (at-visit .visit .last .0) (at-visit .visit .result .verdict) w p in
+    let w = at-visit .visit .ensures .2 (s .pre .0) (turn-ready (s .pre .0) (s .args .a) (s .args .course) (s .args .budget) (l .ws) (l .s .depth) (l .s .left) turn d (at-next .next .result) n z) in
+    let j = turn-judged (s .pre .0) (s .args .a) (s .args .course) (s .args .budget) (l .ws) (l .s .depth) (l .s .left) turn d (at-next .next .result) n z (at-visit .visit .last .0) (at-visit .visit .result .verdict) w p in
     (s .pre .0, rw (at-visit .visit .ensures .0) j)
 
 enum-known-step : tie.Need-enum-known-step Inv-loop μ-loop
@@ -117,10 +117,10 @@ loop-less-2 c =
     let z : 0 < at-next .next .result = omega (arith, at-if2 .if2 .left) in
     let d : 0 < l .s .depth = at-if1 .if1 .taken in
     let p : 0 < l .s .left = omega (arith, at-if3 .if3 .left) in
-    let w = at-visit .visit .ensures .2 (s .pre .0) (turn-ready (s .pre .0) (s .args .a) (s .args .limit) (s .args .budget) (l .ws) (l .s .depth) (l .s .left) turn d (at-next .next .result) n z) in
-    let j = turn-judged (s .pre .0) (s .args .a) (s .args .limit) (s .args .budget) (l .ws) (l .s .depth) (l .s .left) turn d (at-next .next .result) n z (at-visit .visit .last .0) (at-visit .visit .result .verdict) w p in let g = at-follow .follow .ensures (s .pre .0) (rw (at-visit .visit .ensures .0) j) in
-    let q : Goes (s .pre .0) (s .args .a) (s .args .limit) (at-visit .visit .last .0) (at-follow .follow .last .0) (l .s .depth) (c .before .before .step .given .0 .0) = rw (c .before .before .step .given .1, at-visit .visit .ensures .0) at g in
-    let k = turn-depth (s .pre .0) (s .args .a) (s .args .limit) (s .args .budget) (at-follow .follow .last .0) (c .before .before .step .given .0 .0) (l .s .left - 1) (turn-on (s .pre .0) (s .args .a) (s .args .limit) (s .args .budget) (l .ws) (l .s .depth) (l .s .left) turn d (at-next .next .result) n z (at-visit .visit .last .0) (at-visit .visit .result .verdict) w p (at-follow .follow .last .0) (c .before .before .step .given .0 .0) q) in
+    let w = at-visit .visit .ensures .2 (s .pre .0) (turn-ready (s .pre .0) (s .args .a) (s .args .course) (s .args .budget) (l .ws) (l .s .depth) (l .s .left) turn d (at-next .next .result) n z) in
+    let j = turn-judged (s .pre .0) (s .args .a) (s .args .course) (s .args .budget) (l .ws) (l .s .depth) (l .s .left) turn d (at-next .next .result) n z (at-visit .visit .last .0) (at-visit .visit .result .verdict) w p in let g = at-follow .follow .ensures (s .pre .0) (rw (at-visit .visit .ensures .0) j) in
+    let q : Goes (s .pre .0) (s .args .a) (s .args .course) (at-visit .visit .last .0) (at-follow .follow .last .0) (l .s .depth) (c .before .before .step .given .0 .0) = rw (c .before .before .step .given .1, at-visit .visit .ensures .0) at g in
+    let k = turn-depth (s .pre .0) (s .args .a) (s .args .course) (s .args .budget) (at-follow .follow .last .0) (c .before .before .step .given .0 .0) (l .s .left - 1) (turn-on (s .pre .0) (s .args .a) (s .args .course) (s .args .budget) (l .ws) (l .s .depth) (l .s .left) turn d (at-next .next .result) n z (at-visit .visit .last .0) (at-visit .visit .result .verdict) w p (at-follow .follow .last .0) (c .before .before .step .given .0 .0) q) in
     rw (c .at-depth .ensures .0, c .at-depth .ensures .1, at-visit .visit .ensures .1) (budget-falls (l .s .left) (s .args .a .orbits + 2) (c .before .before .step .given .0 .0) (l .s .depth) p k)
 
 loop-again-2 : tie.Need-loop-again-2 Inv-loop μ-loop
@@ -135,19 +135,19 @@ loop-again-2 c =
     let z : 0 < at-next .next .result = omega (arith, at-if2 .if2 .left) in
     let d : 0 < l .s .depth = at-if1 .if1 .taken in
     let p : 0 < l .s .left = omega (arith, at-if3 .if3 .left) in
-    let w = at-visit .visit .ensures .2 (s .pre .0) (turn-ready (s .pre .0) (s .args .a) (s .args .limit) (s .args .budget) (l .ws) (l .s .depth) (l .s .left) turn d (at-next .next .result) n z) in
-    let j = turn-judged (s .pre .0) (s .args .a) (s .args .limit) (s .args .budget) (l .ws) (l .s .depth) (l .s .left) turn d (at-next .next .result) n z (at-visit .visit .last .0) (at-visit .visit .result .verdict) w p in let g = at-follow .follow .ensures (s .pre .0) (rw (at-visit .visit .ensures .0) j) in
-    let q : Goes (s .pre .0) (s .args .a) (s .args .limit) (at-visit .visit .last .0) (at-follow .follow .last .0) (l .s .depth) (c .before .before .step .given .0 .0) = rw (c .before .before .step .given .1, at-visit .visit .ensures .0) at g in (
+    let w = at-visit .visit .ensures .2 (s .pre .0) (turn-ready (s .pre .0) (s .args .a) (s .args .course) (s .args .budget) (l .ws) (l .s .depth) (l .s .left) turn d (at-next .next .result) n z) in
+    let j = turn-judged (s .pre .0) (s .args .a) (s .args .course) (s .args .budget) (l .ws) (l .s .depth) (l .s .left) turn d (at-next .next .result) n z (at-visit .visit .last .0) (at-visit .visit .result .verdict) w p in let g = at-follow .follow .ensures (s .pre .0) (rw (at-visit .visit .ensures .0) j) in
+    let q : Goes (s .pre .0) (s .args .a) (s .args .course) (at-visit .visit .last .0) (at-follow .follow .last .0) (l .s .depth) (c .before .before .step .given .0 .0) = rw (c .before .before .step .given .1, at-visit .visit .ensures .0) at g in (
       at-follow .follow .kept .0 ∙ (at-visit .visit .kept .0 ∙ l .inv .0),
       q .tables ∙ (w .tables ∙ l .inv .1),
       λ t h. let turn = l .inv .2 t h in let n = next-holds t (s .args .a) (l .ws) (l .s .depth) (at-next .next .result) (turn .stands) (at-if1 .if1 .taken) (at-next .next .ensures t (turn .stands)) in
           let z : 0 < at-next .next .result = omega (arith, at-if2 .if2 .left) in
           let d : 0 < l .s .depth = at-if1 .if1 .taken in
           let p : 0 < l .s .left = omega (arith, at-if3 .if3 .left) in
-          let w = at-visit .visit .ensures .2 t (turn-ready t (s .args .a) (s .args .limit) (s .args .budget) (l .ws) (l .s .depth) (l .s .left) turn d (at-next .next .result) n z) in
-          let j = turn-judged t (s .args .a) (s .args .limit) (s .args .budget) (l .ws) (l .s .depth) (l .s .left) turn d (at-next .next .result) n z (at-visit .visit .last .0) (at-visit .visit .result .verdict) w p in let g = at-follow .follow .ensures t (rw (at-visit .visit .ensures .0) j) in
-          let q : Goes t (s .args .a) (s .args .limit) (at-visit .visit .last .0) (at-follow .follow .last .0) (l .s .depth) (c .before .before .step .given .0 .0) = rw (c .before .before .step .given .1, at-visit .visit .ensures .0) at g in
-          rw (c .at-depth .ensures .0, c .at-depth .ensures .1, at-visit .visit .ensures .1) (turn-on t (s .args .a) (s .args .limit) (s .args .budget) (l .ws) (l .s .depth) (l .s .left) turn d (at-next .next .result) n z (at-visit .visit .last .0) (at-visit .visit .result .verdict) w p (at-follow .follow .last .0) (c .before .before .step .given .0 .0) q),
+          let w = at-visit .visit .ensures .2 t (turn-ready t (s .args .a) (s .args .course) (s .args .budget) (l .ws) (l .s .depth) (l .s .left) turn d (at-next .next .result) n z) in
+          let j = turn-judged t (s .args .a) (s .args .course) (s .args .budget) (l .ws) (l .s .depth) (l .s .left) turn d (at-next .next .result) n z (at-visit .visit .last .0) (at-visit .visit .result .verdict) w p in let g = at-follow .follow .ensures t (rw (at-visit .visit .ensures .0) j) in
+          let q : Goes t (s .args .a) (s .args .course) (at-visit .visit .last .0) (at-follow .follow .last .0) (l .s .depth) (c .before .before .step .given .0 .0) = rw (c .before .before .step .given .1, at-visit .visit .ensures .0) at g in
+          rw (c .at-depth .ensures .0, c .at-depth .ensures .1, at-visit .visit .ensures .1) (turn-on t (s .args .a) (s .args .course) (s .args .budget) (l .ws) (l .s .depth) (l .s .left) turn d (at-next .next .result) n z (at-visit .visit .last .0) (at-visit .visit .result .verdict) w p (at-follow .follow .last .0) (c .before .before .step .given .0 .0) q),
     )
 
 enum-told : tie.Need-enum-told Inv-loop μ-loop
@@ -165,9 +165,9 @@ found-requires c κs =
     let z : 0 < at-next .next .result = omega (arith, at-if2 .if2 .left) in
     let d : 0 < l .s .depth = at-if1 .if1 .taken in
     let p : 0 < l .s .left = omega (arith, at-if3 .if3 .left) in
-    let w = at-visit .visit .ensures .2 (s .pre .0) (turn-ready (s .pre .0) (s .args .a) (s .args .limit) (s .args .budget) (l .ws) (l .s .depth) (l .s .left) turn d (at-next .next .result) n z) in
-    let j = turn-judged (s .pre .0) (s .args .a) (s .args .limit) (s .args .budget) (l .ws) (l .s .depth) (l .s .left) turn d (at-next .next .result) n z (at-visit .visit .last .0) (at-visit .visit .result .verdict) w p in let g = at-follow .follow .ensures (s .pre .0) (rw (at-visit .visit .ensures .0) j) in
-    let q : Stops (s .pre .0) (s .args .a) (s .args .limit) (at-visit .visit .last .0) (at-follow .follow .last .0) (l .s .depth) = rw (c .before .enum-told .given .1, at-visit .visit .ensures .0) at g in q .inputs .fits
+    let w = at-visit .visit .ensures .2 (s .pre .0) (turn-ready (s .pre .0) (s .args .a) (s .args .course) (s .args .budget) (l .ws) (l .s .depth) (l .s .left) turn d (at-next .next .result) n z) in
+    let j = turn-judged (s .pre .0) (s .args .a) (s .args .course) (s .args .budget) (l .ws) (l .s .depth) (l .s .left) turn d (at-next .next .result) n z (at-visit .visit .last .0) (at-visit .visit .result .verdict) w p in let g = at-follow .follow .ensures (s .pre .0) (rw (at-visit .visit .ensures .0) j) in
+    let q : Stops (s .pre .0) (s .args .a) (s .args .course) (at-visit .visit .last .0) (at-follow .follow .last .0) (l .s .depth) = rw (c .before .enum-told .given .1, at-visit .visit .ensures .0) at g in q .inputs .fits
 
 same-length-2 : tie.Need-same-length-2 Inv-loop μ-loop
 same-length-2 c =
@@ -189,17 +189,17 @@ returns-2 c =
     let z : 0 < at-next .next .result = omega (arith, at-if2 .if2 .left) in
     let d : 0 < l .s .depth = at-if1 .if1 .taken in
     let p : 0 < l .s .left = omega (arith, at-if3 .if3 .left) in
-    let w = at-visit .visit .ensures .2 (s .pre .0) (turn-ready (s .pre .0) (s .args .a) (s .args .limit) (s .args .budget) (l .ws) (l .s .depth) (l .s .left) turn d (at-next .next .result) n z) in
-    let j = turn-judged (s .pre .0) (s .args .a) (s .args .limit) (s .args .budget) (l .ws) (l .s .depth) (l .s .left) turn d (at-next .next .result) n z (at-visit .visit .last .0) (at-visit .visit .result .verdict) w p in let g = at-follow .follow .ensures (s .pre .0) (rw (at-visit .visit .ensures .0) j) in
-    let q : Stops (s .pre .0) (s .args .a) (s .args .limit) (at-visit .visit .last .0) (at-follow .follow .last .0) (l .s .depth) = rw (c .before .before .enum-told .given .1, at-visit .visit .ensures .0) at g in (
+    let w = at-visit .visit .ensures .2 (s .pre .0) (turn-ready (s .pre .0) (s .args .a) (s .args .course) (s .args .budget) (l .ws) (l .s .depth) (l .s .left) turn d (at-next .next .result) n z) in
+    let j = turn-judged (s .pre .0) (s .args .a) (s .args .course) (s .args .budget) (l .ws) (l .s .depth) (l .s .left) turn d (at-next .next .result) n z (at-visit .visit .last .0) (at-visit .visit .result .verdict) w p in let g = at-follow .follow .ensures (s .pre .0) (rw (at-visit .visit .ensures .0) j) in
+    let q : Stops (s .pre .0) (s .args .a) (s .args .course) (at-visit .visit .last .0) (at-follow .follow .last .0) (l .s .depth) = rw (c .before .before .enum-told .given .1, at-visit .visit .ensures .0) at g in (
       (λ t h. let back = at-start .start .ensures t h in let turn = l .inv .2 t (back .stands .inputs) in let n = next-holds t (s .args .a) (l .ws) (l .s .depth) (at-next .next .result) (turn .stands) (at-if1 .if1 .taken) (at-next .next .ensures t (turn .stands)) in
           let z : 0 < at-next .next .result = omega (arith, at-if2 .if2 .left) in
           let d : 0 < l .s .depth = at-if1 .if1 .taken in
           let p : 0 < l .s .left = omega (arith, at-if3 .if3 .left) in
-          let w = at-visit .visit .ensures .2 t (turn-ready t (s .args .a) (s .args .limit) (s .args .budget) (l .ws) (l .s .depth) (l .s .left) turn d (at-next .next .result) n z) in
-          let j = turn-judged t (s .args .a) (s .args .limit) (s .args .budget) (l .ws) (l .s .depth) (l .s .left) turn d (at-next .next .result) n z (at-visit .visit .last .0) (at-visit .visit .result .verdict) w p in let g = at-follow .follow .ensures t (rw (at-visit .visit .ensures .0) j) in
-          let q : Stops t (s .args .a) (s .args .limit) (at-visit .visit .last .0) (at-follow .follow .last .0) (l .s .depth) = rw (c .before .before .enum-told .given .1, at-visit .visit .ensures .0) at g in
-          rw (c .found .ensures, at-visit .visit .ensures .1) (turn-stopped t (s .args .a) (s .args .limit) (s .args .budget) (l .ws) (l .s .depth) (l .s .left) turn d (at-next .next .result) n z (at-visit .visit .last .0) (at-visit .visit .result .verdict) w p (at-follow .follow .last .0) q)),
+          let w = at-visit .visit .ensures .2 t (turn-ready t (s .args .a) (s .args .course) (s .args .budget) (l .ws) (l .s .depth) (l .s .left) turn d (at-next .next .result) n z) in
+          let j = turn-judged t (s .args .a) (s .args .course) (s .args .budget) (l .ws) (l .s .depth) (l .s .left) turn d (at-next .next .result) n z (at-visit .visit .last .0) (at-visit .visit .result .verdict) w p in let g = at-follow .follow .ensures t (rw (at-visit .visit .ensures .0) j) in
+          let q : Stops t (s .args .a) (s .args .course) (at-visit .visit .last .0) (at-follow .follow .last .0) (l .s .depth) = rw (c .before .before .enum-told .given .1, at-visit .visit .ensures .0) at g in
+          rw (c .found .ensures, at-visit .visit .ensures .1) (turn-stopped t (s .args .a) (s .args .course) (s .args .budget) (l .ws) (l .s .depth) (l .s .left) turn d (at-next .next .result) n z (at-visit .visit .last .0) (at-visit .visit .result .verdict) w p (at-follow .follow .last .0) q)),
       ((λ t. rw (c .found .ensures) (record { many = sym (emitted-count t (s .args .a) (listsPart (s .args .a) (at-follow .follow .last .0))); emitted = q .emitted })), q .tables ∙ (w .tables ∙ (l .inv .1 ∙ go .tables))),
     )
 
@@ -224,17 +224,17 @@ returns-3 c =
     let z : 0 < at-next .next .result = omega (arith, at-if2 .if2 .left) in
     let d : 0 < l .s .depth = at-if1 .if1 .taken in
     let p : 0 < l .s .left = omega (arith, at-if3 .if3 .left) in
-    let w = at-visit .visit .ensures .2 (s .pre .0) (turn-ready (s .pre .0) (s .args .a) (s .args .limit) (s .args .budget) (l .ws) (l .s .depth) (l .s .left) turn d (at-next .next .result) n z) in
-    let j = turn-judged (s .pre .0) (s .args .a) (s .args .limit) (s .args .budget) (l .ws) (l .s .depth) (l .s .left) turn d (at-next .next .result) n z (at-visit .visit .last .0) (at-visit .visit .result .verdict) w p in let g = at-follow .follow .ensures (s .pre .0) (rw (at-visit .visit .ensures .0) j) in
-    let q : Fills (s .pre .0) (s .args .a) (s .args .limit) (at-visit .visit .last .0) (at-follow .follow .last .0) (l .s .depth) = rw (c .enum-told2 .given .1, at-visit .visit .ensures .0) at g in (
+    let w = at-visit .visit .ensures .2 (s .pre .0) (turn-ready (s .pre .0) (s .args .a) (s .args .course) (s .args .budget) (l .ws) (l .s .depth) (l .s .left) turn d (at-next .next .result) n z) in
+    let j = turn-judged (s .pre .0) (s .args .a) (s .args .course) (s .args .budget) (l .ws) (l .s .depth) (l .s .left) turn d (at-next .next .result) n z (at-visit .visit .last .0) (at-visit .visit .result .verdict) w p in let g = at-follow .follow .ensures (s .pre .0) (rw (at-visit .visit .ensures .0) j) in
+    let q : Fills (s .pre .0) (s .args .a) (s .args .course) (at-visit .visit .last .0) (at-follow .follow .last .0) (l .s .depth) = rw (c .enum-told2 .given .1, at-visit .visit .ensures .0) at g in (
       (λ t h. let back = at-start .start .ensures t h in let turn = l .inv .2 t (back .stands .inputs) in let n = next-holds t (s .args .a) (l .ws) (l .s .depth) (at-next .next .result) (turn .stands) (at-if1 .if1 .taken) (at-next .next .ensures t (turn .stands)) in
           let z : 0 < at-next .next .result = omega (arith, at-if2 .if2 .left) in
           let d : 0 < l .s .depth = at-if1 .if1 .taken in
           let p : 0 < l .s .left = omega (arith, at-if3 .if3 .left) in
-          let w = at-visit .visit .ensures .2 t (turn-ready t (s .args .a) (s .args .limit) (s .args .budget) (l .ws) (l .s .depth) (l .s .left) turn d (at-next .next .result) n z) in
-          let j = turn-judged t (s .args .a) (s .args .limit) (s .args .budget) (l .ws) (l .s .depth) (l .s .left) turn d (at-next .next .result) n z (at-visit .visit .last .0) (at-visit .visit .result .verdict) w p in let g = at-follow .follow .ensures t (rw (at-visit .visit .ensures .0) j) in
-          let q : Fills t (s .args .a) (s .args .limit) (at-visit .visit .last .0) (at-follow .follow .last .0) (l .s .depth) = rw (c .enum-told2 .given .1, at-visit .visit .ensures .0) at g in
-          turn-full t (s .args .a) (s .args .limit) (s .args .budget) (l .ws) (l .s .depth) (l .s .left) turn d (at-next .next .result) n z (at-visit .visit .last .0) (at-visit .visit .result .verdict) w p (at-follow .follow .last .0) q),
+          let w = at-visit .visit .ensures .2 t (turn-ready t (s .args .a) (s .args .course) (s .args .budget) (l .ws) (l .s .depth) (l .s .left) turn d (at-next .next .result) n z) in
+          let j = turn-judged t (s .args .a) (s .args .course) (s .args .budget) (l .ws) (l .s .depth) (l .s .left) turn d (at-next .next .result) n z (at-visit .visit .last .0) (at-visit .visit .result .verdict) w p in let g = at-follow .follow .ensures t (rw (at-visit .visit .ensures .0) j) in
+          let q : Fills t (s .args .a) (s .args .course) (at-visit .visit .last .0) (at-follow .follow .last .0) (l .s .depth) = rw (c .enum-told2 .given .1, at-visit .visit .ensures .0) at g in
+          turn-full t (s .args .a) (s .args .course) (s .args .budget) (l .ws) (l .s .depth) (l .s .left) turn d (at-next .next .result) n z (at-visit .visit .last .0) (at-visit .visit .result .verdict) w p (at-follow .follow .last .0) q),
       ((λ t. tt), q .tables ∙ (w .tables ∙ (l .inv .1 ∙ go .tables))),
     )
 
@@ -254,7 +254,7 @@ returns-4 c =
     let s = at-start .before .before .before in
     let l = at-loop .loop in let go = at-start .start .ensures (s .pre .0) (s .pre .1) in let turn = l .inv .2 (s .pre .0) (go .stands .inputs) in (
       (λ t h. let back = at-start .start .ensures t h in let u = l .inv .2 t (back .stands .inputs) in
-          rw (c .found2 .ensures) (turn-end t (s .args .a) (s .args .limit) (s .args .budget) (l .ws) (l .s .depth) (l .s .left) u (omega (arith, c .before .before .if1 .left)))),
+          rw (c .found2 .ensures) (turn-end t (s .args .a) (s .args .course) (s .args .budget) (l .ws) (l .s .depth) (l .s .left) u (omega (arith, c .before .before .if1 .left)))),
       ((λ t. rw (c .found2 .ensures) (record { many = sym (emitted-count t (s .args .a) (listsPart (s .args .a) (l .ws))); emitted = turn .emitted })), l .inv .1 ∙ go .tables),
     )
 
