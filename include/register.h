@@ -205,6 +205,28 @@ int64_t register_plain(const uint8_t *job, size_t job_length,
                        uint8_t *workspace, size_t workspace_length,
                        uint8_t *answer, size_t answer_length);
 
+/*
+ * Answers one job with a package [17.10]: of its hyperplane orbits only those are
+ * taken that the package keeps [17.6], and a closed list is not extended [17.9].
+ * The package is a u16 number of full rows, a u8 number of points of the full set,
+ * a u16 count, a global number for each vertex of the job, a byte each, and the
+ * full rows, a byte for each point [17.2]; little-endian, of any alignment.
+ *
+ * Writes and returns what register_answer does, or minus the number of a refusal:
+ * those of a job in their order, and behind 11 and before 12 one more, 18, for a
+ * package that does not pass [17.3].
+ *
+ * Promised beside the code and the buffer: each entry is of a closed choice over
+ * the kept orbits, the one that its record names; without an entry limit, and where
+ * shares are equal [13.7], these are the closed choices with none properly inside,
+ * each once [17.11]; and the symmetry of [13.12]. What the caller owes is as for
+ * register_answer, of four slices.
+ */
+int64_t register_noble(const uint8_t *job, size_t job_length,
+                       const uint8_t *pack, size_t pack_length,
+                       uint8_t *workspace, size_t workspace_length,
+                       uint8_t *answer, size_t answer_length);
+
 #ifdef __cplusplus
 }
 #endif
