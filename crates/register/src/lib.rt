@@ -38,7 +38,7 @@ pub extern "C" fn register_answer(job: &[u8], workspace: &mut [u8], answer: &mut
     ensures third { λ _. ⌜ ((bytes : Bytes) → outcome (now (job .entry)) (length (now (workspace .entry))) (length (now (answer .entry))) ≡ answered bytes → Demand3 (now (job .entry)) (entriesRead (now (answer .exit)))) ⌝ }
     ensures symmetry { λ _. ⌜ ((bytes : Bytes) → outcome (now (job .entry)) (length (now (workspace .entry))) (length (now (answer .entry))) ≡ answered bytes → Symmetric (now (job .entry)) (entriesRead (now (answer .exit)))) ⌝ }
 {
-    words::clear(answer);
+    words::clear(answer); // so that what stands behind the answer is zero
     match answering::answer_job(job, workspace, answer) {
         Written::Refused(number) => refusal(number),
         Written::Short => NO_ROOM,
