@@ -27,7 +27,7 @@ extern "C" {
 /*
  * Why a job is refused; the function returns minus this number. They are looked
  * for in this order, and the first that applies is returned [11.1]; 22 and 25 have
- * their place behind 9. Of 13 to 16, which come up during the work, it is the one that
+ * their place behind 9, and 18, which register_noble alone returns, its behind 11. Of 13 to 16, which come up during the work, it is the one that
  * is met first [11.4].
  */
 enum register_refusal {
@@ -46,6 +46,7 @@ enum register_refusal {
     REGISTER_RULE = 25,        /* rule of crowded lines other than 1, 2 */
     REGISTER_IDENTITY = 10,    /* the first row moves a point */
     REGISTER_PERMUTATION = 11, /* a row that is no permutation */
+    REGISTER_PACKAGE = 18,     /* register_noble: a package that breaks its rules */
     REGISTER_WORKSPACE = 12,   /* workspace shorter than the rank's, see above */
     REGISTER_ORBITS = 13,      /* a 257th orbit of planes (or lines) in some call */
     REGISTER_REFIT = 14,       /* points found in one plane (line) that do not give
@@ -206,24 +207,32 @@ int64_t register_plain(const uint8_t *job, size_t job_length,
                        uint8_t *answer, size_t answer_length);
 
 /*
- * Answers one job with a package [17.10]: of its hyperplane orbits only those are
- * taken that the package keeps [17.6], and a closed list is not extended [17.9].
- * The package is a u16 number of full rows, a u8 number of points of the full set,
- * a u16 count, a global number for each vertex of the job, a byte each, and the
- * full rows, a byte for each point [17.2]; little-endian, of any alignment.
+ * Lists the figures of a job that may be the facets of noble figures: figures of one
+ * facet kind. The package tells of a full set of points, of which the job's are some:
+ * a u16 number of full rows, 1 to 120; a u8 g, the points of the full set, 2 to 20; a
+ * u16 count, 1 to 65,535; the global number of each of the job's n points, a byte
+ * each, below g and no two the same; then the full rows, permutations of the g
+ * points, a byte a number, the first of them the identity [17.2]. Numbers are
+ * little-endian. A package that is not so is refused with 18, after 11 and before 12
+ * [17.3].
  *
- * Writes and returns what register_answer does, or minus the number of a refusal:
- * those of a job in their order, and behind 11 and before 12 one more, 18, for a
- * package that does not pass [17.3].
+ * The answer is in register_answer's form, and so is the return value, which may be
+ * -18 too. From rank 3 on it is that of the call in which, when all orbits are found
+ * and counted by 13, those are dropped that the package does not keep [17.6], and in
+ * which a closed choice is not extended [17.9]; calls one rank below take no package.
+ * At rank 2 the answer is the one without a package.
  *
- * Promised beside the code and the buffer: each entry is of a closed choice over
- * the kept orbits, the one that its record names; without an entry limit, and where
- * shares are equal [13.7], these are the closed choices with none properly inside,
- * each once [17.11]; and the symmetry of [13.12]. What the caller owes is as for
- * register_answer, of four slices.
+ * Promised, for all bytes in the four slices, beside what is promised of buffer,
+ * return value and workspace in register_answer: each entry is that of a closed
+ * choice over the kept orbits, which its record names. If there is no entry limit,
+ * and a facet's places in one ridge orbit always have the same share, the choices
+ * that the records name are just the closed choices over the kept orbits with no
+ * closed choice properly inside them, once each [17.11]. Rows that are closed under
+ * composition carry each figure to itself [13.12]. What the caller owes is as for
+ * register_answer; the package is read and not written.
  */
 int64_t register_noble(const uint8_t *job, size_t job_length,
-                       const uint8_t *pack, size_t pack_length,
+                       const uint8_t *package, size_t package_length,
                        uint8_t *workspace, size_t workspace_length,
                        uint8_t *answer, size_t answer_length);
 

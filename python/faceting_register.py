@@ -52,6 +52,7 @@ REFUSALS = {
     15: "a 1,025th possible facet or entry in some call",
     16: "the budget is used up",
     17: "the answer buffer is shorter than the answer",
+    18: "a package with a wrong length, number or full row",
     19: "a tariff of another length, or with a number above its bound",
     20: "only entries of rank 4 have a price",
     21: "no entry of that number",
@@ -136,6 +137,13 @@ def tariff(prices, joint, discount=0):
     return struct.pack(f"<{len(prices) + 2}I", *prices, joint, discount)
 
 
+def package(count, numbers, rows):
+    """The bytes of a package: how often a job's points occur in the full set, the number that
+    each of them has there, and the full set's symmetries, the identity first."""
+    head = struct.pack("<HBH", len(rows), len(rows[0]) if rows else 0, count)
+    return head + bytes(numbers) + b"".join(bytes(row) for row in rows)
+
+
 class _Words:
     """The words of an answer, one behind another."""
 
@@ -209,14 +217,24 @@ class Register:
         self._price.argtypes = [ctypes.c_char_p, ctypes.c_size_t, ctypes.c_char_p, ctypes.c_size_t,
                                 ctypes.c_uint64, ctypes.c_char_p, ctypes.c_size_t,
                                 ctypes.c_char_p, ctypes.c_size_t]
+        self._noble = getattr(exported, "register_noble", None)
+        if self._noble is not None:
+            self._noble.restype = ctypes.c_int64
+            self._noble.argtypes = [ctypes.c_char_p, ctypes.c_size_t] * 4
         self._workspace = ctypes.create_string_buffer(WORKSPACE)
 
     def answer_bytes(self, asked, longest=LONGEST):
         """The answer's bytes; a buffer that is too short is replaced by a longer one."""
+        def call(buffer, room):
+            return self._function(asked, len(asked), self._workspace, WORKSPACE, buffer, room)
+        return self._asked(call, longest)
+
+    @staticmethod
+    def _asked(call, longest):
         room = min(USUAL_ROOM, longest)
         while True:
             buffer = ctypes.create_string_buffer(room)
-            code = self._function(asked, len(asked), self._workspace, WORKSPACE, buffer, room)
+            code = call(buffer, room)
             if code >= 0:
                 return buffer.raw[:code]
             if -code != ROOM or room == longest:
@@ -226,6 +244,14 @@ class Register:
     def answer(self, asked, longest=LONGEST):
         """The answer to a job's bytes."""
         return read_answer(self.answer_bytes(asked, longest))
+
+    def noble(self, asked, pack, longest=LONGEST):
+        """The answer to a job's bytes with a package's: its figures over the orbits that the
+        package keeps, for facets of noble figures."""
+        def call(buffer, room):
+            return self._noble(asked, len(asked), pack, len(pack), self._workspace, WORKSPACE,
+                               buffer, room)
+        return read_answer(self._asked(call, longest))
 
     def price(self, asked, entry, costs):
         """What an entry of a job of rank 4 costs at a tariff; entries count from 0."""

@@ -79,12 +79,13 @@ fn one_word_short(way: &mut Way, job: &[u8], right: &[u8]) {
 }
 
 /// A job's refusals in the order in which they are looked for: those of a tolerance
-/// and of a rule directly behind that of a number.
+/// and of a rule directly behind that of a number, that of a package behind the rows'.
 fn refusals() -> Vec<Refusal> {
     let mut all: Vec<Refusal> = Refusal::all().collect();
     all.sort_by_key(|refusal| match refusal {
         Refusal::Tolerance => (Refusal::Number.number(), 1),
         Refusal::Rule => (Refusal::Number.number(), 2),
+        Refusal::Package => (Refusal::Permutation.number(), 1),
         other => (other.number(), 0),
     });
     all
@@ -96,7 +97,7 @@ const OF_A_ROW: [&str; 2] = ["    REGISTER_ROW = 26", "    REGISTER_RECORDS = 27
 #[test]
 fn page_and_header_have_every_refusal() {
     let numbers: Vec<u8> = refusals().into_iter().map(Refusal::number).collect();
-    assert_eq!(numbers.len(), 19);
+    assert_eq!(numbers.len(), 20);
     assert_eq!(refusal_numbers(), numbers);
     let named = |refusal| format!("    {} = {}", constant(refusal), refusal.number());
     let of_a_job = refusals().into_iter().map(named);

@@ -10,7 +10,7 @@ const PAGE: &str = include_str!("../../docs/SPECIFICATION.md");
 
 /// The files that render the specification. The others of their folder are tables
 /// that are evaluated against them.
-const RENDERING: [&str; 16] = [
+const RENDERING: [&str; 17] = [
     "Lists",
     "Outcome",
     "Vectors",
@@ -26,6 +26,7 @@ const RENDERING: [&str; 16] = [
     "Batch",
     "Prices",
     "Noble",
+    "NobleCalls",
     "Plain",
 ];
 

@@ -142,9 +142,11 @@ impl Tally {
     }
 }
 
-/// The numbers of all results: 0 for an answer, else the refusal's.
+/// The numbers of all results of a job without a package: 0 for an answer, else the
+/// refusal's.
 fn results() -> impl Iterator<Item = u8> {
-    std::iter::once(0).chain(Refusal::all().map(Refusal::number))
+    let of_a_job = Refusal::all().filter(|refusal| *refusal != Refusal::Package);
+    std::iter::once(0).chain(of_a_job.map(Refusal::number))
 }
 
 impl fmt::Display for Tally {

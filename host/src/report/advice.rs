@@ -6,7 +6,7 @@ use faceting_register::Refusal;
 use crate::format::culprit::Culprit;
 
 /// The rule and the change of each refusal, in the order of `Refusal::all`.
-const ALL: [(&str, &str); 19] = [
+const ALL: [(&str, &str); 20] = [
     (
         "a job has at least 11 bytes and begins with the letters FCT",
         "give the set in the text form, or make the bytes with 'facetings-host encode'",
@@ -74,6 +74,10 @@ const ALL: [(&str, &str); 19] = [
     (
         "the answer buffer holds the whole answer",
         "allow a longer answer (--room); 'limit 100' lists only some of the figures, and the label then says 'at least'",
+    ),
+    (
+        "a package has 1 to 120 full rows, each a permutation of its 2 to 20 points and the first of them the identity, a count from 1 to 65,535, and a different global number below the number of its points for each point of the set",
+        "compare the package with the set: as many global numbers as points, and full rows of the full set (docs/FORMAT.md)",
     ),
     (
         "the tolerance is from 0.000000001 to 0.001",

@@ -14,8 +14,11 @@ pub const MOST_COORDINATES: u8 = 4;
 /// How many points a job may have.
 pub const POINTS: RangeInclusive<u8> = 2..=20;
 
-/// The most rows of a job.
+/// The most rows of a job, and the most full rows of a package.
 pub const MOST_ROWS: usize = 120;
+
+/// How many points the full set of a package may have.
+pub const FULL_POINTS: RangeInclusive<u8> = 2..=20;
 
 /// Coordinates of points and of the offset lie within this of zero.
 pub const FARTHEST: f64 = 65_536.0;

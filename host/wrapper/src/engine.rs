@@ -26,6 +26,18 @@ pub trait Engine {
     fn plain(&mut self, _job: &[u8], _workspace: usize, _answer: &mut [u8]) -> Option<i64> {
         None
     }
+
+    /// Job, package, workspace and answer buffer in; the rest as `answer` has it. None
+    /// where the engine has no such call.
+    fn noble(
+        &mut self,
+        _job: &[u8],
+        _package: &[u8],
+        _workspace: usize,
+        _answer: &mut [u8],
+    ) -> Option<i64> {
+        None
+    }
 }
 
 /// Why a job has no answer.

@@ -121,6 +121,14 @@ fn refuse_unless(fine: bool, refusal: Refusal) -> Result<(), Refusal> {
 
 /// The refusals before the call, in their order; the job if there is none.
 pub fn accept(bytes: &[u8], workspace: usize) -> Result<Job, Refusal> {
+    let job = accept_fields(bytes)?;
+    let enough = workspace >= workspace_length(job.rank);
+    refuse_unless(enough, Refusal::Workspace)?;
+    Ok(job)
+}
+
+/// The refusals of the job's own fields, which come before that of the workspace.
+pub fn accept_fields(bytes: &[u8]) -> Result<Job, Refusal> {
     Header::read(bytes).ok_or(Refusal::Mark)?.check()?;
     let job = Job::read(bytes).ok_or(Refusal::Length)?;
     refuse_unless(job.numbers_in_bounds(), Refusal::Number)?;
@@ -131,8 +139,6 @@ pub fn accept(bytes: &[u8], workspace: usize) -> Result<Job, Refusal> {
     refuse_unless(identity, Refusal::Identity)?;
     let permutations = job.rows.iter().all(|row| is_permutation(row));
     refuse_unless(permutations, Refusal::Permutation)?;
-    let enough = workspace >= workspace_length(job.rank);
-    refuse_unless(enough, Refusal::Workspace)?;
     Ok(job)
 }
 

@@ -37,6 +37,8 @@ pub enum Refusal {
     Budget,
     /// Too short an answer buffer.
     Room,
+    /// A package that there is not; looked for behind `Permutation`.
+    Package,
     /// A tolerance that is too small or too large; looked for behind `Number`.
     Tolerance = 22,
     /// Another rule of crowded lines; looked for behind `Tolerance`.
@@ -46,7 +48,7 @@ pub enum Refusal {
 use Refusal::*;
 
 /// Every refusal with its words, ascending by number.
-const ALL: [(Refusal, &str); 19] = [
+const ALL: [(Refusal, &str); 20] = [
     (Mark, "the job is under 11 bytes or has the wrong mark"),
     (Version, "the version is not 1 to 3"),
     (Rank, "the rank is not 2 to 4"),
@@ -64,6 +66,10 @@ const ALL: [(Refusal, &str); 19] = [
     (Facets, "a 1,025th possible facet or entry in some call"),
     (Budget, "a list is due when the budget is used up"),
     (Room, "the answer buffer is too short"),
+    (
+        Package,
+        "the package has a wrong length, number or full row",
+    ),
     (Tolerance, "the tolerance is not 1e-9 to 1e-3"),
     (Rule, "the rule is not 1 or 2"),
 ];

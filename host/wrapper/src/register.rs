@@ -17,6 +17,18 @@ pub type Exported = unsafe extern "C" fn(
     answer_length: usize,
 ) -> i64;
 
+/// The exported function that takes a package beside the job, as C sees it.
+pub type ExportedNoble = unsafe extern "C" fn(
+    job: *const u8,
+    job_length: usize,
+    package: *const u8,
+    package_length: usize,
+    workspace: *mut u8,
+    workspace_length: usize,
+    answer: *mut u8,
+    answer_length: usize,
+) -> i64;
+
 /// The library was not there when this crate was built.
 #[derive(Clone, Copy, Debug, PartialEq, Eq)]
 pub struct NotLinked;
@@ -53,6 +65,18 @@ mod linked {
         pub fn register_plain(
             job: *const u8,
             job_length: usize,
+            workspace: *mut u8,
+            workspace_length: usize,
+            answer: *mut u8,
+            answer_length: usize,
+        ) -> i64;
+
+        #[cfg(has_noble)]
+        pub fn register_noble(
+            job: *const u8,
+            job_length: usize,
+            package: *const u8,
+            package_length: usize,
             workspace: *mut u8,
             workspace_length: usize,
             answer: *mut u8,
@@ -99,11 +123,24 @@ pub fn exported_plain() -> Result<Exported, NotLinked> {
     Err(NotLinked)
 }
 
+/// The function that answers a job with a package.
+#[cfg(has_noble)]
+pub fn exported_noble() -> Result<ExportedNoble, NotLinked> {
+    Ok(linked::register_noble)
+}
+
+/// The function that answers a job with a package.
+#[cfg(not(has_noble))]
+pub fn exported_noble() -> Result<ExportedNoble, NotLinked> {
+    Err(NotLinked)
+}
+
 /// The register with a workspace that is kept from call to call.
 pub struct Register {
     function: Exported,
     batch: Exported,
     plain: Exported,
+    noble: Option<ExportedNoble>,
     workspace: Vec<u8>,
 }
 
@@ -114,6 +151,7 @@ impl Register {
             function: exported()?,
             batch: exported_batch()?,
             plain: exported_plain()?,
+            noble: exported_noble().ok(),
             workspace: Vec::new(),
         })
     }
@@ -126,10 +164,7 @@ impl Register {
         workspace: usize,
         answer: &mut [u8],
     ) -> i64 {
-        if self.workspace.len() < workspace {
-            self.workspace.resize(workspace, 0);
-        }
-        let lent = &mut self.workspace[..workspace];
+        let lent = lend(&mut self.workspace, workspace);
         // The linked function reads what is given and writes workspace and answer, each
         // over its own length; they do not overlap, and it keeps none of them.
         unsafe {
@@ -143,6 +178,14 @@ impl Register {
             )
         }
     }
+}
+
+/// So many bytes of a workspace, which grows where it is shorter.
+fn lend(workspace: &mut Vec<u8>, length: usize) -> &mut [u8] {
+    if workspace.len() < length {
+        workspace.resize(length, 0);
+    }
+    &mut workspace[..length]
 }
 
 impl Engine for Register {
@@ -160,5 +203,28 @@ impl Engine for Register {
 
     fn plain(&mut self, job: &[u8], workspace: usize, answer: &mut [u8]) -> Option<i64> {
         Some(self.call(self.plain, job, workspace, answer))
+    }
+
+    fn noble(
+        &mut self,
+        job: &[u8],
+        package: &[u8],
+        workspace: usize,
+        answer: &mut [u8],
+    ) -> Option<i64> {
+        let lent = lend(&mut self.workspace, workspace);
+        // As above, with the package, which is read alone, beside the job.
+        self.noble.map(|function| unsafe {
+            function(
+                job.as_ptr(),
+                job.len(),
+                package.as_ptr(),
+                package.len(),
+                lent.as_mut_ptr(),
+                lent.len(),
+                answer.as_mut_ptr(),
+                answer.len(),
+            )
+        })
     }
 }

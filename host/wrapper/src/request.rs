@@ -29,10 +29,18 @@ pub fn answer(engine: &mut dyn Engine, job: &Job) -> Result<Answer, Stop> {
 /// The answer's bytes and nothing behind them. A buffer that is too short is
 /// replaced by a longer one, up to `longest` bytes.
 pub fn ask(engine: &mut dyn Engine, job: &[u8], longest: usize) -> Result<Vec<u8>, Stop> {
+    ask_by(longest, |buffer| Ok(engine.answer(job, WORKSPACE, buffer)))
+}
+
+/// The same by any call that answers so.
+pub fn ask_by(
+    longest: usize,
+    mut call: impl FnMut(&mut [u8]) -> Result<i64, Stop>,
+) -> Result<Vec<u8>, Stop> {
     let mut room = USUAL_ROOM.min(longest);
     loop {
         let mut buffer = lend(room)?;
-        let code = engine.answer(job, WORKSPACE, &mut buffer);
+        let code = call(&mut buffer)?;
         if code != Refusal::Room.code() || room == longest {
             return read(code, buffer);
         }
@@ -122,7 +130,7 @@ mod tests {
     #[test]
     fn refusals_pass_and_other_codes_are_told() {
         assert_eq!(asked(-16, 8).0, Err(Stop::Refused(Refusal::Budget)));
-        for code in [-18, i64::MIN] {
+        for code in [-19, i64::MIN] {
             assert!(matches!(asked(code, 8).0, Err(Stop::Broken(_))));
         }
     }
