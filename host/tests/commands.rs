@@ -74,6 +74,7 @@ const NAMES: &[&str] = &[
     "compare-register",
     "compare-rows",
     "compare-plain",
+    "compare-noble",
     "speed",
     "load",
     "record",

@@ -4,6 +4,7 @@ mod definitions;
 mod jobs;
 mod load;
 mod mutants;
+mod noble;
 mod plain;
 mod register;
 mod roots;
@@ -51,6 +52,7 @@ pub const COMMANDS: &[Command] = &[
     register::COMPARE_REGISTER,
     rows::COMPARE_ROWS,
     plain::COMPARE_PLAIN,
+    noble::COMPARE_NOBLE,
     speed::SPEED,
     load::LOAD,
     register::RECORD,

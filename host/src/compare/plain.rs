@@ -1,10 +1,10 @@
 //! The plain entries of jobs beside the original: its own answer, and what its
 //! `filter_irc` returns on the sorted split lists of that.
 
-use faceting_register::bounds::workspace_length;
 use faceting_register::plain::bytes;
 use faceting_register::{Answer, Engine, Refusal, Stop};
 
+use super::workspace_of;
 use crate::cases::generator::case;
 use crate::engines::oracle::{kept, Oracle};
 
@@ -130,16 +130,9 @@ pub fn compare_generated(
     count: usize,
 ) -> Result<Met, String> {
     let mut met = Met::default();
-    let lengths = [2, 3, 4].map(workspace_length);
     for number in 0..count {
         let job = case(seed, number, None).job;
-        let workspace = match number % 64 {
-            0 => lengths[0],
-            1 => lengths[1] - 1,
-            2 => lengths[1],
-            3 => lengths[2] - 1,
-            _ => lengths[2],
-        };
+        let workspace = workspace_of(number);
         compare(engine, oracle, &job, workspace, &mut met)
             .map_err(|words| format!("case {number} of seed {seed}: {words}"))?;
     }

@@ -4,7 +4,7 @@
 use std::fmt;
 
 use faceting_register::plain::bytes;
-use faceting_register::{job, Answer, Engine, Refusal, Stop};
+use faceting_register::{job, noble, Answer, Engine, Job, Package, Refusal, Stop};
 
 use super::Probe;
 use crate::engines::judgement::{Bounds, Events, Judgement};
@@ -51,14 +51,26 @@ impl Oracle {
 
     /// All refusals but the last, which is the buffer's.
     pub fn judge(&self, bytes: &[u8], workspace: usize) -> Judgement {
-        match job::accept(bytes, workspace) {
+        let accepted = job::accept(bytes, workspace);
+        self.run(accepted.map(|job| (job, None)))
+    }
+
+    /// The same with a package.
+    pub fn judge_noble(&self, bytes: &[u8], package: &[u8], workspace: usize) -> Judgement {
+        let accepted = noble::accept(bytes, package, workspace);
+        self.run(accepted.map(|(job, package)| (job, Some(package))))
+    }
+
+    /// What was accepted, run.
+    fn run(&self, accepted: Result<(Job, Option<Package>), Refusal>) -> Judgement {
+        match accepted {
             Err(refusal) => Judgement {
                 result: Err(Stop::Refused(refusal)),
                 events: Events::default(),
                 job: None,
             },
-            Ok(job) => {
-                let (result, events) = faceting(&job, &self.bounds);
+            Ok((job, package)) => {
+                let (result, events) = faceting(&job, package.as_ref(), &self.bounds);
                 Judgement {
                     result,
                     events,
@@ -70,7 +82,11 @@ impl Oracle {
 }
 
 #[cfg(not(has_miratope))]
-fn faceting(_job: &job::Job, _bounds: &Bounds) -> (Result<Answer, Stop>, Events) {
+fn faceting(
+    _job: &Job,
+    _package: Option<&Package>,
+    _bounds: &Bounds,
+) -> (Result<Answer, Stop>, Events) {
     (Err(Stop::Broken(NoSource.to_string())), Events::default())
 }
 
@@ -134,5 +150,18 @@ impl Engine for Oracle {
         let judged = self.judge(job, workspace);
         let written = |found: &Answer| bytes(&kept(found));
         Some(fill_with(&judged.result, written, answer).unwrap_or(BROKEN))
+    }
+
+    fn noble(
+        &mut self,
+        job: &[u8],
+        package: &[u8],
+        workspace: usize,
+        answer: &mut [u8],
+    ) -> Option<i64> {
+        let judged = self.judge_noble(job, package, workspace);
+        let code = fill(&judged.result, answer).unwrap_or(BROKEN);
+        self.last = Some(judged);
+        Some(code)
     }
 }

@@ -2,11 +2,13 @@
 //! at the bounds, and families in which one size grows.
 
 use faceting_register::job::identity_row;
-use faceting_register::Job;
+use faceting_register::rows::closure;
+use faceting_register::{Job, Package};
 
 use crate::cases::generator::findings::{digits, ENTRIES, PLANES};
+use crate::cases::generator::rng::Rng;
 use crate::cases::generator::shapes::{self, Points};
-use crate::cases::generator::symmetry::isometries;
+use crate::cases::generator::symmetry::{isometries, permutation};
 use faceting_register::bounds::MOST_ROWS;
 
 /// A job with the name that its line has.
@@ -123,6 +125,73 @@ pub fn table() -> Vec<Workload> {
         workload(
             "moment curve of 7, rank 4, limit 1,024",
             limited(plain(shapes::moment_curve(7, 3)), 1_024),
+        ),
+    ]
+}
+
+/// A job and a package with the name that their line has.
+pub struct NobleWorkload {
+    /// What its line is called.
+    pub name: &'static str,
+    /// The job.
+    pub job: Job,
+    /// The package.
+    pub package: Package,
+}
+
+/// A full set of 20 points that begins with the job's, and any 120 full rows of it.
+fn wide_package(points: usize, count: u16, rows: Vec<Vec<u8>>) -> Package {
+    Package {
+        points: 20,
+        count,
+        global: identity_row(points),
+        rows,
+    }
+}
+
+/// The group of all permutations of the last five of 20 points.
+fn last_five() -> Vec<Vec<u8>> {
+    let swap = |v: usize| {
+        let mut row = identity_row(20);
+        row.swap(v, v + 1);
+        row
+    };
+    closure(20, &[15, 16, 17, 18].map(swap), MOST_ROWS)
+}
+
+/// The identity and any 119 permutations.
+fn any_rows() -> Vec<Vec<u8>> {
+    let mut rng = Rng::new(2);
+    let rows = (0..MOST_ROWS).map(|row| match row {
+        0 => identity_row(20),
+        _ => permutation(&mut rng, 20),
+    });
+    rows.collect()
+}
+
+/// As many orbits and full rows as there may be, with every orbit dropped, so that orbits
+/// and tallies are all that takes time; and the parabola with a package that keeps all.
+pub fn nobles() -> Vec<NobleWorkload> {
+    let planes = || plain(found(PLANES[1].1));
+    let parabola = plain(shapes::moment_curve(6, 2));
+    let job = |name, job: Job, count, rows| NobleWorkload {
+        name,
+        package: wide_package(job.points.len(), count, rows),
+        job,
+    };
+    vec![
+        job(
+            "256 orbits, each with a tally, 120 full rows",
+            planes(),
+            1,
+            last_five(),
+        ),
+        job("256 orbits, any 120 full rows", planes(), 1, any_rows()),
+        job(
+            "parabola of 6, the identity as full row",
+            parabola,
+            2,
+            vec![identity_row(20)],
         ),
     ]
 }

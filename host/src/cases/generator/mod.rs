@@ -5,6 +5,7 @@ mod damage;
 mod edges;
 pub(crate) mod findings;
 mod kinds;
+pub mod packages;
 pub mod rng;
 pub(crate) mod shapes;
 pub(crate) mod symmetry;

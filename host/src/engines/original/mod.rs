@@ -11,7 +11,7 @@ use std::collections::{BTreeMap, VecDeque};
 use std::io::Write;
 
 use faceting_register::answer::Pair;
-use faceting_register::{Answer, Entry, Figure, Job, Stop};
+use faceting_register::{Answer, Entry, Figure, Job, Package, Stop};
 
 use crate::engines::judgement::{Bounds, Events};
 use hashes::{HashMap, HashSet};
@@ -39,19 +39,21 @@ mod cut {
     include!(concat!(env!("OUT_DIR"), "/original.rs"));
 
     /// What is private in the original, for the module above.
-    pub(super) fn run(plane: Subspace<f64>, job: &faceting_register::job::Job) -> Found {
+    pub(super) fn run(plane: Subspace<f64>, job: &Job, package: Option<&Package>) -> Found {
         let points = job.points.iter().map(|p| PointOrd::new(Point::from(p)));
-        let rows = job.rows.iter().map(|row| row.iter().map(|&v| v.into()).collect());
+        let row = |row: &Vec<u8>| row.iter().map(|&v| v.into()).collect();
+        let full: Vec<Vec<usize>> = package.iter().flat_map(|p| p.rows.iter().map(row)).collect();
+        let global: Vec<usize> = package.map_or(Vec::new(), |p| row(&p.global));
         faceting_subdim(
             job.rank.into(),
             plane,
             points.collect(),
-            rows.collect(),
+            job.rows.iter().map(row).collect(),
             job.min,
             job.max,
             job.limit.map(|m| m as usize),
             false,
-            None,
+            package.map(|p| (&full, &global, p.count.into())),
             false,
         )
     }
@@ -70,13 +72,18 @@ type Found = (
     HashMap<usize, (usize, usize)>,
 );
 
-/// The original's answer to an accepted job, each figure renumbered.
-pub fn faceting(job: &Job, bounds: &Bounds) -> (Result<Answer, Stop>, Events) {
+/// The original's answer to an accepted job, called with that package if there is one,
+/// each figure renumbered.
+pub fn faceting(
+    job: &Job,
+    package: Option<&Package>,
+    bounds: &Bounds,
+) -> (Result<Answer, Stop>, Events) {
     let plane = cut::Subspace {
         basis: job.basis.iter().map(Point::from).collect(),
         offset: Point::from(&job.offset),
     };
-    let (found, events) = watched(bounds, job, || cut::run(plane, job));
+    let (found, events) = watched(bounds, job, || cut::run(plane, job, package));
     (found.map(|found| answer(job, &events, found)), events)
 }
 
