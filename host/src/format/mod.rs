@@ -8,6 +8,7 @@ pub mod hex;
 pub mod hints;
 pub mod letters;
 pub mod off;
+pub mod package;
 pub mod quote;
 pub mod tariff;
 pub mod text;

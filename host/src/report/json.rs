@@ -8,6 +8,7 @@ use faceting_register::{Answer, Figure, Job};
 
 use super::look::Look;
 use super::margin::{Distance, Margin};
+use super::noble::{Full, Noble};
 use super::notes::Note;
 use super::parts::{entry_json, shapes_json};
 use super::{advice, Rejection, Report, Source, VERSION};
@@ -110,6 +111,7 @@ pub fn answered(report: &Report) -> Json {
         ("shapes", shapes_json(&report.parts)),
         ("entries", entries(report)),
         ("compounds", list(&answer.compounds, compound)),
+        ("package", or_null(&report.noble, package)),
     ]);
     Json::Object(fields)
 }
@@ -165,6 +167,29 @@ fn carried(carried: &Carried) -> Json {
         ("closed", Json::Truth(carried.closed)),
         ("all", Json::Truth(carried.moved() == 0)),
         ("elsewhere", list(&carried.elsewhere, row)),
+    ])
+}
+
+/// The package that the job was answered with, and what each entry makes on its full set.
+fn package(noble: &Noble) -> Json {
+    let bytes = |list: &[u8]| Json::List(list.iter().map(|&v| Json::Number(v.into())).collect());
+    let count = |count: usize| Json::Number(count as i64);
+    let full = |full: &Full| {
+        Json::Object(vec![
+            ("facets", count(full.facets)),
+            ("ridges", count(full.ridges)),
+            ("points", count(full.points)),
+            ("around", list(&full.around, |&facets| count(facets))),
+            ("closes", Json::Truth(full.closes())),
+        ])
+    };
+    Json::Object(vec![
+        ("sha256", Json::Text(noble.hash.clone())),
+        ("points", Json::Number(noble.package.points.into())),
+        ("count", Json::Number(noble.package.count.into())),
+        ("global", bytes(&noble.package.global)),
+        ("rows", list(&noble.package.rows, |row| bytes(row))),
+        ("full", list(&noble.full, |entry| or_null(entry, full))),
     ])
 }
 

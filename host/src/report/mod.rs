@@ -10,19 +10,21 @@ pub mod label;
 pub mod listing;
 pub mod look;
 pub mod margin;
+pub mod noble;
 pub mod notes;
 pub mod orbits;
 pub mod page;
 pub mod parts;
 
 use faceting_register::answer::Damage;
-use faceting_register::{Answer, Job, Refusal};
+use faceting_register::{Answer, Job, Package, Refusal};
 
 use crate::format::culprit::Culprit;
 use crate::parts::Parts;
 use crate::symmetry::Carried;
 use label::{left_out, Count};
 use look::{looks, Look};
+use noble::Noble;
 use notes::Notes;
 use page::Subject;
 
@@ -86,6 +88,8 @@ pub struct Report {
     pub count: Count,
     /// What each entry costs, in pence, where a tariff was given and the rank has prices.
     pub prices: Option<Vec<u64>>,
+    /// What is told of the package that the job was answered with, if there was one.
+    pub noble: Option<Noble>,
 }
 
 impl Report {
@@ -113,7 +117,17 @@ impl Report {
             length,
             looks,
             prices: None,
+            noble: None,
         })
+    }
+
+    /// The same of a job that was answered with this package.
+    pub fn with_package(self, package: Package) -> Report {
+        let noble = Noble::of(&self.job, &self.answer, package);
+        Report {
+            noble: Some(noble),
+            ..self
+        }
     }
 
     /// What an entry costs, in pence, or nothing.
@@ -125,6 +139,11 @@ impl Report {
 
     /// The line that goes on the box.
     pub fn label(&self) -> String {
-        self.count.words(left_out(&self.job, self.count.cut))
+        let left_out = left_out(&self.job, self.count.cut);
+        let noble = self.noble.as_ref().filter(|_| self.job.rank > 2);
+        let words = noble.map(|_| noble::LABEL.to_string());
+        let bracket: Vec<String> = words.into_iter().chain(left_out).collect();
+        let bracket = (!bracket.is_empty()).then(|| bracket.join(", "));
+        self.count.words(bracket)
     }
 }

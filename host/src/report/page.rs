@@ -13,7 +13,7 @@ use super::look::Look;
 use super::margin::Margin;
 use super::notes::{short, Note};
 use super::parts::{facet_words, put_parts};
-use super::{Report, Source, VERSION};
+use super::{noble, Report, Source, VERSION};
 use crate::parts::Parts;
 use crate::symmetry::{Carried, Kind};
 
@@ -61,12 +61,16 @@ pub fn page(report: &Report) -> String {
     if let Some(promise) = report.count.promise() {
         let _ = writeln!(text, "  plain: {promise}");
     }
+    if let Some(noble) = &report.noble {
+        let _ = writeln!(text, "  noble: {}", noble.promise(&report.job));
+    }
     put_notes(&mut text, report);
     put_orbits(&mut text, subject.rank, answer, &report.parts);
     put_entries(&mut text, report);
     put_parts(&mut text, report);
     put_compounds(&mut text, answer);
     put_plain(&mut text, report);
+    put_full(&mut text, report);
     let lists = counted(answer.examined as usize, "list was", "lists were");
     let Source { engine, hash } = &report.source;
     let _ = writeln!(text, "\n{lists} examined.\n");
@@ -82,9 +86,15 @@ pub fn page(report: &Report) -> String {
     }
     let _ = writeln!(
         text,
-        "Answered by: {engine}, command version {VERSION}\nJob: sha256 {hash}\n"
+        "Answered by: {engine}, command version {VERSION}\nJob: sha256 {hash}"
     );
-    text + WORDS
+    match &report.noble {
+        None => text + "\n" + WORDS,
+        Some(noble) => {
+            let _ = writeln!(text, "Package: sha256 {}\n", noble.hash);
+            text + WORDS + noble::WORDS
+        }
+    }
 }
 
 fn found_rows(rows: usize, kind: Kind) -> String {
@@ -220,6 +230,16 @@ fn put_plain(text: &mut String, report: &Report) {
         let _ = writeln!(text, "\nPlain: {entries}");
         if !numbers.is_empty() {
             let _ = writeln!(text, "  {}", spans(numbers));
+        }
+    }
+}
+
+/// The package, and what the figures make on its full set.
+fn put_full(text: &mut String, report: &Report) {
+    if let Some(noble) = &report.noble {
+        let _ = writeln!(text, "\nOn the full set: {}", noble.words());
+        for line in noble.lines(report.job.rank) {
+            let _ = writeln!(text, "  {line}");
         }
     }
 }

@@ -3,6 +3,7 @@
 mod crew;
 mod gathered;
 mod inputs;
+mod noble;
 mod options;
 mod order;
 mod outcome;
@@ -37,6 +38,7 @@ fn main() -> ExitCode {
             Some(Told::Version) => print(VERSION),
             None if options.symmetry => symmetry::run(&options),
             None if options.quotes_alone() => price::run(&options),
+            None if options.noble.is_some() => noble::run(&options),
             None if options.plain => plain::run(&options),
             None => work::run(&options),
         },

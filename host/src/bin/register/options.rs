@@ -68,6 +68,8 @@ pub struct Options {
     pub price: Option<PathBuf>,
     /// Whether the numbers of plain entries are printed in place of answers.
     pub plain: bool,
+    /// The package that a set is answered with.
+    pub noble: Option<PathBuf>,
     /// Whether a note of weight counts in the exit status.
     pub strict: bool,
     /// How large parts are cut.
@@ -96,6 +98,7 @@ impl Options {
             symmetry: false,
             price: None,
             plain: false,
+            noble: None,
             strict: false,
             size: Size {
                 scale: 1.0,
@@ -145,6 +148,8 @@ impl Options {
             "--price" if self.price.is_some() => return Err("'--price' was given before".into()),
             "--price" => self.price = Some(value()?.into()),
             "--plain" => self.plain = true,
+            "--noble" if self.noble.is_some() => return Err("'--noble' was given before".into()),
+            "--noble" => self.noble = Some(value()?.into()),
             "--strict" => self.strict = true,
             "--help" | "-h" => self.told = self.told.or(Some(Told::Help)),
             "--version" => self.told = self.told.or(Some(Told::Version)),
@@ -209,6 +214,13 @@ impl Options {
         {
             return Err(
                 "'--plain' goes with none of '--json', '--raw', '-o', '--price', '--symmetry' and '--original'".into(),
+            );
+        }
+        let alone = matches!(self.form, Form::Page | Form::Json | Form::Raw) && !self.resume;
+        let other = self.price.is_some() || self.symmetry || self.plain;
+        if self.noble.is_some() && (!alone || other) {
+            return Err(
+                "'--noble' goes with the page, '--json' or '--raw', and with none of '--price', '--plain', '--symmetry' and '--resume'".into(),
             );
         }
         if self.inputs.is_empty() && self.told.is_none() {

@@ -4,7 +4,9 @@ use faceting_register::bounds::WORKSPACE;
 use faceting_register::job::accept;
 use faceting_register::plain::plain;
 use faceting_register::request::ask;
-use faceting_register::{Engine, Job, Stop};
+use faceting_register::{noble, Engine, Job, Package, Refusal, Stop};
+use facetings_host::format::culprit::Culprit;
+use facetings_host::format::package;
 use facetings_host::format::vertex_set::VertexSet;
 use facetings_host::report::label::counted;
 use facetings_host::report::notes::Notes;
@@ -36,6 +38,41 @@ pub fn outcome(engine: &mut dyn Engine, set: &VertexSet, options: &Options) -> O
     let job = set.job.as_ref();
     let result = job.ok().map(|job| ask(engine, job, options.room));
     outcome_from(engine, set, options, result)
+}
+
+/// The engine's answer to a set with a package.
+pub fn noble_outcome(
+    engine: &mut dyn Engine,
+    set: &VertexSet,
+    options: &Options,
+    package: &[u8],
+) -> Outcome {
+    let job = match &set.job {
+        Ok(job) => job,
+        Err(words) => return Outcome::Bad(words.clone()),
+    };
+    let points = usize::from(faceting_register::job::point_count_of(job));
+    let result = noble::ask_noble(engine, job, package, options.room);
+    match (result, Package::read(points, package)) {
+        (Ok(bytes), Some(package)) => {
+            match answered(set, Source::of(engine.name(), job), job, bytes, None) {
+                Outcome::Answered(report, bytes) => {
+                    Outcome::Answered(Box::new(report.with_package(package)), bytes)
+                }
+                other => other,
+            }
+        }
+        (Err(Stop::Refused(Refusal::Package)), _) => Outcome::Refused(Box::new(Rejection {
+            refusal: Refusal::Package,
+            culprit: package::fault(points, package).map(|place| Culprit {
+                place,
+                change: None,
+            }),
+            source: Source::of(engine.name(), job),
+            notes: notes(job),
+        })),
+        (result, _) => outcome_from(engine, set, options, Some(result)),
+    }
 }
 
 /// What came of a set whose job, if it has one, the engine gave this result.

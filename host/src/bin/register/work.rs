@@ -52,7 +52,7 @@ fn answer(options: &Options, engine: &mut dyn Engine) -> Result<Status, String> 
 }
 
 /// What answers: the proved library, or the original in its place.
-fn open(original: bool) -> Result<Box<dyn Engine>, Box<dyn Error>> {
+pub fn open(original: bool) -> Result<Box<dyn Engine>, Box<dyn Error>> {
     if original {
         return Ok(Box::new(Oracle::open()?));
     }
@@ -65,7 +65,11 @@ fn alone(options: &Options, engine: &mut dyn Engine, set: &VertexSet) -> Result<
     if place.is_some_and(|place| resume::is_there(options, place, engine.name(), set)) {
         return Ok(Status::Answered);
     }
-    let found = outcome(engine, set, options);
+    deliver(options, set, outcome(engine, set, options))
+}
+
+/// What came of one set, put where it belongs.
+pub fn deliver(options: &Options, set: &VertexSet, found: Outcome) -> Result<Status, String> {
     if let Some(bytes) = found.result(options.form, set) {
         match &options.place {
             Some(place) => output::save(place, &bytes)?,

@@ -13,7 +13,7 @@ use draft::Draft;
 use keywords::{Said, KEYWORDS};
 
 pub use draft::{with_symmetry, Lines, Read};
-pub use values::row_fault;
+pub use values::{row, row_fault, whole};
 
 /// The text form's rules, as `encode --help` prints them.
 pub const RULES: &str = include_str!(concat!(env!("CARGO_MANIFEST_DIR"), "/help/text.txt"));
