@@ -8,7 +8,7 @@ use std::path::{Path, PathBuf};
 use std::process::Command;
 
 use faceting_register::answer::Pair;
-use faceting_register::register::{NotLinked, LINKED};
+use faceting_register::register::{exported_noble, NotLinked, LINKED};
 use faceting_register::request::{ask, LONGEST};
 use faceting_register::{Answer, Register, Stop};
 use facetings_host::format::text;
@@ -369,6 +369,38 @@ fn python_tells_the_plain_entries() {
     }
     let words: Vec<&str> = words.iter().map(String::as_str).collect();
     if let Some(done) = python(&usr, &words) {
+        assert_eq!(done.fine(), wanted);
+    }
+}
+
+/// A parabola with a package, and what is refused.
+const NOBLE: &str = r#"
+from faceting_register import Refused, Register, job, package
+register = Register()
+asked = job([(i, i * i) for i in range(6)])
+found = register.noble(asked, package(2, range(6), [range(6)]))
+print(len(found.entries), found.examined, len(register.answer(asked).entries))
+print(package(258, [3, 0], [range(4), (1, 0, 3, 2)]).hex())
+for pack in (package(0, range(6), [range(6)]), b"", package(2, range(5), [range(6)])):
+    try:
+        print(register.noble(asked, pack))
+    except Refused as refused:
+        print(refused)
+"#;
+
+#[test]
+fn python_answers_with_a_package() {
+    if let Err(absent) = exported_noble() {
+        return skipped(&absent.to_string());
+    }
+    let place = Place::new("installed-noble");
+    let Some(usr) = installed(&place) else { return };
+    if let Some(done) = python(&usr, &["-c", NOBLE]) {
+        let refused = "refused 18: a package with a wrong length, number or full row\n";
+        let wanted = format!(
+            "197 719 207\n020004020103000001020301000302\n{}",
+            refused.repeat(3)
+        );
         assert_eq!(done.fine(), wanted);
     }
 }

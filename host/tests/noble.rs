@@ -359,11 +359,11 @@ fn the_command_tells_what_is_promised_and_what_is_refused() {
         place.write("bad", "points 4\nkount 2\n");
         let run = |words: &[&str]| place.run(COMMAND, &[option, words].concat());
         let page = run(&["--noble", "two", "square.txt"]).fine();
-        let every = "noble: each entry is that of a closed choice over the orbits that the \
-                     package keeps, which is proved";
+        let every = "noble: proved: each entry is that of a closed choice over the orbits that \
+                     the package keeps";
         assert!(page.contains("\nLabel: 7 figures (by a package, over the orbits that it keeps)"));
         assert!(
-            page.contains(&format!("\n  {every}; so is that, where the shares")),
+            page.contains(&format!("\n  {every}; and, where a facet's shares")),
             "{page}"
         );
         assert!(

@@ -192,7 +192,7 @@ fn every_option_of_the_help_is_one_of_the_command() {
 #[test]
 fn words_are_checked_before_anything_is_built_as_the_command_checks_them() {
     let place = repository("words", &[("rt", RT), ("cargo", CARGO)]);
-    let wrong: [&[&str]; 21] = [
+    let wrong: [&[&str]; 25] = [
         &[],
         &["--json"],
         &["--jsn", "a b.txt"],
@@ -214,6 +214,10 @@ fn words_are_checked_before_anything_is_built_as_the_command_checks_them() {
         &["--plain", "--json", "a b.txt"],
         &["a b.txt", "--plain", "-o", "x"],
         &["--original", "--plain", "a b.txt"],
+        &["--noble", "p", "--csv", "a b.txt"],
+        &["--noble", "p", "--plain", "a b.txt"],
+        &["--noble", "p", "--noble", "p", "a b.txt"],
+        &["a b.txt", "--noble"],
     ];
     for words in wrong {
         let done = run(&place, words);

@@ -12,12 +12,12 @@ use super::label::counted;
 pub const LABEL: &str = "by a package, over the orbits that it keeps";
 
 /// What is proved of every list [17.11].
-const EVERY_ENTRY: &str = "each entry is that of a closed choice over the orbits that the \
-package keeps, which is proved";
+const EVERY_ENTRY: &str = "proved: each entry is that of a closed choice over the orbits that the \
+package keeps";
 
 /// What is proved beside it without a limit.
-const MINIMAL: &str = "; so is that, where the shares of a facet in a ridge orbit are always \
-equal, they are all those with no closed choice properly inside, once each";
+const MINIMAL: &str = "; and, where a facet's shares in a ridge orbit are always equal, these are \
+all such choices with no closed choice properly inside, once each";
 
 /// At rank 2.
 const NONE: &str = "at rank 2 a package makes no difference";
