@@ -294,6 +294,7 @@ fn answer(value: &Value) -> Answer {
         "margin",
         "notes",
         "orbits",
+        "package",
         "plain",
         "points",
         "rank",

@@ -188,6 +188,12 @@ pub fn nobles() -> Vec<NobleWorkload> {
         ),
         job("256 orbits, any 120 full rows", planes(), 1, any_rows()),
         job(
+            "256 orbits, 1 full row",
+            planes(),
+            1,
+            vec![identity_row(20)],
+        ),
+        job(
             "parabola of 6, the identity as full row",
             parabola,
             2,

@@ -28,7 +28,7 @@ A package names a larger set, the full set, of which the points here are some. A
 kept where the package's tally for it is 2 or more; the others are dropped before anything
 is made of them, and a closed choice is not extended. The host's own look is what stands
 under the full set: the images of an entry's figure under all full rows, as facets of one
-figure there.
+figure there. With a package it is not asked which figures are plain.
 ";
 
 /// An edge of the full set: its two points.
