@@ -115,7 +115,6 @@ fn minimal(choices: &[BTreeSet<(u32, u32)>]) -> BTreeSet<&BTreeSet<(u32, u32)>> 
 fn hold(
     oracle: &Oracle,
     job: &Job,
-    judged: &Judgement,
     answer: &Answer,
     all_kept: bool,
     met: &mut Met,
@@ -124,7 +123,7 @@ fn hold(
     if minimal(&listed).len() != listed.len() {
         return Err("a choice stands twice or has another inside".into());
     }
-    if !all_kept || judged.rank() < 3 {
+    if !all_kept {
         return Ok(());
     }
     let whole = oracle.judge(&job.write(), usize::MAX);
@@ -171,15 +170,27 @@ pub fn compare(
     gives(engine, asked, length - 1, Refusal::Room.code(), &[])?;
     let (job, package) = noble::accept(job, package, workspace).map_err(|r| r.to_string())?;
     met.entries += answer.entries.len();
-    if job.rank < 3 {
-        return Ok(());
+    match job.rank {
+        2 => Ok(()),
+        _ => look_again(oracle, (&job, &package), &judged, answer, met),
     }
-    if let Some(carried) = Carried::of(&job, answer).filter(|carried| carried.closed) {
+}
+
+/// What is promised of an answer, worked out a second time: which orbits are kept, that
+/// closed rows carry each figure to itself, and which choices are listed.
+fn look_again(
+    oracle: &Oracle,
+    (job, package): (&Job, &Package),
+    judged: &Judgement,
+    answer: &Answer,
+    met: &mut Met,
+) -> Result<(), String> {
+    if let Some(carried) = Carried::of(job, answer).filter(|carried| carried.closed) {
         carried.broken().map_or(Ok(()), Err)?;
         met.carried += carried.elsewhere.len();
     }
     let orbits = &judged.events.orbits;
-    let (kept, anew) = kept(&package, orbits);
+    let (kept, anew) = kept(package, orbits);
     let counts = orbits.iter().zip(&kept).filter(|(_, kept)| **kept);
     let counts: Vec<u32> = counts.map(|(orbit, _)| orbit.count as u32).collect();
     if counts != answer.counts {
@@ -191,8 +202,7 @@ pub fn compare(
     if job.limit.is_some() || judged.events.unequal_shares {
         return Ok(());
     }
-    let all_kept = counts.len() == kept.len();
-    hold(oracle, &job, &judged, answer, all_kept, met)
+    hold(oracle, job, answer, counts.len() == kept.len(), met)
 }
 
 /// Generated jobs, whole and damaged, of every rank, each with a generated package, with

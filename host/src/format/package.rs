@@ -132,58 +132,59 @@ fn once<T>(place: &mut Option<T>, word: &str, value: T) -> Result<(), String> {
 /// What is wrong with the bytes of a package for so many points; nothing where it is
 /// accepted.
 pub fn fault(points: usize, bytes: &[u8]) -> Option<String> {
-    let Some(package) = Package::read(points, bytes) else {
-        let told = bytes.get(..PACKAGE_HEADER).map(|head| {
-            let rows = usize::from(u16::from_le_bytes([head[0], head[1]]));
-            PACKAGE_HEADER + points + rows * usize::from(head[2])
-        });
-        let due = told.map_or(String::new(), |due| {
-            format!("; with as many global numbers as the set has points, {points}, it should have {due}")
-        });
-        return Some(format!("the package has {} bytes{due}", bytes.len()));
-    };
-    if package.is_good() {
-        return None;
+    match Package::read(points, bytes) {
+        None => Some(wrong_length(points, bytes)),
+        Some(package) if package.is_good() => None,
+        Some(package) => wrong_number(&package).or_else(|| wrong_row(&package)),
     }
+}
+
+fn wrong_length(points: usize, bytes: &[u8]) -> String {
+    let told = bytes.get(..PACKAGE_HEADER).map(|head| {
+        let rows = usize::from(u16::from_le_bytes([head[0], head[1]]));
+        PACKAGE_HEADER + points + rows * usize::from(head[2])
+    });
+    let due = told.map_or(String::new(), |due| {
+        format!("; with a global number for each of the {points} points it should have {due}")
+    });
+    format!("the package has {} bytes{due}", bytes.len())
+}
+
+/// The first number in front of the full rows that is outside its range or stands twice.
+fn wrong_number(package: &Package) -> Option<String> {
     let Package {
-        points: full,
+        points,
         count,
         global,
         rows,
-    } = &package;
+    } = package;
     let (least, most) = FULL_POINTS.into_inner();
-    if !(1..=MOST_ROWS).contains(&rows.len()) {
-        return Some(format!("the package has {} full rows", rows.len()));
+    let outside = global.iter().find(|&v| v >= points);
+    let times = |v: &u8| global.iter().filter(|w| *w == v).count();
+    let twice = global.iter().find(|v| times(v) > 1);
+    match (outside, twice) {
+        _ if !(1..=MOST_ROWS).contains(&rows.len()) => {
+            Some(format!("the package has {} full rows", rows.len()))
+        }
+        _ if !FULL_POINTS.contains(points) => Some(format!(
+            "the full set has {points} points, not {least} to {most}"
+        )),
+        _ if *count == 0 => Some("the count is 0".into()),
+        (Some(v), _) => Some(format!("global number {v} is not below {points}")),
+        (_, Some(v)) => Some(format!("global number {v} stands twice")),
+        _ => None,
     }
-    if !FULL_POINTS.contains(full) {
-        return Some(format!(
-            "the full set has {full} points, not {least} to {most}"
-        ));
-    }
-    if *count == 0 {
-        return Some("the count is 0".into());
-    }
-    let outside = global.iter().find(|&&v| v >= *full);
-    let twice = global
-        .iter()
-        .find(|&v| global.iter().filter(|w| *w == v).count() > 1);
-    if let Some(v) = outside {
-        return Some(format!("global number {v} is not below {full}"));
-    }
-    if let Some(v) = twice {
-        return Some(format!("global number {v} stands twice"));
-    }
-    let mut faults = rows.iter().map(|row| row_fault(row)).enumerate();
-    if let Some((r, fault)) = faults.find_map(|(r, fault)| Some((r, fault?))) {
-        return Some(format!("full row {r} {fault}"));
-    }
-    let moved = !is_identity(&rows[0]);
-    moved.then(|| {
-        let identity: Vec<String> = identity_row((*full).into())
-            .iter()
-            .map(u8::to_string)
-            .collect();
-        format!("the first full row is not {}", identity.join(" "))
+}
+
+/// The first full row that is no permutation, or the first of all where it moves a point.
+fn wrong_row(package: &Package) -> Option<String> {
+    let mut faults = package.rows.iter().map(|row| row_fault(row)).enumerate();
+    let fault = faults.find_map(|(r, fault)| Some(format!("full row {r} {}", fault?)));
+    let first = package.rows.first().filter(|row| !is_identity(row));
+    fault.or_else(|| {
+        let identity = identity_row(first?.len());
+        let numbers: Vec<String> = identity.iter().map(u8::to_string).collect();
+        Some(format!("the first full row is not {}", numbers.join(" ")))
     })
 }
 
@@ -242,7 +243,7 @@ mod tests {
         for (text, words) in [
             (
                 "points 2\ncount 1\nglobal 0",
-                "the package has 8 bytes; with as many",
+                "the package has 8 bytes; with a global",
             ),
             (
                 "points 2\ncount 1\nglobal 0 1\nrows",
