@@ -217,10 +217,9 @@ class Register:
         self._price.argtypes = [ctypes.c_char_p, ctypes.c_size_t, ctypes.c_char_p, ctypes.c_size_t,
                                 ctypes.c_uint64, ctypes.c_char_p, ctypes.c_size_t,
                                 ctypes.c_char_p, ctypes.c_size_t]
-        self._noble = getattr(exported, "register_noble", None)
-        if self._noble is not None:
-            self._noble.restype = ctypes.c_int64
-            self._noble.argtypes = [ctypes.c_char_p, ctypes.c_size_t] * 4
+        self._noble = exported.register_noble
+        self._noble.restype = ctypes.c_int64
+        self._noble.argtypes = [ctypes.c_char_p, ctypes.c_size_t] * 4
         self._workspace = ctypes.create_string_buffer(WORKSPACE)
 
     def answer_bytes(self, asked, longest=LONGEST):

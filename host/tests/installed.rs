@@ -8,7 +8,7 @@ use std::path::{Path, PathBuf};
 use std::process::Command;
 
 use faceting_register::answer::Pair;
-use faceting_register::register::{exported_noble, NotLinked, LINKED};
+use faceting_register::register::{NotLinked, LINKED};
 use faceting_register::request::{ask, LONGEST};
 use faceting_register::{Answer, Register, Stop};
 use facetings_host::format::text;
@@ -390,9 +390,6 @@ for pack in (package(0, range(6), [range(6)]), b"", package(2, range(5), [range(
 
 #[test]
 fn python_answers_with_a_package() {
-    if let Err(absent) = exported_noble() {
-        return skipped(&absent.to_string());
-    }
     let place = Place::new("installed-noble");
     let Some(usr) = installed(&place) else { return };
     if let Some(done) = python(&usr, &["-c", NOBLE]) {

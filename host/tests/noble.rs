@@ -6,7 +6,6 @@ mod common;
 use std::path::Path;
 
 use faceting_register::noble::ask_noble;
-use faceting_register::register::exported_noble;
 use faceting_register::request::LONGEST;
 use faceting_register::{Answer, Engine, Job, Package, Refusal, Register, Stop};
 use facetings_host::compare::noble::{compare, compare_generated, gives, kept, Met};
@@ -15,6 +14,7 @@ use facetings_host::format::package;
 
 use common::json::Value;
 use common::place::Place;
+use common::ways::ways;
 use common::{job, oracle, CORNER, SQUARE, WORKSPACE};
 
 const COMMAND: &str = env!("CARGO_BIN_EXE_register");
@@ -22,12 +22,12 @@ const COMMAND: &str = env!("CARGO_BIN_EXE_register");
 /// Generated cases that every run of the tests compares.
 const COUNT: usize = 2_000;
 
-/// The call that is compared: the register's, or the original's own where the linked
-/// library has none, so that what is worked out a second time is still looked at.
+/// The call that is compared: the register's, or the original's own where no library is
+/// linked, so that what is worked out a second time is still looked at.
 fn engine() -> Option<Box<dyn Engine>> {
-    match (Register::open(), exported_noble()) {
-        (Ok(register), Ok(_)) => Some(Box::new(register)),
-        (Err(absent), _) | (_, Err(absent)) => {
+    match Register::open() {
+        Ok(register) => Some(Box::new(register)),
+        Err(absent) => {
             println!("the original in the register's place: {absent}");
             Some(Box::new(oracle()?))
         }
@@ -269,16 +269,9 @@ fn examples() -> std::path::PathBuf {
     Path::new(env!("CARGO_MANIFEST_DIR")).join("../examples")
 }
 
-/// The options that make the command use each engine that has the call.
+/// The options that make the command use each engine that is there.
 fn options() -> Vec<&'static [&'static str]> {
-    let mut options: Vec<&[&str]> = Vec::new();
-    if oracle().is_some() {
-        options.push(&["--original"]);
-    }
-    if exported_noble().is_ok() {
-        options.push(&[]);
-    }
-    options
+    ways().into_iter().map(|way| way.option).collect()
 }
 
 /// The pages, recorded by the original; the register must come to the same. With

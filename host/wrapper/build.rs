@@ -10,7 +10,6 @@ const USUAL: &str = "../../target/staticlib";
 
 fn main() {
     println!("cargo::rustc-check-cfg=cfg(has_register)");
-    println!("cargo::rustc-check-cfg=cfg(has_noble)");
     println!("cargo::rerun-if-env-changed=REGISTER_LIBRARY");
     println!("cargo::rerun-if-changed=build.rs");
     let named = env::var_os("REGISTER_LIBRARY").map(PathBuf::from);
@@ -24,16 +23,5 @@ fn main() {
         println!("cargo::rustc-link-search=native={}", place.display());
         println!("cargo::rustc-link-lib=static=register");
         println!("cargo::rustc-cfg=has_register");
-        if exports(&library, "register_noble") {
-            println!("cargo::rustc-cfg=has_noble");
-        }
     }
-}
-
-/// Whether the library has a function of that name; one built before it came has not.
-fn exports(library: &Path, name: &str) -> bool {
-    let bytes = fs::read(library).unwrap_or_default();
-    bytes
-        .windows(name.len())
-        .any(|part| part == name.as_bytes())
 }

@@ -3,7 +3,6 @@
 use std::time::Instant;
 
 use faceting_register::bounds::WORKSPACE;
-use faceting_register::register::exported_noble;
 use faceting_register::{Engine, Register};
 use facetings_host::compare::noble::compare_generated;
 use facetings_host::engines::oracle::Oracle;
@@ -42,7 +41,6 @@ fn compare_noble(arguments: Arguments) -> Result<(), Failure> {
     let count: usize = arguments.number("--count")?.unwrap_or(2_000);
     let mut oracle = open_original()?;
     let mut register = Register::open().map_err(absent)?;
-    exported_noble().map_err(absent)?;
     let compared = compare_generated(&mut register, &oracle, seed, count);
     let met = compared.map_err(|words| Failure {
         status: DIFFERENT,

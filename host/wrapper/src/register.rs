@@ -71,7 +71,6 @@ mod linked {
             answer_length: usize,
         ) -> i64;
 
-        #[cfg(has_noble)]
         pub fn register_noble(
             job: *const u8,
             job_length: usize,
@@ -124,13 +123,13 @@ pub fn exported_plain() -> Result<Exported, NotLinked> {
 }
 
 /// The function that answers a job with a package.
-#[cfg(has_noble)]
+#[cfg(has_register)]
 pub fn exported_noble() -> Result<ExportedNoble, NotLinked> {
     Ok(linked::register_noble)
 }
 
 /// The function that answers a job with a package.
-#[cfg(not(has_noble))]
+#[cfg(not(has_register))]
 pub fn exported_noble() -> Result<ExportedNoble, NotLinked> {
     Err(NotLinked)
 }
@@ -140,7 +139,7 @@ pub struct Register {
     function: Exported,
     batch: Exported,
     plain: Exported,
-    noble: Option<ExportedNoble>,
+    noble: ExportedNoble,
     workspace: Vec<u8>,
 }
 
@@ -151,7 +150,7 @@ impl Register {
             function: exported()?,
             batch: exported_batch()?,
             plain: exported_plain()?,
-            noble: exported_noble().ok(),
+            noble: exported_noble()?,
             workspace: Vec::new(),
         })
     }
@@ -214,8 +213,8 @@ impl Engine for Register {
     ) -> Option<i64> {
         let lent = lend(&mut self.workspace, workspace);
         // As above, with the package, which is read alone, beside the job.
-        self.noble.map(|function| unsafe {
-            function(
+        let code = unsafe {
+            (self.noble)(
                 job.as_ptr(),
                 job.len(),
                 package.as_ptr(),
@@ -225,6 +224,7 @@ impl Engine for Register {
                 answer.as_mut_ptr(),
                 answer.len(),
             )
-        })
+        };
+        Some(code)
     }
 }
