@@ -222,14 +222,15 @@ int64_t register_plain(const uint8_t *job, size_t job_length,
  * which a closed choice is not extended [17.9]; calls one rank below take no package.
  * At rank 2 the answer is the one without a package.
  *
- * Promised, for all bytes in the four slices, beside what is promised of buffer,
- * return value and workspace in register_answer: each entry is that of a closed
- * choice over the kept orbits, which its record names. If there is no entry limit,
- * and a facet's places in one ridge orbit always have the same share, the choices
- * that the records name are just the closed choices over the kept orbits with no
- * closed choice properly inside them, once each [17.11]. Rows that are closed under
- * composition carry each figure to itself [13.12]. What the caller owes is as for
- * register_answer; the package is read and not written.
+ * Promised, for all bytes in the four slices: return value and buffer are the
+ * definition's [17.10], determined by job, package and the lengths of the other two,
+ * with zeros behind an answer and throughout after a refusal. Each entry is that of
+ * a closed choice over the kept orbits, which its record names. If there is no entry
+ * limit, and a facet's places in one ridge orbit always have the same share, the
+ * choices that the records name are just the closed choices over the kept orbits
+ * with no closed choice properly inside them, once each [17.11]. Rows that are
+ * closed under composition carry each figure to itself [13.12]. What the caller owes
+ * is as for register_answer; the package is read and not written.
  */
 int64_t register_noble(const uint8_t *job, size_t job_length,
                        const uint8_t *package, size_t package_length,
