@@ -1,6 +1,6 @@
 -- The definitions one step at a time, as the loops take them, and what the arrays that are handed back mean. Leans on the definitions and on what the structs mean.
 use mathlib.Core.Path.{_≡_, refl, sym, _∙_}
-use mathlib.Core.Bool.{true, false}
+use mathlib.Core.Bool.{true, false, true≢false}
 use mathlib.Core.List.{List, [], _∷_, _++_}
 use Prim.Native.Nat.{ℕ, suc, _+_, _≤_, _<_}
 use native.Mathlib.Omega.{arith}
@@ -9,16 +9,18 @@ use borrow.Author.Tests.{leb-false}
 use lib.ListN.{length, getD, drop, drop-of-length-le}
 use lib.Seq.{drop-cons}
 use lib.Ieee.{Float, lt}
-use Rattle.definitions.specs.Vectors.{Vec, dot, minus, plusTimes, norm, normalised}
+use Rattle.definitions.specs.Vectors.{Vec, dot, plusTimes, norm, normalised}
 use Rattle.definitions.specs.Subspace.{Subspace, gains, project, residual, addPoint, addPoints, fromPoints}
-use Rattle.definitions.specs.Orbits.{pointAt}
+use Rattle.definitions.specs.Orbits.{pointAt, tooShort, tooLong, breaksLimit}
 use Rattle.laws.specs.Parts.{rows}
 use Rattle.space.specs.declared.Subspace.{Subspace as StoredSubspace}
 use Rattle.space.specs.declared.Points.{Points}
+use Rattle.space.specs.declared.Limit.{Limit}
+use Rattle.space.specs.declared.Limit.the-variants.{Absent, Length}
 use Rattle.vectors.specs.Meaning.{vectorOf, five}
-use Rattle.vectors.specs.Wholes.{five-means, minus-length}
-use Rattle.space.specs.Meaning.{subspaceOf, SubspaceFits, HoldsSubspace, withVector, isFullRank, pointAlone, pointsOf, PointsFit}
-use Rattle.space.specs.Counts.{project-length, residual-length, point-length, point-means}
+use Rattle.vectors.specs.Wholes.{five-means}
+use Rattle.space.specs.Meaning.{subspaceOf, SubspaceFits, HoldsSubspace, withVector, isFullRank, pointAlone, pointsOf, lengthOf, limitsOf, noLimits}
+use Rattle.space.specs.Counts.{project-length, residual-length}
 
 -- Project: one basis vector more.
 pub gains-snoc : (away : Vec) (bs : List Vec) (b q : Vec) → gains away (bs ++ (b ∷ [])) q ≡ plusTimes (gains away bs q) b (dot away b)
@@ -79,13 +81,10 @@ module _ (s : StoredSubspace) (fits : SubspaceFits s) (offset-long : length (s .
   pub read-residual : (r : List Float) → r ≡ five (residual (subspaceOf s) p) → vectorOf (s .d) r ≡ residual (subspaceOf s) p
   read-residual r is = five-means r (residual (subspaceOf s) p) (s .d) is (residual-length s fits offset-long basis-long p p-long)
 
--- ---- the difference of two points that are read
+-- ---- limits: where none is given no length breaks one
 
-pub read-difference : (p : Points) → PointsFit p → (v w : ℕ) (at-v at-w between : List Float) → v < p .n → w < p .n → at-v ≡ five (pointAt (pointsOf p) v) → at-w ≡ five (pointAt (pointsOf p) w)
-    → between ≡ five (minus (vectorOf (p .d) at-w) (vectorOf (p .d) at-v)) → vectorOf (p .d) between ≡ minus (pointAt (pointsOf p) w) (pointAt (pointsOf p) v)
-read-difference p fits v w at-v at-w between v-below w-below v-is w-is is =
-    let from = pointAt (pointsOf p) v in
-    let to = pointAt (pointsOf p) w in
-    let whole : between ≡ five (minus to from) = is ∙ rw (point-means p fits v v-below at-v v-is, point-means p fits w w-below at-w w-is) refl in
-    let to-long = point-length p fits w w-below in
-    five-means between (minus to from) (p .d) whole (minus-length to from (to-long ∙ sym (point-length p fits v v-below)) ∙ to-long)
+pub nothing-breaks : (tolerance : Float) (min max : Limit) (ps : List Vec) (v w : ℕ) → noLimits min max ≡ true → breaksLimit tolerance (limitsOf min max) ps v w ≡ false
+unfolding breaksLimit limitsOf noLimits lengthOf tooShort tooLong
+nothing-breaks tolerance Absent Absent ps v w e = refl
+nothing-breaks tolerance Absent (Length longest) ps v w e = absurd (true≢false (sym e))
+nothing-breaks tolerance (Length shortest) max ps v w e = absurd (true≢false (sym e))

@@ -1,28 +1,38 @@
 -- The counts of a struct are those of what it means, its rows are the vectors of what it means, and two structs that hold the same are one. Leans on Meaning, on Rows, and on the rows
 -- of the crate of laws.
 use mathlib.Core.Path.{_≡_, refl, sym, ap, _∙_}
-use mathlib.Core.List.{List, []}
-use Prim.Native.Nat.{ℕ, zero, suc, _*_, _≤_, _<_}
+use mathlib.Core.List.{List, [], _∷_, _++_}
+use Prim.Native.Nat.{ℕ, zero, suc, _+_, _*_, _≤_, _<_}
 use native.Mathlib.Omega.{arith}
 use lib.ListN.{length, getD, take, drop, length-drop, length-map}
 use lib.Seq.{length-take-le}
-use lib.Ieee.{Float}
+use lib.Ieee.{Float, nan}
 use Rattle.definitions.specs.Vectors.{Vec, dot, plusTimes}
 use Rattle.definitions.specs.Subspace.{Subspace, gains, project, residual, flatten}
-use Rattle.definitions.specs.Orbits.{pointAt}
-use Rattle.laws.specs.Parts.{rows, length-rows, getD-rows}
+use Rattle.definitions.specs.Orbits.{Limits, pointAt, breaksLimit}
+use Rattle.laws.specs.Parts.{rows, length-rows, getD-rows, setFive, setFive-is, rows-written}
 use Rattle.vectors.specs.Meaning.{vectorOf, five}
 use Rattle.vectors.specs.Wholes.{five-means, five-own, minus-length, plusTimes-length}
 use Rattle.space.specs.declared.Subspace.{Subspace as StoredSubspace}
 use Rattle.space.specs.declared.Points.{Points}
-use Rattle.space.specs.Rows.{rows-length}
-use Rattle.space.specs.Meaning.{subspaceOf, SubspaceFits, HoldsSubspace, pointsOf, PointsFit, HoldsPoints}
+use Rattle.space.specs.Rows.{row-long, rows-length, row-is, joined-length, row-joins}
+use Rattle.space.specs.Meaning.{inRows, subspaceOf, SubspaceFits, HoldsSubspace, pointsOf, PointsFit, HoldsPoints}
 
 -- ---- a subspace
 
 pub offset-length : (s : StoredSubspace) → s .d ≤ 5 → length (s .offset) ≡ 5 → length (subspaceOf s .offset) ≡ s .d
 unfolding subspaceOf
 offset-length s fits long = length-take-le (s .d) (s .offset) (omega arith)
+
+-- how long the arrays are
+module _ (s : StoredSubspace) (fits : SubspaceFits s) where
+  pub offset-long : length (s .offset) ≡ 5
+  unfolding subspaceOf
+  offset-long = ap length (fits .offset-is) ∙ row-long (s .d) (s .offset) (fits .d-fits)
+
+  pub basis-long : length (s .basis) ≡ 25
+  unfolding subspaceOf
+  basis-long = ap length (fits .basis-is) ∙ rows-length 25 (s .d) (s .rank) (s .basis) (fits .d-fits) (omega (arith, fits .rank-fits))
 
 pub basis-length : (s : StoredSubspace) → length (subspaceOf s .basis) ≡ s .rank
 unfolding subspaceOf
@@ -95,7 +105,7 @@ holds-points p d points fits same e = record { fits = fits; d-is = same; n-is = 
 
 -- A point has d numbers, and an array that holds it means it.
 module _ (p : Points) (fits : PointsFit p) where
-  at-long : length (p .at) ≡ 100
+  pub at-long : length (p .at) ≡ 100
   unfolding pointsOf
   at-long = ap length (fits .at-is) ∙ rows-length 100 (p .d) (p .n) (p .at) (fits .d-fits) (omega (arith, fits .n-fits))
 
@@ -109,6 +119,29 @@ module _ (p : Points) (fits : PointsFit p) where
 
     pub point-own : (r : List Float) → r ≡ five (pointAt (pointsOf p) i) → r ≡ five (vectorOf (p .d) r)
     point-own r is = five-own r (pointAt (pointsOf p) i) (p .d) is point-length
+
+    -- the five places of a point hold it
+    pub point-places : take 5 (drop (5 * i) (p .at)) ≡ five (pointAt (pointsOf p) i)
+    unfolding pointsOf
+    point-places = row-is 100 (p .d) (p .n) (p .at) i (fits .d-fits) below (fits .at-is) ∙ ap five (sym (point-row p i below))
+
+  -- A row that is written behind the points is one point more.
+  pub row-joined : (row : List Float) → p .n < 20 → length row ≡ 5 → row ≡ five (vectorOf (p .d) row)
+      → HoldsPoints (record { at = setFive (p .at) (5 * p .n) row nan; n = p .n + 1; d = p .d }) (p .d) (pointsOf p ++ (vectorOf (p .d) row ∷ []))
+  unfolding pointsOf
+  row-joined row room long own =
+      let before = rows 5 (p .d) (p .n) (p .at) in
+      let wide : 5 * p .n + 5 ≤ length (p .at) = omega (arith, at-long, room) in
+      let written : rows 5 (p .d) (p .n + 1) (setFive (p .at) (5 * p .n) row nan) ≡ before ++ (take (p .d) row ∷ []) = rows-written (p .d) (p .n) (p .at) row nan (fits .d-fits) wide long in
+      let taken : setFive (p .at) (5 * p .n) row nan ≡ inRows 100 (before ++ (take (p .d) row ∷ [])) =
+      setFive-is (p .at) (5 * p .n) row nan wide long
+      ∙ row-joins 100 (p .n) before (p .at) row _ (joined-length (p .d) (p .n) (p .at) (fits .d-fits)) long own (fits .at-is) in
+      holds-points _ _ _ (record { n-fits = omega (arith, room); d-fits = fits .d-fits; at-is = rw written taken }) refl written
+
+-- A length between two points is that of the two alone.
+pub two-alone : (tolerance : Float) (limits : Limits) (ps : List Vec) (v w : ℕ) (p q : Vec) → pointAt ps v ≡ p → pointAt ps w ≡ q → breaksLimit tolerance limits (p ∷ q ∷ []) 0 1 ≡ breaksLimit tolerance limits ps v w
+unfolding breaksLimit pointAt
+two-alone tolerance limits ps v w p q is-p is-q = rw (← is-p, ← is-q) refl
 
 -- The struct is known from what it holds.
 pub one-points : (p q : Points) (d : ℕ) (points : List Vec) → HoldsPoints p d points → HoldsPoints q d points → p ≡ q

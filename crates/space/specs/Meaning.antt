@@ -1,7 +1,7 @@
 -- What the structs and the enum of this crate mean in the definitions' terms. Numbers lie in flat arrays, in rows of five; a row means its first d numbers, and zeros stand behind
 -- all that the counts reach, so that a struct is known from what it means. Leans on the definitions and on the rows of the crate of laws.
 use mathlib.Core.Path.{_≡_}
-use mathlib.Core.Bool.{Bool}
+use mathlib.Core.Bool.{Bool, true, false}
 use mathlib.Core.List.{List, [], _∷_, _++_}
 use mathlib.Core.Option.{Option, some, none}
 use Prim.Native.Nat.{ℕ, _≤_}
@@ -66,6 +66,10 @@ isFullRank s = leb (length (s .offset)) (length (s .basis))
 unfoldable pub pointsOf : Points → List Vec
 pointsOf p = rows 5 (p .d) (p .n) (p .at)
 
+-- numbers that are borrowed, with their counts
+abbrev pub borrowed : List Float → ℕ → ℕ → Points
+borrowed numbers n d = record { at = numbers; n = n; d = d }
+
 -- The counts fit the array, and zeros stand behind what they reach.
 pub record PointsFit (p : Points) : Type 0 where
   pub n-fits : p .n ≤ 20
@@ -88,3 +92,9 @@ lengthOf (Length length) = some length
 
 unfoldable pub limitsOf : Limit → Limit → Limits
 limitsOf min max = record { shortest = lengthOf min; longest = lengthOf max }
+
+-- neither limit is given
+unfoldable pub noLimits : Limit → Limit → Bool
+noLimits Absent Absent = true
+noLimits Absent (Length longest) = false
+noLimits (Length shortest) max = false

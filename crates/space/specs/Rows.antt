@@ -20,7 +20,7 @@ joined-more [] v = append-nil (five v)
 joined-more (u ∷ vs) v = rw (joined-more vs v) (sym (append-assoc (five u) (joined vs) (five v)))
 
 -- each of n rows takes five places
-row-long : (d : ℕ) (flat : List Float) → d ≤ 5 → length (five (take d flat)) ≡ 5
+pub row-long : (d : ℕ) (flat : List Float) → d ≤ 5 → length (five (take d flat)) ≡ 5
 row-long d flat few = five-length (take d flat) (rw (length-take d flat) (omega (arith, min-le-left d (length flat))))
 
 pub joined-length : (d n : ℕ) (flat : List Float) → d ≤ 5 → length (joined (rows 5 d n flat)) ≡ 5 * n

@@ -2,14 +2,15 @@
 // handed back. Numbers lie in flat arrays, five places to a vector; only the first d of them mean something, and zeros stand behind all that mean something.
 ghost use mathlib.Core.Path.{_≡_};
 ghost use mathlib.Core.List.{_∷_, [], _++_, map};
-ghost use Prim.Native.Nat.{_+_, _≤_, _<_};
-ghost use lib.ListN.{length, drop};
-ghost use lib.Ieee.{lt};
-ghost use Rattle.definitions.specs.Vectors.{minus};
+ghost use Prim.Native.Nat.{_+_, _*_, _≤_, _<_};
+ghost use lib.ListN.{length, take, drop};
+ghost use lib.Ieee.{lt, nan};
+ghost use Rattle.definitions.specs.Vectors.{minus, norm};
 ghost use Rattle.definitions.specs.Subspace.{project, residual, distance, addPoint, fromPoints, isHyperplane, flatten};
 ghost use Rattle.definitions.specs.Orbits.{pointAt, tooShort, tooLong, breaksLimit};
+ghost use Rattle.laws.specs.Parts.{setFive};
 ghost use Rattle.vectors.specs.Meaning.{vectorOf, five};
-ghost use Rattle.space.specs.Meaning.{subspaceOf, SubspaceFits, HoldsSubspace, pointAlone, withVector, isFullRank, pointsOf, PointsFit, HoldsPoints, lengthOf, limitsOf};
+ghost use Rattle.space.specs.Meaning.{subspaceOf, SubspaceFits, HoldsSubspace, pointAlone, withVector, isFullRank, pointsOf, PointsFit, HoldsPoints, lengthOf, limitsOf, noLimits};
 
 // ---- subspaces
 
@@ -113,13 +114,13 @@ impl Subspace {
         if n == 0 {
             return Subspace::new([0.0; 5], 0);
         }
-        let mut s = Subspace::new(points.point(0), d);
+        let mut s = Subspace::new(point_at(&points.at, 0), d);
         let mut i = 1;
         while i < n {
             if s.is_full_rank() {
                 return s;
             }
-            let wider = s.add(points.point(i), tolerance);
+            let wider = s.add(point_at(&points.at, i), tolerance);
             s = wider;
             i += 1;
         }
@@ -216,14 +217,7 @@ impl Points {
         requires { ⌜ PointsFit self × (i < self .n) ⌝ }
         ensures { λ r. ⌜ r ≡ five (pointAt (pointsOf self) i) ⌝ }
     {
-        let at = 5 * i;
-        [
-            self.at[at],
-            self.at[at + 1],
-            self.at[at + 2],
-            self.at[at + 3],
-            self.at[at + 4],
-        ]
+        point_at(&self.at, i)
     }
 
     // One point more, at the end.
@@ -233,12 +227,7 @@ impl Points {
     {
         let mut more = self;
         let n = more.n;
-        let at = 5 * n;
-        more.at[at] = p[0];
-        more.at[at + 1] = p[1];
-        more.at[at + 2] = p[2];
-        more.at[at + 3] = p[3];
-        more.at[at + 4] = p[4];
+        put_point(&mut more.at, n, p);
         more.n = n + 1;
         more
     }
@@ -250,14 +239,17 @@ impl Points {
     {
         let n = self.n;
         let rank = plane.rank;
-        let mut flat = Points::new(rank);
+        let mut flat = [0.0; 100];
         let mut i = 0;
         while i < n {
-            let more = flat.with_point(plane.flatten(self.point(i)));
-            flat = more;
+            put_point(&mut flat, i, plane.flatten(point_at(&self.at, i)));
             i += 1;
         }
-        flat
+        Points {
+            at: flat,
+            n: n,
+            d: rank,
+        }
     }
 
     // Whether the length from point v to point w breaks a limit.
@@ -265,10 +257,38 @@ impl Points {
         requires { ⌜ PointsFit self × (v < self .n) × (w < self .n) ⌝ }
         ensures { λ r. ⌜ r ≡ breaksLimit tolerance (limitsOf min max) (pointsOf self) v w ⌝ }
     {
-        let d = self.d;
-        let length = vectors::norm(vectors::minus(self.point(w), self.point(v), d), d);
-        too_short(length, min, tolerance) || too_long(length, max, tolerance)
+        breaks_limit_at(&self.at, self.d, v, w, min, max, tolerance)
     }
+}
+
+// What works on points borrows their numbers: to hand a struct of them on would copy it.
+
+// The five places of point i.
+pub fn point_at(points: &[f64], i: usize) -> [f64; 5]
+    requires { ⌜ 5 * i + 5 ≤ length (now points) ⌝ }
+    ensures { λ r. ⌜ r ≡ take 5 (drop (5 * i) (now (points .entry))) ⌝ }
+{
+    let at = 5 * i;
+    [
+        points[at],
+        points[at + 1],
+        points[at + 2],
+        points[at + 3],
+        points[at + 4],
+    ]
+}
+
+// A point's five numbers to place i.
+pub fn put_point(points: &mut [f64; 100], i: usize, p: [f64; 5])
+    requires { ⌜ i < 20 ⌝ }
+    ensures { λ _. ⌜ now (points .exit) ≡ setFive (now (points .entry)) (5 * i) p nan ⌝ }
+{
+    let at = 5 * i;
+    points[at] = p[0];
+    points[at + 1] = p[1];
+    points[at + 2] = p[2];
+    points[at + 3] = p[3];
+    points[at + 4] = p[4];
 }
 
 // ---- limits
@@ -277,6 +297,47 @@ impl Points {
 pub enum Limit {
     Absent,
     Length(f64),
+}
+
+// Whether neither limit is given.
+fn no_limits(min: Limit, max: Limit) -> bool
+    ensures { λ r. ⌜ r ≡ noLimits min max ⌝ }
+{
+    match min {
+        Limit::Absent => match max {
+            Limit::Absent => true,
+            Limit::Length(_) => false,
+        },
+        Limit::Length(_) => false,
+    }
+}
+
+// The length from point v to point w.
+fn length_between(points: &[f64], d: usize, v: usize, w: usize) -> f64
+    requires { ⌜ (d ≤ 5) × (5 * v + 5 ≤ length (now points)) × (5 * w + 5 ≤ length (now points)) ⌝ }
+    ensures { λ r. ⌜ r ≡ norm (minus (vectorOf d (drop (5 * w) (now (points .entry)))) (vectorOf d (drop (5 * v) (now (points .entry))))) ⌝ }
+{
+    vectors::norm(vectors::minus(point_at(points, w), point_at(points, v), d), d)
+}
+
+// [5.3] Whether the length from point v to point w breaks a limit. No length is taken where no limit is given.
+pub fn breaks_limit_at(
+    points: &[f64],
+    d: usize,
+    v: usize,
+    w: usize,
+    min: Limit,
+    max: Limit,
+    tolerance: f64,
+) -> bool
+    requires { ⌜ (d ≤ 5) × (5 * v + 5 ≤ length (now points)) × (5 * w + 5 ≤ length (now points)) ⌝ }
+    ensures { λ r. ⌜ r ≡ breaksLimit tolerance (limitsOf min max) (vectorOf d (drop (5 * v) (now (points .entry))) ∷ vectorOf d (drop (5 * w) (now (points .entry))) ∷ []) 0 1 ⌝ }
+{
+    if no_limits(min, max) {
+        return false;
+    }
+    let length = length_between(points, d, v, w);
+    too_short(length, min, tolerance) || too_long(length, max, tolerance)
 }
 
 // < min − tolerance

@@ -1,74 +1,85 @@
--- `Points::flatten_all` meets its contract. The invariant: the first i points, flattened, stand in the new struct. Leans on the laws of rows.
-use mathlib.Core.Path.{_≡_, refl, sym, _∙_}
-use mathlib.Core.List.{map}
-use Prim.Native.Nat.{_*_, _-_, _≤_}
-use native.Mathlib.Omega.{arith}
-use borrow.Author.Needs.{needs}
+use mathlib.Core.Path.{_≡_, refl, ap, _∙_}
+use Prim.Native.Nat.{_*_, _<_}
 use lib.ListN.{length, take, drop}
+use Rattle.laws.specs.Parts.{map-rows-more}
+use Rattle.laws.specs.Segments.{onto}
+use Rattle.vectors.specs.Meaning.{vectorOf, zeros}
+use Rattle.vectors.specs.Wholes.{five-length, five-means, five-own}
+use Rattle.space.specs.Meaning.{pointsOf, inRows, joined}
+use Rattle.space.specs.Counts.{offset-long, basis-long, holds-points, point-row, point-means, point-places, flatten-length, row-joined}
+use borrow.Author.Needs.{needs}
+use mathlib.Core.List.{map}
+use Prim.Native.Nat.{_-_, _≤_}
+use native.Mathlib.Omega.{arith}
 use Rattle.definitions.specs.Subspace.{flatten}
-use Rattle.laws.specs.Parts.{rows, map-rows-more}
-use Rattle.vectors.specs.Meaning.{vectorOf}
-use Rattle.vectors.specs.Wholes.{five-means, five-own}
-use Rattle.space.specs.Meaning.{subspaceOf, pointsOf, HoldsPoints}
-use Rattle.space.specs.Counts.{point-row, point-means, flatten-length}
+use Rattle.laws.specs.Parts.{rows}
+use Rattle.space.specs.Meaning.{subspaceOf, HoldsPoints}
 use Rattle.space.proofs.Points.flatten_all.Statement.{statement}
 use Rattle.space.proofs.Points.flatten_all.Tie as tie
+use Rattle.space.proofs.Points.flatten_all.Reads as reads
+use Rattle.space.proofs.Points.flatten_all.Lts as lts
+use Rattle.space.proofs.Subspace.flatten.Reads as flatten-reads
+use Rattle.space.proofs.point_at.Reads as point-at-reads
+use Rattle.space.proofs.put_point.Reads as put-point-reads
 
 abbrev Inv-loop : tie.InvT-loop
-Inv-loop self plane n rank flat₀ i₀ flat i = (i ≤ n) × HoldsPoints flat rank (map (flatten (subspaceOf plane)) (rows 5 (self .d) i (self .at))) × (flat .n ≡ i)
+Inv-loop plane self n rank flat₀ i₀ flat i = (i ≤ n) × HoldsPoints (record { at = flat; n = i; d = rank }) rank (map (flatten (subspaceOf plane)) (rows 5 (self .d) i (self .at)))
 
 abbrev μ-loop : tie.MeasureT-loop
-μ-loop self plane n rank flat₀ i₀ flat i = n - i
+μ-loop plane self n rank flat₀ i₀ flat i = n - i
 
-new-requires : tie.Need-new-requires Inv-loop μ-loop
-new-requires c κs = search needs
-
+-- src/lib.rt:244:9
 loop-holds : tie.Need-loop-holds Inv-loop μ-loop
-unfolding rows
-loop-holds c = (omega arith, c .new .ensures, c .new .ensures .n-is)
+unfolding pointsOf rows inRows joined onto zeros
+loop-holds c = (omega arith, holds-points _ _ _ (record { n-fits = omega arith; d-fits = c .pre .1 .rank-fits; at-is = refl }) refl refl)
 
-point-requires : tie.Need-point-requires Inv-loop μ-loop
-point-requires c κs = search needs
+-- src/lib.rt:245:51
+point-at-requires : tie.Need-point-at-requires Inv-loop μ-loop
+point-at-requires c κs = search needs
 
+-- src/lib.rt:245:37
 flatten-requires : tie.Need-flatten-requires Inv-loop μ-loop
 flatten-requires c κs = search needs
 
-with-point-requires : tie.Need-with-point-requires Inv-loop μ-loop
-with-point-requires c κs =
-    let l = c .before .before .before .loop in
-    let entry = c .before .before .before .before .before in
-    let plane = entry .args .plane in
-    let offset-long : length (plane .offset) ≡ 5 = search needs in
-    let basis-long : length (plane .basis) ≡ 25 = search needs in
-    let flat-long = flatten-length plane (entry .pre .1) offset-long basis-long _ ∙ sym (l .inv .1 .d-is) in
-    (l .inv .1 .fits, omega arith, five-own (c .flatten .result) _ (l .flat .d) (c .flatten .ensures) flat-long)
+-- src/lib.rt:245:13
+put-point-requires : tie.Need-put-point-requires Inv-loop μ-loop
+put-point-requires c κs = search needs
 
+-- src/lib.rt:246:13
 add-i : tie.Need-add-i Inv-loop μ-loop
 add-i c = search needs
 
+-- src/lib.rt:244:9
 loop-less : tie.Need-loop-less Inv-loop μ-loop
 loop-less c = search needs
 
+-- src/lib.rt:244:9
 loop-again : tie.Need-loop-again Inv-loop μ-loop
-loop-again c =
-    let l = c .before .before .before .before .loop in
-    let p = c .before .before .before .before .before .before .args .self in
-    let plane = c .before .before .before .before .before .before .args .plane in
+loop-again c = 
+    let at-flat = c .before in
+    let at-point = at-flat .before in
+    let at-loop = at-point .before .before .before .before .before .before in
+    let entry = at-loop .before in
+    let l = at-loop .loop in
+    let p = entry .args .t1 in
+    let plane = entry .args .plane in
     let row = take (p .d) (drop (5 * l .i) (p .at)) in
-    let entry = c .before .before .before .before .before .before in
-    let offset-long : length (plane .offset) ≡ 5 = search needs in
-    let basis-long : length (plane .basis) ≡ 25 = search needs in
-    let point : vectorOf (p .d) (c .before .before .point .result) ≡ row = point-means p (entry .pre .0) (l .i) (omega arith) _ (c .before .before .point .ensures) ∙ point-row p (l .i) (omega arith) in
-    let means = five-means (c .before .flatten .result) _ (plane .rank) (c .before .flatten .ensures) (flatten-length plane (entry .pre .1) offset-long basis-long _) in
-    let flat : vectorOf (plane .rank) (c .before .flatten .result) ≡ flatten (subspaceOf plane) row = means ∙ rw (← (entry .pre .2), point) refl in
-    (omega arith, rw (map-rows-more (flatten (subspaceOf plane)) 5 (p .d) (l .i) (p .at), ← flat, ← (l .inv .1 .means), ← (l .inv .1 .d-is)) (c .with-point .ensures .0), omega arith)
+    let result = at-flat .flatten .result in
+    let inside : l .i < p .n = omega (arith, at-point .before .before .before .before .before .loop-test .taken) in
+    let point : vectorOf (p .d) (at-point .point-at .result) ≡ row = point-means p (entry .pre .0) (l .i) inside _ (at-point .point-at .ensures ∙ point-places p (entry .pre .0) (l .i) inside) ∙ point-row p (l .i) inside in
+    let flat-long = flatten-length plane (entry .pre .1) (offset-long plane (entry .pre .1)) (basis-long plane (entry .pre .1)) (vectorOf (plane .d) (at-point .point-at .result)) in
+    let long : length result ≡ 5 = ap length (at-flat .flatten .ensures) ∙ five-length _ (omega (arith, flat-long, entry .pre .1 .rank-fits)) in
+    let flat : vectorOf (plane .rank) result ≡ flatten (subspaceOf plane) row = five-means result _ (plane .rank) (at-flat .flatten .ensures) flat-long ∙ rw (← (entry .pre .2), point) refl in
+    let more = row-joined (record { at = l .flat; n = l .i; d = plane .rank }) (l .inv .1 .fits) result (omega (arith, inside, entry .pre .0 .n-fits)) long (five-own result _ (plane .rank) (at-flat .flatten .ensures) flat-long) in
+    (omega (arith, inside), rw (c .put-point .ensures, map-rows-more (flatten (subspaceOf plane)) 5 (p .d) (l .i) (p .at), ← flat, ← (l .inv .1 .means)) more)
 
+-- src/lib.rt:236:5
 returns : tie.Need-returns Inv-loop μ-loop
 unfolding pointsOf
-returns c =
+returns c = 
     let l = c .before .loop in
-    let end : l .i ≡ c .before .before .before .args .self .n = omega arith in
-    (rw (← end) (l .inv .1), l .inv .2 ∙ end)
+    let end : l .i ≡ c .before .before .args .t1 .n = omega arith in
+    (rw (← end) (l .inv .1), refl)
 
 pub flatten-all-spec : {M : Type 1} → statement M
 flatten-all-spec =
@@ -76,11 +87,10 @@ flatten-all-spec =
     (tie.spec
     Inv-loop
     μ-loop
-    new-requires
     loop-holds
-    point-requires
+    point-at-requires
     flatten-requires
-    with-point-requires
+    put-point-requires
     add-i
     loop-less
     loop-again

@@ -10,42 +10,46 @@ use Rattle.definitions.specs.Orbits.{pointAt}
 use Rattle.laws.specs.Segments.{onto}
 use Rattle.vectors.specs.Meaning.{vectorOf, zeros, five}
 use Rattle.space.specs.Meaning.{subspaceOf, HoldsSubspace, isFullRank, pointsOf}
-use Rattle.space.specs.Counts.{holds-own, points-length, point-means, point-own}
+use Rattle.space.specs.Counts.{holds-own, points-length, at-long, point-means, point-own, point-places}
 use Rattle.space.proofs.Laws.{addPoints-full, addPoints-step, addPoints-end, fromPoints-none, fromPoints-first, has-room}
 use Rattle.space.proofs.Subspace.from_points.Statement.{statement}
 use Rattle.space.proofs.Subspace.from_points.Tie as tie
 
 abbrev Inv-loop : tie.InvT-loop
-Inv-loop points tolerance n d s₀ i₀ s i = (i ≤ n) × (s .d ≡ d) × HoldsSubspace s (subspaceOf s) × (addPoints tolerance (subspaceOf s) (drop i (pointsOf points)) ≡ fromPoints tolerance (pointsOf points))
+Inv-loop tolerance points n d s₀ i₀ s i = (i ≤ n) × (s .d ≡ d) × HoldsSubspace s (subspaceOf s) × (addPoints tolerance (subspaceOf s) (drop i (pointsOf points)) ≡ fromPoints tolerance (pointsOf points))
 
 abbrev μ-loop : tie.MeasureT-loop
-μ-loop points tolerance n d s₀ i₀ s i = n - i
+μ-loop tolerance points n d s₀ i₀ s i = n - i
 
 new-requires : tie.Need-new-requires Inv-loop μ-loop
 unfolding five onto zeros
 new-requires c κs = (omega arith, refl)
 
 returns : tie.Need-returns Inv-loop μ-loop
-returns c = (rw (fromPoints-none _ (c .before .before .args .points) (c .before .if1 .taken)) (c .new .ensures .0), λ h. absurd (omega arith))
+returns c = (rw (fromPoints-none _ (c .before .before .args .t1) (c .before .if1 .taken)) (c .new .ensures .0), λ h. absurd (omega arith))
 
-point-requires : tie.Need-point-requires Inv-loop μ-loop
-point-requires c κs = search needs
+point-at-requires : tie.Need-point-at-requires Inv-loop μ-loop
+point-at-requires c κs =
+    let entry = c .before .before .before .before in
+    omega (arith, at-long (entry .args .t1) (entry .pre))
 
 new-requires-2 : tie.Need-new-requires-2 Inv-loop μ-loop
 new-requires-2 c κs =
-    let entry = c .before .before in
-    let p = entry .args .points in
-    (entry .pre .d-fits, point-own p (entry .pre) 0 (omega arith) _ (c .point .ensures))
+    let entry = c .before .before .before .before .before in
+    let p = entry .args .t1 in
+    (entry .pre .d-fits, point-own p (entry .pre) 0 (omega arith) _ (c .point-at .ensures ∙ point-places p (entry .pre) 0 (omega arith)))
 
 loop-holds : tie.Need-loop-holds Inv-loop μ-loop
 loop-holds c =
-    let p = c .before .before .before .args .points in
-    let first : vectorOf (p .d) (c .before .point .result) ≡ pointAt (pointsOf p) 0 = point-means p (c .before .before .before .pre) 0 (omega arith) _ (c .before .point .ensures) in
+    let at-first = c .before in
+    let entry = at-first .before .before .before .before .before in
+    let p = entry .args .t1 in
+    let first : vectorOf (p .d) (at-first .point-at .result) ≡ pointAt (pointsOf p) 0 = point-means p (entry .pre) 0 (omega arith) _ (at-first .point-at .ensures ∙ point-places p (entry .pre) 0 (omega arith)) in
     let some-points : 0 < length (pointsOf p) = omega (arith, points-length p) in (
       omega arith,
       c .new2 .ensures .1,
       holds-own _ _ (c .new2 .ensures .0),
-      rw (c .new2 .ensures .0 .means, first) (sym (fromPoints-first (c .before .before .before .args .tolerance) (pointsOf p) some-points)),
+      rw (c .new2 .ensures .0 .means, first) (sym (fromPoints-first (entry .args .tolerance) (pointsOf p) some-points)),
     )
 
 is-full-rank-requires : tie.Need-is-full-rank-requires Inv-loop μ-loop
@@ -57,13 +61,17 @@ returns-2 c =
     let full : isFullRank (subspaceOf (l .s)) ≡ true = sym (c .before .is-full-rank .ensures) ∙ c .if2 .taken in
     (rw (← (l .inv .3), addPoints-full _ _ _ full) (l .inv .2), λ h. l .inv .1)
 
-point-requires-2 : tie.Need-point-requires-2 Inv-loop μ-loop
-point-requires-2 c κs = search needs
+point-at-requires-2 : tie.Need-point-at-requires-2 Inv-loop μ-loop
+point-at-requires-2 c κs =
+    let at-loop = c .before .before .before .before .before .before in
+    let entry = at-loop .before .before .before .before .before .before .before in
+    omega (arith, at-long (entry .args .t1) (entry .pre), c .before .before .before .before .before .loop-test .taken, entry .pre .n-fits)
 
 add-requires : tie.Need-add-requires Inv-loop μ-loop
 add-requires c κs =
-    let l = c .before .before .before .before .loop in
-    let room : l .s .rank < l .s .d = has-room (l .s) (l .inv .2) (sym (c .before .before .is-full-rank .ensures) ∙ c .before .if2 .left) in
+    let at-test = c .before .before .before .before in
+    let l = at-test .before .before .before .loop in
+    let room : l .s .rank < l .s .d = has-room (l .s) (l .inv .2) (sym (at-test .before .is-full-rank .ensures) ∙ at-test .if2 .left) in
     let fits : l .s .d ≤ 5 = l .inv .2 .fits .d-fits in
     (l .inv .2 .fits, omega (arith, room, fits))
 
@@ -75,24 +83,31 @@ loop-less c = search needs
 
 loop-again : tie.Need-loop-again Inv-loop μ-loop
 loop-again c =
-    let l = c .before .before .before .before .before .loop in
-    let a = c .before .before .before .before .before .before .before .before .before .args in
+    let at-point = c .before in
+    let at-test = at-point .before .before .before .before in
+    let at-loop = at-test .before .before .before in
+    let entry = at-loop .before .before .before .before .before .before .before in
+    let l = at-loop .loop in
+    let p = entry .args .t1 in
     let s = subspaceOf (l .s) in
-    let not-full : isFullRank s ≡ false = sym (c .before .before .before .is-full-rank .ensures) ∙ c .before .before .if2 .left in
-    let below : l .i < length (pointsOf (a .points)) = omega (arith, points-length (a .points)) in
-    let point : vectorOf (l .s .d) (c .before .point2 .result) ≡ pointAt (pointsOf (a .points)) (l .i) = rw (l .inv .1) (point-means (a .points) (c .before .before .before .before .before .before .before .before .before .pre) (l .i) (omega arith) _ (c .before .point2 .ensures)) in (
-      omega arith,
+    let inside : l .i < p .n = omega (arith, at-test .before .before .loop-test .taken) in
+    let not-full : isFullRank s ≡ false = sym (at-test .before .is-full-rank .ensures) ∙ at-test .if2 .left in
+    let below : l .i < length (pointsOf p) = omega (arith, inside, points-length p) in
+    let point : vectorOf (l .s .d) (at-point .point-at2 .result) ≡ pointAt (pointsOf p) (l .i) = rw (l .inv .1) (point-means p (entry .pre) (l .i) inside _ (at-point .point-at2 .ensures ∙ point-places p (entry .pre) (l .i) inside)) in (
+      omega (arith, inside),
       c .add .ensures .1 ∙ l .inv .1,
       holds-own _ _ (c .add .ensures .0),
-      rw (c .add .ensures .0 .means, point) (sym (addPoints-step (a .tolerance) s (pointsOf (a .points)) (l .i) below not-full) ∙ l .inv .3),
+      rw (c .add .ensures .0 .means, point) (sym (addPoints-step (entry .args .tolerance) s (pointsOf p) (l .i) below not-full) ∙ l .inv .3),
     )
 
 returns-3 : tie.Need-returns-3 Inv-loop μ-loop
 returns-3 c =
-    let l = c .before .loop in
-    let p = c .before .before .before .before .before .args .points in
+    let at-loop = c .before in
+    let entry = at-loop .before .before .before .before .before .before .before in
+    let l = at-loop .loop in
+    let p = entry .args .t1 in
     let end : length (pointsOf p) ≤ l .i = omega (arith, points-length p) in
-    (rw (← (l .inv .3), addPoints-end (c .before .before .before .before .before .args .tolerance) (subspaceOf (l .s)) (pointsOf p) (l .i) end) (l .inv .2), λ h. l .inv .1)
+    (rw (← (l .inv .3), addPoints-end (entry .args .tolerance) (subspaceOf (l .s)) (pointsOf p) (l .i) end) (l .inv .2), λ h. l .inv .1)
 
 pub from-points-spec : {M : Type 1} → statement M
 from-points-spec =
@@ -102,12 +117,12 @@ from-points-spec =
     μ-loop
     new-requires
     returns
-    point-requires
+    point-at-requires
     new-requires-2
     loop-holds
     is-full-rank-requires
     returns-2
-    point-requires-2
+    point-at-requires-2
     add-requires
     add-i
     loop-less
