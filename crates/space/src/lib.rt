@@ -317,7 +317,10 @@ fn length_between(points: &[f64], d: usize, v: usize, w: usize) -> f64
     requires { ⌜ (d ≤ 5) × (5 * v + 5 ≤ length (now points)) × (5 * w + 5 ≤ length (now points)) ⌝ }
     ensures { λ r. ⌜ r ≡ norm (minus (vectorOf d (drop (5 * w) (now (points .entry)))) (vectorOf d (drop (5 * v) (now (points .entry))))) ⌝ }
 {
-    vectors::norm(vectors::minus(point_at(points, w), point_at(points, v), d), d)
+    vectors::norm(
+        vectors::minus(point_at(points, w), point_at(points, v), d),
+        d,
+    )
 }
 
 // [5.3] Whether the length from point v to point w breaks a limit. No length is taken where no limit is given.

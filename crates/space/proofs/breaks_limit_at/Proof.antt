@@ -1,3 +1,4 @@
+-- `breaks_limit_at` meets its contract: where no limit is given nothing breaks one, else from the contracts of its calls.
 use mathlib.Core.Path.{_≡_, refl, sym, _∙_}
 use Prim.Native.Nat.{_*_}
 use lib.ListN.{drop}
@@ -9,49 +10,36 @@ use Rattle.space.proofs.Laws.{nothing-breaks}
 use borrow.Author.Needs.{needs}
 use Rattle.space.proofs.breaks_limit_at.Statement.{statement}
 use Rattle.space.proofs.breaks_limit_at.Tie as tie
-use Rattle.space.proofs.breaks_limit_at.Reads as reads
-use Rattle.space.proofs.breaks_limit_at.Lts as lts
-use Rattle.space.proofs.length_between.Reads as length-between-reads
-use Rattle.space.proofs.no_limits.Reads as no-limits-reads
-use Rattle.space.proofs.too_long.Reads as too-long-reads
-use Rattle.space.proofs.too_short.Reads as too-short-reads
 
--- src/lib.rt:337:8
 no-limits-requires : tie.Need-no-limits-requires
 no-limits-requires c κs = search needs
 
--- src/lib.rt:338:9
 returns : tie.Need-returns
-returns c = 
+returns c =
     let a = c .before .before .before .args in
     sym (nothing-breaks (a .tolerance) (a .min) (a .max) _ 0 1 (sym (c .before .no-limits .ensures) ∙ c .if1 .taken))
 
--- src/lib.rt:340:9
 length-between-requires : tie.Need-length-between-requires
 length-between-requires c κs = search needs
 
--- src/lib.rt:341:5
 too-short-requires : tie.Need-too-short-requires
 too-short-requires c κs = search needs
 
--- src/lib.rt:341:42
 too-long-requires : tie.Need-too-long-requires
 too-long-requires c κs = search needs
 
--- src/lib.rt:324:1
 returns-2 : tie.Need-returns-2
 unfolding breaksLimit limitsOf pointAt
-returns-2 c = 
+returns-2 c =
     let a = c .before .before .before .before .before .before .args in
     let distance = norm (minus (vectorOf (a .d) (drop (5 * a .w) (a .points .now))) (vectorOf (a .d) (drop (5 * a .v) (a .points .now)))) in
     let measured : c .before .before .length-between .result ≡ distance = c .before .before .length-between .ensures in
     let short : c .before .too-short .result ≡ tooShort (a .tolerance) (lengthOf (a .min)) distance = rw (← measured) (c .before .too-short .ensures) in
     rw (← short, c .if2 .taken) refl
 
--- src/lib.rt:324:1
 returns-3 : tie.Need-returns-3
 unfolding breaksLimit limitsOf pointAt
-returns-3 c = 
+returns-3 c =
     let a = c .before .before .before .before .before .before .before .args in
     let distance = norm (minus (vectorOf (a .d) (drop (5 * a .w) (a .points .now))) (vectorOf (a .d) (drop (5 * a .v) (a .points .now)))) in
     let measured : c .before .before .before .length-between .result ≡ distance = c .before .before .before .length-between .ensures in

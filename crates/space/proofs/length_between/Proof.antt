@@ -1,4 +1,5 @@
-use mathlib.Core.Path.{_≡_, refl, sym, ap, _∙_}
+-- `length_between` meets its contract, from those of its calls.
+use mathlib.Core.Path.{_≡_, refl, sym, _∙_}
 use Prim.Native.Nat.{_*_}
 use native.Mathlib.Omega.{arith}
 use lib.ListN.{length, drop, length-drop}
@@ -9,31 +10,21 @@ use Rattle.vectors.specs.Wholes.{five-means, minus-length}
 use borrow.Author.Needs.{needs}
 use Rattle.space.proofs.length_between.Statement.{statement}
 use Rattle.space.proofs.length_between.Tie as tie
-use Rattle.space.proofs.length_between.Reads as reads
-use Rattle.space.proofs.length_between.Lts as lts
-use Rattle.space.proofs.point_at.Reads as point-at-reads
-use Rattle.vectors.proofs.minus.Reads as minus-reads
-use Rattle.vectors.proofs.norm.Reads as norm-reads
 
--- src/lib.rt:320:34
 point-at-requires : tie.Need-point-at-requires
 point-at-requires c κs = search needs
 
--- src/lib.rt:320:55
 point-at-requires-2 : tie.Need-point-at-requires-2
 point-at-requires-2 c κs = search needs
 
--- src/lib.rt:320:19
 minus-requires : tie.Need-minus-requires
 minus-requires c κs = search needs
 
--- src/lib.rt:320:5
 norm-requires : tie.Need-norm-requires
 norm-requires c κs = search needs
 
--- src/lib.rt:316:1
 returns : tie.Need-returns
-returns c = 
+returns c =
     let entry = c .before .before .before .before .before in
     let a = entry .args in
     let numbers = a .points .now in

@@ -1,3 +1,4 @@
+-- `point_at` meets its contract: the five places that are read are a part of the numbers. Leans on the laws of rows.
 use Prim.Native.Nat.{_*_}
 use native.Mathlib.Omega.{arith}
 use lib.Ieee.{nan}
@@ -5,70 +6,52 @@ use Rattle.laws.specs.Parts.{fiveAt, fiveAt-is}
 use borrow.Author.Needs.{needs}
 use Rattle.space.proofs.point_at.Statement.{statement}
 use Rattle.space.proofs.point_at.Tie as tie
-use Rattle.space.proofs.point_at.Reads as reads
-use Rattle.space.proofs.point_at.Lts as lts
 
--- src/lib.rt:271:14
 mul-at : tie.Need-mul-at
 mul-at c = search needs
 
--- src/lib.rt:273:9
 mul-t4 : tie.Need-mul-t4
 mul-t4 c = search needs
 
--- src/lib.rt:273:9
 shared-slice-read-t6 : tie.Need-shared-slice-read-t6
 shared-slice-read-t6 c = search needs
 
--- src/lib.rt:274:16
 add-t7 : tie.Need-add-t7
 add-t7 c = search needs
 
--- src/lib.rt:274:9
 mul-t8 : tie.Need-mul-t8
 mul-t8 c = search needs
 
--- src/lib.rt:274:9
 shared-slice-read-t10 : tie.Need-shared-slice-read-t10
 shared-slice-read-t10 c = search needs
 
--- src/lib.rt:275:16
 add-t11 : tie.Need-add-t11
 add-t11 c = search needs
 
--- src/lib.rt:275:9
 mul-t12 : tie.Need-mul-t12
 mul-t12 c = search needs
 
--- src/lib.rt:275:9
 shared-slice-read-t14 : tie.Need-shared-slice-read-t14
 shared-slice-read-t14 c = search needs
 
--- src/lib.rt:276:16
 add-t15 : tie.Need-add-t15
 add-t15 c = search needs
 
--- src/lib.rt:276:9
 mul-t16 : tie.Need-mul-t16
 mul-t16 c = search needs
 
--- src/lib.rt:276:9
 shared-slice-read-t18 : tie.Need-shared-slice-read-t18
 shared-slice-read-t18 c = search needs
 
--- src/lib.rt:277:16
 add-t19 : tie.Need-add-t19
 add-t19 c = search needs
 
--- src/lib.rt:277:9
 mul-t20 : tie.Need-mul-t20
 mul-t20 c = search needs
 
--- src/lib.rt:277:9
 shared-slice-read-t22 : tie.Need-shared-slice-read-t22
 shared-slice-read-t22 c = search needs
 
--- src/lib.rt:267:1
 returns : tie.Need-returns
 unfolding fiveAt
 returns c = let entry = c .before .before .before .before .before in fiveAt-is (entry .args .points .now) (5 * entry .args .i) nan (omega (arith, entry .pre))

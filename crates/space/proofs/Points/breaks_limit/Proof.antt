@@ -1,20 +1,16 @@
+-- `Points::breaks_limit` meets its contract: the length between two points is that of the two alone.
 use mathlib.Core.Path.{_∙_}
 use Rattle.space.specs.Meaning.{pointsOf, limitsOf}
 use Rattle.space.specs.Counts.{point-row, two-alone}
 use borrow.Author.Needs.{needs}
 use Rattle.space.proofs.Points.breaks_limit.Statement.{statement}
 use Rattle.space.proofs.Points.breaks_limit.Tie as tie
-use Rattle.space.proofs.Points.breaks_limit.Reads as reads
-use Rattle.space.proofs.Points.breaks_limit.Lts as lts
-use Rattle.space.proofs.breaks_limit_at.Reads as breaks-limit-at-reads
 
--- src/lib.rt:260:9
 breaks-limit-at-requires : tie.Need-breaks-limit-at-requires
 breaks-limit-at-requires c κs = search needs
 
--- src/lib.rt:256:5
 returns : tie.Need-returns
-returns c = 
+returns c =
     let entry = c .before .before .before .before in
     let a = entry .args in
     c .breaks-limit-at .ensures ∙ two-alone (a .tolerance) (limitsOf (a .min) (a .max)) (pointsOf (a .t1)) (a .v) (a .w) _ _ (point-row (a .t1) (a .v) (entry .pre .1)) (point-row (a .t1) (a .w) (entry .pre .2))

@@ -1,26 +1,19 @@
+-- `Points::flatten_all` meets its contract. The invariant: the first i points, flattened, stand in the new numbers; the measure: the points left. Leans on the laws of rows.
 use mathlib.Core.Path.{_≡_, refl, ap, _∙_}
-use Prim.Native.Nat.{_*_, _<_}
+use Prim.Native.Nat.{_*_, _<_, _-_, _≤_}
 use lib.ListN.{length, take, drop}
-use Rattle.laws.specs.Parts.{map-rows-more}
+use Rattle.laws.specs.Parts.{map-rows-more, rows}
 use Rattle.laws.specs.Segments.{onto}
 use Rattle.vectors.specs.Meaning.{vectorOf, zeros}
 use Rattle.vectors.specs.Wholes.{five-length, five-means, five-own}
-use Rattle.space.specs.Meaning.{pointsOf, inRows, joined}
+use Rattle.space.specs.Meaning.{pointsOf, inRows, joined, subspaceOf, HoldsPoints}
 use Rattle.space.specs.Counts.{offset-long, basis-long, holds-points, point-row, point-means, point-places, flatten-length, row-joined}
 use borrow.Author.Needs.{needs}
 use mathlib.Core.List.{map}
-use Prim.Native.Nat.{_-_, _≤_}
 use native.Mathlib.Omega.{arith}
 use Rattle.definitions.specs.Subspace.{flatten}
-use Rattle.laws.specs.Parts.{rows}
-use Rattle.space.specs.Meaning.{subspaceOf, HoldsPoints}
 use Rattle.space.proofs.Points.flatten_all.Statement.{statement}
 use Rattle.space.proofs.Points.flatten_all.Tie as tie
-use Rattle.space.proofs.Points.flatten_all.Reads as reads
-use Rattle.space.proofs.Points.flatten_all.Lts as lts
-use Rattle.space.proofs.Subspace.flatten.Reads as flatten-reads
-use Rattle.space.proofs.point_at.Reads as point-at-reads
-use Rattle.space.proofs.put_point.Reads as put-point-reads
 
 abbrev Inv-loop : tie.InvT-loop
 Inv-loop plane self n rank flat₀ i₀ flat i = (i ≤ n) × HoldsPoints (record { at = flat; n = i; d = rank }) rank (map (flatten (subspaceOf plane)) (rows 5 (self .d) i (self .at)))
@@ -28,34 +21,27 @@ Inv-loop plane self n rank flat₀ i₀ flat i = (i ≤ n) × HoldsPoints (recor
 abbrev μ-loop : tie.MeasureT-loop
 μ-loop plane self n rank flat₀ i₀ flat i = n - i
 
--- src/lib.rt:244:9
 loop-holds : tie.Need-loop-holds Inv-loop μ-loop
 unfolding pointsOf rows inRows joined onto zeros
 loop-holds c = (omega arith, holds-points _ _ _ (record { n-fits = omega arith; d-fits = c .pre .1 .rank-fits; at-is = refl }) refl refl)
 
--- src/lib.rt:245:51
 point-at-requires : tie.Need-point-at-requires Inv-loop μ-loop
 point-at-requires c κs = search needs
 
--- src/lib.rt:245:37
 flatten-requires : tie.Need-flatten-requires Inv-loop μ-loop
 flatten-requires c κs = search needs
 
--- src/lib.rt:245:13
 put-point-requires : tie.Need-put-point-requires Inv-loop μ-loop
 put-point-requires c κs = search needs
 
--- src/lib.rt:246:13
 add-i : tie.Need-add-i Inv-loop μ-loop
 add-i c = search needs
 
--- src/lib.rt:244:9
 loop-less : tie.Need-loop-less Inv-loop μ-loop
 loop-less c = search needs
 
--- src/lib.rt:244:9
 loop-again : tie.Need-loop-again Inv-loop μ-loop
-loop-again c = 
+loop-again c =
     let at-flat = c .before in
     let at-point = at-flat .before in
     let at-loop = at-point .before .before .before .before .before .before in
@@ -73,10 +59,9 @@ loop-again c =
     let more = row-joined (record { at = l .flat; n = l .i; d = plane .rank }) (l .inv .1 .fits) result (omega (arith, inside, entry .pre .0 .n-fits)) long (five-own result _ (plane .rank) (at-flat .flatten .ensures) flat-long) in
     (omega (arith, inside), rw (c .put-point .ensures, map-rows-more (flatten (subspaceOf plane)) 5 (p .d) (l .i) (p .at), ← flat, ← (l .inv .1 .means)) more)
 
--- src/lib.rt:236:5
 returns : tie.Need-returns Inv-loop μ-loop
 unfolding pointsOf
-returns c = 
+returns c =
     let l = c .before .loop in
     let end : l .i ≡ c .before .before .args .t1 .n = omega arith in
     (rw (← end) (l .inv .1), refl)

@@ -1,17 +1,13 @@
+-- `Points::point` meets its contract: the five places that are read hold the point, with its zeros.
 use mathlib.Core.Path.{_∙_}
 use Rattle.space.specs.Counts.{point-places}
 use borrow.Author.Needs.{needs}
 use Rattle.space.proofs.Points.point.Statement.{statement}
 use Rattle.space.proofs.Points.point.Tie as tie
-use Rattle.space.proofs.Points.point.Reads as reads
-use Rattle.space.proofs.Points.point.Lts as lts
-use Rattle.space.proofs.point_at.Reads as point-at-reads
 
--- src/lib.rt:220:9
 point-at-requires : tie.Need-point-at-requires
 point-at-requires c κs = search needs
 
--- src/lib.rt:216:5
 returns : tie.Need-returns
 returns c = let entry = c .before .before .before .before in c .point-at .ensures ∙ point-places (entry .args .t1) (entry .pre .0) (entry .args .i) (entry .pre .1)
 
