@@ -8,13 +8,19 @@ use native.Mathlib.Nat.{mod-eq-of-lt, pow-le-pow-right}
 use native.Mathlib.Numerals.{add-one}
 use borrow.Author.Tests.{eq-eqb, ne-eqb}
 use lib.Dec.{eqb}
-use lib.ListN.{length, getD, take, drop, length-append, length-map, drop-of-length-le}
-use lib.Ieee.{Float, lt}
+use lib.ListN.{length, getD, take, drop, length-append, length-map, length-drop, drop-of-length-le}
+use lib.Seq.{length-take-le}
+use lib.Ieee.{Float, lt, nan}
 use Rattle.definitions.specs.Vectors.{Vec}
 use Rattle.definitions.specs.Lists.{sortNats}
 use Rattle.definitions.specs.Subspace.{Subspace, distance}
 use Rattle.definitions.specs.Orbits.{Row, image, pointAt, pointsNear, setImage}
-use Rattle.laws.specs.Sets.{setNumber, verticesFrom, verticesOf, vertices-odd, vertices-even, number-sorted, number-small}
+use Rattle.laws.specs.Parts.{setFive}
+use Rattle.laws.specs.Sets.{setNumber, verticesFrom, verticesOf, number-sorted, number-small}
+use Rattle.vectors.specs.Meaning.{five}
+use Rattle.space.specs.declared.Points.{Points}
+use Rattle.space.specs.Meaning.{borrowed, pointsOf, PointsFit, HoldsPoints}
+use Rattle.space.specs.Counts.{holds-points, at-long, point-means, point-own, point-places, row-joined}
 use Rattle.openers.specs.Rows.{rowAt, image-at}
 use Rattle.sets.specs.Steps.{power-below, vertices-step, number-step, number-bound, near-set, near-step}
 
@@ -113,16 +119,7 @@ module _ (ps : List Vec) (n : ℕ) where
   unfolding verticesOf
   points-whole x = let e : n - 0 ≡ n = omega arith in ap (λ (k : ℕ). map (pointAt ps) (verticesFrom 0 k x)) e
 
--- a vertex whose bit is set, and one whose bit is not
 module _ (ps : List Vec) (v x : ℕ) where
-  pub point-chosen : x % 2 ≡ 1 → map (pointAt ps) (verticesFrom v 1 x) ≡ pointAt ps v ∷ []
-  unfolding verticesFrom
-  point-chosen e = ap (map (pointAt ps)) (vertices-odd v 0 x e)
-
-  pub point-left : (x % 2 ≡ 1 → ⊥) → map (pointAt ps) (verticesFrom v 1 x) ≡ []
-  unfolding verticesFrom
-  point-left e = ap (map (pointAt ps)) (vertices-even v 0 x e)
-
   pub point-few : length (map (pointAt ps) (verticesFrom v 1 x)) ≤ 1
   unfolding verticesFrom
   point-few = go (eqb (x % 2) 1)
@@ -130,3 +127,25 @@ module _ (ps : List Vec) (v x : ℕ) where
       go : (b : Bool) → length (map (pointAt ps) (cond b (v ∷ []) [])) ≤ 1
       go true = omega arith
       go false = omega arith
+
+-- A vertex joins the chosen points where its bit is set, and leaves them as they are where it is not.
+module _ (flat : Points) (fits : PointsFit flat) (v : ℕ) (below : v < flat .n) where
+  abbrev pub rowOf : List Float
+  rowOf = take 5 (drop (5 * v) (flat .at))
+
+  pub point-joins : (chosen : List Float) (count x : ℕ) → PointsFit (borrowed chosen count (flat .d)) → count < 20
+      → HoldsPoints (borrowed (cond (eqb (x % 2) 1) (setFive chosen (5 * count) rowOf nan) chosen) (cond (eqb (x % 2) 1) (count + 1) count) (flat .d)) (flat .d)
+      (pointsOf (borrowed chosen count (flat .d)) ++ map (pointAt (pointsOf flat)) (verticesFrom v 1 x))
+  unfolding verticesFrom
+  point-joins chosen count x old room = go (eqb (x % 2) 1)
+    where
+      places : rowOf ≡ five (pointAt (pointsOf flat) v)
+      places = point-places flat fits v below
+
+      long : length rowOf ≡ 5
+      long = length-take-le 5 (drop (5 * v) (flat .at)) (omega (arith, length-drop (5 * v) (flat .at), at-long flat fits, fits .n-fits, below))
+
+      go : (b : Bool) → HoldsPoints (borrowed (cond b (setFive chosen (5 * count) rowOf nan) chosen) (cond b (count + 1) count) (flat .d)) (flat .d)
+          (pointsOf (borrowed chosen count (flat .d)) ++ map (pointAt (pointsOf flat)) (cond b (v ∷ []) []))
+      go true = rw (← (point-means flat fits v below rowOf places)) (row-joined (borrowed chosen count (flat .d)) old rowOf room long (point-own flat fits v below rowOf places))
+      go false = holds-points (borrowed chosen count (flat .d)) (flat .d) _ old refl (sym (append-nil (pointsOf (borrowed chosen count (flat .d)))))

@@ -4,15 +4,16 @@ use openers::image;
 use space::Points;
 use space::Subspace;
 ghost use mathlib.Core.Path.{_≡_};
-ghost use mathlib.Core.List.{_∷_, [], _++_, map};
+ghost use mathlib.Core.List.{map};
 ghost use mathlib.Core.Bool.{cond};
 ghost use Prim.Native.Nat.{ℕ, _+_, _*_, _%_, _^_, _≤_, _<_};
 ghost use lib.Dec.{eqb};
 ghost use lib.ListN.{length, getD, take, drop};
-ghost use lib.Ieee.{lt};
+ghost use lib.Ieee.{lt, nan};
 ghost use Rattle.definitions.specs.Subspace.{distance, fromPoints};
 ghost use Rattle.definitions.specs.Orbits.{pointAt, pointsNear, setImage};
-ghost use Rattle.laws.specs.Sets.{setNumber, verticesFrom, verticesOf};
+ghost use Rattle.laws.specs.Parts.{setFive};
+ghost use Rattle.laws.specs.Sets.{setNumber, verticesOf};
 ghost use Rattle.vectors.specs.Meaning.{vectorOf};
 ghost use Rattle.space.specs.Meaning.{PointsFit, pointsOf, HoldsPoints, SubspaceFits, subspaceOf};
 ghost use Rattle.openers.specs.Rows.{rowAt};
@@ -88,16 +89,17 @@ pub fn points_near(flat: Points, plane: Subspace, tolerance: f64) -> u32
 
 // ---- a set's points
 
-// Point v joins the chosen ones if `rest` begins with a bit that is set.
-fn with_chosen(flat: Points, v: usize, rest: u32, chosen: Points) -> Points
-    requires { ⌜ PointsFit flat × (v < flat .n) × PointsFit chosen × (chosen .n < 20) × (flat .d ≡ chosen .d) ⌝ }
-    ensures { λ r. ⌜ HoldsPoints r (flat .d) (pointsOf chosen ++ map (pointAt (pointsOf flat)) (verticesFrom v 1 rest)) ⌝ }
+// Point v joins the chosen ones if `rest` begins with a bit that is set; returns how many there are.
+fn put_chosen(points: &[f64], v: usize, rest: u32, chosen: &mut [f64; 100], count: usize) -> usize
+    requires { ⌜ (5 * v + 5 ≤ length (now points)) × (count < 20) ⌝ }
+    ensures count { λ r. ⌜ r ≡ cond (eqb (rest % 2) 1) (count + 1) count ⌝ }
+    ensures points { λ _. ⌜ now (chosen .exit) ≡ cond (eqb (rest % 2) 1) (setFive (now (chosen .entry)) (5 * count) (take 5 (drop (5 * v) (now (points .entry)))) nan) (now (chosen .entry)) ⌝ }
 {
     if rest % 2 == 1 {
-        chosen.with_point(flat.point(v))
-    } else {
-        chosen
+        space::put_point(chosen, count, space::point_at(points, v));
+        return count + 1;
     }
+    count
 }
 
 // The points of a set, ascending.
@@ -106,16 +108,20 @@ pub fn chosen_points(flat: Points, set: u32) -> Points
     ensures { λ r. ⌜ HoldsPoints r (flat .d) (map (pointAt (pointsOf flat)) (verticesOf (flat .n) set)) ⌝ }
 {
     let n = flat.n;
-    let mut chosen = Points::new(flat.d);
+    let mut chosen = [0.0; 100];
+    let mut count = 0;
     let mut rest = set;
     let mut v = 0;
     while v < n {
-        let more = with_chosen(flat, v, rest, chosen);
-        chosen = more;
+        count = put_chosen(&flat.at, v, rest, &mut chosen, count);
         rest = rest / 2;
         v += 1;
     }
-    chosen
+    Points {
+        at: chosen,
+        n: count,
+        d: flat.d,
+    }
 }
 
 // ---- a set's plane
