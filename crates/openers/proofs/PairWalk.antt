@@ -5,7 +5,7 @@ use mathlib.Core.List.{List, [], _∷_, _++_, map, flatMap, append-nil, map-appe
 use Prim.Native.Nat.{ℕ, zero, suc, _+_, _*_, _-_, _≤_, _<_}
 use native.Mathlib.Omega.{arith}
 use lib.Dec.{isEq}
-use lib.ListN.{length, getD, take, set, length-append, length-take, length-map, length-replicate, getD-replicate, replicate}
+use lib.ListN.{length, getD, take, set, length-set, length-append, length-take, length-map, length-replicate, getD-replicate, replicate}
 use lib.Seq.{length-take-le, take-suc}
 use Rattle.definitions.specs.Lists.{Pair, anyOf, memberNat, memberPair, comparePair, countFrom}
 use Rattle.definitions.specs.Orbits.{Row, image, pairImage, vertexOpeners, pairOpeners, pairsFrom, above}
@@ -14,7 +14,7 @@ use Rattle.laws.specs.Parts.{rows, take-more, take-more-set}
 use Rattle.openers.specs.Rows.{rowsIn, RowsFit}
 use Rattle.openers.specs.Marks.{marked, marked-at, marked-length, passed, walked, marksAfter, walked-append, marks-append, walked-fewer, one-passed, one-opened}
 use Rattle.openers.specs.Codes.{pair-of-code, code-small, member-codes, map-codes, codes-wide, image-small}
-use Rattle.openers.specs.Meaning.{pairCode, pairOf, pairsIn, HoldsPairs, pairCodes, pairsAbove}
+use Rattle.openers.specs.Meaning.{pairCode, pairOf, pairsIn, listed, HoldsPairs, HoldsCodes, pairCodes, pairsAbove}
 use Rattle.openers.specs.declared.Pairs.{Pairs}
 use Rattle.openers.proofs.Laws.{same-cond}
 
@@ -36,6 +36,13 @@ pub pairs-pushed : (codes : List ℕ) (count v w : ℕ) → w < 20 → count < l
 pairs-pushed codes count v w h l =
     ap (map pairOf) (take-more-set codes count (20 * v + w) l)
     ∙ (map-append pairOf (take count codes) ((20 * v + w) ∷ []) ∙ ap (λ (p : Pair). map pairOf (take count codes) ++ (p ∷ [])) (pair-of-code v w h))
+
+-- a code that is written behind the others is one pair more
+pub pair-put : (codes : List ℕ) (count v w : ℕ) → w < 20 → count < 190 → length codes ≡ 190 → HoldsCodes (set codes count (20 * v + w)) (count + 1) (pairsIn (listed codes count) ++ ((v, w) ∷ []))
+unfolding pairsIn
+pair-put codes count v w small room long =
+    let kept = length-set codes count (20 * v + w) ∙ long in
+    record { long = kept; holds = holds-pairs (listed (set codes count (20 * v + w)) (count + 1)) _ (omega (arith, room)) kept (pairs-pushed codes count v w small (omega (arith, room, long))) }
 
 -- ---- images
 
@@ -243,21 +250,21 @@ module _ (rows : List Row) (skip : Pair → Bool) (marks : List Bool) (v w : ℕ
   abbrev after : List Bool
   after = marksAfter pairCode (pairCodes rows) skip marks ((v, w) ∷ [])
 
-  passed-by : found .count ≤ 190 → length (found .codes) ≡ 190 → passed pairCode (pairCodes rows) skip marks (v, w) ≡ true → HoldsPairs found joined × (marks ≡ after)
+  passed-by : found .count ≤ 190 → length (found .codes) ≡ 190 → passed pairCode (pairCodes rows) skip marks (v, w) ≡ true → HoldsCodes (found .codes) (found .count) joined × (marks ≡ after)
   passed-by fits long e =
       let one = one-passed pairCode (pairCodes rows) skip marks (v, w) e in
-      (holds-pairs found joined fits long (sym (append-nil (pairsIn found)) ∙ ap (λ (l : List Pair). pairsIn found ++ l) (sym (one .0))), sym (one .1))
+      (record { long = long; holds = holds-pairs found joined fits long (sym (append-nil (pairsIn found)) ∙ ap (λ (l : List Pair). pairsIn found ++ l) (sym (one .0))) }, sym (one .1))
 
-  pub pair-marked : found .count ≤ 190 → length (found .codes) ≡ 190 → getD marks (20 * v + w) false ≡ true → HoldsPairs found joined × (marks ≡ after)
+  pub pair-marked : found .count ≤ 190 → length (found .codes) ≡ 190 → getD marks (20 * v + w) false ≡ true → HoldsCodes (found .codes) (found .count) joined × (marks ≡ after)
   unfolding passed pairCode
   pair-marked fits long e = passed-by fits long (rw e refl)
 
-  pub pair-skipped : found .count ≤ 190 → length (found .codes) ≡ 190 → getD marks (20 * v + w) false ≡ false → skip (v, w) ≡ true → HoldsPairs found joined × (marks ≡ after)
+  pub pair-skipped : found .count ≤ 190 → length (found .codes) ≡ 190 → getD marks (20 * v + w) false ≡ false → skip (v, w) ≡ true → HoldsCodes (found .codes) (found .count) joined × (marks ≡ after)
   unfolding passed pairCode
   pair-skipped fits long e f = passed-by fits long (rw (e, f) refl)
 
-  pub pair-opened : getD marks (20 * v + w) false ≡ false → skip (v, w) ≡ false → (r : Pairs) (t : List Bool) → HoldsPairs r (pairsIn found ++ ((v, w) ∷ [])) → t ≡ marked marks (pairCodes rows (v, w)) → HoldsPairs r joined × (t ≡ after)
+  pub pair-opened : getD marks (20 * v + w) false ≡ false → skip (v, w) ≡ false → (codes : List ℕ) (count : ℕ) (t : List Bool) → HoldsCodes codes count (pairsIn found ++ ((v, w) ∷ [])) → t ≡ marked marks (pairCodes rows (v, w)) → HoldsCodes codes count joined × (t ≡ after)
   unfolding passed pairCode
-  pair-opened e f r t h g =
+  pair-opened e f codes count t h g =
       let one = one-opened pairCode (pairCodes rows) skip marks (v, w) (rw (e, f) refl) in
       (rw (one .0) h, g ∙ sym (one .1))

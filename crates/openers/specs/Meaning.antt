@@ -42,6 +42,10 @@ pairOf code = (code / 20, code % 20)
 unfoldable pub pairsIn : Pairs → List Pair
 pairsIn r = map pairOf (take (r .count) (r .codes))
 
+-- codes that are borrowed, with their count
+abbrev pub listed : List ℕ → ℕ → Pairs
+listed codes count = record { codes = codes; count = count }
+
 -- the count fits the array
 pub record PairsFit (r : Pairs) : Type 0 where
   pub fits : r .count ≤ 190
@@ -51,6 +55,11 @@ pub record HoldsPairs (r : Pairs) (meaning : List Pair) : Type 0 where
   pub fits : PairsFit r
   pub count-is : r .count ≡ length meaning
   pub means : pairsIn r ≡ meaning
+
+-- The front of an array of 190 codes holds a list of pairs.
+pub record HoldsCodes (codes : List ℕ) (count : ℕ) (meaning : List Pair) : Type 0 where
+  pub long : length codes ≡ 190
+  pub holds : HoldsPairs (listed codes count) meaning
 
 -- [5.4] the codes of a pair's images under the rows, the smaller vertex first
 unfoldable pub pairCodes : List Row → Pair → List ℕ

@@ -8,10 +8,10 @@ ghost use Prim.Native.Nat.{ℕ, _+_, _*_, _-_, _≤_, _<_, min, max};
 ghost use lib.ListN.{length, getD, take};
 ghost use Rattle.definitions.specs.Lists.{countFrom};
 ghost use Rattle.definitions.specs.Orbits.{vertexOpeners, pairOpeners, pairsFrom, above};
-ghost use Rattle.space.specs.Meaning.{PointsFit, pointsOf, limitsOf};
+ghost use Rattle.space.specs.Meaning.{borrowed, PointsFit, pointsOf, limitsOf};
 ghost use Rattle.openers.specs.Rows.{rowsIn, RowsFit, ImagesBelow};
 ghost use Rattle.openers.specs.Marks.{marked, walked, marksAfter};
-ghost use Rattle.openers.specs.Meaning.{verticesIn, HoldsVertices, vertexImages, noneSkipped, pairsIn, HoldsPairs, PairsFit, pairCode, pairCodes, breaks, pairsAbove};
+ghost use Rattle.openers.specs.Meaning.{verticesIn, HoldsVertices, vertexImages, noneSkipped, pairsIn, listed, HoldsPairs, HoldsCodes, pairCode, pairCodes, breaks, pairsAbove};
 
 // ---- rows
 
@@ -104,29 +104,6 @@ pub struct Pairs {
     pub count: usize,
 }
 
-impl Pairs {
-    fn new() -> Pairs
-        ensures { λ r. ⌜ HoldsPairs r [] ⌝ }
-    {
-        Pairs {
-            codes: [0; 190],
-            count: 0,
-        }
-    }
-
-    // One pair more, at the end.
-    fn with_pair(self, v: usize, w: usize) -> Pairs
-        requires { ⌜ (self .count < 190) × (v < 20) × (w < 20) ⌝ }
-        ensures { λ r. ⌜ HoldsPairs r (pairsIn self ++ ((v, w) ∷ [])) ⌝ }
-    {
-        let mut more = self;
-        let count = more.count;
-        more.codes[count] = 20 * v + w;
-        more.count = count + 1;
-        more
-    }
-}
-
 // The code of the pair of a and b, smaller first.
 pub fn code(a: usize, b: usize) -> usize
     requires { ⌜ (a < 20) × (b < 20) ⌝ }
@@ -148,9 +125,11 @@ pub fn mark_pair_images(rows: &[u8], m: usize, v: usize, w: usize, marks: &mut [
     }
 }
 
-// A pair that is marked or whose length breaks a limit opens nothing and marks nothing; any other opens an orbit. The length is taken on the points as passed.
+// A pair that is marked or whose length breaks a limit opens nothing and marks nothing; any other opens an orbit. The length is taken on the points as passed. Returns how many pairs there are.
 fn try_pair(
-    points: Points,
+    points: &[f64],
+    n: usize,
+    d: usize,
     rows: &[u8],
     m: usize,
     v: usize,
@@ -159,25 +138,29 @@ fn try_pair(
     max: Limit,
     tolerance: f64,
     marks: &mut [bool; 400],
-    found: Pairs,
-) -> Pairs
-    requires { ⌜ PointsFit points × (v < points .n) × (w < points .n) × RowsFit (points .n) m (now rows) × (found .count < 190) ⌝ }
-    ensures joins { λ r. ⌜ HoldsPairs r (pairsIn found ++ walked pairCode (pairCodes (rowsIn 32 m (now (rows .entry)))) (breaks tolerance (limitsOf min max) (pointsOf points)) (now (marks .entry)) ((v, w) ∷ [])) ⌝ }
-    ensures marks { λ _. ⌜ now (marks .exit) ≡ marksAfter pairCode (pairCodes (rowsIn 32 m (now (rows .entry)))) (breaks tolerance (limitsOf min max) (pointsOf points)) (now (marks .entry)) ((v, w) ∷ []) ⌝ }
+    codes: &mut [usize; 190],
+    count: usize,
+) -> usize
+    requires { ⌜ PointsFit (borrowed (now points) n d) × (v < n) × (w < n) × RowsFit n m (now rows) × (count < 190) × (length (now codes) ≡ 190) ⌝ }
+    ensures joins { λ r. ⌜ HoldsCodes (now (codes .exit)) r (pairsIn (listed (now (codes .entry)) count) ++ walked pairCode (pairCodes (rowsIn 32 m (now (rows .entry)))) (breaks tolerance (limitsOf min max) (pointsOf (borrowed (now (points .entry)) n d))) (now (marks .entry)) ((v, w) ∷ [])) ⌝ }
+    ensures marks { λ _. ⌜ now (marks .exit) ≡ marksAfter pairCode (pairCodes (rowsIn 32 m (now (rows .entry)))) (breaks tolerance (limitsOf min max) (pointsOf (borrowed (now (points .entry)) n d))) (now (marks .entry)) ((v, w) ∷ []) ⌝ }
 {
     if marks[20 * v + w] {
-        return found;
+        return count;
     }
-    if points.breaks_limit(v, w, min, max, tolerance) {
-        return found;
+    if space::breaks_limit_at(points, d, v, w, min, max, tolerance) {
+        return count;
     }
     mark_pair_images(rows, m, v, w, marks);
-    found.with_pair(v, w)
+    codes[count] = 20 * v + w;
+    count + 1
 }
 
-// The pairs (v, w) for each w > v, in order.
+// The pairs (v, w) for each w > v, in order. Returns how many pairs there are.
 fn pairs_above(
-    points: Points,
+    points: &[f64],
+    n: usize,
+    d: usize,
     rows: &[u8],
     m: usize,
     v: usize,
@@ -185,18 +168,31 @@ fn pairs_above(
     max: Limit,
     tolerance: f64,
     marks: &mut [bool; 400],
-    found: Pairs,
-) -> Pairs
-    requires { ⌜ PointsFit points × (v < points .n) × RowsFit (points .n) m (now rows) × PairsFit found × (found .count + (points .n - (v + 1)) ≤ 190) ⌝ }
-    ensures joins { λ r. ⌜ HoldsPairs r (pairsIn found ++ walked pairCode (pairCodes (rowsIn 32 m (now (rows .entry)))) (breaks tolerance (limitsOf min max) (pointsOf points)) (now (marks .entry)) (pairsAbove (points .n) v)) ⌝ }
-    ensures marks { λ _. ⌜ now (marks .exit) ≡ marksAfter pairCode (pairCodes (rowsIn 32 m (now (rows .entry)))) (breaks tolerance (limitsOf min max) (pointsOf points)) (now (marks .entry)) (pairsAbove (points .n) v) ⌝ }
+    codes: &mut [usize; 190],
+    count: usize,
+) -> usize
+    requires { ⌜ PointsFit (borrowed (now points) n d) × (v < n) × RowsFit n m (now rows) × (count + (n - (v + 1)) ≤ 190) × (length (now codes) ≡ 190) ⌝ }
+    ensures joins { λ r. ⌜ HoldsCodes (now (codes .exit)) r (pairsIn (listed (now (codes .entry)) count) ++ walked pairCode (pairCodes (rowsIn 32 m (now (rows .entry)))) (breaks tolerance (limitsOf min max) (pointsOf (borrowed (now (points .entry)) n d))) (now (marks .entry)) (pairsAbove n v)) ⌝ }
+    ensures marks { λ _. ⌜ now (marks .exit) ≡ marksAfter pairCode (pairCodes (rowsIn 32 m (now (rows .entry)))) (breaks tolerance (limitsOf min max) (pointsOf (borrowed (now (points .entry)) n d))) (now (marks .entry)) (pairsAbove n v) ⌝ }
 {
-    let n = points.n;
-    let mut pairs = found;
+    let mut pairs = count;
     let mut w = v + 1;
     while w < n {
-        let more = try_pair(points, rows, m, v, w, min, max, tolerance, marks, pairs);
-        pairs = more;
+        pairs = try_pair(
+            points,
+            n,
+            d,
+            rows,
+            m,
+            v,
+            w,
+            min,
+            max,
+            tolerance,
+            marks,
+            codes,
+            pairs,
+        );
         w += 1;
     }
     pairs
@@ -214,16 +210,34 @@ pub fn pair_openers(
     requires { ⌜ PointsFit points × RowsFit (points .n) m (now rows) ⌝ }
     ensures { λ r. ⌜ HoldsPairs r (pairOpeners (breaks tolerance (limitsOf min max) (pointsOf points)) (rowsIn (points .n) m (now (rows .entry))) [] (pairsFrom (points .n) (vertexOpeners (rowsIn (points .n) m (now (rows .entry))) [] (countFrom 0 (points .n))))) ⌝ }
 {
-    let openers = vertex_openers(rows, m, points.n);
-    let count = openers.count;
+    let n = points.n;
+    let d = points.d;
+    let openers = vertex_openers(rows, m, n);
+    let many = openers.count;
     let mut marks = [false; 400];
-    let mut pairs = Pairs::new();
+    let mut codes = [0; 190];
+    let mut count = 0;
     let mut k = 0;
-    while k < count {
+    while k < many {
         let v = openers.at[k];
-        let more = pairs_above(points, rows, m, v, min, max, tolerance, &mut marks, pairs);
-        pairs = more;
+        count = pairs_above(
+            &points.at,
+            n,
+            d,
+            rows,
+            m,
+            v,
+            min,
+            max,
+            tolerance,
+            &mut marks,
+            &mut codes,
+            count,
+        );
         k += 1;
     }
-    pairs
+    Pairs {
+        codes: codes,
+        count: count,
+    }
 }
