@@ -3,7 +3,7 @@ use mathlib.Core.Path.{_≡_, refl, sym, ap, subst, _∙_}
 use mathlib.Core.List.{List, [], _∷_, _++_, map, flatMap, append-nil}
 use Prim.Native.Nat.{ℕ, zero, suc, _+_, _/_, _%_, _≤_, _<_}
 use native.Mathlib.Omega.{arith}
-use lib.ListN.{length, getD, take, length-map}
+use lib.ListN.{length, getD, take, drop, take-append-drop, length-map}
 use lib.Seq.{length-take-le, getD-take, take-all}
 use lib.Ieee.{Float}
 use Rattle.definitions.specs.Lists.{Pair}
@@ -17,6 +17,8 @@ use Rattle.orbits.specs.Workspace.{OrbitsRoom}
 use Rattle.orbits.specs.Walks.{Walked, walked-none, walked-append, extensions, keepsLimits}
 use Rattle.orbits.specs.Answers.{tuplesOf, pairTuples}
 use Rattle.orbits.specs.declared.Progress.{Progress}
+use Rattle.orbits.specs.declared.Walk.the-variants.{Refused}
+use Rattle.orbits.proofs.Laws.{stays-refused}
 
 module _ (pairs : Pairs) (fits : pairs .count ≤ 190) (long : length (pairs .codes) ≡ 190) where
   pub pairs-count : length (pairsIn pairs) ≡ pairs .count
@@ -54,3 +56,13 @@ module _ (tolerance : Float) (most : ℕ) (limits : Limits) (points flat : List 
       let here : tuplesOf tolerance limits points flat n more (getD l k (0, 0)) ≡ extensions (keepsLimits tolerance limits points v) flat tuple n (w + 1) more =
       ap (tuplesOf tolerance limits points flat n more) e ∙ ap (λ (x : List Vec). extensions (keepsLimits tolerance limits points v) flat x n (w + 1) more) (sym t) in
       rw (next-pair l k h, here) (walked-append tolerance most flat rows bound state ws _ reached now _ next after a b)
+
+  -- behind a refusal nothing changes
+  pub walk-ends : (l : List Pair) (k : ℕ) (reached : Progress) (now : List ℕ) → Walked tolerance most flat rows bound state ws (pairTuples tolerance limits points flat n more (take k l)) reached now → reached .walk ≡ Refused
+      → Walked tolerance most flat rows bound state ws (pairTuples tolerance limits points flat n more l) reached now
+  unfolding pairTuples
+  walk-ends l k reached now a e =
+      let f = tuplesOf tolerance limits points flat n more in
+      let rest = stays-refused tolerance most flat rows bound reached now (flatMap f (drop k l)) e (a .room) in
+      let both : flatMap f (take k l) ++ flatMap f (drop k l) ≡ flatMap f l = sym (flatMap-append f (take k l) (drop k l)) ∙ ap (flatMap f) (take-append-drop k l) in
+      subst (λ (ts : List (List Vec)). Walked tolerance most flat rows bound state ws ts reached now) both (walked-append tolerance most flat rows bound state ws (flatMap f (take k l)) reached now (flatMap f (drop k l)) reached now a rest)

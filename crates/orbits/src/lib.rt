@@ -257,7 +257,7 @@ fn pair_points(flat: Points, v: usize, w: usize) -> Points
     one.with_point(flat.point(w))
 }
 
-// Each pair's opener, in order, extended by so many vertices.
+// Each pair's opener, in order, extended by so many vertices. The walk ends at a refusal.
 fn walk_pairs(
     points: Points,
     flat: Points,
@@ -280,6 +280,10 @@ fn walk_pairs(
     let mut reached = state;
     let mut k = 0;
     while k < count {
+        let walk = reached.walk;
+        if let Walk::Refused = walk {
+            return reached;
+        }
         let code = pairs.codes[k];
         let v = code / 20;
         let w = code % 20;
