@@ -22,10 +22,10 @@ use Rattle.calls.specs.declared.Called.the-variants.{Refused, Ends, Left}
 use Rattle.figure_words.specs.Wrote.{Wrote}
 use Rattle.answering.specs.declared.Written.{Written}
 use Rattle.answering.specs.declared.Written.the-variants as is
-use Rattle.answering.specs.Writable.{Writable}
+use Rattle.job_calls.specs.Writable.{Writable}
 use Rattle.answering.specs.Closed.{writtenIn, bufferIn, writtenTo, bufferTo, written-all, buffer-all}
-use Rattle.answering.specs.Said.{outcomeSaid, CanWrite, Said}
-use Rattle.answering.specs.Loaded.{JobCalled, alone-passed}
+use Rattle.job_calls.specs.Said.{outcomeSaid, CanWrite, Said}
+use Rattle.job_calls.specs.Loaded.{JobCalled, alone-passed}
 
 -- ---- what the call says, once it is known which of the three it is
 

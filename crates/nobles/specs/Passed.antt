@@ -22,7 +22,7 @@ use Rattle.job.specs.Passed.{checked-passed, refused-as, rank-loaded, header-pa
 use Rattle.tallies.specs.Meaning.{packageIn}
 use Rattle.faceting.specs.declared.Way as code
 use Rattle.faceting.specs.Ways.{wayOf, way-noble}
-use Rattle.answering.specs.Loaded.{callBy, counts}
+use Rattle.job_calls.specs.Loaded.{callBy, counts}
 use Rattle.answering.specs.Answered.{bytesOf}
 
 -- where two lists of tests together refuse nothing, neither does

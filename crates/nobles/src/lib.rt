@@ -1,9 +1,9 @@
 // A job with a package, from their bytes to the answer's [17.10]: the job's own refusals, then 18, then the workspace; the package is loaded, the job called by it, and what the call leaves is
 // written as without a package.
-use answering::ROWS_ROOM;
 use answering::Written;
 use faceting::Way;
 use job::Checked;
+use job_calls::ROWS_ROOM;
 use load::Fields;
 ghost use mathlib.Core.Path.{_≡_};
 ghost use lib.ListN.{length, replicate};
@@ -47,7 +47,7 @@ fn write_noble(job: &[u8], pack: &[u8], fields: Fields, ws: &mut [u8], answer: &
         plain: false,
         whole: whole,
     };
-    let called = answering::call_in_way(job, fields, ws, &mut rows, way, &globals, &full);
+    let called = job_calls::call_in_way(job, fields, ws, &mut rows, way, &globals, &full);
     answering::write_called(called, fields, &rows, ws, answer)
 }
 

@@ -65,8 +65,8 @@ fn plain_passed(job: &[u8], fields: Fields, ws: &mut [u8], answer: &mut [u8]) ->
     ensures result { λ r. ⌜ r ≡ writtenIn (length (now (answer .entry))) (plainAlone (now (job .entry)) (length (now (ws .entry)))) ⌝ }
     ensures buffer { λ _. ⌜ now (answer .exit) ≡ bufferIn (length (now (answer .entry))) (plainAlone (now (job .entry)) (length (now (ws .entry)))) ⌝ }
 {
-    let mut rows = [0; answering::ROWS_ROOM];
-    match answering::call_job(job, fields, ws, &mut rows) {
+    let mut rows = [0; job_calls::ROWS_ROOM];
+    match job_calls::call_job(job, fields, ws, &mut rows) {
         Called::Refused(number) => Written::Refused(number),
         Called::Ends(_, _) => {
             let end = write_one(answer, 0);

@@ -5,7 +5,7 @@ use lib.ListN.{length}
 use Rattle.definitions.specs.Outcome.{andThen}
 use Rattle.definitions.specs.Job.{bufferOf}
 use Rattle.answering.specs.Closed.{writtenIn, bufferIn}
-use Rattle.answering.specs.Loaded.{alone-refused}
+use Rattle.job_calls.specs.Loaded.{alone-refused}
 use Rattle.answering.proofs.answer_job.Statement.{statement}
 use Rattle.answering.proofs.answer_job.Tie as tie
 

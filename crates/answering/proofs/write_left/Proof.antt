@@ -3,7 +3,7 @@ use mathlib.Core.Path.{_≡_}
 use Prim.Native.Nat.{_-_}
 use native.Mathlib.Omega.{arith}
 use borrow.Author.Needs.{needs}
-use Rattle.answering.specs.Writable.{polygons-asked, polygons-wrote}
+use Rattle.job_calls.specs.Writable.{polygons-asked, polygons-wrote}
 use Rattle.answering.proofs.write_left.Statement.{statement}
 use Rattle.answering.proofs.write_left.Tie as tie
 

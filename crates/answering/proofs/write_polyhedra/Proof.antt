@@ -1,6 +1,6 @@
 -- `answering::write_polyhedra` meets its contract: the laws of Writable say what is asked, and that the words written are the definition's. Assumes nothing.
 use borrow.Author.Needs.{needs}
-use Rattle.answering.specs.Writable.{images-asked, images-inside, solid-asked, solid-wrote}
+use Rattle.job_calls.specs.Writable.{images-asked, images-inside, solid-asked, solid-wrote}
 use Rattle.answering.proofs.write_polyhedra.Statement.{statement}
 use Rattle.answering.proofs.write_polyhedra.Tie as tie
 

@@ -7,7 +7,7 @@ use Rattle.definitions.specs.Outcome.{Outcome}
 use Rattle.definitions.specs.Recursion.{Answer}
 use Rattle.answering.specs.Closed.{writtenIn, bufferIn}
 use Rattle.answering.specs.Answered.{bytesOf}
-use Rattle.answering.specs.Loaded.{counts}
+use Rattle.job_calls.specs.Loaded.{counts}
 use Rattle.nobles.specs.Passed.{job-passes, pack-fits, noble-call, alone-is}
 use Rattle.nobles.proofs.write_noble.Statement.{statement}
 use Rattle.nobles.proofs.write_noble.Tie as tie

@@ -1,12 +1,12 @@
--- `answering::call_job` meets its contract: without a package the call in the plain way is the job's own. Assumes nothing.
+-- `job_calls::call_job` meets its contract: without a package the call in the plain way is the job's own. Assumes nothing.
 use mathlib.Core.Path.{_≡_, sym, subst, _∙_}
 use borrow.Author.Needs.{needs}
 use lib.Dec.{T}
 use Rattle.definitions.specs.Faceting.{Way}
 use Rattle.faceting.specs.Ways.{way-plain}
-use Rattle.answering.specs.Loaded.{CalledIn, called-plainly}
-use Rattle.answering.proofs.call_job.Statement.{statement}
-use Rattle.answering.proofs.call_job.Tie as tie
+use Rattle.job_calls.specs.Loaded.{CalledIn, called-plainly}
+use Rattle.job_calls.proofs.call_job.Statement.{statement}
+use Rattle.job_calls.proofs.call_job.Tie as tie
 
 plain-way-requires : tie.Need-plain-way-requires
 plain-way-requires c κs = search needs

@@ -1,11 +1,11 @@
--- `answering::call_in_way` meets its contract: what is loaded is what the call asks, and the call on it is the job's in that way. Assumes nothing.
+-- `job_calls::call_in_way` meets its contract: what is loaded is what the call asks, and the call on it is the job's in that way. Assumes nothing.
 use mathlib.Core.Path.{_≡_}
 use native.Mathlib.Omega.{arith}
 use borrow.Author.Needs.{needs}
 use lib.ListN.{length}
-use Rattle.answering.specs.Loaded.{exact, own-fields, counts, loads, call-asked, job-called}
-use Rattle.answering.proofs.call_in_way.Statement.{statement}
-use Rattle.answering.proofs.call_in_way.Tie as tie
+use Rattle.job_calls.specs.Loaded.{exact, own-fields, counts, loads, call-asked, job-called}
+use Rattle.job_calls.proofs.call_in_way.Statement.{statement}
+use Rattle.job_calls.proofs.call_in_way.Tie as tie
 
 -- What was loaded is what the call asks: the plane, the points, the rules and the rows.
 

@@ -33,7 +33,7 @@ use Rattle.polygons.specs.Arranges.{images-room, order-asks, standing-after, im
 use Rattle.polygons.specs.Orders.{Ordered}
 use Rattle.polygons.specs.declared.Images.{Images}
 use Rattle.inner_answers.specs.Says.{AnswerStands}
-use Rattle.answering.specs.Spent.{call-spends-with}
+use Rattle.job_calls.specs.Spent.{call-spends-with}
 
 pub record Writable (more n m : ℕ) (rows : List ℕ) (kept : List Kept) (level : Level) (budget rest : ℕ) (s : List ℕ) : Type 0 where
   pub rows-fit : RowsFit n m rows

@@ -1,10 +1,10 @@
--- `answering::limit_of` meets its contract. By the cases of the limit. Assumes nothing.
+-- `job_calls::limit_of` meets its contract. By the cases of the limit. Assumes nothing.
 use mathlib.Core.Path.{refl}
 use borrow.Author.Needs.{needs}
 use Rattle.load.specs.Meaning.{limitNumber}
 use Rattle.search.specs.Outcomes.{searchLimit}
-use Rattle.answering.proofs.limit_of.Statement.{statement}
-use Rattle.answering.proofs.limit_of.Tie as tie
+use Rattle.job_calls.proofs.limit_of.Statement.{statement}
+use Rattle.job_calls.proofs.limit_of.Tie as tie
 
 enum-told : tie.Need-enum-told
 enum-told c = search needs

@@ -33,8 +33,8 @@ use Rattle.faceting.specs.declared.Way as code
 use Rattle.faceting.specs.Ways.{wayOf, WayFits, way-takes}
 use Rattle.faceting.specs.Asked.{Asked}
 use Rattle.inner_answers.specs.Says.{Says}
-use Rattle.answering.specs.Said as said
-use Rattle.answering.specs.Said.{Said}
+use Rattle.job_calls.specs.Said as said
+use Rattle.job_calls.specs.Said.{Said}
 
 -- the definition's rules, from the fields of a job
 unfoldable pub jobRules : Fields → recursion.Rules

@@ -21,8 +21,8 @@ use Rattle.kept_edges.specs.Edges.{edgeAnswer}
 use Rattle.calls.specs.declared.Called.{Called}
 use Rattle.calls.specs.declared.Called.the-variants.{Refused, Ends, Left}
 use Rattle.inner_answers.specs.Says.{Says}
-use Rattle.answering.specs.Spent.{call-spends-with}
-use Rattle.answering.specs.Writable.{Writable, keptBy, call-writable}
+use Rattle.job_calls.specs.Spent.{call-spends-with}
+use Rattle.job_calls.specs.Writable.{Writable, keptBy, call-writable}
 
 -- the outcome of a call of rank 3 + more, or of rank 2, from what the code gives back and what it left
 unfoldable pub outcomeSaid : ℕ → ℕ → List Row → List Kept → Called → List ℕ → Outcome Answer
