@@ -145,6 +145,7 @@ module _ {A : Type 0} (c : A → A → Ordering) (order : Linear c) where
 
   pub of_fresh : (seen l : List A) (x : A) → Mem x (fresh c seen l) → Mem x l × (Mem x seen → ⊥)
   unfolding fresh
+  of_fresh seen [] x i = elim i [ ]
   of_fresh seen (y ∷ l) x i = go (seen_among y seen) refl i (λ j. of_fresh seen l x j) (λ j. of_fresh (y ∷ seen) l x j)
     where
       go : (b : Bool) → seen_among y seen ≡ b → Mem x (cond b (fresh c seen l) (y ∷ fresh c (y ∷ seen) l))
@@ -155,6 +156,7 @@ module _ {A : Type 0} (c : A → A → Ordering) (order : Linear c) where
 
   pub in_fresh : (seen l : List A) (x : A) → Mem x l → (Mem x seen → ⊥) → Mem x (fresh c seen l)
   unfolding fresh
+  in_fresh seen [] x i n = elim i [ ]
   in_fresh seen (y ∷ l) x i n = go (seen_among y seen) refl i (λ j. in_fresh seen l x j n) (λ j u. in_fresh (y ∷ seen) l x j u)
     where
       unseen : Differ x y → Mem x (y ∷ seen) → ⊥

@@ -25,6 +25,7 @@ module _ {A : Type 0} where
   -- ---- tests over a list
   pub any_of_holds : (p : A → Bool) (x : A) (l : List A) → Mem x l → T (p x) → T (any_of p l)
   unfolding any_of
+  any_of_holds p x [] x3 t = elim x3 [ ]
   any_of_holds p x (y ∷ ys) (Memᴰ.head e) t = left_of (p y) (any_of p ys) (subst (λ (z : A). T (p z)) e t)
   any_of_holds p x (y ∷ ys) (Memᴰ.tail h) t = right_of (p y) (any_of p ys) (any_of_holds p x ys h t)
 
@@ -39,6 +40,7 @@ module _ {A : Type 0} where
 
   pub all_of_holds : (p : A → Bool) (l : List A) → T (all_of p l) → (x : A) → Mem x l → T (p x)
   unfolding all_of
+  all_of_holds p [] t x x4 = elim x4 [ ]
   all_of_holds p (y ∷ ys) t x (Memᴰ.head e) = subst (λ (z : A). T (p z)) (sym e) (first (p y) (all_of p ys) t)
   all_of_holds p (y ∷ ys) t x (Memᴰ.tail h) = all_of_holds p ys (second (p y) (all_of p ys) t) x h
 
@@ -50,6 +52,7 @@ module _ {A : Type 0} where
   -- ---- the items that pass
   pub in_keep : (p : A → Bool) (x : A) (l : List A) → Mem x l → T (p x) → Mem x (keep p l)
   unfolding keep
+  in_keep p x [] x3 t = elim x3 [ ]
   in_keep p x (y ∷ ys) (Memᴰ.head e) t = go (p y) (subst (λ (z : A). T (p z)) e t)
     where
       go : (b : Bool) → T b → Mem x (cond b (y ∷ keep p ys) (keep p ys))
@@ -63,6 +66,7 @@ module _ {A : Type 0} where
 
   pub kept : (p : A → Bool) (x : A) (l : List A) → Mem x (keep p l) → Mem x l × T (p x)
   unfolding keep
+  kept p x [] h = elim h [ ]
   kept p x (y ∷ ys) h = go (p y) refl h (λ k. kept p x ys k)
     where
       later : Mem x ys × T (p x) → Mem x (y ∷ ys) × T (p x)
@@ -119,6 +123,7 @@ module _ {A : Type 0} where
 
   pub keep_less : (p q : A → Bool) (x : A) (l : List A) → ((y : A) → T (q y) → T (p y)) → Mem x l → T (p x) → T (not (q x)) → length (keep q l) < length (keep p l)
   unfolding keep
+  keep_less p q x [] f x5 t n = elim x5 [ ]
   keep_less p q x (y ∷ ys) f (Memᴰ.head e) t n = go (p y) (q y) (subst (λ (z : A). T (p z)) e t) (subst (λ (z : A). T (not (q z))) e n) (keep_fewer p q ys f)
     where
       go : (a b : Bool) → T a → T (not b) → length (keep q ys) ≤ length (keep p ys) → length (cond b (y ∷ keep q ys) (keep q ys)) < length (cond a (y ∷ keep p ys) (keep p ys))
@@ -159,6 +164,7 @@ module _ {A : Type 0} where
   member_at (x ∷ xs) (suc i) d h = there (member_at xs i d (omega arith))
 
   pub at_member : (x : A) (l : List A) (d : A) → Mem x l → (i : ℕ) × (i < length l) × (get_or l i d ≡ x)
+  at_member x [] d x'' = elim x'' [ ]
   at_member x (y ∷ ys) d (Memᴰ.head e) = (0, omega arith, sym e)
   at_member x (y ∷ ys) d (Memᴰ.tail h) = let r = at_member x ys d h in let k = r.1 in (suc r.0, omega arith, r.2)
 
@@ -213,20 +219,24 @@ module _ {A : Type 0} where
 
 module _ {A B : Type 0} where
   pub in_map : (f : A → B) (x : A) (l : List A) → Mem x l → Mem (f x) (map f l)
+  in_map f x [] x'' = elim x'' [ ]
   in_map f x (y ∷ ys) (Memᴰ.head e) = here (ap f e)
   in_map f x (y ∷ ys) (Memᴰ.tail h) = there (in_map f x ys h)
 
   pub of_map : (f : A → B) (y : B) (l : List A) → Mem y (map f l) → (x : A) × Mem x l × (y ≡ f x)
+  of_map f y [] x' = elim x' [ ]
   of_map f y (x ∷ l) (Memᴰ.head e) = (x, here refl, e)
   of_map f y (x ∷ l) (Memᴰ.tail h) = let r = of_map f y l h in (r.0, there r.1, r.2)
 
   pub in_flat_map : (f : A → List B) (y : B) (x : A) (l : List A) → Mem x l → Mem y (f x) → Mem y (flat_map f l)
   unfolding flat_map
+  in_flat_map f y x [] x3 h = elim x3 [ ]
   in_flat_map f y x (z ∷ l) (Memᴰ.head e) h = in_left y (f z) (flat_map f l) (subst (λ (a : A). Mem y (f a)) e h)
   in_flat_map f y x (z ∷ l) (Memᴰ.tail k) h = in_right y (f z) (flat_map f l) (in_flat_map f y x l k h)
 
   pub of_flat_map : (f : A → List B) (y : B) (l : List A) → Mem y (flat_map f l) → (x : A) × Mem x l × Mem y (f x)
   unfolding flat_map
+  of_flat_map f y [] h = elim h [ ]
   of_flat_map f y (z ∷ l) h = go (in_append y (f z) (flat_map f l) h) (λ k. of_flat_map f y l k)
     where
       go : Mem y (f z) ⊎ Mem y (flat_map f l) → (Mem y (flat_map f l) → (x : A) × Mem x l × Mem y (f x)) → (x : A) × Mem x (z ∷ l) × Mem y (f x)
@@ -251,6 +261,7 @@ module _ {A B : Type 0} where
   -- an item of a list that is mapped with places
   pub of_map_at : (f : ℕ → A → B) (d : A) (y : B) (a : ℕ) (l : List A) → Mem y (map_at f a l) → (i : ℕ) × (i < length l) × (y ≡ f (a + i) (get_or l i d))
   unfolding map_at
+  of_map_at f d y a [] x' = elim x' [ ]
   of_map_at f d y a (x ∷ l) (Memᴰ.head e) = (0, omega arith, e ∙ ap (λ (n : ℕ). f n x) (omega arith))
   of_map_at f d y a (x ∷ l) (Memᴰ.tail h) =
       let r = of_map_at f d y (suc a) l h in
@@ -296,6 +307,7 @@ in_count a (suc n) x h k = go (eqb a x) refl (λ q. in_count (suc a) n x q (omeg
 
 pub of_count : (a n x : ℕ) → Mem x (count_from a n) → (a ≤ x) × (x < a + n)
 unfolding count_from
+of_count a zero x x3 = elim x3 [ ]
 of_count a (suc n) x (Memᴰ.head e) = (omega arith, omega arith)
 of_count a (suc n) x (Memᴰ.tail h) = let r = of_count (suc a) n x h in let k = r.0 in let m = r.1 in (omega arith, omega arith)
 

@@ -25,6 +25,7 @@ module _ {A : Type 0} (c : A → A → Ordering) (order : Linear c) where
 
   pub place_below : (x : A) (l : List A) → Mem x l → place_in l x < length l
   unfolding place_of
+  place_below x [] x'' = elim x'' [ ]
   place_below x (y ∷ l) (Memᴰ.head e) = go (compare_is_eq (c x y)) (equal_tested c order x y e)
     where
       go : (b : Bool) → T b → cond b 0 (suc (place_in l x)) < suc (length l)

@@ -133,16 +133,19 @@ module _ (n : ℕ) (row : List ℕ) where
 module _ {A : Type 0} where
   -- a list without one of its items
   dropped : (x : A) (m : List A) → Mem x m → List A
+  dropped x [] x'' = elim x'' [ ]
   dropped x (y ∷ m) (Memᴰ.head e) = m
   dropped x (y ∷ m) (Memᴰ.tail i) = y ∷ dropped x m i
 
   dropped_length : (x : A) (m : List A) (i : Mem x m) → length m ≡ suc (length (dropped x m i))
   unfolding dropped
+  dropped_length x [] i = elim i [ ]
   dropped_length x (y ∷ m) (Memᴰ.head e) = refl
   dropped_length x (y ∷ m) (Memᴰ.tail i) = ap suc (dropped_length x m i)
 
   in_dropped : (x : A) (m : List A) (i : Mem x m) (z : A) → Mem z m → Differ x z → Mem z (dropped x m i)
   unfolding dropped
+  in_dropped x [] i z _ d = elim i [ ]
   in_dropped x (y ∷ m) (Memᴰ.head e) z (Memᴰ.head q) d = absurd (d (e ∙ sym q))
   in_dropped x (y ∷ m) (Memᴰ.head e) z (Memᴰ.tail j) d = j
   in_dropped x (y ∷ m) (Memᴰ.tail i) z (Memᴰ.head q) d = here q
@@ -159,6 +162,7 @@ module _ {A : Type 0} where
 
   this_or_dropped : (x : A) (m : List A) (i : Mem x m) (z : A) → Mem z m → (z ≡ x) ⊎ Mem z (dropped x m i)
   unfolding dropped
+  this_or_dropped x [] i z _ = elim i [ ]
   this_or_dropped x (y ∷ m) (Memᴰ.head e) z (Memᴰ.head q) = inl (q ∙ sym e)
   this_or_dropped x (y ∷ m) (Memᴰ.head e) z (Memᴰ.tail j) = inr j
   this_or_dropped x (y ∷ m) (Memᴰ.tail i) z (Memᴰ.head q) = inr (here q)
@@ -170,6 +174,7 @@ module _ {A : Type 0} where
 
   -- and where it is no shorter, it has all the other's items
   pub distinct_full : (l m : List A) → Distinct l → ((x : A) → Mem x l → Mem x m) → length m ≤ length l → (x : A) → Mem x m → Mem x l
+  distinct_full [] [] h k short x j = elim j [ ]
   distinct_full [] (y ∷ m) h k short x j = absurd (omega arith)
   distinct_full (y ∷ l) m h k short x j =
       let i = k y (here refl) in
