@@ -37,6 +37,7 @@ ascend_pairs (f ∷ g ∷ l) h = go (ascend_pairs (g ∷ l) (second (ltb f.0 g.0
 
 -- two facets of such a list with one orbit are one facet
 pub one_each : (l : List Facet) → Pairs Lower l → (f g : Facet) → Mem f l → Mem g l → f.0 ≡ g.0 → f ≡ g
+one_each [] p f g x4 _ e = elim x4 [ ]
 one_each (x ∷ l) p f g (Memᴰ.head a) (Memᴰ.head b) e = a ∙ sym b
 one_each (x ∷ l) p f g (Memᴰ.head a) (Memᴰ.tail k) e = let z = p.0 g k in let q = ap (λ (y : Facet). y.0) a in absurd (omega arith)
 one_each (x ∷ l) p f g (Memᴰ.tail h) (Memᴰ.head b) e = let z = p.0 f h in let q = ap (λ (y : Facet). y.0) b in absurd (omega arith)
@@ -117,6 +118,7 @@ without_first f l n = ap (λ (b : Bool). cond (not b) (f ∷ without f l) (witho
 -- the facet and what is left are the list again
 pub without_perm : (f : Facet) (l : List Facet) → Pairs Lower l → Mem f l → Permᴰ l (f ∷ without f l)
 unfolding without keep
+without_perm f [] p h = elim h [ ]
 without_perm f (x ∷ l) p h = go (compare_is_eq (compare_pair f x)) refl h (λ k. without_perm f l p.1 k)
   where
     at_head : f ≡ x → Permᴰ (x ∷ l) (f ∷ keep (λ (y : Facet). not (compare_is_eq (compare_pair f y))) l)

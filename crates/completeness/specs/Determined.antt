@@ -32,6 +32,7 @@ module _ {A B : Type 0} (R : A → B → Type 0) where
     into : (z : B) → Mem z ds → (c ≡ z → ⊥) → Mem z rest
 
   apart : {m : List A} {ds : List B} (c : B) → Forall₂ R m ds → Distinct ds → Mem c ds → Apart m ds c
+  apart c mathlib.Core.List.Forall₂.nil d x7 = elim x7 [ ]
   apart c (Forall₂.cons {a} {b} {l₁ = xs} {l₂ = ys} r more) d (Memᴰ.head q) = record {
     item = a;
     related = subst (R a) (sym q) r;

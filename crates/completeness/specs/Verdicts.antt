@@ -37,6 +37,7 @@ total_joined t c f ridge = let e = total_append t c (f ∷ []) ridge in omega ar
 -- a facet adds no more than the whole list has
 pub adds_within : (t : Table) (ridge : ℕ) (f : Facet) (l : List Facet) → Mem f l → adds t ridge f ≤ total t l ridge
 unfolding total
+adds_within t ridge f [] x' = elim x' [ ]
 adds_within t ridge f (g ∷ l) (Memᴰ.head e) = let k = ap (adds t ridge) e in omega arith
 adds_within t ridge f (g ∷ l) (Memᴰ.tail h) = let k = adds_within t ridge f l h in omega arith
 

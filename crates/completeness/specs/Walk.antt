@@ -51,6 +51,7 @@ uses_last (g ∷ l) f = right_of (eqb f.0 g.0) (uses_orbit f.0 (l ++ (f ∷ []))
 
 pub uses_member : (f : Facet) (l : List Facet) → Mem f l → T (uses_orbit f.0 l)
 unfolding uses_orbit any_of
+uses_member f [] x' = elim x' [ ]
 uses_member f (g ∷ l) (Memᴰ.head e) = left_of (eqb f.0 g.0) (uses_orbit f.0 l) (subst (λ (x : Facet). T (eqb f.0 x.0)) e (eqb_refl f.0))
 uses_member f (g ∷ l) (Memᴰ.tail h) = right_of (eqb f.0 g.0) (uses_orbit f.0 l) (uses_member f l h)
 

@@ -111,6 +111,7 @@ two_numbers most budget a h r = record {
 -- an orbit's facets are no more than all
 sum_above : (inner : List Inner) (i : Inner) → Mem i inner → facet_number i ≤ facet_sum inner
 unfolding facet_sum
+sum_above [] i x' = elim x' [ ]
 sum_above (j ∷ inner) i (Memᴰ.head q) = let k = ap facet_number q in omega arith
 sum_above (j ∷ inner) i (Memᴰ.tail m) = let k = sum_above inner i m in omega arith
 

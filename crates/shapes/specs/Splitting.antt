@@ -29,6 +29,7 @@ module _ {A : Type 0} where
   distinct_behind (x ∷ l) m h = distinct_behind l m h.1
 
   distinct_across : (l m : List A) → Distinct (l ++ m) → (x : A) → Mem x l → Mem x m → ⊥
+  distinct_across [] m h x x5 j = elim x5 [ ]
   distinct_across (y ∷ l) m h x (Memᴰ.head e) j = h.0 x (in_right x l m j) (sym e)
   distinct_across (y ∷ l) m h x (Memᴰ.tail i) j = distinct_across l m h.1 x i j
 
