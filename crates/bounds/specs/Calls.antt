@@ -48,7 +48,7 @@ pub data Occurs (tolerance : Float) (top : ℕ) (outer : Subspace) (given : List
       → length (through tolerance plane points vertices).basis ≡ suc more
       → Occurs tolerance top outer given (suc depth) more (through tolerance plane points vertices) (chosen plane points vertices)
 
-pub depth_and_rank : {tolerance : Float} {top depth more : ℕ} {outer plane : Subspace} {given points : List Vec} → Occurs tolerance top outer given depth more plane points → depth + more ≡ top
+pub depth_and_rank : {tolerance : Float} {top : ℕ} {outer : Subspace} {given : List Vec} {depth more : ℕ} {plane : Subspace} {points : List Vec} → Occurs tolerance top outer given depth more plane points → depth + more ≡ top
 depth_and_rank {top = top} outermost = omega arith
 depth_and_rank (inner c vertices e) = let h = depth_and_rank c in omega arith
 
