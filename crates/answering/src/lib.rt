@@ -1,5 +1,8 @@
 // A job from its bytes to its answer's: checked, called, and what the call leaves written into a cleared buffer. What comes of it is told as it is, a refusal, an answer that has no
 // room, or the length of one that stands there: the exported functions make their return codes of that.
+
+#![tactic(auto)]
+
 ghost use Rattle.std.specs.Prelude.{◌≡◌, List, ◌-◌, ◌≤◌, length, replicate};
 ghost use Rattle.definitions.specs.Outcome.{Outcome};
 ghost use Rattle.definitions.specs.Recursion.{Answer};

@@ -1,5 +1,8 @@
 // A row of jobs, each behind its length, and a record for each [15.1] [15.2] [15.3]. The row is looked through before any job is run. The records are written one behind the other into a
 // buffer that was cleared once; each job gets the whole workspace, as the job before left it.
+
+#![tactic(auto)]
+
 ghost use Rattle.std.specs.Prelude.{◌≡◌, true, length, replicate};
 ghost use Rattle.definitions.specs.Job.{code_of, buffer_of, alone};
 ghost use Rattle.definitions.specs.Batch.{jobs_in, batch};

@@ -1,4 +1,7 @@
 // The buffers that the programs lend the register. Each stands in a function of its own, so that its bytes are known to a caller and nobody need write them out.
+
+#![tactic(auto)]
+
 ghost use Rattle.std.specs.Prelude.{◌≡◌};
 ghost use Rattle.buffers.specs.Zeros.{zeros};
 

@@ -1,5 +1,8 @@
 // From what a call keeps to its answer: the tables are laid, searched, and the lists emitted become the call's
 // entries. A refusal of the search is the call's.
+
+#![tactic(auto)]
+
 ghost use Rattle.std.specs.Prelude.{◌≡◌};
 ghost use Rattle.call_search.specs.Desks.{desk_for};
 ghost use Rattle.call_search.specs.Stocks.{Stock, Stocked};

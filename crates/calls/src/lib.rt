@@ -1,4 +1,7 @@
 // What a call takes and gives besides its points, and its small steps: the answer of rank 2 from the rows alone, and where a call of a rank keeps what.
+
+#![tactic(auto)]
+
 ghost use Rattle.std.specs.Prelude.{◌≡◌, ℕ, ◌*◌, ◌≤◌, ◌<◌, eqb, length};
 ghost use Rattle.definitions.specs.Lists.{any_of};
 ghost use Rattle.definitions.specs.Orbits.{Row, image};

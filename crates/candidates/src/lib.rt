@@ -1,5 +1,8 @@
 // The facets that may join a list: all of them, or those with a share of 1 in a ridge orbit, in the order of their
 // orbits. The first above a mark is found by halving, the last whose orbit is not in use by a walk downwards.
+
+#![tactic(auto)]
+
 ghost use Rattle.std.specs.Prelude.{◌≡◌, List, ◌≤◌, ◌<◌, length, get_or};
 ghost use Rattle.definitions.specs.Search.{Table, Facet};
 ghost use Rattle.facets.specs.Layout.{Inputs, Uses, numbers, ridge_of, used_part};

@@ -1,5 +1,8 @@
 // One depth less, where the last facet leaves the list, and one more, where a list is entered and its candidates
 // above the mark are due.
+
+#![tactic(auto)]
+
 ghost use Rattle.std.specs.Prelude.{◌≡◌, ◌-◌, ◌≤◌, ◌<◌};
 ghost use Rattle.definitions.specs.Search.{Table};
 ghost use Rattle.facets.specs.Layout.{frames_part};

@@ -1,4 +1,7 @@
 // Edges as marks: a table of 400, with a mark at the code 20 v + w of each edge of an entry. The marks of a facet's images, their number, and their words. Leans on the words of figures.
+
+#![tactic(auto)]
+
 ghost use Rattle.std.specs.Prelude.{◌≡◌, ◌+◌, ◌*◌, ◌-◌, ◌/◌, ◌%◌, ◌≤◌, ◌<◌, false, length};
 ghost use Rattle.pool.specs.Pool.{count, closed_lists};
 ghost use Rattle.definitions.specs.Job.{figure_words};

@@ -1,5 +1,8 @@
 // The lists that a search emits, in a pool behind its frames; and how it starts, with no list there and every facet
 // alone due.
+
+#![tactic(auto)]
+
 ghost use Rattle.std.specs.Prelude.{◌≡◌, ◌-◌, ◌<◌};
 ghost use Rattle.definitions.specs.Search.{Table};
 ghost use Rattle.laws.specs.Segments.{placed};

@@ -1,4 +1,7 @@
 // From the lists that a call's search emitted to the entries that the call leaves: split, in order, labelled. The lists are pools of numbered facets behind the shelf.
+
+#![tactic(auto)]
+
 ghost use Rattle.std.specs.Prelude.{◌≡◌, ◌+◌, map};
 ghost use Rattle.laws.specs.Segments.{part};
 ghost use Rattle.pool.specs.Pool.{closed_lists};

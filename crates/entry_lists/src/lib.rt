@@ -1,4 +1,7 @@
 // The words of the counts of a call's orbits, of lists of its facets, and of the compounds among its entries. Leans on the words of figures.
+
+#![tactic(auto)]
+
 ghost use Rattle.std.specs.Prelude.{◌≡◌, ◌+◌, ◌*◌, ◌-◌, ◌/◌, ◌%◌, ◌≤◌, ◌<◌, length};
 ghost use mathlib.Core.List.{flat_map};
 ghost use Rattle.words.specs.Words.{words};

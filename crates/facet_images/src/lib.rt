@@ -1,4 +1,7 @@
 // The images of a call's facets in order: which of them an entry has, each once, and their words, an edge as its number among the entry's edges. Leans on marked edges.
+
+#![tactic(auto)]
+
 ghost use Rattle.std.specs.Prelude.{◌≡◌, ◌+◌, ◌*◌, ◌-◌, ◌/◌, ◌%◌, ◌≤◌, ◌<◌, false, cond, not, ◌&&◌, eqb, leb, length, replicate};
 ghost use mathlib.Core.List.{[], flat_map};
 ghost use Rattle.words.specs.Words.{words};

@@ -1,5 +1,8 @@
 // The call above rank 2 [9.1]: what an inner call answers is kept, and from what is kept comes the answer. All in the
 // workspace.
+
+#![tactic(auto)]
+
 ghost use Rattle.std.specs.Prelude.{◌≡◌, ℕ, ◌*◌, ◌-◌, ◌^◌, ◌≤◌, ◌<◌, length, List, [], map};
 ghost use Rattle.inner_answers.specs.Says.{Says};
 ghost use Rattle.faceting.specs.Asked.{Asked};

@@ -1,6 +1,8 @@
 // The register as a program: a job on standard input, its answer on standard output. Where the job is refused nothing is written there, and a line on standard error has the number.
 // A job has at most 3,211 bytes, so what is longer than the buffer is refused for its length all the same.
 
+#![tactic(auto)]
+
 // Says which refusal a return code is; their numbers are below 28.
 fn tell_refusal(code: i64) {
     let mut number: u8 = 1;

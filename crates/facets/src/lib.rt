@@ -1,6 +1,9 @@
 // The facets of a call as the search reads them: their orbits, what each adds to each ridge orbit, and where they
 // have shares of 1. Numbers in one workspace, whose areas the caller lays out. Here are these areas, and the verdict
 // on a list from its totals.
+
+#![tactic(auto)]
+
 ghost use Rattle.std.specs.Prelude.{◌≡◌, ◌<◌, length, ltb};
 ghost use Rattle.definitions.specs.Lists.{any_of};
 ghost use Rattle.definitions.specs.Search.{judge};

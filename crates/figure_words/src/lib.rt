@@ -1,5 +1,8 @@
 // The words of a figure into an answer buffer: points, edges, a body, a whole edge or polygon. Every function takes the answer buffer and its cursor and returns the new cursor; its contract
 // names the words that it writes behind those that stand there (`Wrote`). Words for which there is no room are dropped, and the cursor tells.
+
+#![tactic(auto)]
+
 ghost use Rattle.std.specs.Prelude.{◌∷◌, [], map, ◌+◌, ◌-◌, ◌/◌, ◌%◌, ◌<◌};
 ghost use Rattle.words.specs.Words.{words};
 ghost use Rattle.pool.specs.Pool.{count, Sound};

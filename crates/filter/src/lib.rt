@@ -1,4 +1,7 @@
 // `filter_irc` on sorted lists of numbered facets: the entries in which no other is found. Leans on the walk of `label_irc`, and on the order of the lists.
+
+#![tactic(auto)]
+
 ghost use Rattle.std.specs.Prelude.{◌≡◌, length};
 ghost use Prim.Native.Nat.{◌+◌, ◌-◌, ◌*◌, ◌≤◌, ◌<◌, compare};
 ghost use Rattle.std.proofs.lemmas.List.Edits.{sets};

@@ -1,6 +1,9 @@
 // The frames of a search's path in bytes: for each depth the place of the facet that was taken among its candidates.
 // The frames together stand for the lists put in and not yet examined, so that no such list waits in memory. What the
 // steps of a search make of them stands in specs/.
+
+#![tactic(auto)]
+
 ghost use Rattle.std.specs.Prelude.{◌≡◌, ◌+◌, ◌*◌, ◌≤◌, length};
 ghost use Rattle.frames.specs.Paths.{with_place, with_frame};
 

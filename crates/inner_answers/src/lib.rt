@@ -1,5 +1,8 @@
 // What becomes of an inner call's answer: its refusal is the call's, or the orbit's facets and ridges are stored on
 // the shelf, or there are too many facets, 15. The laws of a call's state after so many orbits stand in specs/.
+
+#![tactic(auto)]
+
 ghost use Rattle.std.specs.Prelude.{◌≡◌, ℕ, length, List};
 ghost use Rattle.inner_answers.specs.Says.{Site, Turn};
 ghost use Rattle.inner_answers.specs.Stored.{Storing};

@@ -1,5 +1,8 @@
 // Whether a job is refused, and with which number: the refusals before the call in the order of [11.1], for every byte slice and every length of the workspace. A job that passes is handed on as its
 // fields. Each test equals the definition's; what it requires are the tests before it.
+
+#![tactic(auto)]
+
 ghost use Rattle.std.specs.Prelude.{◌≡◌, ◌&&◌, ◌+◌, ◌*◌, ◌≤◌, length, take, drop};
 ghost use Rattle.definitions.specs.Lists.{all_of, count_from};
 ghost use Rattle.definitions.specs.Job.{read_job, floats_at, between, limit_good, is_finite, tolerance_good, floats_good, same_nats, is_permutation, workspace_for, header_tests, value_tests, job_tests};

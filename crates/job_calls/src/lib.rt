@@ -1,4 +1,7 @@
 // A job that passed the refusals before the call, loaded and called: the first half of every exported call. What its call says is told as it is; writing it is left to the caller.
+
+#![tactic(auto)]
+
 ghost use Rattle.std.specs.Prelude.{◌≡◌, true, length};
 ghost use Rattle.load.specs.Meaning.{limit_number};
 ghost use Rattle.job.specs.Refusal.{checked_of};

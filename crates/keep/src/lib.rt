@@ -1,6 +1,9 @@
 // The shelf of a call: emptied before its loop, and what every orbit that is kept writes on it, the label and the
 // owner of a facet. With them the vertices of an orbit's set. What is kept of an inner call of rank 2 stands in
 // `kept_edges`, of one of rank 3 in `kept_polygons`. Leans on the shelf and on pools.
+
+#![tactic(auto)]
+
 ghost use Rattle.std.specs.Prelude.{◌≡◌, [], ◌++◌, ℕ, ◌+◌, ◌*◌, ◌≤◌, ◌<◌, length};
 ghost use Rattle.laws.specs.Sets.{vertices_from, vertices_of};
 ghost use Rattle.words.specs.Words.{put};

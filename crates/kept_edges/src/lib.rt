@@ -1,6 +1,9 @@
 // What a call of rank 3 stores of an inner call of rank 2 on its shelf: the edge between the first two vertices of
 // the orbit's set, its ends as ridges, and its places among them. The contract of `keep_edge` says what the shelf
 // keeps then, as `kept_of` has it.
+
+#![tactic(auto)]
+
 ghost use Rattle.std.specs.Prelude.{◌≡◌, cond, List, ◌∷◌, [], ◌++◌, ℕ, ◌+◌, ◌*◌, ◌-◌, ◌≤◌, ◌<◌, length, get_or, take};
 ghost use Rattle.definitions.specs.Job.{number_at};
 ghost use Rattle.definitions.specs.Recursion.{Inner};

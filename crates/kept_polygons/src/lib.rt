@@ -1,6 +1,9 @@
 // What a call of rank 4 stores of an inner call of rank 3 on its shelf: the orbit's ridges, and for each entry a
 // facet with its edges, its places, its components and its orbit. The contract of `keep_polygons` says what the shelf
 // keeps then, as `kept_of` has it.
+
+#![tactic(auto)]
+
 ghost use Rattle.std.specs.Prelude.{◌≡◌, List, ◌∷◌, [], ◌++◌, ℕ, ◌+◌, ◌-◌, ◌/◌, ◌%◌, ◌≤◌, ◌<◌, length, get_or, take, drop};
 ghost use Rattle.std.proofs.Math.Option.{none};
 ghost use Rattle.definitions.specs.Recursion.{Inner};

@@ -1,4 +1,7 @@
 // `label_irc` on sorted lists of numbered facets: which entries are made of two others; and its walk by itself, for `filter_irc`. Leans on the order of the lists.
+
+#![tactic(auto)]
+
 ghost use Rattle.std.specs.Prelude.{◌≡◌, length, get_or, drop};
 ghost use Prim.Native.Nat.{◌+◌, ◌*◌, ◌≤◌, ◌<◌, compare};
 ghost use Rattle.pool.specs.Pool.{count};

@@ -1,5 +1,8 @@
 // What an inner call of rank 3 has left, read: the facets of its entries and their edges. The images of an entry's
 // edges are marked, and the marked ones, moved to the vertices of the orbit's set, are one list more.
+
+#![tactic(auto)]
+
 ghost use Rattle.std.specs.Prelude.{◌≡◌, true, false, List, [], map, ℕ, ◌-◌, ◌/◌, ◌%◌, ◌≤◌, ◌<◌, length, get_or, drop};
 ghost use Rattle.definitions.specs.Orbits.{pair_image};
 ghost use Rattle.openers.specs.Rows.{rows_in};

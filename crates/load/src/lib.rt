@@ -1,5 +1,8 @@
 // A job's fields, read from its bytes: counts, limits, and the places of what is longer; the plane, the points and the rows in the form that the calls want. Each function equals the
 // definition's `read_job`, whatever the numbers are: which jobs are refused is told elsewhere. A `requires` here is that the bytes are there.
+
+#![tactic(auto)]
+
 ghost use Rattle.std.specs.Prelude.{◌≡◌, cond, ◌+◌, ◌-◌, ◌*◌, ◌≤◌, ◌<◌, leb, length, get_or};
 ghost use Rattle.definitions.specs.Job.{tolerance1, flag_set, present, number_at, float_at, floats_at, read_job, plane_of};
 ghost use Rattle.vectors.specs.Meaning.{five};

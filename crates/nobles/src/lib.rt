@@ -1,5 +1,8 @@
 // A job with a package, from their bytes to the answer's [17.10]: the job's own refusals, then 18, then the workspace; the package is loaded, the job called by it, and what the call leaves is
 // written as without a package.
+
+#![tactic(auto)]
+
 ghost use Rattle.std.specs.Prelude.{◌≡◌, length, replicate};
 ghost use Rattle.definitions.specs.NobleCalls.{noble_tests, noble_alone};
 ghost use Rattle.job.specs.Refusal.{checked_by};

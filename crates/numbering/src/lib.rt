@@ -1,6 +1,9 @@
 // The number of the ridge orbit that holds a ridge. A ridge is the code of its two ends, as in the openers; the
 // images of one that is new get its number as their mark, by [6.7], with marks for the 400 codes. Any rows, with the
 // identity among them or not.
+
+#![tactic(auto)]
+
 ghost use Rattle.std.specs.Prelude.{◌≡◌, ◌+◌, ◌*◌, ◌/◌, ◌%◌, ◌≤◌, ◌<◌, length, get_or};
 ghost use Rattle.definitions.specs.Lists.{Pair};
 ghost use Rattle.definitions.specs.Orbits.{pair_image};

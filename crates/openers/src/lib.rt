@@ -1,5 +1,8 @@
 // Openers: the vertices and the pairs of vertices that open an orbit under the rows, in the order of [5.2] and [5.4]. Marks stand in local arrays; a row is read where it lies, at a stride of
 // 32 bytes. Each function equals a definition of Orbits for every n up to 20 and any number of rows, which need not be closed under composition.
+
+#![tactic(auto)]
+
 ghost use Rattle.std.specs.Prelude.{◌≡◌, ◌∷◌, [], ◌++◌, map, ℕ, ◌+◌, ◌*◌, ◌-◌, ◌≤◌, ◌<◌, min, max, length, get_or, take};
 ghost use Rattle.definitions.specs.Lists.{count_from};
 ghost use Rattle.definitions.specs.Orbits.{vertex_openers, pair_openers, pairs_from, above};

@@ -1,6 +1,9 @@
 // Lists the hyperplane orbits of jobs, so that they can be held beside those that the Rust finds. Standard input holds jobs, each behind its length, a u16. Each job has a line with its
 // number and how many orbits it has, or its refusal; then a line for each orbit, its count and the vertices of its first set; then, orbit by orbit, the rows of the inner call or the
 // refusal of the refit, which ends the list. No contract can say what is written: that is held to the file stdout, which the Rust wrote.
+
+#![tactic(auto)]
+
 ghost use Rattle.std.specs.Prelude.{◌≡◌, ◌+◌, ◌*◌, ◌^◌, ◌≤◌, ◌<◌, length};
 ghost use Rattle.job.specs.Refusal.{checked_of};
 ghost use Rattle.job.specs.declared.Checked.TheVariants.{Passed};

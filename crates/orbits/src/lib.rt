@@ -1,5 +1,8 @@
 // Hyperplane orbits in the workspace. Its first 2,048 bytes hold up to 256 orbits, eight bytes each: the number of the first set, and how many sets the orbit has. Behind them lie the
 // numbers of all sets seen, ascending, at most 120 for an orbit. Each function equals a step of [5.5] to [5.7], at any tolerance and any rank from 3.
+
+#![tactic(auto)]
+
 ghost use Rattle.std.specs.Prelude.{◌≡◌, ◌∷◌, [], ◌++◌, map, ℕ, ◌+◌, ◌*◌, ◌-◌, ◌%◌, ◌^◌, ◌≤◌, ◌<◌, length, get_or, take, drop};
 ghost use Rattle.definitions.specs.Lists.{member_nat};
 ghost use Rattle.definitions.specs.Job.{number_at};

@@ -1,4 +1,7 @@
 // A package's bytes [17.2]: whether they pass [17.3], and the full set that they tell of, loaded so that orbits can be tallied by it. Rows are tested as a job's are.
+
+#![tactic(auto)]
+
 ghost use Rattle.std.specs.Prelude.{◌≡◌, ◌+◌, ◌*◌, ◌≤◌, T, length, take, drop};
 ghost use Rattle.definitions.specs.Lists.{member_nat};
 ghost use Rattle.definitions.specs.Noble.{read_package, package_counts, package_good};

@@ -1,5 +1,8 @@
 // The plain entries of a job [18.3]: it is checked, loaded and called, and the numbers of the entries in which `filter_irc` finds no other are written, how many of them first. No figure is
 // worked out.
+
+#![tactic(auto)]
+
 ghost use Rattle.std.specs.Prelude.{◌≡◌, List, [], ◌∷◌, ℕ, ◌+◌, ◌*◌, ◌≤◌, ◌<◌, length, drop, replicate};
 ghost use Rattle.definitions.specs.Orbits.{Row};
 ghost use Rattle.definitions.specs.Plain.{plain_alone};

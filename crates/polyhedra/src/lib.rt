@@ -1,4 +1,7 @@
 // The answer's words from what a call of rank 4 leaves in the workspace, and from the images of its facets in order. Leans on what is written at every rank.
+
+#![tactic(auto)]
+
 ghost use Rattle.std.specs.Prelude.{◌≡◌, ◌+◌, ◌*◌, ◌-◌, ◌/◌, ◌≤◌, ◌<◌, false, length, get_or, replicate};
 ghost use mathlib.Core.List.{[], flat_map};
 ghost use Rattle.words.specs.Words.{words};

@@ -1,5 +1,8 @@
 // Lists of any length in one region: closed lists one behind another, and one that is open at the end. `most` is how many lists the region has room for.
 // Items are u16 or u32 numbers. A `requires` here is a bound on an index and nothing else; what a region holds follows by the laws of specs/Pool.
+
+#![tactic(auto)]
+
 ghost use Rattle.std.specs.Prelude.{◌≡◌, ◌+◌, ◌*◌, ◌≤◌, ◌<◌, length};
 ghost use Rattle.definitions.specs.Job.{number_at};
 ghost use Rattle.pool.specs.Pool.{count, used, start, base, emptied, pushed, ended, length_at, place_at};

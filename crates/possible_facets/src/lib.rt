@@ -1,4 +1,7 @@
 // The words of the possible facets of a call, orbit by orbit: how many there are, and the figure of each, an edge or a polygon. Leans on the words of figures.
+
+#![tactic(auto)]
+
 ghost use Rattle.std.specs.Prelude.{◌≡◌, ℕ, ◌+◌, ◌*◌, ◌-◌, ◌/◌, ◌%◌, ◌≤◌, ◌<◌, not, length, get_or, drop};
 ghost use mathlib.Core.List.{flat_map};
 ghost use Rattle.laws.specs.Sets.{vertices_of};

@@ -1,4 +1,7 @@
 // The exported functions, thin ones: a job's bytes in, its answer's bytes out, whatever the lengths of the slices are. The work is done in the crates below.
+
+#![tactic(auto)]
+
 ghost use Rattle.std.specs.Prelude.{◌≡◌, ℕ, ◌≤◌, pos, neg_ℤ, length, take};
 ghost use Rattle.definitions.specs.Outcome.{answered};
 ghost use Rattle.definitions.specs.Job.{Bytes, outcome, code_of, buffer_of};

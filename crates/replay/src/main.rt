@@ -2,6 +2,8 @@
 // buffer, the refusal number or 0, the answer's length or 0, and a hash of the whole buffer at exit. They were made by `facetings-host record --seed 3`. The buffers stay as the call before left them. No contract can say what the Rust answered:
 // that every result is the same is held to the file stdout.
 
+#![tactic(auto)]
+
 ghost use Rattle.std.specs.Prelude.{◌≤◌};
 
 // The next number of the input; 0 where it has ended.

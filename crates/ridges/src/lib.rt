@@ -2,6 +2,9 @@
 // each ridge orbit the facets with shares of 1 in it. With the numbers and the shares below it, this is the way from
 // what a call keeps to its search. Each function equals a definition of specs/ for any rows, with the identity among
 // them or not.
+
+#![tactic(auto)]
+
 ghost use Rattle.std.specs.Prelude.{◌≡◌, List, ◌∷◌, [], ℕ, ◌+◌, ◌*◌, ◌≤◌, ◌<◌, min, length, get_or, take, drop};
 ghost use Rattle.pool.specs.Pool.{count, closed_lists, Sound};
 ghost use Rattle.openers.specs.Rows.{rows_in};

@@ -1,6 +1,9 @@
 // The square root [3.2]: of every finite double not below zero, the nearest double to its root, ties to even.
 // The argument is q × 2^w / 2^1126 with 2^52 ≤ q < 2^53. Its root is that of a whole number of 107 or 108 binary digits, times a power of two, and the whole root of that number decides the rounding:
 // from the value of a polynomial, two of Newton's steps lead to its upper half, and one more division to all of it. Only whole numbers below 2^64 occur.
+
+#![tactic(auto)]
+
 ghost use Rattle.std.specs.Prelude.{◌≡◌, ◌+◌, ◌*◌, ◌/◌, ◌%◌, ◌^◌, ◌≤◌, ◌<◌};
 ghost use Rattle.std.proofs.Math.Option.{some};
 ghost use Rattle.std.specs.Float.{binary64};

@@ -1,5 +1,8 @@
 // The search, chapter 7, in a workspace: from the facets of a call, what each adds to each ridge orbit and where it has shares of 1, to the emitted lists and the budget that
 // is left. The lists are examined in the order of the definition's stack, by a path with a place for each depth.
+
+#![tactic(auto)]
+
 ghost use Rattle.std.specs.Prelude.{◌≡◌, ◌+◌, ◌-◌, ◌<◌, length, take};
 ghost use Rattle.definitions.specs.Search.{Table, closed, limit_reached, search as searchOf};
 ghost use Rattle.facets.specs.Layout.{AreasFit, Inputs, verdict, lists_part};

@@ -1,5 +1,8 @@
 // Sets of vertices as numbers: the sum of 2 ^ v. The image of a set under a row, the points near a plane as a set, and a set's points with the plane that they fit.
 // Each function equals a definition of Orbits or Recursion: [5.1], [5.6], [6.4].
+
+#![tactic(auto)]
+
 ghost use Rattle.std.specs.Prelude.{◌≡◌, map, cond, ℕ, ◌+◌, ◌*◌, ◌%◌, ◌^◌, ◌≤◌, ◌<◌, eqb, length, get_or, take, drop};
 ghost use Rattle.std.specs.Float.Ieee.{lt};
 ghost use Rattle.std.specs.Float.{nan};

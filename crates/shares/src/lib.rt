@@ -1,5 +1,8 @@
 // The ridges of all orbits, numbered in their order, and the shares of the facets in their ridge orbits: two pools
 // behind what a call keeps, which serve only for the tables of its search.
+
+#![tactic(auto)]
+
 ghost use Rattle.std.specs.Prelude.{◌≡◌, ◌∷◌, [], ◌≤◌, ◌<◌, length};
 ghost use Rattle.definitions.specs.Lists.{Pair};
 ghost use Rattle.pool.specs.Pool.{count, closed_lists};

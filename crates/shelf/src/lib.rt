@@ -2,6 +2,8 @@
 // The orbits found stand first, eight bytes each. Behind them: the edges of each possible facet, the components of compounds, the orbit of each facet, and then what only the
 // search's tables are made from: the ridges of each orbit, and the places of each facet.
 
+#![tactic(auto)]
+
 // Where the areas begin, and how many orbits and facets are kept.
 #[derive(Drop)]
 pub struct Shelf {

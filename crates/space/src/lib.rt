@@ -1,5 +1,8 @@
 // Subspaces, points and limits. Each function equals a definition of Subspace or Orbits, chapter 4 and [5.3], at every d up to five and at any tolerance. Structs go by value and are
 // handed back. Numbers lie in flat arrays, five places to a vector; only the first d of them mean something, and zeros stand behind all that mean something.
+
+#![tactic(auto)]
+
 ghost use Rattle.std.specs.Prelude.{◌≡◌, ◌∷◌, [], ◌++◌, map, ◌+◌, ◌*◌, ◌≤◌, ◌<◌, length, take, drop};
 ghost use Rattle.std.specs.Float.Ieee.{lt};
 ghost use Rattle.std.specs.Float.{nan};

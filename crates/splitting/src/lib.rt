@@ -1,4 +1,7 @@
 // Splitting: each compound facet of a list is replaced by its components, at its place, until none is compound.
+
+#![tactic(auto)]
+
 ghost use Rattle.std.specs.Prelude.{◌≡◌, ◌+◌, ◌*◌, ◌≤◌, ◌<◌, length, get_or, take};
 ghost use mathlib.Core.List.{[], ◌∷◌, ◌++◌, map, flat_map};
 ghost use Rattle.std.proofs.Math.Option.{none};

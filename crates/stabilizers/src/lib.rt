@@ -1,5 +1,8 @@
 // The rows that keep a set, rewritten to positions in it, in order, with repeats kept: the rows of an inner call [6.5]. A set is the number of its vertices; rows lie at a stride
 // of 32 bytes, and so do the rows that are written. Leans on the sets' images.
+
+#![tactic(auto)]
+
 ghost use Rattle.std.specs.Prelude.{◌≡◌, cond, ◌∷◌, [], ℕ, ◌+◌, ◌*◌, ◌^◌, ◌≤◌, ◌<◌, length, get_or};
 ghost use Rattle.std.proofs.lemmas.List.Edits.{sets};
 ghost use Rattle.definitions.specs.Recursion.{keeps_set, row_within, rows_within};

@@ -2,6 +2,9 @@
 // tally is 2 or more. A key is the number of its set of global numbers, below 2 ^ 20. A mark is one number, 256 · key +
 // tally, in an ascending region, so that nothing is written over: a key's latest mark is its largest number.
 // Each function equals a step of [17.4] to [17.6]. Leans on the sorted sets, the sets' images and the orbits.
+
+#![tactic(auto)]
+
 ghost use Rattle.std.specs.Prelude.{◌≡◌, ◌∷◌, [], map, ℕ, ◌+◌, ◌*◌, ◌/◌, ◌≤◌, ◌<◌, leb, length, get_or, take, drop, set, replicate};
 ghost use Rattle.std.proofs.Math.Option.{none};
 ghost use Rattle.definitions.specs.Lists.{place_of};

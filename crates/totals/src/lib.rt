@@ -1,5 +1,8 @@
 // What the facets of a list add to the ridge orbits, counted when a facet joins and when it leaves, with the orbits
 // in use.
+
+#![tactic(auto)]
+
 ghost use Rattle.std.specs.Prelude.{◌≡◌, ℕ, ◌≤◌, ◌<◌, get_or};
 ghost use Rattle.definitions.specs.Search.{Table};
 ghost use Rattle.facets.specs.Layout.{Inputs, totals_part, touched_part, codes, amount_in, lifted, with_facet, without_facet};

@@ -1,4 +1,7 @@
 // Vectors of up to five numbers. Each function equals a definition of Vectors, [3.4] to [3.6]: floats are f64, and each operation is rounded once.
+
+#![tactic(auto)]
+
 ghost use Rattle.std.specs.Prelude.{◌≡◌, ◌+◌, ◌≤◌, length, drop};
 ghost use Rattle.definitions.specs.Vectors.{dot, norm, normalised, minus, plus_times};
 ghost use Rattle.laws.specs.Segments.{onto};

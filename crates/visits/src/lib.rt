@@ -1,4 +1,7 @@
 // The next candidate of the deepest frame: it is found, taken, and the list that it makes is judged.
+
+#![tactic(auto)]
+
 ghost use Rattle.std.specs.Prelude.{◌≡◌, ◌-◌, ◌<◌};
 ghost use Rattle.definitions.specs.Search.{Table};
 ghost use Rattle.facets.specs.Layout.{verdict, frames_part};

@@ -1,5 +1,8 @@
 // Numbers and lists in byte slices. What is large lives in bytes of a workspace that the caller lends: these are the words to speak of it.
 // Every number is little-endian. A `requires` here is a bound on an index and nothing else. Contracts say what is read by the definitions `number_at` and `float_at` [10.1].
+
+#![tactic(auto)]
+
 ghost use Rattle.std.specs.Prelude.{◌≡◌, ◌+◌, ◌*◌, ◌≤◌, ◌<◌, length, drop, replicate};
 ghost use Rattle.std.proofs.Math.Seq.{paste};
 ghost use Rattle.std.specs.Float.{binary64};

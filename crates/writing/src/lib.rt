@@ -1,5 +1,8 @@
 // The answer's words from what a call of rank 2 or 3 leaves in the workspace, and the parts that an answer has at every rank: counts, lists, compounds. Leans on
 // the words of figures, marked edges, lists and possible facets.
+
+#![tactic(auto)]
+
 ghost use Rattle.std.specs.Prelude.{◌≡◌, ◌+◌, ◌*◌, ◌-◌, ◌/◌, ◌≤◌, ◌<◌, length, get_or, drop};
 ghost use mathlib.Core.List.{◌∷◌, [], flat_map};
 ghost use Rattle.laws.specs.Segments.{part};
