@@ -97,7 +97,7 @@ fn write_left(
 // ---- the answer
 
 // What came of a job: a refusal that is not 17, an answer that is longer than the buffer, or one that stands in it, so many bytes.
-#[derive(Drop)]
+#[derive(Clone, Copy)]
 pub enum Written {
     Refused(u8),
     Short,

@@ -41,7 +41,7 @@ pub fn is_cut(row: &[u8]) -> bool
 const HEAD_BYTES: usize = 6;
 
 // What came of a record: it stands there, so many bytes, or it has no room or no u32 for its length.
-#[derive(Drop)]
+#[derive(Clone, Copy)]
 pub enum Recorded {
     TooLong,
     Wrote(usize),

@@ -11,7 +11,7 @@ ghost use Rattle.calls.specs.Layouts.{shelf_for};
 use shelf::{Level, Shelf};
 
 // What is alike at every depth: the tolerance, the limits on lengths and on entries, how many hyperplane orbits, possible facets and entries a call may have, and the rule of crowded lines.
-#[derive(Drop)]
+#[derive(Clone, Copy)]
 pub struct Rules {
     pub tolerance: f64,
     pub min: space::Limit,
@@ -24,7 +24,7 @@ pub struct Rules {
 }
 
 // What a call answers. At rank 2: whether some row swaps the ends. Above: where its answer stands in the workspace. Both with what is left of the budget.
-#[derive(Drop)]
+#[derive(Clone, Copy)]
 pub enum Called {
     Refused(u8),
     Ends(bool, u32),

@@ -30,7 +30,7 @@ use tallies::FullSet;
 // ---- the orbits
 
 // How a call goes [17.8]: plain, or by the package of this full set, whose global numbers and rows it is lent. A plain call reads neither.
-#[derive(Drop)]
+#[derive(Clone, Copy)]
 pub struct Way {
     pub plain: bool,
     pub whole: FullSet,
@@ -111,7 +111,7 @@ fn start_call(
 // ---- the inner calls
 
 // What an inner call is given: the plane of its set, refused or not, its points, and how many rows keep the set.
-#[derive(Drop)]
+#[derive(Clone, Copy)]
 pub struct Next {
     pub refitted: SetPlane,
     pub points: Points,

@@ -12,7 +12,7 @@ use calls::Called;
 use shelf::{Level, Shelf};
 
 // What became of an inner call: a refusal, or the shelf with one orbit more and what is left of the budget.
-#[derive(Drop)]
+#[derive(Clone, Copy)]
 pub enum Stored {
     Refused(u8),
     Kept(Shelf, u32),

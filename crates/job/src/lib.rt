@@ -198,7 +198,7 @@ pub fn workspace_for(rank: usize) -> usize
 // ---- the order
 
 // The number of the first refusal, or the fields of a job that passes.
-#[derive(Drop)]
+#[derive(Clone, Copy)]
 pub enum Checked {
     Refused(u8),
     Passed(Fields),

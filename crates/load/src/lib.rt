@@ -17,7 +17,7 @@ use words::Read;
 // ---- the header
 
 // The version, the counts, the last that of the rows, and the flags.
-#[derive(Drop)]
+#[derive(Clone, Copy)]
 pub struct Header {
     pub version: usize,
     pub rank: usize,
@@ -44,7 +44,7 @@ pub fn header_of(job: &[u8]) -> Header
 // ---- where the fields stand
 
 // The place of each field that the version or a flag can move, and the length of the whole job.
-#[derive(Drop)]
+#[derive(Clone, Copy)]
 pub struct Places {
     pub max: usize,
     pub limit: usize,
@@ -128,7 +128,7 @@ fn limit_at(job: &[u8], flags: usize, weight: usize, at: usize) -> Limit
 }
 
 // The entry limit is absent or a number.
-#[derive(Drop)]
+#[derive(Clone, Copy)]
 pub enum EntryLimit {
     Unlimited,
     Number(u32),
@@ -172,7 +172,7 @@ fn rule_at(job: &[u8], version: usize, at: usize) -> usize
 // ---- all fields
 
 // The counts, the limits, the tolerance, the rule and the budget by value; the last four are the places in the job where offset, basis, points and rows begin.
-#[derive(Drop)]
+#[derive(Clone, Copy)]
 pub struct Fields {
     pub rank: usize,
     pub d: usize,

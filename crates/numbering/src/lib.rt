@@ -46,7 +46,7 @@ fn open_ridge(rows: &[u8], m: usize, key: usize, mark: u16, marks: &mut [u16; 40
 }
 
 // A ridge's number, and how many ridge orbits there are then.
-#[derive(Drop)]
+#[derive(Clone, Copy)]
 pub struct Numbered {
     pub number: u16,
     pub known: usize,

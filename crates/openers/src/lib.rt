@@ -26,7 +26,7 @@ pub fn image(rows: &[u8], i: usize, v: usize) -> usize
 // ---- vertices
 
 // Vertices in order, 20 at most.
-#[derive(Drop)]
+#[derive(Clone, Copy)]
 pub struct Vertices {
     pub at: [usize; 20],
     pub count: usize,
@@ -100,7 +100,7 @@ fn vertex_openers(rows: &[u8], m: usize, n: usize) -> Vertices
 // ---- pairs
 
 // Pairs of vertices in order, 190 at most. A pair (v, w) has the code 20 · v + w.
-#[derive(Drop)]
+#[derive(Clone, Copy)]
 pub struct Pairs {
     pub codes: [usize; 190],
     pub count: usize,

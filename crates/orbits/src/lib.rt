@@ -25,14 +25,14 @@ use sorted::Found;
 use space::{Limit, Points, Subspace};
 
 // Whether another orbit was due than the bound allows.
-#[derive(Drop)]
+#[derive(Clone, Copy)]
 pub enum Walk {
     Going,
     Refused,
 }
 
 // How many sets were seen and how many orbits found.
-#[derive(Drop)]
+#[derive(Clone, Copy)]
 pub struct Progress {
     pub known: usize,
     pub count: usize,
@@ -310,7 +310,7 @@ fn walk_pairs(
 }
 
 // All hyperplane orbits of a call, or refusal 13 where there are more than the bound.
-#[derive(Drop)]
+#[derive(Clone, Copy)]
 pub enum Answer {
     Orbits(usize),
     Refused,

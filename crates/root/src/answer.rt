@@ -1,7 +1,7 @@
 // What the square root answers.
 
 // The value, or a refusal with no value.
-#[derive(Drop)]
+#[derive(Clone, Copy)]
 pub enum Root {
     Value(f64),
     Refused,

@@ -32,7 +32,7 @@ const LEAST: f64 = 0.000000000931322574615478515625;
 const TINY: f64 = 0.00000000000000000021684043449710088680149056017398834228515625;
 
 // A double above zero, as q × 2^w / 2^1126.
-#[derive(Drop)]
+#[derive(Clone, Copy)]
 struct Scaled {
     q: u64,
     w: u64,

@@ -17,28 +17,28 @@ use facets::{Areas, Verdict};
 use visits::State;
 
 // The limit on entries.
-#[derive(Drop)]
+#[derive(Clone, Copy)]
 pub enum Limit {
     Absent,
     Entries(u32),
 }
 
 // How the search goes: its limit on entries, and whether a closed list is extended.
-#[derive(Drop)]
+#[derive(Clone, Copy)]
 pub struct Course {
     pub limit: Limit,
     pub extended: bool,
 }
 
 // Found: how many lists, and what is left of the budget.
-#[derive(Drop)]
+#[derive(Clone, Copy)]
 pub enum Outcome {
     Found(u32, u32),
     Refused(u8),
 }
 
 // What follows an examined list: the search goes on with so many frames, the limit is reached, or an entry is past the bound.
-#[derive(Drop)]
+#[derive(Clone, Copy)]
 pub enum Step {
     On(usize),
     Stopped,

@@ -126,14 +126,14 @@ pub fn chosen_points(flat: Points, set: u32) -> Points
 // ---- a set's plane
 
 // Whether a plane has the rank that is wanted.
-#[derive(Drop)]
+#[derive(Clone, Copy)]
 pub enum Fit {
     Fitted,
     Refused,
 }
 
 // The plane that a set's points fit, and whether it is refused.
-#[derive(Drop)]
+#[derive(Clone, Copy)]
 pub struct SetPlane {
     pub plane: Subspace,
     pub fit: Fit,

@@ -5,7 +5,7 @@
 #![tactic(auto)]
 
 // Where the areas begin, and how many orbits and facets are kept.
-#[derive(Drop)]
+#[derive(Clone, Copy)]
 pub struct Shelf {
     pub orbits: usize,
     pub facets: usize,
@@ -19,7 +19,7 @@ pub struct Shelf {
 
 // What a call leaves: the shelf, a pool of `extent` bytes at `emitted` with the lists as the search emitted them, and an area with its entries' split lists. From `lists` on there are a pool of
 // `bytes` bytes, whose list k is the emitted list k split, the numbers of its lists in the entries' order, and at `bytes` + 2,048 the entries' labels. Where nothing is split both pools are one.
-#[derive(Drop)]
+#[derive(Clone, Copy)]
 pub struct Level {
     pub shelf: Shelf,
     pub emitted: usize,

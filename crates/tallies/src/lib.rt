@@ -27,7 +27,7 @@ use sets::set_image;
 
 // ---- marks
 
-#[derive(Drop)]
+#[derive(Clone, Copy)]
 pub enum Marked {
     Unmarked,
     With(usize),
@@ -85,7 +85,7 @@ fn gather_marks(full: &[u8], m: usize, g: usize, key: u32, tally: u32, new: &mut
 // ---- tallies
 
 // The full set: its number of points, how many rows it has, and what each set of an orbit counts for.
-#[derive(Drop)]
+#[derive(Clone, Copy)]
 pub struct FullSet {
     pub size: usize,
     pub rows: usize,
@@ -93,7 +93,7 @@ pub struct FullSet {
 }
 
 // How many marks and tallies there are.
-#[derive(Drop)]
+#[derive(Clone, Copy)]
 struct Progress {
     known: usize,
     tallies: usize,

@@ -39,7 +39,7 @@ pub fn norm(v: [f64; 5], d: usize) -> f64
 }
 
 // A vector divided by its norm, and that norm.
-#[derive(Drop)]
+#[derive(Clone, Copy)]
 pub struct Normalised {
     pub vector: [f64; 5],
     pub norm: f64,

@@ -66,9 +66,9 @@ read_as_number s at n e h =
     read_number (of_bits binary64 n) (sym (nan_bits_is binary64 n) ∙ no_nan_pattern n h) ∙ ap (λ (k : ℕ). read_of (of_bits binary64 k)) e
 
 -- a float that differs from itself is the NaN, and the pattern that is written then is the library's
-pub nan_bits : (x : Float) → ne x x ≡ true → 9221120237041090560 ≡ to_bits binary64 x
+pub nan_pattern_written : (x : Float) → ne x x ≡ true → 9221120237041090560 ≡ to_bits binary64 x
 unfolding to_bits
-nan_bits x h = rw (differs_from_itself x (subst T (sym h) tt)) refl
+nan_pattern_written x h = rw (differs_from_itself x (subst T (sym h) tt)) refl
 
 pub same_no_nan : (x : Float) → ne x x ≡ false → T (not (is_nan x))
 unfolding is_nan

@@ -72,7 +72,7 @@ pub fn put_u64(s: &mut [u8], at: usize, v: u64)
 // ---- floats
 
 // What eight bytes hold: a float, an infinity among them, or the pattern of a NaN.
-#[derive(Drop)]
+#[derive(Clone, Copy)]
 pub enum Read {
     Number(f64),
     NotANumber,

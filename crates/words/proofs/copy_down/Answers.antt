@@ -1,0 +1,12 @@
+use native.Mathlib.Omega.{arith}
+use Rattle.laws.specs.Segments.{copy_start, down_turn, copy_end}
+use Rattle.words.proofs.copy_down.Goals as goal
+
+pub loop-i-init : goal.loop-i-init
+loop-i-init c = copy_start _ _ _ _
+
+pub loop-i-preserved : goal.loop-i-preserved
+loop-i-preserved c = down_turn c.loop-i.invariant (omega arith) (omega arith) (omega arith)
+
+pub returns : goal.returns
+returns c = copy_end c.loop-i.invariant c.loop-i-test.false
