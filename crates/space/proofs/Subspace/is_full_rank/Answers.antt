@@ -4,15 +4,11 @@ use borrow.Author.Rules.{rules}
 use lib.ListN.{length}
 use Rattle.space.specs.Meaning.{is_full_rank}
 use Rattle.space.specs.Counts.{offset_length, basis_length}
-use Rattle.space.proofs.Subspace.is_full_rank.Statement.{statement}
-use Rattle.space.proofs.Subspace.is_full_rank.Tie as tie
+use Rattle.space.proofs.Subspace.is_full_rank.Goals as goal
 
-returns : tie.Need-returns
+pub returns : goal.returns
 unfolding is_full_rank
 returns c =
-    let s = c.before.args.self in
+    let s = c.args.self in
     let long : length s.offset ≡ 5 = search rules in
-    rw (offset_length s c.before.requires.d_fits long, basis_length s) refl
-
-pub is-full-rank-spec : {M : Type 1} → statement M
-is-full-rank-spec = tie.close (tie.spec returns)
+    rw (offset_length s c.requires.d_fits long, basis_length s) refl

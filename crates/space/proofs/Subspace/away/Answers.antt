@@ -9,21 +9,13 @@ use mathlib.Core.List.{List}
 use Rattle.definitions.specs.Vectors.{minus}
 use Rattle.vectors.specs.Wholes.{five_means, minus_length}
 use Rattle.space.specs.Meaning.{subspace_of}
-use Rattle.space.proofs.Subspace.away.Statement.{statement}
-use Rattle.space.proofs.Subspace.away.Tie as tie
+use Rattle.space.proofs.Subspace.away.Goals as goal
 
-minus-requires : tie.Need-minus-requires
-minus-requires c κs = search rules
-
-returns : tie.Need-returns
+pub returns : goal.returns
 unfolding subspace_of
 returns c =
-    let entry = c.before.before in
-    let s = entry.args.self in
-    let long : (v : List Float) → length v ≡ 5 → length (take s.d v) ≡ s.d = λ v e. length-take-le s.d v (omega (arith, entry.requires.d_fits)) in
-    let p-long : length entry.args.p ≡ 5 = search rules in
+    let s = c.args.self in
+    let long : (v : List Float) → length v ≡ 5 → length (take s.d v) ≡ s.d = λ v e. length-take-le s.d v (omega (arith, c.requires.d_fits)) in
+    let p-long : length c.args.p ≡ 5 = search rules in
     let offset_long : length s.offset ≡ 5 = search rules in
     five_means _ _ s.d c.minus.ensures (minus_length _ _ (long _ p-long ∙ sym (long _ offset_long)) ∙ long _ p-long)
-
-pub away-spec : {M : Type 1} → statement M
-away-spec = tie.close (tie.spec minus-requires returns)

@@ -8,14 +8,10 @@ use Rattle.laws.specs.Segments.{onto}
 use Rattle.vectors.specs.Meaning.{zeros}
 use Rattle.space.specs.Meaning.{subspace_of, point_alone, in_rows, joined}
 use Rattle.space.specs.Counts.{holds_subspace}
-use Rattle.space.proofs.Subspace.new.Statement.{statement}
-use Rattle.space.proofs.Subspace.new.Tie as tie
+use Rattle.space.proofs.Subspace.new.Goals as goal
 
-returns : tie.Need-returns
+pub returns : goal.returns
 unfolding subspace_of point_alone rows in_rows joined onto zeros
 returns c =
     let long : length c.args.offset ≡ 5 = search rules in
     (holds_subspace _ _ (record { d_fits = c.requires.0; rank_fits = omega arith; offset_is = c.requires.1; basis_is = refl }) long refl, refl, refl)
-
-pub new_spec : {M : Type 1} → statement M
-new_spec = tie.close (tie.spec returns)

@@ -6,12 +6,8 @@ use Rattle.laws.specs.Segments.{onto}
 use Rattle.vectors.specs.Meaning.{zeros}
 use Rattle.space.specs.Meaning.{points_of, in_rows, joined}
 use Rattle.space.specs.Counts.{holds_points}
-use Rattle.space.proofs.Points.new.Statement.{statement}
-use Rattle.space.proofs.Points.new.Tie as tie
+use Rattle.space.proofs.Points.new.Goals as goal
 
-returns : tie.Need-returns
+pub returns : goal.returns
 unfolding points_of rows in_rows joined onto zeros
 returns c = holds_points _ _ _ (record { n_fits = omega arith; d_fits = c.requires; at_is = refl }) refl refl
-
-pub new_spec : {M : Type 1} → statement M
-new_spec = tie.close (tie.spec returns)

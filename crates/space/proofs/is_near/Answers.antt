@@ -1,0 +1,24 @@
+-- `is_near` meets its contract, from those of its calls: the difference is written over zeros.
+use mathlib.Core.Path.{◌≡◌, refl, ◌∙◌}
+use native.Mathlib.Omega.{arith}
+use borrow.Author.Rules.{rules}
+use lib.ListN.{length, drop, length-drop}
+use lib.Seq.{length-take-le}
+use Rattle.definitions.specs.Vectors.{norm}
+use Rattle.definitions.specs.Subspace.{residual, distance}
+use Rattle.vectors.specs.Meaning.{vector_of, zeros, five}
+use Rattle.space.proofs.Laws.{read_projection, read_residual}
+use Rattle.space.proofs.is_near.Goals as goal
+
+pub returns : goal.returns
+unfolding distance norm residual five zeros
+returns c =
+    let s = c.args.plane in
+    let offset_long : length s.offset ≡ 5 = search rules in
+    let basis_long : length s.basis ≡ 25 = search rules in
+    let numbers = drop c.args.at c.args.points.now in
+    let p = vector_of s.d numbers in
+    let p-long : length p ≡ s.d = length-take-le s.d numbers (omega (arith, length-drop c.args.at c.args.points.now, c.requires.1)) in
+    let q = read_projection s c.requires.0 offset_long basis_long p p-long _ c.project_at-q.ensures in
+    let r = read_residual s c.requires.0 offset_long basis_long p p-long _ (c.take_from.ensures ∙ rw q refl) in
+    c.root_below.ensures ∙ rw (c.dot_at.ensures, r) refl
