@@ -36,6 +36,7 @@ module _ (to : ℕ → Pair) (bound : ℕ) (table : List (Option Pair)) (orbit :
   number a = (to a).1
 
   two_more : (q : List ℕ) (b c : ℕ) → All q → Of to bound orbit b → Of to bound orbit c → All (q ++ (b ∷ c ∷ []))
+  two_more [] b c f g h a (mathlib.Core.List.Memᴰ.tail (mathlib.Core.List.Memᴰ.tail x12)) = elim x12 [ ]
   two_more [] b c f g h a (Memᴰ.head e) = subst (Of to bound orbit) (sym e) g
   two_more [] b c f g h a (Memᴰ.tail (Memᴰ.head e)) = subst (Of to bound orbit) (sym e) h
   two_more (x ∷ q) b c f g h a (Memᴰ.head e) = f a (here e)
@@ -96,6 +97,7 @@ split_nats_below bound table g (suc steps) (a ∷ q) f = go (get_or table a none
     later x i = f x (there i)
 
     both : (p : Pair) → (p.0 < bound) × (p.1 < bound) → (x : ℕ) → Mem x q ⊎ Mem x (p.0 ∷ p.1 ∷ []) → x < bound
+    both p h x (inr (mathlib.Core.List.Memᴰ.tail (mathlib.Core.List.Memᴰ.tail x11))) = elim x11 [ ]
     both p h x (inl i) = later x i
     both p h x (inr (Memᴰ.head e)) = subst (λ (y : ℕ). y < bound) (sym e) h.0
     both p h x (inr (Memᴰ.tail (Memᴰ.head e))) = subst (λ (y : ℕ). y < bound) (sym e) h.1

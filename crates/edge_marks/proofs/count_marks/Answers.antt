@@ -1,0 +1,22 @@
+use mathlib.Core.Path.{◌≡◌, ap, ◌∙◌}
+use Prim.Native.Nat.{ℕ}
+use native.Mathlib.Omega.{arith}
+use lib.ListN.{length}
+use Rattle.edge_marks.specs.Marks.{codes_marked}
+use Rattle.edge_marks.specs.MarkTurns.{marks_none, marks_count}
+use Rattle.edge_marks.proofs.count_marks.Goals as goal
+
+pub loop-code-init : goal.loop-code-init
+loop-code-init c = (omega arith, marks_none _, omega arith)
+
+pub overflow_add-many : goal.overflow_add-many
+overflow_add-many c = let l = c.loop-code in let r = marks_count _ l.code l.many _ c.mark_at-many.ensures l.invariant.1 in omega (arith, r.1)
+
+pub loop-code-preserved : goal.loop-code-preserved
+loop-code-preserved c = let l = c.loop-code in
+    let r = marks_count _ l.code l.many _ c.mark_at-many.ensures l.invariant.1 in
+    (omega arith, r.0, omega (arith, r.1))
+
+pub returns : goal.returns
+returns c = let l = c.loop-code in let e : l.code ≡ 400 = omega arith in
+    (l.invariant.1 ∙ ap (λ (k : ℕ). length (codes_marked c.args.marks.now k)) e, omega arith)

@@ -1,0 +1,14 @@
+-- `mark_pair_images` meets its contract.
+use mathlib.Core.Path.{◌≡◌}
+use Prim.Native.Nat.{◌-◌, ◌≤◌}
+use lib.ListN.{length}
+use Rattle.openers.specs.Rows.{rows_in}
+use Rattle.openers.specs.Marks.{marked}
+use Rattle.openers.specs.Meaning.{pair_codes}
+use Rattle.openers.proofs.mark_pair_images.Given as goal
+
+abbrev pub invariant-loop-i : goal.invariant-loop-i
+invariant-loop-i l = (l.i ≤ l.m) × (length l.marks ≡ length l.initial.marks) × (l.marks ≡ marked l.initial.marks (pair_codes (rows_in 32 l.i l.rows) (l.v, l.w)))
+
+abbrev pub decreases-loop-i : goal.decreases-loop-i
+decreases-loop-i l = l.m - l.i

@@ -1,0 +1,15 @@
+-- `vertex_openers` meets its contract.
+use mathlib.Core.Path.{◌≡◌}
+use mathlib.Core.Bool.{false}
+use Prim.Native.Nat.{◌-◌, ◌≤◌}
+use lib.ListN.{replicate}
+use Rattle.openers.specs.Rows.{rows_in}
+use Rattle.openers.specs.Meaning.{vertex_images, HoldsVertices}
+use Rattle.openers.proofs.Laws.{found_below, marks_below}
+use Rattle.openers.proofs.vertex_openers.Given as goal
+
+abbrev pub invariant-loop-v : goal.invariant-loop-v
+invariant-loop-v l = (l.v ≤ l.n) × HoldsVertices l.found (found_below (vertex_images (rows_in 32 l.m l.rows)) (replicate 20 false) l.v) × (l.marks ≡ marks_below (vertex_images (rows_in 32 l.m l.rows)) (replicate 20 false) l.v)
+
+abbrev pub decreases-loop-v : goal.decreases-loop-v
+decreases-loop-v l = l.n - l.v

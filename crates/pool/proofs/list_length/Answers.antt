@@ -1,0 +1,13 @@
+-- `pool::list_length` meets its contract. Assumes nothing.
+use mathlib.Core.Path.{◌≡◌, ◌∙◌}
+use Prim.Native.Nat.{◌-◌}
+use native.Mathlib.Omega.{arith}
+use Rattle.pool.proofs.Laws.{length_read}
+use Rattle.pool.proofs.list_length.Goals as goal
+
+pub returns-then-b-a : goal.returns-then-b-a
+returns-then-b-a c = let none : 0 ≡ c.get_u32-b.result - c.get_u32-a.result = omega arith in
+    none ∙ length_read _ _ _ _ c.get_u32-a.ensures c.get_u32-b.ensures
+
+pub returns : goal.returns
+returns c = length_read _ _ _ _ c.get_u32-a.ensures c.get_u32-b.ensures
