@@ -4,7 +4,7 @@ use Rattle.std.specs.Prelude.{◌≡◌, refl, Bool, true, ◌&&◌, List, [], �
 use Rattle.std.proofs.Common.{ap, ◌∙◌, zero-le, arith, leb→le}
 use Rattle.std.proofs.lemmas.List.{length-map}
 use Rattle.std.specs.Float.{nan, inf, fin, binary64}
-use Rattle.std.specs.Float.Ieee.{up, down, of_bits, fits, le}
+use Rattle.std.specs.Float.Ieee.{up, down, fits, le}
 use Rattle.std.specs.Float.Ieee.Bits.{of_bits-fits}
 use Rattle.std.specs.Float.Ieee.Fits.{and_l, and_r}
 use Rattle.laws.specs.Floats.{AtMostPower, not_above}

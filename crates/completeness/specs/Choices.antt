@@ -2,14 +2,14 @@
 use Rattle.std.specs.Prelude.{◌≡◌, refl, ◌⊎◌, Bool, true, false, cond, not, ◌&&◌, ◌||◌, T, ltb, eqb, length}
 use Rattle.std.proofs.Common.{sym, ap, ◌∙◌, subst, inl, inr, arith, T_not, eqb→eq, ltb→lt}
 use mathlib.Core.List.{List, [], ◌∷◌, ◌++◌, Memᴰ, Permᴰ}
-use Prim.Native.Nat.{ℕ, zero, suc, ◌+◌, ◌≤◌, ◌<◌, Ordering}
+use Prim.Native.Nat.{ℕ, suc, ◌<◌, Ordering}
 use Rattle.std.proofs.Math.Dec.{compare_is_eq}
-use Rattle.definitions.specs.Lists.{compare_pair, member_pair, any_of, all_of, keep, count_from}
+use Rattle.definitions.specs.Lists.{compare_pair, member_pair, all_of, keep, count_from}
 use Rattle.definitions.specs.Search.{Table, Facet, all_facets, total, totals}
 use Rattle.definitions.specs.Demands.{is_possible, orbits_ascend, is_choice, is_closed_choice, lowest_open, is_next, without, is_order_of}
-use Rattle.laws.specs.Bools.{true→holds, holds→true, false→fails, both, first, second, either}
-use Rattle.laws.specs.Lists.{Mem, here, there, any_witness, all_of_holds, kept, in_keep, keep_all, keep_less, in_map, in_count}
-use Rattle.laws.specs.Orders.{Linear, pairs, is_eq}
+use Rattle.laws.specs.Bools.{true→holds, holds→true, false→fails, first, second, either}
+use Rattle.laws.specs.Lists.{Mem, here, there, any_witness, all_of_holds, kept, in_keep, keep_all, in_map, in_count}
+use Rattle.laws.specs.Orders.{pairs, is_eq}
 use Rattle.laws.specs.Pairs.{Pairs, pairs_keep}
 use Rattle.completeness.specs.Facets.{Different, possible_facet}
 use Rattle.completeness.specs.Verdicts.{ZeroOrTwo}

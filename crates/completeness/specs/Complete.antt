@@ -1,9 +1,8 @@
 -- Every closed choice has an order that the search emits, whatever the shares: where a ridge orbit is open, what is left of the choice has a facet with just one place there, with share 1.
 -- Over any table, where closed lists are extended.
-use Rattle.std.specs.Prelude.{◌≡◌, refl, ◌⊎◌, Bool, true, false, cond, not, ◌&&◌, T, eqb, length, replicate}
-use Rattle.std.proofs.Common.{sym, ap, ◌∙◌, subst, inl, inr, arith, eqb→eq}
-use mathlib.Core.List.{List, [], ◌∷◌, ◌++◌, map, flat_map, reverse_aux, append_assoc, append-nil, Memᴰ, Permᴰ}
-use Rattle.std.proofs.Math.Option.{Option, some, none}
+use Rattle.std.specs.Prelude.{◌≡◌, refl, ◌⊎◌, Bool, true, false, not, ◌&&◌, T, eqb, length, replicate}
+use Rattle.std.proofs.Common.{sym, ap, subst, inl, inr, arith, eqb→eq}
+use mathlib.Core.List.{List, [], ◌∷◌, ◌++◌, flat_map, reverse_aux, append_assoc, append-nil, Memᴰ}
 use Prim.Native.Nat.{ℕ, zero, suc, ◌+◌, ◌≤◌, ◌<◌, Ordering}
 use Rattle.std.proofs.Math.Dec.{eqb_refl, compare_is_eq}
 use Rattle.definitions.specs.Lists.{compare_pair, member_pair, any_of, keep}
@@ -11,11 +10,11 @@ use Rattle.definitions.specs.Search.{Table, Facet, Item, Verdict, over, closed, 
 use Rattle.definitions.specs.Demands.{is_closed_choice, lowest_open, is_next, without, is_order_of}
 use Rattle.laws.specs.Bools.{true→holds, both, neither}
 use Rattle.laws.specs.Lists.{Mem, here, there, in_left, in_right, in_map, in_flat_map, in_reversed, replicate_in, any_of_holds}
-use Rattle.laws.specs.Orders.{Linear, pairs}
+use Rattle.laws.specs.Orders.{pairs}
 use Rattle.laws.specs.Pairs.{Pairs}
 use Rattle.laws.specs.Sorting.{perm_length}
 use Rattle.completeness.specs.Tree.{yield_eq}
-use Rattle.completeness.specs.Verdicts.{Means, is_over, is_open, is_closed, judge_means, ZeroOrTwo, total_append, total_joined, total_perm, closed_judged}
+use Rattle.completeness.specs.Verdicts.{Means, is_over, is_open, is_closed, judge_means, ZeroOrTwo, total_joined, total_perm, closed_judged}
 use Rattle.completeness.specs.Facets.{Different, adds_one}
 use Rattle.completeness.specs.Walk.{Joins, joins_in, children_by, children, verdict_of, own, own_by, unused, falls, unused_after, closed_in, closed_among, closed_lists}
 use Rattle.completeness.specs.Taken.{start_at, next_lowest, next_open, nothing_open}

@@ -1,29 +1,29 @@
 -- Demand 3 of one call above rank 2, sentence by sentence: what it has before its search decides its entries. No rank, no tolerance and no point is mentioned: only the table that is searched.
-use Rattle.std.specs.Prelude.{◌≡◌, ◌⊎◌, ◌↔◌, Bool, false, not, length, take}
+use Rattle.std.specs.Prelude.{◌≡◌, Bool, false, not, length, take}
 use Rattle.std.proofs.Math.Path.{refl, ap, subst}
-use Rattle.std.proofs.Common.{sym, ◌∙◌, inl, inr, arith, length-take}
+use Rattle.std.proofs.Common.{sym, ◌∙◌, arith, length-take}
 use Rattle.std.proofs.Math.Bool.{true}
 use mathlib.Core.List.Permᴰ
-use mathlib.Core.List.{List, [], ◌∷◌, ◌++◌, map, Memᴰ, Nodup, Permᴰ, map-map, Pairwise}
+use mathlib.Core.List.{List, [], map, Nodup, Permᴰ, map-map, Pairwise}
 use Rattle.std.proofs.Math.Option.{Option, some, none}
-use Prim.Native.Nat.{ℕ, zero, suc, ◌-◌, ◌≤◌, ◌<◌, min, max, Ordering}
+use Prim.Native.Nat.{ℕ, ◌-◌, min, max}
 use Rattle.std.proofs.Math.Dec.{T}
 use Rattle.std.proofs.lemmas.List.{length-map}
 use Rattle.definitions.specs.Lists.{is_gt, compare_pairs, sort_by}
-use Rattle.definitions.specs.Outcome.{Outcome, answered}
+use Rattle.definitions.specs.Outcome.{answered}
 use Rattle.definitions.specs.Search.{Facet, Table, Found}
 use Rattle.definitions.specs.Recursion.{Rules, Entry}
 use Rattle.definitions.specs.Faceting.{Prepared, table_for, entry_of, entries_of, compare_entries, entry_limits, search_from}
 use Rattle.definitions.specs.Demands.{choice_of, is_closed_choice, is_order_of, equal_shares, EntryOfChoice, choices_of, AllClosedChoices, EntriesComplete}
 use Rattle.definitions.specs.Noble.{AllMinimalChoices}
 use Rattle.definitions.specs.NobleCalls.{MinimalEntries}
-use Rattle.laws.specs.Lists.{Mem, here, there, in_map, of_map}
+use Rattle.laws.specs.Lists.{Mem, in_map, of_map}
 use Rattle.laws.specs.Orders.{pair_lists}
 use Rattle.laws.specs.Pairs.{Pairs, pairs→nodup, pairs_take, in_take}
 use Rattle.laws.specs.Sorting.{perm_member, perm_length, pairs_perm, sort_perm, sort_map, sort_ascends, by_key}
 use Rattle.completeness.specs.Walk.{closed_lists, cut, search_emits}
-use Rattle.completeness.specs.Taken.{emitted_order, choice_perm, in_choice, of_choice}
-use Rattle.completeness.specs.Choices.{ClosedChoice, closed_choice_of, same_choice, order_members}
+use Rattle.completeness.specs.Taken.{emitted_order, in_choice, of_choice}
+use Rattle.completeness.specs.Choices.{closed_choice_of, same_choice, order_members}
 use Rattle.completeness.specs.Complete.{every_choice}
 use Rattle.completeness.specs.OneOrder.{one_order}
 use Rattle.completeness.specs.Unique.{Other, lists_differ, choices_differ}

@@ -1,11 +1,11 @@
 -- A worked example: a job whose proviso fails. Its rows are not closed under composition; one facet has shares 1 and, last, 0 in one ridge orbit, so it adds nothing there and may yet be
 -- taken where that orbit is open. A closed choice then has two orders, and the entries, 17, are more than the closed choices, 15. Evaluated.
-use Rattle.std.specs.Prelude.{Bool, true, false, not, ◌&&◌, List, [], ◌∷◌, map, ℕ, T, eqb, length}
-use Rattle.definitions.specs.Lists.{compare_pairs, fresh, all_of}
+use Rattle.std.specs.Prelude.{Bool, false, not, ◌&&◌, List, [], ◌∷◌, map, ℕ, T, eqb, length}
+use Rattle.definitions.specs.Lists.{compare_pairs, fresh}
 use Rattle.definitions.specs.Outcome.{Outcome, refused, answered}
-use Rattle.definitions.specs.Search.{Facet, Table, Found, adds, ones_at, shares_of}
+use Rattle.definitions.specs.Search.{Facet, Table, Found}
 use Rattle.definitions.specs.Faceting.{Prepared, table_for, search_from}
-use Rattle.definitions.specs.Job.{Bytes, Job, read_job, bounds1, rules_of}
+use Rattle.definitions.specs.Job.{Job, read_job, bounds1, rules_of}
 use Rattle.definitions.specs.Demands.{prepared_of, choice_of, is_closed_choice, is_order_of, equal_shares}
 use Rattle.definitions.specs.Open.{open_all}
 use Rattle.definitions.specs.Examples.{open_examples, job_with, plain, whole_points}

@@ -1,13 +1,13 @@
 -- A table's possible facets and their shares: which facets there are, and what shares of 1 say of what a facet adds. Over any table.
-use Rattle.std.specs.Prelude.{◌≡◌, refl, ◌⊎◌, Bool, true, false, cond, not, ◌&&◌, ◌||◌, ℕ, zero, suc, ◌+◌, ◌*◌, ◌≤◌, ◌<◌, T, ltb, eqb, length, get_or}
+use Rattle.std.specs.Prelude.{◌≡◌, refl, ◌⊎◌, Bool, true, false, cond, not, ℕ, zero, suc, ◌+◌, ◌*◌, ◌<◌, T, ltb, eqb, length, get_or}
 use Rattle.std.proofs.Common.{sym, ap, ◌∙◌, subst, inl, inr, arith, zero-mul, one-mul, T_not, eqb→eq, ltb→lt, lt→ltb}
-use mathlib.Core.List.{List, [], ◌∷◌, ◌++◌, map, flat_map, Memᴰ}
+use mathlib.Core.List.{List, [], ◌∷◌, map}
 use Rattle.std.proofs.Math.Dec.{eqb_refl}
 use Rattle.definitions.specs.Lists.{all_of, keep, map_at, count_from}
 use Rattle.definitions.specs.Search.{Table, Facet, Share, shares_of, shares_at, last_share, adds, all_facets, ones_at}
 use Rattle.definitions.specs.Demands.{is_possible, same_where_same_ridge, equal_shares}
-use Rattle.laws.specs.Bools.{true→holds, false→fails, holds→true, both, first, second, either, apart}
-use Rattle.laws.specs.Lists.{Mem, here, there, in_map, of_map, in_flat_map, of_flat_map, of_map_at, in_map_at, in_count, of_count, all_of_holds, kept, in_keep}
+use Rattle.laws.specs.Bools.{both, first, second, either}
+use Rattle.laws.specs.Lists.{Mem, here, there, in_map, of_map, in_flat_map, of_flat_map, of_map_at, in_map_at, in_count, of_count, all_of_holds, kept}
 use Rattle.laws.specs.Pairs.{Pairs, pairs_map, pairs_flat_map, count_ascends}
 
 -- ---- which facets there are

@@ -1,6 +1,6 @@
 -- The demands, of the definitions themselves. Demands 1 and 2 of the return code and the answer buffer that the definitions give, for every job; demand 3 of the entries of a job's call,
 -- for every rank from 3. And those of a call with a package. Leans on Entries.
-use Rattle.std.specs.Prelude.{◌≡◌, Bool, true, List, [], ◌++◌, map, ℕ, suc, ◌+◌, ◌-◌, ◌≤◌, leb, ltb, take, replicate}
+use Rattle.std.specs.Prelude.{◌≡◌, Bool, true, List, [], ◌++◌, map, ℕ, suc, ◌-◌, ◌≤◌, leb, ltb, take, replicate}
 use Rattle.std.proofs.Common.{sym, ◌∙◌, subst, arith, leb→le, nltb→le, length-append}
 use Rattle.std.proofs.Math.Path.{ap}
 use Rattle.std.proofs.Math.ListN.{length, drop}

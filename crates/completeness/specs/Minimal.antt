@@ -4,25 +4,25 @@
 -- of the two and never leaves it: it is open until its end, and where it is open the part has its total of 2 already.
 -- None missing: a search that extends closed lists comes to every closed choice, and on the way there to the first
 -- closed list, whose choice lies inside. Leans on Complete and Unique.
-use Rattle.std.specs.Prelude.{◌≡◌, ◌⊎◌, ◌↔◌, Bool, cond, not, length}
+use Rattle.std.specs.Prelude.{◌≡◌, ◌⊎◌, Bool, cond, not, length}
 use Rattle.std.proofs.Math.Path.{refl, ap, subst}
 use Rattle.std.proofs.Common.{sym, ◌∙◌, inl, inr, arith, T_not}
 use Rattle.std.proofs.Math.Bool.{true, false}
 use mathlib.Core.List.Permᴰ
-use mathlib.Core.List.{List, [], ◌∷◌, ◌++◌, map, flat_map, reverse_aux, Memᴰ, Nodup, Permᴰ}
-use Prim.Native.Nat.{ℕ, zero, suc, ◌+◌, ◌≤◌, ◌<◌, Ordering}
+use mathlib.Core.List.{List, [], ◌∷◌, map, reverse_aux, Memᴰ, Permᴰ}
+use Prim.Native.Nat.{ℕ, ◌+◌, ◌≤◌, ◌<◌, Ordering}
 use Rattle.std.proofs.Math.Dec.{T, compare_is_eq}
 use Rattle.definitions.specs.Lists.{compare_pair, member_pair, keep}
-use Rattle.definitions.specs.Search.{Table, Facet, Item, Verdict, over, closed, open_at, adds, total, totals, judge, all_facets, starts, joined, ones_at}
-use Rattle.definitions.specs.Demands.{choice_of, is_closed_choice, is_order_of, equal_shares}
+use Rattle.definitions.specs.Search.{Table, Facet, Item, Verdict, over, closed, open_at, adds, total, all_facets, starts, joined, ones_at}
+use Rattle.definitions.specs.Demands.{choice_of, is_closed_choice, equal_shares}
 use Rattle.definitions.specs.Noble.{NoneInside, AllMinimalChoices}
-use Rattle.laws.specs.Bools.{true→holds, false→fails}
-use Rattle.laws.specs.Lists.{Mem, here, there, in_append, in_left, in_right, in_map, of_map, in_flat_map, of_flat_map, in_reversed, of_reversed, any_of_holds, kept, in_keep}
-use Rattle.laws.specs.Orders.{Linear, pairs}
-use Rattle.laws.specs.Pairs.{Pairs, pairs_keep, pairs→nodup}
+use Rattle.laws.specs.Bools.{true→holds}
+use Rattle.laws.specs.Lists.{Mem, here, in_append, in_left, in_map, of_map, in_flat_map, of_flat_map, of_reversed, any_of_holds, kept, in_keep}
+use Rattle.laws.specs.Orders.{pairs}
+use Rattle.laws.specs.Pairs.{pairs_keep, pairs→nodup}
 use Rattle.laws.specs.Sorting.{perm_member, pairs_perm}
 use Rattle.completeness.specs.Tree.{yield_eq, induct}
-use Rattle.completeness.specs.Verdicts.{Means, is_over, is_open, is_closed, judge_means, ZeroOrTwo, total_perm, adds_within}
+use Rattle.completeness.specs.Verdicts.{Means, is_open, judge_means, ZeroOrTwo, total_perm, adds_within}
 use Rattle.completeness.specs.Facets.{ones_add}
 use Rattle.completeness.specs.Walk.{children_by, children, verdict_of, own, own_by, unused, falls, open_child, closed_in, closed_among, closed_lists}
 use Rattle.completeness.specs.Taken.{Extends, emitted_extends, emitted_order, start_at, start_of, choice_perm, in_choice, of_choice}

@@ -13,7 +13,8 @@ use Rattle.definitions.specs.Recursion.{Entry}
 use Rattle.definitions.specs.Faceting.{Prepared, table_for}
 use Rattle.definitions.specs.Job.{read_job, counted, entry_words}
 use Rattle.definitions.specs.Demands.{CallComplete, choice_of, choices_of, equal_shares}
-use Rattle.definitions.specs.RuledOut.{only_these, same_entries, square_bytes, square_entries, square_accepted, open_square, other_figure, closed_in_order, sensible, square_sensible}
+use Rattle.definitions.specs.RuledOut.{same_entries, square_bytes, square_entries, open_square, other_figure, closed_in_order, sensible}
+use Rattle.definitions.proofs.RuledOut.{only_these, square_accepted, square_sensible}
 use Rattle.laws.specs.Bools.{first}
 use Rattle.laws.specs.Lists.{Mem, any_of_holds, all_of_holds, member_at, in_count}
 use Rattle.laws.specs.Orders.{nat_lists}

@@ -6,7 +6,7 @@ use Rattle.std.proofs.Math.Bool.{true, false}
 use mathlib.Core.List.Permᴰ
 use mathlib.Core.List.{List, [], ◌∷◌, ◌++◌, map, reverse_aux, append_assoc, append-nil, Memᴰ, Permᴰ, Pairwise}
 use Rattle.std.proofs.Math.Option.{Option, some, none}
-use Prim.Native.Nat.{ℕ, ◌+◌, ◌≤◌, ◌<◌, compare, Ordering}
+use Prim.Native.Nat.{ℕ, ◌≤◌, ◌<◌, compare, Ordering}
 use native.Mathlib.Omega.{arith}
 use Rattle.std.proofs.Math.Dec.{eqb_refl, compare_is_eq}
 use Rattle.definitions.specs.Lists.{is_gt, then_by, compare_pair, sort_by, member_pair, all_of, count_from}

@@ -2,7 +2,7 @@
 -- Over any items, whatever an item puts in, as long as a measure falls. Leans on the laws of lists.
 use Rattle.std.specs.Prelude.{◌≡◌, ◌⊎◌}
 use Rattle.std.proofs.Math.Path.{refl, ap}
-use Rattle.std.proofs.Common.{sym, ◌∙◌, subst, inl, inr, arith}
+use Rattle.std.proofs.Common.{sym, ◌∙◌, inl, inr, arith}
 use mathlib.Core.List.{List, [], ◌∷◌, ◌++◌, flat_map, reverse_aux, append_assoc, append-nil, Memᴰ}
 use Prim.Native.Nat.{ℕ, zero, suc, ◌≤◌, ◌<◌}
 use Rattle.laws.specs.Lists.{Mem, of_reversed, reversed_append, flat_map_append, flat_map_same}

@@ -1,20 +1,20 @@
 -- Under the proviso [13.7] no two lists that the search emits have the same facets. Over any table; a closed list may be extended or not.
-use Rattle.std.specs.Prelude.{◌≡◌, refl, ◌⊎◌, Bool, not, ℕ, zero, suc, ◌+◌, ◌≤◌, ◌<◌, T, length, replicate}
+use Rattle.std.specs.Prelude.{◌≡◌, refl, ◌⊎◌, Bool, not, ℕ, ◌+◌, ◌<◌, T, replicate}
 use Rattle.std.proofs.Common.{sym, ◌∙◌, subst, inl, inr, T_not}
 use Rattle.std.proofs.Math.Path.{ap}
 use Rattle.std.proofs.Math.Bool.{true, false}
-use mathlib.Core.List.{List, [], ◌∷◌, ◌++◌, map, flat_map, reverse_aux, Memᴰ, Nodup}
+use mathlib.Core.List.{List, [], ◌∷◌, ◌++◌, map, flat_map, reverse_aux, Memᴰ}
 use native.Mathlib.Omega.{arith}
 use Rattle.definitions.specs.Lists.{keep}
 use Rattle.definitions.specs.Search.{Table, Facet, Item, Verdict, over, closed, open_at, adds, total, all_facets, starts, uses_orbit, may_join, joined, ones_at, open_next, closed_next}
 use Rattle.definitions.specs.Demands.{choice_of, equal_shares}
-use Rattle.laws.specs.Lists.{Mem, here, there, in_append, in_left, in_right, of_flat_map, of_reversed, in_replicate, replicate_some}
-use Rattle.laws.specs.Pairs.{Pairs, pairs_append, pairs_reversed, pairs_keep, pairs_replicate, pairs_map, pairs_flat_map, pairs→nodup}
+use Rattle.laws.specs.Lists.{Mem, here, in_append, in_left, in_right, of_flat_map, of_reversed, in_replicate, replicate_some}
+use Rattle.laws.specs.Pairs.{Pairs, pairs_append, pairs_reversed, pairs_keep, pairs_replicate, pairs_map, pairs_flat_map}
 use Rattle.completeness.specs.Tree.{yield_eq, induct}
-use Rattle.completeness.specs.Verdicts.{Means, is_over, is_open, is_closed, judge_means, total_append, total_joined, adds_within}
+use Rattle.completeness.specs.Verdicts.{Means, is_open, judge_means, total_append, total_joined, adds_within}
 use Rattle.completeness.specs.Facets.{Different, facets_different, ones_add}
 use Rattle.completeness.specs.Walk.{Joins, joins_of, children_by, children, verdict_of, own, own_by, unused, falls, any_child, uses_member, closed_in, closed_among, closed_lists}
-use Rattle.completeness.specs.Taken.{Extends, emitted_extends, start_at, start_of, in_choice, of_choice}
+use Rattle.completeness.specs.Taken.{Extends, emitted_extends, start_at, in_choice, of_choice}
 
 -- two lists that do not have the same facets
 abbrev pub Other : List Facet → List Facet → Type 0

@@ -1,17 +1,17 @@
 -- What the three verdicts say of a list's totals, and how totals add up. Over any table.
-use Rattle.std.specs.Prelude.{◌≡◌, ◌⊎◌, Bool, true, false, not, ◌||◌, ℕ, zero, suc, ◌+◌, ◌≤◌, ◌<◌, T, ltb, eqb, length, get_or}
+use Rattle.std.specs.Prelude.{◌≡◌, ◌⊎◌, Bool, true, false, not, ℕ, zero, suc, ◌+◌, ◌≤◌, ◌<◌, T, ltb, eqb, length, get_or}
 use Rattle.std.proofs.Math.Path.{refl, ap}
-use Rattle.std.proofs.Common.{sym, ◌∙◌, subst, inl, inr, arith, T_not, eqb→eq, ltb→lt, nltb→le, lt→ltb}
+use Rattle.std.proofs.Common.{sym, ◌∙◌, subst, inl, inr, arith, T_not, eqb→eq, ltb→lt, nltb→le}
 use Rattle.std.proofs.Math.Bool.{cond}
-use mathlib.Core.List.{List, [], ◌∷◌, ◌++◌, map, Memᴰ, Permᴰ}
-use Rattle.std.proofs.Math.Option.{Option, some, none}
+use mathlib.Core.List.{List, [], ◌∷◌, ◌++◌, Memᴰ, Permᴰ}
+use Rattle.std.proofs.Math.Option.{some, none}
 use Rattle.std.proofs.Math.Dec.{eqb_refl}
 use Rattle.std.proofs.lemmas.List.{length-map}
-use Rattle.definitions.specs.Lists.{any_of, all_of, place_of, count_from}
+use Rattle.definitions.specs.Lists.{any_of, place_of, count_from}
 use Rattle.definitions.specs.Search.{Table, Facet, Verdict, over, closed, open_at, adds, total, totals, judge}
 use Rattle.definitions.specs.Demands.{lowest_open}
-use Rattle.laws.specs.Bools.{true→holds, false→fails, fails→false, holds→true}
-use Rattle.laws.specs.Lists.{Mem, any_of_holds, any_witness, all_by, all_of_holds, place_hit, place_miss, map_at_holds, member_at, at_member, count_at, count_length}
+use Rattle.laws.specs.Bools.{true→holds, false→fails}
+use Rattle.laws.specs.Lists.{Mem, any_of_holds, any_witness, place_hit, place_miss, map_at_holds, member_at, at_member, count_at, count_length}
 
 -- ---- totals
 

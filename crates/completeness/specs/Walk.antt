@@ -5,7 +5,7 @@ use Rattle.std.proofs.Math.Path.{sym, ap}
 use Rattle.std.proofs.Common.{◌∙◌, subst, inl, inr, arith, T_not, eqb→eq, ltb→lt, lt→ltb, leb→le, length-append}
 use mathlib.Core.List.{List, [], ◌∷◌, ◌++◌, flat_map, reverse_aux, append_assoc, append-nil, Memᴰ}
 use Rattle.std.proofs.Math.Option.{Option, some, none}
-use Prim.Native.Nat.{ℕ, zero, suc, ◌+◌, ◌-◌, ◌≤◌, ◌<◌, max}
+use Prim.Native.Nat.{ℕ, zero, suc, ◌-◌, ◌≤◌, ◌<◌, max}
 use Rattle.std.proofs.Math.Dec.{eqb_refl, nleb→lt}
 use Rattle.std.proofs.Math.Seq.{take-nil}
 use Rattle.definitions.specs.Lists.{any_of, keep, count_from}

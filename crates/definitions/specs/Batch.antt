@@ -1,5 +1,5 @@
 -- A row of jobs and its records: docs/SPECIFICATION.md, chapter 15. Leans on Job.
-use Rattle.std.specs.Prelude.{◌≡◌, Bool, true, false, ℕ, zero, suc, ◌+◌, ◌-◌, ◌≤◌, ◌<◌, ◌/◌, ◌%◌, leb, ltb, eqb, length, take, drop}
+use Rattle.std.specs.Prelude.{◌≡◌, true, false, ℕ, zero, suc, ◌+◌, ◌-◌, ◌≤◌, ◌<◌, ◌/◌, ◌%◌, leb, ltb, eqb, length, take, drop}
 use mathlib.Core.List.{List, [], ◌∷◌, ◌++◌, Forall₂, flat_map}
 use Rattle.definitions.specs.Outcome.{Outcome, refused, answered, and_then, refuse_if}
 use Rattle.definitions.specs.Job.{Bytes, number_at, word_bytes, alone, outcome}

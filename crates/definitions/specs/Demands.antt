@@ -2,14 +2,14 @@
 -- are statements only: what is proved of them, and where, docs/READING.md says.
 -- The second has a half that is shown by running the Rust, and a part of its own on the square root, `RootIsIeee`
 -- in Vectors.
-use Rattle.std.specs.Prelude.{◌≡◌, ◌↔◌, Bool, true, false, cond, not, ◌&&◌, ◌||◌, ℕ, zero, suc, ◌-◌, ◌≤◌, min, max, T, leb, ltb, eqb, ℤ, pos, neg_ℤ, length, get_or, take, drop, replicate}
+use Rattle.std.specs.Prelude.{◌≡◌, ◌↔◌, Bool, true, cond, not, ◌&&◌, ◌||◌, ℕ, ◌-◌, ◌≤◌, min, max, T, leb, ltb, eqb, ℤ, pos, neg_ℤ, length, get_or, take, drop, replicate}
 use mathlib.Core.List.{List, [], ◌∷◌, ◌++◌, map, Memᴰ, Nodup, Pairwise}
 use Rattle.std.proofs.Math.Option.{Option, some, none}
 use Rattle.std.proofs.Math.Dec.{compare_is_eq}
-use Rattle.definitions.specs.Lists.{Pair, is_gt, compare_pair, sort_by, any_of, all_of, keep, place_of, member_pair}
+use Rattle.definitions.specs.Lists.{is_gt, compare_pair, sort_by, all_of, keep, place_of, member_pair}
 use Rattle.definitions.specs.Outcome.{Outcome, refused, answered}
 use Rattle.definitions.specs.Search.{Facet, Share, Table, Found, shares_of, all_facets, totals, ones_at}
-use Rattle.definitions.specs.Recursion.{Rules, Entry}
+use Rattle.definitions.specs.Recursion.{Entry}
 use Rattle.definitions.specs.Faceting.{Prepared, prepare, faceting, table_for, entry_of, entries_of, compare_entries, search_from}
 use Rattle.definitions.specs.Job.{Bytes, Job, read_job, bounds1, rules_of, plane_of, between, outcome}
 

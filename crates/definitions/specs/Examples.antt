@@ -1,6 +1,6 @@
 -- Jobs as bytes and what is expected of a call, for the tables of this crate. A job is written here from its
 -- fields, by words that share nothing with the definitions that read it.
-use Rattle.std.specs.Prelude.{Bool, true, false, cond, ◌&&◌, ℕ, zero, suc, ◌+◌, ◌-◌, ◌*◌, ◌/◌, ◌%◌, eqb, ℤ, pos, negsuc, neg_ℤ, length, replicate}
+use Rattle.std.specs.Prelude.{Bool, false, cond, ◌&&◌, ℕ, zero, suc, ◌+◌, ◌-◌, ◌*◌, ◌/◌, ◌%◌, eqb, ℤ, pos, negsuc, neg_ℤ, length, replicate}
 use mathlib.Core.List.{List, [], ◌∷◌, ◌++◌, map, flat_map}
 use Rattle.std.proofs.Math.Dec.{compare_is_eq}
 use Rattle.std.specs.Float.{binary64}

@@ -1,17 +1,17 @@
 -- Job, refusals and answer: docs/SPECIFICATION.md, chapters 10 to 12. From the job's bytes and the two buffers'
 -- lengths to the return value and the whole answer buffer. Leans on Faceting.
-use Rattle.std.specs.Prelude.{Bool, true, false, cond, not, ◌&&◌, ◌||◌, ℕ, zero, suc, ◌+◌, ◌-◌, ◌*◌, ◌/◌, ◌%◌, leb, ltb, eqb, ℤ, pos, neg_ℤ, length, get_or, take, drop, replicate, Float}
+use Rattle.std.specs.Prelude.{Bool, true, false, cond, not, ◌&&◌, ℕ, ◌+◌, ◌-◌, ◌*◌, ◌/◌, ◌%◌, leb, ltb, eqb, ℤ, pos, neg_ℤ, length, get_or, take, drop, replicate, Float}
 use mathlib.Core.List.{List, [], ◌∷◌, ◌++◌, map, flat_map}
 use Rattle.std.proofs.Math.Option.{Option, some, none}
 use Rattle.std.proofs.Math.Dec.{compare_is_eq}
 use Rattle.std.specs.Float.{nan, inf, fin, binary64}
-use Rattle.std.specs.Float.Ieee.{of_bits, lt, le}
+use Rattle.std.specs.Float.Ieee.{of_bits, le}
 use Rattle.definitions.specs.Lists.{compare_nats, any_of, all_of, keep, count_from, sort_nats, member_nat}
 use Rattle.definitions.specs.Outcome.{Outcome, refused, answered, and_then, refuse_if}
 use Rattle.definitions.specs.Vectors.{Vec, zero64}
 use Rattle.definitions.specs.Subspace.{Subspace}
-use Rattle.definitions.specs.Orbits.{Row, Limits}
-use Rattle.definitions.specs.Figures.{Figure, Elements, Compound, rank_of}
+use Rattle.definitions.specs.Orbits.{Row}
+use Rattle.definitions.specs.Figures.{Figure, Compound, rank_of}
 use Rattle.definitions.specs.Search.{Facet}
 use Rattle.definitions.specs.Recursion.{Bounds, Rules, Entry, Answer}
 use Rattle.definitions.specs.Faceting.{faceting}

@@ -1,7 +1,7 @@
 -- Noble figures: docs/SPECIFICATION.md, chapter 17. What a package says, which hyperplane orbits it keeps, and the
 -- closed choices with no closed choice inside. In the Rust it is the path of `faceting_subdim` with a
 -- `noble_package`. Leans on Orbits, Job and Demands.
-use Rattle.std.specs.Prelude.{◌≡◌, ◌↔◌, Bool, true, false, cond, not, ◌&&◌, ℕ, ◌+◌, ◌*◌, ◌/◌, T, leb, ltb, eqb, length, get_or, take, drop}
+use Rattle.std.specs.Prelude.{◌≡◌, ◌↔◌, Bool, true, cond, not, ◌&&◌, ℕ, ◌+◌, ◌*◌, ◌/◌, T, leb, ltb, eqb, length, get_or, take, drop}
 use mathlib.Core.List.{List, [], ◌∷◌, ◌++◌, map, Memᴰ, Nodup}
 use Rattle.std.proofs.Math.Option.{Option, some, none}
 use Rattle.definitions.specs.Lists.{member_nat, all_of, keep, map_at, count_from, fresh, compare_nats}

@@ -1,14 +1,14 @@
 -- The call with a package: docs/SPECIFICATION.md, [17.8] to [17.11]. The orbits that the package keeps, closed lists
 -- that are not extended, the refusals with 18 among them, and what is demanded of the entries. Leans on Noble, Faceting
 -- and Demands.
-use Rattle.std.specs.Prelude.{◌≡◌, refl, Bool, true, false, not, ℕ, zero, suc, ◌-◌, ◌≤◌, T, ℤ, pos, neg_ℤ, length, take, drop, replicate}
+use Rattle.std.specs.Prelude.{◌≡◌, refl, false, not, ℕ, zero, suc, ◌-◌, ◌≤◌, T, ℤ, pos, neg_ℤ, length, take, drop, replicate}
 use mathlib.Core.List.{List, [], ◌∷◌, ◌++◌, Memᴰ, Pairwise}
 use Rattle.std.proofs.Math.Option.{Option, none}
 use Rattle.definitions.specs.Lists.{is_gt}
 use Rattle.definitions.specs.Outcome.{Outcome, refused, answered, and_then}
 use Rattle.definitions.specs.Search.{Facet, Found}
 use Rattle.definitions.specs.Recursion.{Bounds, Rules, Entry, Answer}
-use Rattle.definitions.specs.Faceting.{Way, plain_way, Prepared, prepare_with, prepare, table_for, entries_of, compare_entries, search_from, answer_from, faceting, faceting_with}
+use Rattle.definitions.specs.Faceting.{Way, plain_way, Prepared, prepare_with, prepare, table_for, entries_of, compare_entries, search_from, faceting, faceting_with}
 use Rattle.definitions.specs.Job.{Bytes, Job, read_job, bounds1, rules_of, plane_of, Test, job_tests, workspace_tests, pass_all, answer_bytes, fitting, between}
 use Rattle.definitions.specs.Demands.{choice_of, is_closed_choice, choices_of, equal_shares, EntryOfChoice}
 use Rattle.definitions.specs.Noble.{Package, read_package, package_good, kept_by, AllMinimalChoices}

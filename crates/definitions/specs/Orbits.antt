@@ -1,5 +1,5 @@
 -- Orbits of vertices, pairs and hyperplanes in one call: docs/SPECIFICATION.md, chapter 5. Leans on Subspace.
-use Rattle.std.specs.Prelude.{Bool, true, false, cond, not, ◌&&◌, ◌||◌, ℕ, zero, suc, ◌-◌, min, max, leb, eqb, length, get_or, Float}
+use Rattle.std.specs.Prelude.{Bool, false, cond, not, ◌&&◌, ◌||◌, ℕ, suc, ◌-◌, min, max, leb, eqb, length, get_or, Float}
 use mathlib.Core.List.{List, [], ◌∷◌, ◌++◌, map, flat_map}
 use Rattle.std.proofs.Math.Option.{Option, some, none}
 use Rattle.std.proofs.Math.Dec.{compare_is_eq}

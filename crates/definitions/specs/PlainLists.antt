@@ -1,5 +1,5 @@
 -- `filter_irc` [18.2], evaluated on small lists. Jobs are evaluated in `crates/evaluated`.
-use Rattle.std.specs.Prelude.{◌≡◌, refl, List, [], ◌∷◌}
+use Rattle.std.specs.Prelude.{◌≡◌, refl, [], ◌∷◌}
 use Prim.Native.Nat.{compare}
 use Rattle.definitions.specs.Plain.{filter_irc}
 use Rattle.definitions.specs.Open.{open_all}

@@ -6,8 +6,8 @@ use Rattle.definitions.specs.Lists.{all_of, count_from}
 use Rattle.definitions.specs.Recursion.{Bounds}
 use Rattle.definitions.specs.Job.{Bytes}
 use Rattle.definitions.specs.Open.{open_all}
-use Rattle.definitions.specs.Examples.{Case, gives, refuses, open_examples, passes, passes_within, answers, refused_with, bytes_of, whole, job_with, plain, with_budget, with_min, with_max, with_entry_limit, within_tolerance, under_rule, identity, square, whole_points, thousandth, five_e_8, one_e_7, one_e_9, segment_job, square_job, symmetric_job, corner_job, three_points}
-use Rattle.definitions.specs.KnownJobs.{two_points_answer, symmetric_square_answer, plain_square_answer, corner_answer}
+use Rattle.definitions.specs.Examples.{Case, gives, refuses, open_examples, passes, passes_within, answers, refused_with, bytes_of, whole, job_with, plain, with_budget, with_min, with_max, within_tolerance, under_rule, identity, square, whole_points, thousandth, five_e_8, one_e_7, one_e_9, segment_job, square_job, symmetric_job, corner_job, three_points}
+use Rattle.definitions.specs.KnownJobs.{two_points_answer, symmetric_square_answer, plain_square_answer}
 
 -- ---- the order: each job breaks one rule and all that come after it
 

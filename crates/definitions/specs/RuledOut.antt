@@ -1,6 +1,6 @@
 -- What `Demand3` [13.8] rules out, shown of the square: no entry, one entry only, an entry twice, another figure,
 -- another order. Leans on Demands and evaluates.
-use Rattle.std.specs.Prelude.{◌≡◌, refl, Bool, true, false, not, ◌&&◌, ℕ, T, length, take, drop}
+use Rattle.std.specs.Prelude.{◌≡◌, refl, Bool, false, not, ◌&&◌, T, take, drop}
 use Rattle.std.proofs.Common.{sym, ap, ◌∙◌, subst, T_not}
 use mathlib.Core.List.{List, [], ◌∷◌, ◌++◌, map, flat_map, reverse}
 use Rattle.std.proofs.Math.Dec.{compare_is_eq}
@@ -10,8 +10,8 @@ use Rattle.definitions.specs.Figures.{dyad}
 use Rattle.definitions.specs.Search.{Facet, Table, Found}
 use Rattle.definitions.specs.Recursion.{Rules, Entry}
 use Rattle.definitions.specs.Faceting.{Prepared, table_for, entries_of, search_from}
-use Rattle.definitions.specs.Job.{Bytes, Job, read_job, bounds1, rules_of, between, outcome, counted, entry_words}
-use Rattle.definitions.specs.Demands.{Demand3, CallComplete, EntriesComplete, Accepted, prepared_of, choice_of, is_closed_choice, is_order_of, equal_shares}
+use Rattle.definitions.specs.Job.{Bytes, Job, read_job, bounds1, rules_of, between, counted, entry_words}
+use Rattle.definitions.specs.Demands.{Demand3, CallComplete, Accepted, prepared_of, choice_of, is_closed_choice, is_order_of, equal_shares}
 use Rattle.definitions.specs.Open.{open_all}
 use Rattle.definitions.specs.Examples.{open_examples, plain, square_job, bytes_of}
 use Rattle.definitions.specs.KnownJobs.{plain_square_answer}
@@ -30,23 +30,9 @@ entries_with rules (answered p) = entries_after p (search_from rules p)
 unfoldable pub entries_of_job : Job → List Entry
 entries_of_job job = entries_with (rules_of bounds1 job) (prepared_of job)
 
-pub only_these : (job : Job) (entries : List Entry) → CallComplete job entries → entries ≡ entries_of_job job
-unfolding entries_after entries_with entries_of_job
-only_these job entries done =
-    done.complete.exactly
-    ∙ sym (ap (entries_after done.before) done.is_found_holds)
-    ∙ sym (ap (entries_with (rules_of bounds1 job)) done.is_before)
-
 -- whether two lists of entries are written alike
 unfoldable pub same_entries : List Entry → List Entry → Bool
 same_entries d e = compare_is_eq (compare_nats (counted entry_words d) (counted entry_words e))
-
--- entries that are written otherwise than the definition's do not meet the third demand
-pub ruled_out : (bytes : Bytes) (entries : List Entry) → Accepted bytes → T (between 3 4 (read_job bytes).rank) → T (same_entries entries entries)
-    → T (not (same_entries entries (entries_of_job (read_job bytes)))) → Demand3 bytes entries → ⊥
-ruled_out bytes entries accepted rank same differ demand =
-    T_not (same_entries entries (entries_of_job (read_job bytes))) differ
-    (subst (λ (e : List Entry). T (same_entries entries e)) (only_these (read_job bytes) entries (demand.holds accepted rank)) same)
 
 -- ---- the square
 
@@ -56,63 +42,29 @@ square_bytes = square_job (plain 3)
 unfoldable pub square_entries : List Entry
 square_entries = entries_of_job (read_job square_bytes)
 
-pub square_accepted : Accepted square_bytes
-unfolding open_all open_examples square_bytes plain_square_answer
-square_accepted = record { workspace = 524288; room = 4000; answer = flat_map (bytes_of 4) plain_square_answer; is_answered_holds = refl }
-
--- `ruled_out` at the square: both tests are computed
-pub square_ruled_out : (entries : List Entry) → T (same_entries entries entries) → T (not (same_entries entries square_entries)) → Demand3 square_bytes entries → ⊥
-unfolding open_all open_examples square_bytes square_entries
-square_ruled_out entries same differ = ruled_out square_bytes entries square_accepted tt same differ
-
 unfoldable pub open_square : Unit {0}
 unfolding open_all open_examples same_entries entries_after entries_with entries_of_job square_bytes square_entries
 open_square = tt
-
--- no entry
-pub not_none : Demand3 square_bytes [] → ⊥
-unfolding open_square
-not_none = square_ruled_out [] tt tt
 
 -- only 3,4,5
 unfoldable pub only_last : List Entry
 only_last = drop 6 square_entries
 
-pub not_one : Demand3 square_bytes only_last → ⊥
-unfolding open_square only_last
-not_one = square_ruled_out only_last tt tt
-
 -- the first entry twice
 unfoldable pub first_twice : List Entry
 first_twice = take 1 square_entries ++ square_entries
-
-pub not_twice : Demand3 square_bytes first_twice → ⊥
-unfolding open_square first_twice
-not_twice = square_ruled_out first_twice tt tt
 
 -- the first entry with another figure
 unfoldable pub other_figure : List Entry
 other_figure = map (λ (e : Entry). record { list = e.list; before = e.before; figure = dyad }) (take 1 square_entries) ++ drop 1 square_entries
 
-pub not_other_figure : Demand3 square_bytes other_figure → ⊥
-unfolding open_square other_figure
-not_other_figure = square_ruled_out other_figure tt tt
-
 -- the first entry with another list before splitting
 unfoldable pub other_before : List Entry
 other_before = map (λ (e : Entry). record { list = e.list; before = reverse e.before; figure = e.figure }) (take 1 square_entries) ++ drop 1 square_entries
 
-pub not_other_before : Demand3 square_bytes other_before → ⊥
-unfolding open_square other_before
-not_other_before = square_ruled_out other_before tt tt
-
 -- the entries in another order
 unfoldable pub backwards : List Entry
 backwards = reverse square_entries
-
-pub not_backwards : Demand3 square_bytes backwards → ⊥
-unfolding open_square backwards
-not_backwards = square_ruled_out backwards tt tt
 
 -- ---- the words of [13.3] to [13.7] say of the square what they should
 
@@ -124,10 +76,6 @@ unfoldable pub sensible : Outcome Prepared → List (List Facet) → Bool
 sensible (refused number) lists = false
 sensible (answered p) lists = equal_shares (table_for p) && closed_in_order (table_for p) lists
 
-pub square_sensible : T (sensible (prepared_of (read_job square_bytes)) (map (λ (e : Entry). e.before) square_entries))
-unfolding open_square closed_in_order sensible
-square_sensible = tt
-
 -- and it denies an open choice, a choice with a facet too many, and an order that takes the facets as they come
 unfoldable pub denies : Outcome Prepared → Bool
 denies (refused number) = false
@@ -137,7 +85,3 @@ denies (answered p) =
     && not (is_closed_choice (table_for p) [])
     && is_closed_choice (table_for p) ((0, 0) ∷ (2, 0) ∷ (3, 0) ∷ (5, 0) ∷ [])
     && not (is_order_of (table_for p) [] ((0, 0) ∷ (2, 0) ∷ (3, 0) ∷ (5, 0) ∷ []) ((0, 0) ∷ (5, 0) ∷ (2, 0) ∷ (3, 0) ∷ []))
-
-pub square_denies : T (denies (prepared_of (read_job square_bytes)))
-unfolding open_square denies
-square_denies = tt

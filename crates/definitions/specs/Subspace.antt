@@ -1,6 +1,6 @@
 -- Subspaces: docs/SPECIFICATION.md, chapter 4. Every definition that tests a distance takes the tolerance as a
 -- value; a call passes that of its job [12.2]. Leans on Vectors.
-use Rattle.std.specs.Prelude.{Bool, true, false, cond, List, [], ◌∷◌, ◌++◌, map, ℕ, suc, leb, eqb, length, Float}
+use Rattle.std.specs.Prelude.{Bool, cond, List, [], ◌∷◌, ◌++◌, map, suc, leb, eqb, length, Float}
 use Rattle.std.specs.Float.Ieee.{lt}
 use Rattle.definitions.specs.Vectors.{Vec, dot, norm, normalised, minus, plus_times}
 

@@ -1,18 +1,16 @@
 -- Jobs with a package, evaluated: what is examined, what 13 counts, the place of 18 among the refusals, and what
 -- `NobleComplete` [17.11] rules out of the square: no entry, an entry missing, one twice, a compound added.
-use Rattle.std.specs.Prelude.{◌≡◌, Bool, true, false, not, ◌&&◌, List, [], ◌∷◌, ◌++◌, map, ℕ, T, eqb, length, take, drop}
+use Rattle.std.specs.Prelude.{◌≡◌, Bool, false, not, ◌&&◌, List, [], ◌∷◌, ◌++◌, ℕ, T, eqb, take, drop}
 use Rattle.std.proofs.Common.{sym, ap, ◌∙◌, subst, T_not}
 use Rattle.definitions.specs.Lists.{all_of}
 use Rattle.definitions.specs.Outcome.{Outcome, refused, answered}
 use Rattle.definitions.specs.Figures.{dyad}
-use Rattle.definitions.specs.Search.{Facet, Found}
-use Rattle.definitions.specs.Recursion.{Bounds, Rules, Entry, Answer}
-use Rattle.definitions.specs.Faceting.{Prepared, entries_of, search_from}
+use Rattle.definitions.specs.Search.{Facet}
+use Rattle.definitions.specs.Recursion.{Entry}
 use Rattle.definitions.specs.Job.{Bytes, Job, read_job, bounds1, rules_of, number_at, alone}
 use Rattle.definitions.specs.Noble.{Package, read_package}
 use Rattle.definitions.specs.NobleCalls.{noble_call_of, noble_alone, noble_prepared_of, NobleCallComplete, NobleComplete}
-use Rattle.definitions.specs.Open.{open_all}
-use Rattle.definitions.specs.Examples.{open_examples, identity, plain, square_job}
+use Rattle.definitions.specs.Examples.{identity}
 use Rattle.definitions.specs.RuledOut.{same_entries, entries_after, entries_with, square_bytes, square_entries, open_square}
 use Rattle.evaluated.specs.Packages.{package_bytes}
 

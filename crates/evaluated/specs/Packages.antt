@@ -1,15 +1,14 @@
 -- Packages evaluated: which orbits a package keeps where readings of chapter 17 would differ, and both sides of every
 -- bound of refusal 18.
-use Rattle.std.specs.Prelude.{Bool, not, ◌&&◌, ℕ, ◌+◌, ◌-◌, T, length, take, replicate}
+use Rattle.std.specs.Prelude.{Bool, not, ◌&&◌, ℕ, T, length, take, replicate}
 use mathlib.Core.List.{List, [], ◌∷◌, ◌++◌, map, flat_map}
 use Rattle.definitions.specs.Lists.{all_of, count_from}
-use Rattle.definitions.specs.Orbits.{Row, Orbit, hyperplane_orbits}
-use Rattle.definitions.specs.Recursion.{Rules}
+use Rattle.definitions.specs.Orbits.{Row, Orbit}
 use Rattle.definitions.specs.Faceting.{orbits_of}
-use Rattle.definitions.specs.Job.{Bytes, Job, read_job, bounds1, rules_of, plane_of, same_nats}
-use Rattle.definitions.specs.Noble.{Package, read_package, package_good, kept_by}
+use Rattle.definitions.specs.Job.{Bytes, read_job, bounds1, rules_of, plane_of, same_nats}
+use Rattle.definitions.specs.Noble.{read_package, package_good, kept_by}
 use Rattle.definitions.specs.Open.{open_all}
-use Rattle.definitions.specs.Examples.{open_examples, bytes_of, identity, plain, job_with, whole_points, corner_job, square_job, symmetric_job, three_points}
+use Rattle.definitions.specs.Examples.{open_examples, bytes_of, identity, plain, whole_points, corner_job, symmetric_job, three_points}
 
 -- a package's bytes, from its fields
 unfoldable pub package_bytes : ℕ → ℕ → List ℕ → List Row → Bytes

@@ -1,7 +1,7 @@
 -- The plain entries [18.2] [18.3], evaluated on jobs that tell the readings of the request apart, each
 -- with what the Rust's `filter_irc` gives. The last of these keeps an entry that another stands inside of, which the
 -- promise of [18.4] allows.
-use Rattle.std.specs.Prelude.{◌≡◌, refl, Bool, false, ◌&&◌, ℕ, ◌+◌, ◌*◌, T, eqb, length, get_or}
+use Rattle.std.specs.Prelude.{Bool, false, ◌&&◌, ℕ, ◌+◌, ◌*◌, T, eqb, length, get_or}
 use mathlib.Core.List.{List, [], ◌∷◌, flat_map}
 use Rattle.definitions.specs.Lists.{Pair, all_of}
 use Rattle.definitions.specs.Outcome.{Outcome, refused, answered}

@@ -1,5 +1,5 @@
 -- Rows of jobs, evaluated: docs/SPECIFICATION.md, [15.5]. Leans on Batch and on the example jobs.
-use Rattle.std.specs.Prelude.{Bool, true, false, ◌&&◌, List, [], ◌∷◌, ◌++◌, ℕ, ◌+◌, ◌-◌, T, eqb, length}
+use Rattle.std.specs.Prelude.{Bool, false, ◌&&◌, [], ◌∷◌, ◌++◌, ℕ, ◌+◌, ◌-◌, T, eqb, length}
 use Rattle.definitions.specs.Outcome.{Outcome, refused, answered}
 use Rattle.definitions.specs.Job.{Bytes, word_bytes, same_nats, outcome}
 use Rattle.definitions.specs.Batch.{half_bytes, batch}

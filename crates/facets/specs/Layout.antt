@@ -7,11 +7,10 @@ use Rattle.std.proofs.Math.Option.{Option, some, none}
 use Rattle.definitions.specs.Lists.{count_from}
 use Rattle.definitions.specs.Job.{number_at}
 use Rattle.definitions.specs.Search as def
-use Rattle.definitions.specs.Outcome as result
 use Rattle.definitions.specs.Search.{Table, Facet, all_facets, ones_at, uses_orbit}
 use Rattle.laws.specs.Segments.{part, placed, part_take}
 use Rattle.words.specs.Words.{words, words_take}
-use Rattle.pool.specs.Pool.{Sound, count, used, closed_lists}
+use Rattle.pool.specs.Pool.{Sound, count, closed_lists}
 use Rattle.facets.specs.Sums.{amount, sum_at}
 use Rattle.facets.specs.declared.Areas.{Areas}
 use Rattle.facets.specs.declared.Verdict.{Verdict}

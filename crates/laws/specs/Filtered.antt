@@ -2,7 +2,7 @@
 -- is left out (`labelled_left_out`); and a numbering that keeps the order keeps what is found (`filter_numbered`). Its walk is that of `label_irc`. Leans on the definitions and on Walks.
 use Rattle.std.specs.Prelude.{◌≡◌, Bool, ◌&&◌, leb, eqb, get_or}
 use Rattle.std.proofs.Math.Path.{refl, ap, subst}
-use Rattle.std.proofs.Common.{sym, ◌∙◌, ne_eqb, le→leb}
+use Rattle.std.proofs.Common.{◌∙◌, ne_eqb, le→leb}
 use Rattle.std.proofs.Math.Bool.{true, false, cond, not}
 use mathlib.Core.List.{List, [], ◌∷◌, map}
 use Rattle.std.proofs.Math.Option.{Option, some, none}

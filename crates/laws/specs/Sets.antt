@@ -1,20 +1,20 @@
 -- Sets of vertices as numbers: the sum of 2 ^ v. Ascending lists of numbers below n are the numbers below 2 ^ n, one to one; so equal numbers are equal sets, and a set's image
 -- under a permutation has the sum of the images' powers. Leans on Lists, Pairs and Sorting.
-use Rattle.std.specs.Prelude.{◌≡◌, ◌⊎◌, Bool, true, false, cond, not, eqb, length}
+use Rattle.std.specs.Prelude.{◌≡◌, Bool, true, false, cond, not, eqb}
 use Rattle.std.proofs.Math.Path.{refl}
-use Rattle.std.proofs.Common.{sym, ap, subst, ◌∙◌, inl, inr, eq-eqb, ne_eqb, eqb-true, eqb→eq}
+use Rattle.std.proofs.Common.{sym, ap, subst, ◌∙◌, eq-eqb, ne_eqb, eqb→eq}
 use mathlib.Core.List.Permᴰ
-use mathlib.Core.List.{List, [], ◌∷◌, ◌++◌, map, Memᴰ, Permᴰ, Pairwise}
+use mathlib.Core.List.{List, [], ◌∷◌, map, Memᴰ, Pairwise}
 use Prim.Native.Nat.{ℕ, zero, suc, ◌+◌, ◌*◌, ◌/◌, ◌%◌, ◌^◌, ◌≤◌, ◌<◌, compare, Ordering}
-use Rattle.std.proofs.Math.Nat.{pow-zero, two-pow-succ, one-le-pow}
+use Rattle.std.proofs.Math.Nat.{pow-zero, two-pow-succ}
 use native.Mathlib.Omega.{arith}
 use Rattle.std.proofs.Math.Decide.{ℕ_discrete}
 use Rattle.std.proofs.Math.Dec.{T, eqb_refl, compare_is_eq}
-use Rattle.definitions.specs.Lists.{is_gt, compare_nats, sort_by, sort_nats, insert_by, count_from}
+use Rattle.definitions.specs.Lists.{is_gt, compare_nats, sort_by, sort_nats, insert_by}
 use Rattle.laws.specs.Bools.{same_test}
 use Rattle.laws.specs.Lists.{Mem, here, there, of_map}
 use Rattle.laws.specs.Pairs.{Pairs, pairs_map}
-use Rattle.laws.specs.Orders.{Linear, nats, nat_lists, compare_lt, is_eq}
+use Rattle.laws.specs.Orders.{nats, nat_lists, compare_lt, is_eq}
 use Rattle.laws.specs.Sorting.{perm_member, pairs_perm, sort_perm, sort_ascends, NotAboveBy}
 
 -- ---- numbers of sets

@@ -7,7 +7,7 @@ use Rattle.std.proofs.Common.{◌∙◌, subst, mul-pos, mul-le-mul, mul-le-mul_
 use Rattle.std.proofs.Math.Option.{some, none}
 use native.Mathlib.Omega.{arith}
 use Rattle.std.proofs.Math.Dec.{nleb→lt}
-use Rattle.std.specs.Float.Ieee.{nan, low, fits, units}
+use Rattle.std.specs.Float.Ieee.{nan, fits, units}
 use Rattle.std.specs.Float.{inf, fin, binary64}
 use Rattle.std.specs.Float.Ieee.Bits.{of_bits-fits}
 use Rattle.std.specs.Float.Ieee.Exact.{HasValue, units_val}

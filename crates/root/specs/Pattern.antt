@@ -10,7 +10,7 @@ use Rattle.std.proofs.Math.Arith.{lt→nleb, digits_div, digits_mod}
 use Rattle.std.specs.Int.Count.{count_trailing_zeros, count_leading_zeros, under}
 use Rattle.std.proofs.lemmas.Nat.{leading_top}
 use Rattle.std.specs.Float.{nan, inf, fin}
-use Rattle.std.specs.Float.Ieee.{binary64, low, hid, top, up, down, minus, odd, units, of_fields, of_bits}
+use Rattle.std.specs.Float.Ieee.{binary64, hid, top, up, down, minus, odd, units, of_fields, of_bits}
 use Rattle.std.specs.Float.Ieee.Bits.{is_true, is_false}
 use Rattle.std.specs.Float.Ieee.Exact.{HasValue, odd_sign}
 use Rattle.root.specs.Powers.{pow_back, all_places, moved_low, moved_high}

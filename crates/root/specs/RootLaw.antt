@@ -10,7 +10,7 @@ use Rattle.std.proofs.Math.Nat.{mul-lt-mul_of_pos_right}
 use native.Mathlib.Omega.{arith}
 use Rattle.std.proofs.Math.Dec.{nleb→lt}
 use Rattle.std.specs.Float.{nan, inf, fin}
-use Rattle.std.specs.Float.Ieee.{binary64, low, up, down, fits, units, of_bits}
+use Rattle.std.specs.Float.Ieee.{binary64, up, down, fits, units, of_bits}
 use Rattle.std.specs.Float.Ieee.Fits.{down_pos}
 use Rattle.std.specs.Float.Ieee.Bits.{of_bits-fits}
 use Rattle.definitions.specs.Vectors.{whole_root, twice_root, root_times, square_root}

@@ -1,13 +1,13 @@
 -- Sets and edge sets read off by a test for each vertex or pair, in ascending order: what code does that keeps sets as bits. A set is the vertices that pass, in order; the edges of a figure
 -- are the pairs that pass, in order; the polygons of a figure are those that pass of any ascending list that has them. Leans on EdgeSets and Sets.
-use Rattle.std.specs.Prelude.{◌≡◌, refl, Bool}
-use Rattle.std.proofs.Common.{sym, ap, ◌∙◌, subst, arith}
-use mathlib.Core.List.{List, [], ◌∷◌, map, flat_map, Memᴰ}
-use Prim.Native.Nat.{ℕ, zero, suc, ◌+◌, ◌-◌, ◌≤◌, ◌<◌, compare, Ordering}
+use Rattle.std.specs.Prelude.{◌≡◌}
+use Rattle.std.proofs.Common.{ap, ◌∙◌, arith}
+use mathlib.Core.List.{List, map}
+use Prim.Native.Nat.{ℕ, suc, ◌-◌, ◌<◌, compare, Ordering}
 use Rattle.definitions.specs.Lists.{Pair, then_by, compare_pair, compare_pairs, keep, count_from}
 use Rattle.definitions.specs.Orbits.{above, pairs_from}
 use Rattle.laws.specs.Lists.{Mem, in_map, of_map, in_flat_map, of_flat_map, in_count, of_count}
-use Rattle.laws.specs.Pairs.{Pairs, pairs_map, pairs_flat_map, count_ascends}
+use Rattle.laws.specs.Pairs.{pairs_map, pairs_flat_map, count_ascends}
 use Rattle.laws.specs.Orders.{nats, pairs, pair_lists, lt_compare}
 use Rattle.laws.specs.Ascending.{Ascends, seen_among}
 use Rattle.laws.specs.Ranges.{count_ascending, in_order_kept, ascending_kept}

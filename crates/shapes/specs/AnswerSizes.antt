@@ -7,12 +7,12 @@ use Rattle.definitions.specs.Lists.{any_of, keep, count_from}
 use Rattle.definitions.specs.Outcome.{answered}
 use Rattle.definitions.specs.Vectors.{Vec}
 use Rattle.definitions.specs.Subspace.{Subspace}
-use Rattle.definitions.specs.Orbits.{Row, Orbit, image}
+use Rattle.definitions.specs.Orbits.{Row, image}
 use Rattle.definitions.specs.Figures.{Figure}
 use Rattle.definitions.specs.Recursion.{Rules, Answer, Inner, vertex_ridge, swapped_ends, separate_ends, edge_call, keeps_set, row_within, rows_within}
-use Rattle.definitions.specs.Faceting.{orbits_of, Prepared, possible_facets, finish, faceting}
+use Rattle.definitions.specs.Faceting.{Prepared, possible_facets, finish, faceting}
 use Rattle.laws.specs.Bools.{true→holds}
-use Rattle.laws.specs.Lists.{Mem, in_map, of_map, count_at, count_length, any_witness, keep_few}
+use Rattle.laws.specs.Lists.{Mem, of_map, count_at, count_length, any_witness, keep_few}
 use Rattle.shapes.specs.Answered.{answers_equal, Preparation, answered_call, made_orbit}
 use Rattle.shapes.specs.LowRanks.{RankTwo, rank_two}
 use Rattle.shapes.specs.Sets.{Rows}

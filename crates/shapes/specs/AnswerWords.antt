@@ -5,21 +5,21 @@ use Rattle.std.specs.Prelude.{◌≡◌, refl, ◌⊎◌, take}
 use Rattle.std.proofs.Math.Path.{sym, ap, subst}
 use Rattle.std.proofs.Common.{◌∙◌, inl, inr, arith}
 use mathlib.Core.List.{List, [], ◌∷◌, map, flat_map, Memᴰ}
-use Prim.Native.Nat.{ℕ, zero, suc, ◌+◌, ◌-◌, ◌*◌, ◌/◌, ◌≤◌, ◌<◌, max}
+use Prim.Native.Nat.{ℕ, zero, suc, ◌+◌, ◌*◌, ◌/◌, ◌≤◌, ◌<◌, max}
 use Rattle.std.proofs.Math.ListN.{length, get_or, length-map}
 use Rattle.std.proofs.lemmas.List.{length-replicate}
 use Rattle.definitions.specs.Lists.{Pair, count_from, compare_pair}
 use Rattle.definitions.specs.Outcome.{answered}
 use Rattle.definitions.specs.Vectors.{Vec}
 use Rattle.definitions.specs.Subspace.{Subspace}
-use Rattle.definitions.specs.Orbits.{Row, Orbit}
+use Rattle.definitions.specs.Orbits.{Row}
 use Rattle.definitions.specs.Figures.{Figure, Compound, dyad, move_ends, label_irc}
 use Rattle.definitions.specs.Search.{Facet}
 use Rattle.definitions.specs.Recursion.{Rules, Bounds, Entry, Answer, Inner, vertex_ridge, rows_within}
 use Rattle.definitions.specs.Faceting.{Way, faceting_with, Prepared, possible_facets, split, facet_images, entry_of, finish, faceting}
 use Rattle.definitions.specs.Job.{counted, figure_words, facet_words, entry_words, compound_words, summary_words, answer_words}
 use Rattle.shapes.specs.AnswerSizes.{within_few}
-use Rattle.laws.specs.Lists.{Mem, in_map, of_map, of_count, count_length, in_replicate}
+use Rattle.laws.specs.Lists.{Mem, of_map, of_count, count_length, in_replicate}
 use Rattle.laws.specs.Ascending.{Differ, Distinct}
 use Rattle.laws.specs.Pairs.{pairs_map}
 use Rattle.laws.specs.Ranges.{distinct_below}

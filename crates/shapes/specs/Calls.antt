@@ -13,12 +13,12 @@ use Rattle.definitions.specs.Lists.{count_from}
 use Rattle.definitions.specs.Outcome.{answered}
 use Rattle.definitions.specs.Vectors.{Vec}
 use Rattle.definitions.specs.Subspace.{Subspace, flatten}
-use Rattle.definitions.specs.Orbits.{Row, Orbit, image, point_at}
+use Rattle.definitions.specs.Orbits.{Row, image, point_at}
 use Rattle.definitions.specs.Figures.{Figure, Elements, dyad, move_ends, sort_strong}
 use Rattle.definitions.specs.Search.{Facet, Found}
 use Rattle.definitions.specs.Recursion.{Rules, Entry, Answer, Call, Inner, vertex_ridge, move_sorted, rows_within}
 use Rattle.definitions.specs.Faceting.{Prepared, possible_facets, at_orbit, split, facet_images, entry_of, entries_of, compare_entries, finish, faceting}
-use Rattle.laws.specs.Lists.{Mem, here, there, in_map, of_map, of_flat_map, of_count}
+use Rattle.laws.specs.Lists.{Mem, here, there, of_map, of_flat_map, of_count}
 use Rattle.laws.specs.Orders.{lt_compare}
 use Rattle.laws.specs.Sorting.{of_sorted}
 use Rattle.laws.specs.Ascending.{SameItems}

@@ -1,5 +1,5 @@
 -- Rows closed under composition [13.9]. Rows are permutations and finitely many, so one of them after each of the others gives them all: inverses are not asked for. Leans on the definitions and laws.
-use Rattle.std.specs.Prelude.{◌≡◌, List, [], map, ℕ, ◌<◌, T, length}
+use Rattle.std.specs.Prelude.{◌≡◌, List, [], map, ℕ, ◌<◌, T}
 use Rattle.std.proofs.Common.{sym, arith}
 use Rattle.std.proofs.Math.Path.{subst}
 use Rattle.std.proofs.lemmas.List.{length-map}

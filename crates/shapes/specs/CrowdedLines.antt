@@ -1,21 +1,21 @@
 -- What the rule of crowded lines [5.8] leaves of a call's orbits: at rank 3 the orbits under rule 2 are those under rule 1 whose sets have two vertices at most, in their order and with their counts
 -- (`rule_two`); above rank 3 they are the same (`rules_agree`). Nothing is asked of rows or points. Leans on the definition of the orbits and on the laws of fresh items.
-use Rattle.std.specs.Prelude.{◌≡◌, cond, not, ◌&&◌, ◌||◌, T, leb, eqb, length, Float}
+use Rattle.std.specs.Prelude.{◌≡◌, cond, not, ◌&&◌, ◌||◌, leb, eqb, length, Float}
 use Rattle.std.proofs.Math.Path.{refl, ap}
-use Rattle.std.proofs.Common.{sym, subst, ◌∙◌, true≢false, arith, le-leb, ne_eqb}
-use Rattle.std.proofs.Math.Bool.{Bool, true, false, and-true, and-false}
-use mathlib.Core.List.{List, [], ◌∷◌, ◌++◌, map, Memᴰ}
-use Prim.Native.Nat.{ℕ, zero, suc, ◌≤◌, compare}
+use Rattle.std.proofs.Common.{sym, ◌∙◌, true≢false, arith, le-leb, ne_eqb}
+use Rattle.std.proofs.Math.Bool.{Bool, true, false, and-false}
+use mathlib.Core.List.{List, [], ◌∷◌, ◌++◌, map}
+use Prim.Native.Nat.{ℕ, suc, ◌≤◌, compare}
 use Rattle.std.proofs.Math.Dec.{compare_is_eq}
 use Rattle.std.proofs.Math.ListN.{length-map}
 use Rattle.std.specs.Float.Ieee.{lt}
 use Rattle.definitions.specs.Lists.{any_of, keep, fresh, compare_nats, sort_nats}
 use Rattle.definitions.specs.Vectors.{Vec}
 use Rattle.definitions.specs.Subspace.{Subspace, from_points, is_hyperplane, distance, flatten}
-use Rattle.definitions.specs.Orbits.{Row, Limits, Orbit, image, point_at, points_near, set_image, most_vertices, hyperplanes, hyperplane_orbits}
+use Rattle.definitions.specs.Orbits.{Row, Orbit, image, point_at, points_near, set_image, most_vertices, hyperplanes, hyperplane_orbits}
 use Rattle.definitions.specs.Recursion.{Rules}
 use Rattle.definitions.specs.Faceting.{orbits_of}
-use Rattle.laws.specs.Bools.{true→holds, holds→true}
+use Rattle.laws.specs.Bools.{true→holds}
 use Rattle.laws.specs.Lists.{Mem, here, there, of_map, keep_all, keep_append}
 use Rattle.laws.specs.Orders.{nats, nat_lists}
 use Rattle.laws.specs.Ascending.{sorted_length, tested_equal, of_fresh}

@@ -1,5 +1,5 @@
 -- What the lists that a call emits hold: facets that the call has, at most one from an orbit. And the call's entries, which are those lists split. Leans on Answered.
-use Rattle.std.specs.Prelude.{◌≡◌, refl, true, ℕ, zero, suc, ◌-◌, ◌≤◌, ◌<◌, max, ltb, length, get_or}
+use Rattle.std.specs.Prelude.{◌≡◌, refl, ℕ, zero, suc, ◌-◌, ◌≤◌, ◌<◌, max, ltb, length, get_or}
 use Rattle.std.proofs.Common.{ap, ◌∙◌, subst, arith, ltb→lt}
 use Rattle.std.proofs.Math.Option.{Option, some, none}
 use mathlib.Core.List.{List, [], ◌∷◌, map, zip_with}

@@ -2,15 +2,15 @@
 -- item sent. Sent in order: the ranks are the same, so that numbers which order as the items do may stand for them. And the ranks of an item tell it. Leans on LevelFigures.
 use Rattle.std.specs.Prelude.{◌≡◌, length, get_or, drop}
 use Rattle.std.proofs.Math.Path.{refl, sym, ap, subst}
-use Rattle.std.proofs.Common.{◌∙◌, arith}
+use Rattle.std.proofs.Common.{◌∙◌}
 use mathlib.Core.List.{List, [], ◌∷◌, map, flat_map, map-map}
-use Prim.Native.Nat.{ℕ, zero, suc, compare, Ordering}
+use Prim.Native.Nat.{ℕ, zero, suc, compare}
 use Rattle.std.proofs.Math.ListN.{length-map}
-use Rattle.definitions.specs.Lists.{compare_nats, sort_by, sort_nats, insert_by, fresh, any_of}
+use Rattle.definitions.specs.Lists.{compare_nats, sort_by, sort_nats}
 use Rattle.definitions.specs.Figures.{Elements, number_in, sort_ranks}
-use Rattle.laws.specs.Lists.{Mem, here, there, in_map, of_map, in_flat_map, of_flat_map, flat_map_same}
-use Rattle.laws.specs.Orders.{Linear, nats, nat_lists, lt_compare}
-use Rattle.laws.specs.Ascending.{Ascends, Distinct, ascends_distinct, alone_in_order, in_order, in_in_order, of_in_order, in_order_same}
+use Rattle.laws.specs.Lists.{Mem, here, in_map, of_map, in_flat_map, of_flat_map, flat_map_same}
+use Rattle.laws.specs.Orders.{nats, nat_lists, lt_compare}
+use Rattle.laws.specs.Ascending.{Ascends, Distinct, ascends_distinct, alone_in_order, in_in_order, of_in_order, in_order_same}
 use Rattle.laws.specs.Places.{map_apart, place_in, at_place, place_apart, place_ascends, place_map, in_order_map, sort_distinct, distinct_map, map_same, map_self, map_flat_map, flat_map_map}
 use Rattle.shapes.specs.Assemble.{lowest_by}
 use Rattle.shapes.specs.Gathered.{sort_all}

@@ -1,16 +1,16 @@
 -- Elements in levels: an item of the next level is an ascending list of items of this one, at every level from the lowest up. The ranks that a figure has are read off such items: the lowest
 -- items as they are written, then each level's items in order, each as the places of its subs in the level below, and one body. Nested sets of edges are one instance (Nested); numbers that
 -- order as the sets do may be another. Here the reading, and what it does when the lowest level is taken off. Leans on the laws.
-use Rattle.std.specs.Prelude.{◌≡◌, refl, length, get_or}
-use Rattle.std.proofs.Common.{sym, ap, ◌∙◌, subst, arith}
+use Rattle.std.specs.Prelude.{◌≡◌, refl, length}
+use Rattle.std.proofs.Common.{sym, ap, ◌∙◌, subst}
 use mathlib.Core.List.{List, [], ◌∷◌, map, flat_map, Memᴰ, map-map}
 use Prim.Native.Nat.{ℕ, zero, suc, Ordering}
 use Rattle.definitions.specs.Lists.{compare_list, sort_nats, count_from}
 use Rattle.definitions.specs.Figures.{Elements, renumber}
-use Rattle.laws.specs.Lists.{Mem, here, in_flat_map, of_flat_map, of_count}
+use Rattle.laws.specs.Lists.{Mem, here, in_flat_map, of_flat_map}
 use Rattle.laws.specs.Orders.{Linear}
-use Rattle.laws.specs.Ascending.{Ascends, ascends_distinct, in_order, in_order_ascends, in_in_order, of_in_order}
-use Rattle.laws.specs.Places.{place_in, place_at_holds, map_same}
+use Rattle.laws.specs.Ascending.{Ascends, in_order, in_order_ascends, in_in_order, of_in_order}
+use Rattle.laws.specs.Places.{place_in, map_same}
 use Rattle.laws.specs.Ranges.{own_places}
 use Rattle.shapes.specs.Assemble.{lowest_by}
 

@@ -3,7 +3,7 @@
 use Rattle.std.specs.Prelude.{◌≡◌, refl, ◌⊎◌, List, map, length}
 use Rattle.std.proofs.Common.{sym, ap, ◌∙◌, inl, inr, arith}
 use Prim.Native.Nat.{ℕ, zero, suc, ◌+◌, ◌*◌, ◌^◌, ◌<◌, compare, Ordering}
-use Rattle.definitions.specs.Lists.{Pair, then_by, compare_list, compare_pair, compare_nats}
+use Rattle.definitions.specs.Lists.{Pair, then_by, compare_pair, compare_nats}
 use Rattle.laws.specs.Lists.{Mem}
 use Rattle.laws.specs.Orders.{nats, pairs, lt≢gt, lt_compare, compare_lt}
 use Rattle.laws.specs.Ascending.{Ascends, in_order}

@@ -1,6 +1,6 @@
 -- The points that a summary counts [12.5], at every rank: the ends of a figure's edges, each once (`used_are_ends`); and
 -- how many they are, from the edges alone. Leans on the laws of lists.
-use Rattle.std.specs.Prelude.{◌≡◌, refl, Bool, true, false, cond, ◌||◌, ℕ, zero, suc, ◌≤◌, ◌<◌, T, eqb, length, replicate}
+use Rattle.std.specs.Prelude.{◌≡◌, refl, Bool, true, false, cond, ◌||◌, ℕ, zero, suc, ◌≤◌, ◌<◌, eqb, length, replicate}
 use Rattle.std.proofs.Common.{sym, ap, ◌∙◌, subst, arith, eqb→eq}
 use mathlib.Core.List.{List, [], ◌∷◌, map, Nodup}
 use Rattle.std.proofs.Math.Dec.{eqb_refl}

@@ -48,6 +48,7 @@ written_rows_holds size (row ∷ rs) k out e h l =
 
 place_at_holds : (u : ℕ) (l : List ℕ) → Mem u l → place_of (eqb u) l < length l
 unfolding place_of
+place_at_holds u [] x' = elim x' [ ]
 place_at_holds u (x ∷ l) (Memᴰ.head e) = go (eqb u x) (subst (λ (k : ℕ). T (eqb u k)) e (eqb_refl u))
   where
     go : (b : Bool) → T b → cond b 0 (suc (place_of (eqb u) l)) < suc (length l)

@@ -8,7 +8,7 @@ use Rattle.laws.specs.Lists.{Mem, all_of_holds, member_at}
 use Rattle.laws.specs.Parts.{get_d_rows, length_rows}
 use Rattle.laws.specs.Ranges.{Permutes, permutes_at, permutes_apart}
 use Rattle.laws.specs.Tests.{same_nats_holds}
-use Rattle.openers.specs.Rows.{rows_in, row_at, RowsFit, ImagesBelow, image_at_holds}
+use Rattle.openers.specs.Rows.{rows_in, row_at, RowsFit, image_at_holds}
 
 -- row i of a region is a permutation of n vertices
 pub record Permutation (n i : ℕ) (s : List ℕ) : Type 0 where

@@ -1,21 +1,19 @@
 -- Places in a set: how many of its vertices are smaller. A row that keeps a set, rewritten to places in it, is written where the next row begins. Leans on the sets of the laws.
-use Rattle.std.specs.Prelude.{◌≡◌, refl, Bool, true, false, cond, ℕ, zero, suc, ◌+◌, ◌*◌, ◌-◌, ◌/◌, ◌%◌, ◌^◌, ◌≤◌, ◌<◌, T, eqb, get_or, take, drop}
+use Rattle.std.specs.Prelude.{◌≡◌, refl, true, ℕ, zero, suc, ◌+◌, ◌*◌, ◌/◌, ◌%◌, ◌^◌, ◌≤◌, ◌<◌, eqb, get_or}
 use Rattle.std.proofs.Math.Path.{sym, ap, subst}
-use Rattle.std.proofs.Common.{◌∙◌, arith, add-one, eq-eqb, ne_eqb, length-append}
-use mathlib.Core.List.{List, [], ◌∷◌, ◌++◌, map, map-append, Memᴰ}
+use Rattle.std.proofs.Common.{◌∙◌, arith, eq-eqb, ne_eqb}
+use mathlib.Core.List.{List, [], ◌∷◌, map, Memᴰ}
 use Rattle.std.proofs.Math.Decide.{ℕ_discrete}
-use Rattle.std.proofs.Math.Dec.{compare_is_eq}
 use Rattle.std.proofs.Math.ListN.{length}
-use Rattle.std.proofs.lemmas.List.{length-map}
-use Rattle.definitions.specs.Lists.{place_of, compare_nats, keep, sort_nats}
-use Rattle.definitions.specs.Orbits.{Row, image, set_image}
-use Rattle.definitions.specs.Recursion.{keeps_set, row_within, rows_within}
+use Rattle.definitions.specs.Lists.{place_of, sort_nats}
+use Rattle.definitions.specs.Orbits.{image, set_image}
+use Rattle.definitions.specs.Recursion.{keeps_set, row_within}
 use Rattle.laws.specs.Bools.{true→holds}
 use Rattle.laws.specs.Lists.{Mem, here, there, in_map}
-use Rattle.laws.specs.Orders.{Linear, nats, nat_lists, is_eq}
+use Rattle.laws.specs.Orders.{nat_lists, is_eq}
 use Rattle.laws.specs.Sorting.{in_sorted}
 use Rattle.laws.specs.Sets.{set_number, vertices_from, vertices_of, vertices_odd, vertices_even, vertices_set, set_range, compare_sets, image_set, number_vertices}
-use Rattle.openers.specs.Rows.{rows_in, row_at, image_at_holds}
+use Rattle.openers.specs.Rows.{row_at, image_at_holds}
 use Rattle.stabilizers.specs.Permutations.{Permutation}
 
 -- ---- definitions

@@ -1,5 +1,5 @@
 -- An array is known from its front and from what stands behind it; and how many numbers a difference or a gain has. Leans on Meaning and on the laws of segments.
-use Rattle.std.specs.Prelude.{◌≡◌, refl, List, [], ◌∷◌, ◌++◌, ℕ, suc, ◌+◌, ◌≤◌, length, get_or, take, drop, Float}
+use Rattle.std.specs.Prelude.{◌≡◌, refl, List, [], ◌∷◌, ℕ, suc, ◌+◌, ◌≤◌, length, get_or, drop, Float}
 use Rattle.std.proofs.Common.{sym, ap, ◌∙◌, arith, take-append-drop, length-take-le, get_or-drop, drop-drop}
 use Rattle.std.proofs.lemmas.List.{length-map, length-replicate}
 use Rattle.definitions.specs.Vectors.{Vec, minus, plus_times, normalised}

@@ -1,16 +1,16 @@
 -- A job and the same job in the next version, with what the version before means: for all bytes behind the version, refused or answered, they have one outcome. Version 2 with
 -- the tolerance 1e-7 is version 1 (`version_2_as_1`), version 3 with rule 1 is version 2 (`version_3_as_2`). Both are one law of bytes put in behind the header. Leans on Widened.
-use Rattle.std.specs.Prelude.{◌≡◌, refl, Bool, true, false, cond, not, ◌&&◌, List, [], ◌∷◌, ◌++◌, map, ℕ, zero, suc, ◌+◌, ◌-◌, ◌*◌, ◌≤◌, T, leb, ltb, get_or, Float}
+use Rattle.std.specs.Prelude.{◌≡◌, refl, Bool, true, false, cond, ◌&&◌, List, [], ◌∷◌, ◌++◌, map, ℕ, ◌+◌, ◌-◌, ◌*◌, ◌≤◌, T, leb, ltb, get_or, Float}
 use Rattle.std.proofs.Math.Path.{sym, ap}
-use Rattle.std.proofs.Common.{subst, ◌∙◌, true≢false, le-leb, eq-eqb, ne_eqb, length-drop, drop-drop, drop-cons}
-use Rattle.std.proofs.Math.Option.{Option, some, none}
+use Rattle.std.proofs.Common.{subst, ◌∙◌, true≢false, le-leb, eq-eqb, ne_eqb, drop-drop, drop-cons}
+use Rattle.std.proofs.Math.Option.{Option, some}
 use native.Mathlib.Omega.{arith}
 use Rattle.std.proofs.Math.Dec.{eqb, eqb→eq}
 use Rattle.std.proofs.Math.ListN.{length, take, drop}
 use Rattle.std.proofs.Math.Seq.{take-add, take_all}
 use Rattle.std.specs.Float.Ieee.{binary64, of_bits}
 use Rattle.definitions.specs.Lists.{all_of, count_from}
-use Rattle.definitions.specs.Outcome.{Outcome, answered, and_then}
+use Rattle.definitions.specs.Outcome.{Outcome, and_then}
 use Rattle.definitions.specs.Recursion.{Bounds, Answer}
 use Rattle.definitions.specs.Job.{Bytes, little, number_at, float_at, floats_at, vectors_at, tolerance1, Job, flag_set, present, read_job, flagged_end, in_version, with_tolerance, with_rule, between, tolerance_good, floats_good, same_nats, is_permutation, workspace_for, Test, header_tests, value_tests, job_tests, workspace_tests, tests, pass_all, rules_of, plane_of, call_of, answer_bytes, fitting, outcome_within, outcome, bounds1}
 use Rattle.laws.specs.Refusals.{AllPassed, passes_at, passed, pass_all_append, pass_all_same}

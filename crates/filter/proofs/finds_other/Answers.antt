@@ -1,5 +1,4 @@
 use mathlib.Core.Path.{sym, ◌∙◌}
-use mathlib.Core.Logic.{⊎_elim}
 use mathlib.Core.List.{[]}
 use native.Mathlib.Omega.{arith}
 use lib.ListN.{get_or}
@@ -8,6 +7,7 @@ use Rattle.labels.specs.Walked.{found_few}
 use Rattle.filter.specs.Noted.{walked_none, walked_on, walked_alike, found_not, found_whole, note_at}
 use Rattle.filter.specs.Found.{none_begun, itself, not_found, is_found_holds, none_found, stopped}
 use Rattle.filter.proofs.finds_other.Goals as goal
+use Rattle.filter.proofs.finds_other.Goals.{then-found-length_at+else-a-b, else-found-length_at}
 
 pub loop-b-init : goal.loop-b-init
 loop-b-init c =
@@ -52,10 +52,9 @@ loop-b-preserved c =
     let g = c.items_found-found in
     let few = found_few (get_or lists a []) (get_or lists l.b []) in
     let on = walked_on lists a l.b g.result g.ensures in
-    ⊎_elim
-    (λ w. (omega arith, itself lists a l.b l.invariant.1 w.1.left, on))
-    (λ w. (omega arith, not_found lists a l.b l.invariant.1 (found_not (get_or lists a []) (get_or lists l.b []) (omega (arith, g.ensures, c.length_at.ensures, w.left))), on))
-    c.if-found-length_at.branch
+    elim c.if-found-length_at.branch
+    [ then-found-length_at+else-a-b w ↦ (omega arith, itself lists a l.b l.invariant.1 w.if-a-b.false, on)
+    | else-found-length_at w ↦ (omega arith, not_found lists a l.b l.invariant.1 (found_not (get_or lists a []) (get_or lists l.b []) (omega (arith, g.ensures, c.length_at.ensures, w.if-found-length_at.false))), on) ]
 
 pub returns : goal.returns
 returns c =

@@ -1,6 +1,5 @@
 use mathlib.Core.Option.{none}
 use mathlib.Core.Path.{ap, ◌∙◌}
-use mathlib.Core.Logic.{⊎_elim}
 use Prim.Native.Nat.{◌≤◌}
 use native.Mathlib.Omega.{arith}
 use lib.ListN.{length, get_or, drop}
@@ -10,6 +9,7 @@ use Rattle.words.specs.Lent.{lent_tail, back_front, back_tail, back_length}
 use Rattle.splitting.proofs.Splitting.{Turn, turn_taken, turn_over, table_kept, splits_start, splits_room, splits_push, splits_queue, splits_end, splits_grown}
 use Rattle.laws.specs.Clauses.{of_two}
 use Rattle.splitting.proofs.split_facet.Goals as goal
+use Rattle.splitting.proofs.split_facet.Goals.{then-left-gt0, else-left-gt0}
 
 pub loop-head-init : goal.loop-head-init
 loop-head-init c = splits_start c.args.layout.facets c.args.layout.to c.args.layout.most c.args.layout.steps c.args.facet c.args.ws.now (omega arith) c.requires.2 c.requires.3
@@ -20,28 +20,28 @@ overflow_cast-a c = let l = c.loop-head in record { fits = omega (arith, l.invar
 pub push_u16-requires : goal.push_u16-requires
 push_u16-requires c = let l = c.loop-head in let i = c.if-left-gt0 in
     let a = get_or l.queue l.head 0 in
-    let t : Turn (labels_in 0 c.args.layout.facets c.args.ws.now) a l.left i.left i.parts = ⊎_elim
-    (λ w. turn_taken _ a l.left i.left i.parts w.0.taken w.3 (ap label_of w.4 ∙ (w.2.ensures ∙ ap (λ r. get_or r a none) (table_kept c.args.ws.now l.ws c.args.layout.facets c.args.layout.to c.requires.0 l.invariant.kept))))
-    (λ w. turn_over _ a l.left i.left i.parts w.0.left w.1 w.2)
-    i.branch in
+    let t : Turn (labels_in 0 c.args.layout.facets c.args.ws.now) a l.left i.left i.parts = elim i.branch [
+      then-left-gt0 w ↦ turn_taken _ a l.left i.left i.parts w.if-left-gt0.true w.left-is (ap label_of w.parts-is ∙ (w.components-parts.ensures ∙ ap (λ r. get_or r a none) (table_kept c.args.ws.now l.ws c.args.layout.facets c.args.layout.to c.requires.0 l.invariant.kept)))
+    | else-left-gt0 w ↦ turn_over _ a l.left i.left i.parts w.if-left-gt0.false w.left-is w.parts-is
+    ] in
     rw (lent_tail c.args.layout.to l.ws) (splits_room c.args.layout.facets c.args.layout.to c.args.layout.most c.args.layout.steps c.args.facet c.args.ws.now l.ws l.queue l.head l.tail l.left l.invariant c.loop-head-test.true i.left i.parts t c.if-parts-lt65536.true)
 
 pub loop-head-smaller-then-parts-lt65536 : goal.loop-head-smaller-then-parts-lt65536
 loop-head-smaller-then-parts-lt65536 c = let l = c.loop-head in let i = c.if-left-gt0 in
     let a = get_or l.queue l.head 0 in
-    let t : Turn (labels_in 0 c.args.layout.facets c.args.ws.now) a l.left i.left i.parts = ⊎_elim
-    (λ w. turn_taken _ a l.left i.left i.parts w.0.taken w.3 (ap label_of w.4 ∙ (w.2.ensures ∙ ap (λ r. get_or r a none) (table_kept c.args.ws.now l.ws c.args.layout.facets c.args.layout.to c.requires.0 l.invariant.kept))))
-    (λ w. turn_over _ a l.left i.left i.parts w.0.left w.1 w.2)
-    i.branch in
+    let t : Turn (labels_in 0 c.args.layout.facets c.args.ws.now) a l.left i.left i.parts = elim i.branch [
+      then-left-gt0 w ↦ turn_taken _ a l.left i.left i.parts w.if-left-gt0.true w.left-is (ap label_of w.parts-is ∙ (w.components-parts.ensures ∙ ap (λ r. get_or r a none) (table_kept c.args.ws.now l.ws c.args.layout.facets c.args.layout.to c.requires.0 l.invariant.kept)))
+    | else-left-gt0 w ↦ turn_over _ a l.left i.left i.parts w.if-left-gt0.false w.left-is w.parts-is
+    ] in
     omega (arith, t.fewer)
 
 pub loop-head-preserved-then-parts-lt65536 : goal.loop-head-preserved-then-parts-lt65536
 loop-head-preserved-then-parts-lt65536 c = let l = c.loop-head in let i = c.if-left-gt0 in
     let a = get_or l.queue l.head 0 in
-    let t : Turn (labels_in 0 c.args.layout.facets c.args.ws.now) a l.left i.left i.parts = ⊎_elim
-    (λ w. turn_taken _ a l.left i.left i.parts w.0.taken w.3 (ap label_of w.4 ∙ (w.2.ensures ∙ ap (λ r. get_or r a none) (table_kept c.args.ws.now l.ws c.args.layout.facets c.args.layout.to c.requires.0 l.invariant.kept))))
-    (λ w. turn_over _ a l.left i.left i.parts w.0.left w.1 w.2)
-    i.branch in
+    let t : Turn (labels_in 0 c.args.layout.facets c.args.ws.now) a l.left i.left i.parts = elim i.branch [
+      then-left-gt0 w ↦ turn_taken _ a l.left i.left i.parts w.if-left-gt0.true w.left-is (ap label_of w.parts-is ∙ (w.components-parts.ensures ∙ ap (λ r. get_or r a none) (table_kept c.args.ws.now l.ws c.args.layout.facets c.args.layout.to c.requires.0 l.invariant.kept)))
+    | else-left-gt0 w ↦ turn_over _ a l.left i.left i.parts w.if-left-gt0.false w.left-is w.parts-is
+    ] in
     let g = c.push_u16 in
     let e = rw (lent_tail c.args.layout.to l.ws) at g.ensures in
     let h : c.args.layout.to ≤ length l.ws = omega (arith, l.invariant.long, c.requires.1) in
@@ -52,28 +52,28 @@ loop-head-preserved-then-parts-lt65536 c = let l = c.loop-head in let i = c.if-l
 pub bounds-queue-tail-else-parts-lt65536 : goal.bounds-queue-tail-else-parts-lt65536
 bounds-queue-tail-else-parts-lt65536 c = let l = c.loop-head in let i = c.if-left-gt0 in
     let a = get_or l.queue l.head 0 in
-    let t : Turn (labels_in 0 c.args.layout.facets c.args.ws.now) a l.left i.left i.parts = ⊎_elim
-    (λ w. turn_taken _ a l.left i.left i.parts w.0.taken w.3 (ap label_of w.4 ∙ (w.2.ensures ∙ ap (λ r. get_or r a none) (table_kept c.args.ws.now l.ws c.args.layout.facets c.args.layout.to c.requires.0 l.invariant.kept))))
-    (λ w. turn_over _ a l.left i.left i.parts w.0.left w.1 w.2)
-    i.branch in
+    let t : Turn (labels_in 0 c.args.layout.facets c.args.ws.now) a l.left i.left i.parts = elim i.branch [
+      then-left-gt0 w ↦ turn_taken _ a l.left i.left i.parts w.if-left-gt0.true w.left-is (ap label_of w.parts-is ∙ (w.components-parts.ensures ∙ ap (λ r. get_or r a none) (table_kept c.args.ws.now l.ws c.args.layout.facets c.args.layout.to c.requires.0 l.invariant.kept)))
+    | else-left-gt0 w ↦ turn_over _ a l.left i.left i.parts w.if-left-gt0.false w.left-is w.parts-is
+    ] in
     omega (arith, l.invariant.short, t.spent c.if-parts-lt65536.false)
 
 pub loop-head-smaller : goal.loop-head-smaller
 loop-head-smaller c = let l = c.loop-head in let i = c.if-left-gt0 in
     let a = get_or l.queue l.head 0 in
-    let t : Turn (labels_in 0 c.args.layout.facets c.args.ws.now) a l.left i.left i.parts = ⊎_elim
-    (λ w. turn_taken _ a l.left i.left i.parts w.0.taken w.3 (ap label_of w.4 ∙ (w.2.ensures ∙ ap (λ r. get_or r a none) (table_kept c.args.ws.now l.ws c.args.layout.facets c.args.layout.to c.requires.0 l.invariant.kept))))
-    (λ w. turn_over _ a l.left i.left i.parts w.0.left w.1 w.2)
-    i.branch in
+    let t : Turn (labels_in 0 c.args.layout.facets c.args.ws.now) a l.left i.left i.parts = elim i.branch [
+      then-left-gt0 w ↦ turn_taken _ a l.left i.left i.parts w.if-left-gt0.true w.left-is (ap label_of w.parts-is ∙ (w.components-parts.ensures ∙ ap (λ r. get_or r a none) (table_kept c.args.ws.now l.ws c.args.layout.facets c.args.layout.to c.requires.0 l.invariant.kept)))
+    | else-left-gt0 w ↦ turn_over _ a l.left i.left i.parts w.if-left-gt0.false w.left-is w.parts-is
+    ] in
     omega (arith, t.spent c.if-parts-lt65536.false)
 
 pub loop-head-preserved : goal.loop-head-preserved
 loop-head-preserved c = let l = c.loop-head in let i = c.if-left-gt0 in
     let a = get_or l.queue l.head 0 in
-    let t : Turn (labels_in 0 c.args.layout.facets c.args.ws.now) a l.left i.left i.parts = ⊎_elim
-    (λ w. turn_taken _ a l.left i.left i.parts w.0.taken w.3 (ap label_of w.4 ∙ (w.2.ensures ∙ ap (λ r. get_or r a none) (table_kept c.args.ws.now l.ws c.args.layout.facets c.args.layout.to c.requires.0 l.invariant.kept))))
-    (λ w. turn_over _ a l.left i.left i.parts w.0.left w.1 w.2)
-    i.branch in
+    let t : Turn (labels_in 0 c.args.layout.facets c.args.ws.now) a l.left i.left i.parts = elim i.branch [
+      then-left-gt0 w ↦ turn_taken _ a l.left i.left i.parts w.if-left-gt0.true w.left-is (ap label_of w.parts-is ∙ (w.components-parts.ensures ∙ ap (λ r. get_or r a none) (table_kept c.args.ws.now l.ws c.args.layout.facets c.args.layout.to c.requires.0 l.invariant.kept)))
+    | else-left-gt0 w ↦ turn_over _ a l.left i.left i.parts w.if-left-gt0.false w.left-is w.parts-is
+    ] in
     splits_queue c.args.layout.facets c.args.layout.to c.args.layout.most c.args.layout.steps c.args.facet c.args.ws.now l.ws l.queue l.head l.tail l.left l.invariant c.loop-head-test.true i.left i.parts t c.if-parts-lt65536.false (omega arith)
 
 pub returns : goal.returns

@@ -35,11 +35,11 @@ end_list-requires c = let l = c.loop-i in
 
 pub returns : goal.returns
 returns c = of_two (λ x0 x1. record { ws_after = x0; pool_grown = x1 })
-    (let l = c.loop-i in let g = c.end_List in
+    (let l = c.loop-i in let g = c.end_list in
     let to = c.args.layout.to in
     let h : to ≤ length l.ws = omega (arith, l.invariant.long, c.requires.0.inside) in
     let e = rw (lent_tail to l.ws) at g.ensures in
     let n = ap length e ∙ splits1_long c.args.layout c.args.k c.args.ws.now c.requires.0 c.requires.2 l.ws l.i l.invariant (omega arith) c.requires.3 in (
-      back_whole to l.ws g.new.0 h n ∙ rw (l.invariant.front, e ∙ splits1_end c.args.layout c.args.k c.args.ws.now c.requires.0 c.requires.2 l.ws l.i l.invariant (omega arith) c.requires.3) refl,
-      splits1_grown c.args.layout c.args.k c.args.ws.now c.requires.0 c.requires.2 l.ws l.i l.invariant (omega arith) c.requires.3 _ (back_tail to l.ws g.new.0 h n ∙ e),
+      back_whole to l.ws g.new.s h n ∙ rw (l.invariant.front, e ∙ splits1_end c.args.layout c.args.k c.args.ws.now c.requires.0 c.requires.2 l.ws l.i l.invariant (omega arith) c.requires.3) refl,
+      splits1_grown c.args.layout c.args.k c.args.ws.now c.requires.0 c.requires.2 l.ws l.i l.invariant (omega arith) c.requires.3 _ (back_tail to l.ws g.new.s h n ∙ e),
     ))

@@ -1,6 +1,6 @@
 -- `norm` meets its contract, from those of its two calls.
 use mathlib.Core.Path.{refl, ◌∙◌}
-use Rattle.definitions.specs.Vectors.{dot, norm}
+use Rattle.definitions.specs.Vectors.{norm}
 use Rattle.vectors.proofs.norm.Goals as goal
 
 pub returns : goal.returns

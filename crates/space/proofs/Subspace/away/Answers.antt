@@ -6,7 +6,6 @@ use lib.ListN.{length, take}
 use lib.Seq.{length-take-le}
 use lib.Ieee.{Float}
 use mathlib.Core.List.{List}
-use Rattle.definitions.specs.Vectors.{minus}
 use Rattle.vectors.specs.Wholes.{five_means, minus_length}
 use Rattle.space.specs.Meaning.{subspace_of}
 use Rattle.space.proofs.Subspace.away.Goals as goal

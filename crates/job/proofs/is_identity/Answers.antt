@@ -1,0 +1,27 @@
+use mathlib.Core.Path.{sym, ◌∙◌}
+use native.Mathlib.Omega.{arith}
+use borrow.Author.Tests.{eq-eqb, ne_eqb}
+use Rattle.laws.specs.Tests.{count_starts, count_stops, count_goes_on, count_ends}
+use Rattle.job.proofs.is_identity.Goals as goal
+
+pub loop-i-init : goal.loop-i-init
+loop-i-init c =
+    let a = c.args in
+    (omega arith, count_starts a.job.now a.at a.n)
+
+pub returns-then-wide-i : goal.returns-then-wide-i
+returns-then-wide-i c =
+    let a = c.args in
+    let l = c.loop-i in
+    count_stops a.job.now a.at a.n l.i (omega arith) (omega arith) (ne_eqb _ _ (λ e. c.if-wide-i.true (c.wide.ensures ∙ e))) l.invariant.1
+
+pub loop-i-preserved : goal.loop-i-preserved
+loop-i-preserved c =
+    let a = c.args in
+    let l = c.loop-i in
+    (omega arith, count_goes_on a.job.now a.at a.n l.i (omega arith) (omega arith) (eq-eqb _ _ (sym c.wide.ensures ∙ c.if-wide-i.false)) l.invariant.1)
+
+pub returns : goal.returns
+returns c =
+    let a = c.args in
+    count_ends a.job.now a.at a.n c.loop-i.i (omega arith) c.loop-i.invariant.1
