@@ -1,10 +1,9 @@
 -- The emitted lists: one more, and none at the start. Leans on Steps and Pool.
-use Rattle.std.specs.Prelude.{◌≡◌, ◌⊎◌, take, replicate}
+use Rattle.std.specs.Prelude.{◌≡◌, take, replicate}
 use Rattle.std.proofs.Math.Path.{refl, sym, ap}
 use Rattle.std.proofs.Common.{◌∙◌, inl, mul-le-mul_right, add-one}
 use Rattle.std.proofs.Math.Logic.{⊎_elim}
 use mathlib.Core.List.{List, [], ◌∷◌, ◌++◌, map, append-nil, append_assoc}
-use Rattle.std.proofs.Math.Option.{none}
 use Prim.Native.Nat.{ℕ, zero, suc, ◌+◌, ◌-◌, ◌*◌, ◌^◌, ◌≤◌, ◌<◌}
 use native.Mathlib.Omega.{arith}
 use Rattle.std.proofs.Math.ListN.{length, get_or, length-append, get_or-replicate, get_or-append}

@@ -1,6 +1,6 @@
 -- `filter_irc` turn by turn: a list is looked through for the others one by one, and the places that are kept stand in the workspace, each behind the one before. Leans on the definition and on
 -- lists in an area.
-use Rattle.std.specs.Prelude.{◌≡◌, ◌⊎◌, cond, ◌&&◌, ◌||◌, leb, eqb, get_or, take, drop}
+use Rattle.std.specs.Prelude.{◌≡◌, cond, ◌&&◌, leb, eqb, get_or, take, drop}
 use Rattle.std.proofs.Math.Path.{refl, sym, ap, subst}
 use Rattle.std.proofs.Common.{◌∙◌, ⊎_elim, ne_eqb, length-append, length-drop}
 use Rattle.std.proofs.Math.Bool.{Bool, true, false, not}

@@ -1,6 +1,6 @@
 -- What the workspace stands for before and after each step of the search: a facet joins the list or leaves it, a place is taken, a list is entered, a frame goes.
 -- Leans on Layout, Change and Latest.
-use Rattle.std.specs.Prelude.{◌≡◌, refl, ◌⊎◌, Bool, true, false, ◌||◌, eqb, length, get_or, set}
+use Rattle.std.specs.Prelude.{◌≡◌, refl, Bool, true, false, ◌||◌, eqb, length, get_or, set}
 use Rattle.std.proofs.Common.{sym, ◌∙◌, eqb→eq, get_or-set_same, get_or-set_other}
 use Rattle.std.proofs.Math.Path.{ap}
 use Rattle.std.proofs.Math.Logic.{⊎_elim}

@@ -4,13 +4,12 @@ use Rattle.std.proofs.Common.{sym, ◌∙◌, inl, inr, ⊎_elim, add-one, ltb�
 use Rattle.std.proofs.Math.Path.{ap}
 use Rattle.std.proofs.Math.Bool.{not}
 use mathlib.Core.List.{List, [], ◌∷◌, ◌++◌}
-use Rattle.std.proofs.Math.Option.{Option, none}
+use Rattle.std.proofs.Math.Option.{Option}
 use Prim.Native.Nat.{ℕ, zero, suc, ◌+◌, ◌-◌, ◌*◌, ◌≤◌, ◌<◌}
 use native.Mathlib.Omega.{arith}
 use Rattle.std.proofs.Math.Dec.{T}
 use Rattle.definitions.specs.Lists.{any_of, keep, count_from}
-use Rattle.definitions.specs.Search as def
-use Rattle.definitions.specs.Search.{Table, Facet, uses_orbit, judge, totals}
+use Rattle.definitions.specs.Search.{Table, Facet, uses_orbit, judge}
 use Rattle.laws.specs.Bools.{true→holds, holds→true, false→fails, not_not}
 use Rattle.laws.specs.Lists.{keep_less, in_count, count_length, keep_few}
 use Rattle.laws.specs.Segments.{placed, part_length, placed_length, part_placed, take_placed, part_placed_off, le_or_lt}

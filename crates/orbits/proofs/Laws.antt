@@ -1,14 +1,13 @@
 -- The steps of the code over what the workspace holds: images gathered, an orbit opened. Leans on Workspace, on the sorted sets and on numbers in bytes.
 use mathlib.Core.Path.{◌≡◌, refl, sym, ap, subst, ◌∙◌}
-use mathlib.Core.Bool.{Bool, true, false, cond}
-use mathlib.Core.List.{List, [], ◌∷◌, ◌++◌, map, append_assoc}
-use mathlib.Core.Logic.{inl, inr}
-use Prim.Native.Nat.{ℕ, zero, suc, ◌+◌, ◌*◌, ◌-◌, ◌^◌, ◌≤◌, ◌<◌}
+use mathlib.Core.Bool.{true, false}
+use mathlib.Core.List.{List, [], ◌∷◌, ◌++◌}
+use mathlib.Core.Logic.{inl}
+use Prim.Native.Nat.{ℕ, ◌+◌, ◌*◌, ◌-◌, ◌^◌, ◌≤◌, ◌<◌}
 use native.Mathlib.Omega.{arith}
 use native.Mathlib.Numerals.{add-one}
-use lib.ListN.{length, get_or, take, drop, length-append, length-drop, length-take}
-use lib.Seq.{length-take-le, take_at, drop_at, take-take}
-use Rattle.definitions.specs.Lists.{Pair}
+use lib.ListN.{length, take, drop, length-append, length-drop}
+use lib.Seq.{length-take-le, take_at, drop_at}
 use lib.Ieee.{Float}
 use Rattle.definitions.specs.Job.{number_at}
 use Rattle.definitions.specs.Vectors.{Vec}
@@ -18,13 +17,13 @@ use Rattle.laws.specs.Parts.{rows, map_rows_more}
 use Rattle.laws.specs.Segments.{onto, take_onto}
 use Rattle.laws.specs.Sets.{set_number, vertices_of}
 use Rattle.words.specs.Words.{words, put, put_length, words_take, words_length, take_put, drop_put, number_at_put, number_at_put_off}
-use Rattle.sorted.specs.Ascending.{Ascending, insert_new, union, length_insert}
-use Rattle.sorted.specs.Gathering.{added, gathered, gathered_few, Fresh, Gathering, gathering_none, gathering_more, ascending_added}
+use Rattle.sorted.specs.Ascending.{Ascending, union}
+use Rattle.sorted.specs.Gathering.{added, gathered, gathered_few, Gathering, gathering_none, gathering_more, ascending_added}
 use Rattle.sorted.specs.Merging.{New, Merged}
 use Rattle.openers.specs.Rows.{rows_in, row_at}
 use Rattle.orbits.specs.Numbers.{image_numbers, may_open, near_number, opens_orbit, orbits_from, seen_after}
 use Rattle.orbits.specs.Walks.{going, Walked}
-use Rattle.orbits.specs.Workspace.{seen_in, orbits_in, OrbitsRoom, HoldsOrbits, ReachedBy, Reached, Opened, orbits_length, orbits_front}
+use Rattle.orbits.specs.Workspace.{seen_in, orbits_in, OrbitsRoom, ReachedBy, Opened, orbits_length, orbits_front}
 use Rattle.orbits.specs.declared.Progress.{Progress}
 use Rattle.orbits.specs.declared.Walk.{Walk}
 use Rattle.orbits.specs.declared.Walk.TheVariants.{Going, Refused}

@@ -1,10 +1,10 @@
 -- The walk along pairs, one pair more. Leans on Answers.
-use mathlib.Core.Path.{◌≡◌, refl, sym, ap, subst, ◌∙◌}
-use mathlib.Core.List.{List, [], ◌∷◌, ◌++◌, map, flat_map, append-nil}
-use Prim.Native.Nat.{ℕ, zero, suc, ◌+◌, ◌/◌, ◌%◌, ◌≤◌, ◌<◌}
+use mathlib.Core.Path.{◌≡◌, sym, ap, subst, ◌∙◌}
+use mathlib.Core.List.{List, [], ◌∷◌, ◌++◌, flat_map, append-nil}
+use Prim.Native.Nat.{ℕ, ◌+◌, ◌/◌, ◌%◌, ◌≤◌, ◌<◌}
 use native.Mathlib.Omega.{arith}
 use lib.ListN.{length, get_or, take, drop, take-append-drop, length-map}
-use lib.Seq.{length-take-le, get_or-take, take_all}
+use lib.Seq.{length-take-le, get_or-take}
 use lib.Ieee.{Float}
 use Rattle.definitions.specs.Lists.{Pair}
 use Rattle.definitions.specs.Vectors.{Vec}

@@ -1,19 +1,19 @@
 -- What the whole answers: the hyperplane orbits of a call [5.7], or refusal 13. Leans on Hyperplanes and Walks.
-use Rattle.std.specs.Prelude.{◌≡◌, Bool, true, false, cond, not, ◌||◌, ℕ, zero, suc, ◌+◌, ◌*◌, ◌-◌, ◌≤◌, ◌<◌, ltb, get_or, take, drop, Float}
+use Rattle.std.specs.Prelude.{◌≡◌, Bool, true, false, cond, not, ◌||◌, ℕ, suc, ◌+◌, ◌*◌, ◌-◌, ◌≤◌, ◌<◌, ltb, get_or, take, drop, Float}
 use Rattle.std.proofs.Math.Path.{refl, sym, ap, subst}
 use Rattle.std.proofs.Common.{◌∙◌, arith, add-one}
-use mathlib.Core.List.{List, [], ◌∷◌, ◌++◌, map, flat_map, map-append, append-nil, Memᴰ}
+use mathlib.Core.List.{List, [], ◌∷◌, ◌++◌, map, flat_map, map-append, Memᴰ}
 use borrow.Author.Tests.{lt-ltb, le-ltb}
 use Rattle.std.proofs.Math.ListN.{length}
 use Rattle.std.proofs.lemmas.List.{length-map}
 use Rattle.definitions.specs.Lists.{Pair, member_pair, keep, all_of, choose, count_from, member_nat}
 use Rattle.definitions.specs.Outcome.{Outcome, refused, answered, refuse_if}
 use Rattle.definitions.specs.Vectors.{Vec}
-use Rattle.definitions.specs.Orbits.{Row, Limits, Orbit, image, point_at, breaks_limit, above, pair_image, pair_openers, pairs_from, vertex_openers, tuples, most_vertices, hyperplanes, hyperplane_orbits}
+use Rattle.definitions.specs.Orbits.{Row, Limits, Orbit, image, point_at, breaks_limit, above, pair_image, pair_openers, pairs_from, vertex_openers, tuples, most_vertices, hyperplane_orbits}
 use Rattle.laws.specs.Lists.{Mem, here, there, of_map, of_flat_map, at_member, of_count}
 use Rattle.laws.specs.Parts.{rows, get_d_rows, length_rows}
 use Rattle.space.specs.declared.Points.{Points}
-use Rattle.space.specs.Meaning.{PointsFit, points_of}
+use Rattle.space.specs.Meaning.{PointsFit}
 use Rattle.words.specs.Words.{words}
 use Rattle.sorted.specs.Ascending.{ascending_nil}
 use Rattle.openers.specs.Rows.{rows_in, image_at_holds}
@@ -21,7 +21,7 @@ use Rattle.openers.specs.Meaning.{breaks}
 use Rattle.stabilizers.specs.Permutations.{Permutations}
 use Rattle.orbits.specs.Numbers.{orbit_of, orbits_from, seen_after}
 use Rattle.orbits.specs.Hyperplanes.{Permutes, SeenAs, orbits_are}
-use Rattle.orbits.specs.Workspace.{seen_in, orbits_in, OrbitsRoom, HoldsOrbits, ReachedBy, Reached, orbits_length}
+use Rattle.orbits.specs.Workspace.{seen_in, orbits_in, HoldsOrbits, ReachedBy, orbits_length}
 use Rattle.orbits.specs.Walks.{going, Walked, keeps_limits, extensions}
 use Rattle.orbits.specs.declared.Progress.{Progress}
 use Rattle.orbits.specs.declared.Walk.{Walk}

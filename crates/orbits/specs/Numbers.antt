@@ -1,5 +1,5 @@
 -- Hyperplane orbits with sets as numbers and what was seen as an ascending list: what the code keeps. Leans on the sorted sets and on the sets of the laws.
-use Rattle.std.specs.Prelude.{◌≡◌, Bool, not, ◌&&◌, ℕ, ◌+◌, ◌-◌, leb, Float}
+use Rattle.std.specs.Prelude.{◌≡◌, Bool, not, ◌&&◌, ℕ, ◌-◌, leb, Float}
 use Rattle.std.proofs.Math.Path.{refl}
 use Rattle.std.proofs.Common.{ap}
 use Rattle.std.proofs.Math.Bool.{true, false, cond}

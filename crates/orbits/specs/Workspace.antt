@@ -1,6 +1,6 @@
 -- The workspace of the orbits: what it holds, what every step asks of it, and how far a step has come. Leans on Numbers and on numbers in bytes.
 use Rattle.std.specs.Prelude.{◌≡◌, refl, List, [], ◌∷◌, ◌++◌, ℕ, zero, suc, ◌+◌, ◌*◌, ◌-◌, ◌≤◌, ◌<◌, length, take, drop}
-use Rattle.std.proofs.Common.{sym, ap, ◌∙◌, arith, length-append}
+use Rattle.std.proofs.Common.{◌∙◌, arith, length-append}
 use Rattle.definitions.specs.Lists.{Pair}
 use Rattle.definitions.specs.Job.{number_at}
 use Rattle.words.specs.Words.{words, number_at_take}

@@ -137,8 +137,7 @@ pub fn root(x: f64) -> Root
 }
 
 // The same for callers with no place for a refusal: the value, or a NaN where there is none.
-#[unsafe(no_mangle)]
-pub extern "C" fn root_or_nan(x: f64) -> f64
+pub fn root_or_nan(x: f64) -> f64
     ensures { result ≡ value_of (square_root x) }
 {
     match root(x) {

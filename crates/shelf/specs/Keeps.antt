@@ -1,11 +1,10 @@
 -- What a shelf holds: what is kept of each inner call (`Kept`), in areas of bytes. A pair of vertices is the number 20 v + w, a facet its number among all facets of the call.
 -- Leans on what is kept, on pools, on labels and on the orbits found.
-use Rattle.std.specs.Prelude.{◌≡◌, ℕ, zero, suc, ◌+◌, ◌*◌, ◌-◌, ◌≤◌, ◌<◌, length, replicate}
+use Rattle.std.specs.Prelude.{◌≡◌, ℕ, ◌+◌, ◌*◌, ◌-◌, ◌≤◌, length}
 use mathlib.Core.List.{List, [], ◌∷◌, ◌++◌, map, flat_map, zip_with}
 use Rattle.std.proofs.Math.Option.{Option, some, none}
 use Rattle.definitions.specs.Lists.{Pair, map_at, count_from}
-use Rattle.definitions.specs.Figures.{Compound, components_of}
-use Rattle.definitions.specs.Orbits.{Orbit}
+use Rattle.definitions.specs.Figures.{components_of}
 use Rattle.definitions.specs.Search.{Facet}
 use Rattle.laws.specs.Segments.{part}
 use Rattle.words.specs.Words.{words}

@@ -14,7 +14,7 @@ use Rattle.definitions.specs.Search.{Table}
 use Rattle.laws.specs.Bools.{true→holds, holds→true, false→fails, apart}
 use Rattle.laws.specs.Segments.{part, placed, part_length, placed_length, part_placed, take_placed, drop_placed, part_placed_off, part_take}
 use Rattle.words.specs.Words.{number_at_take}
-use Rattle.pool.specs.Pool.{used, length_at, place_at, list_length, list_item, item_inside}
+use Rattle.pool.specs.Pool.{length_at, place_at, list_length, list_item, item_inside}
 use Rattle.facets.specs.declared.Areas.{Areas}
 use Rattle.facets.specs.Sums.{amount_small}
 use Rattle.facets.specs.Layout.{Inputs, AreasFit, facet_of, amount_in, codes, touched_part, totals_part, used_part, frames_part, lists_part, changed, lifted, with_totals, with_use}

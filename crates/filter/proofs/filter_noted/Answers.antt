@@ -1,6 +1,5 @@
 use mathlib.Core.Path.{sym, ◌∙◌}
 use native.Mathlib.Omega.{arith}
-use borrow.Author.Tests.{not-true, not-false}
 use Rattle.order.specs.Areas.{lists_length}
 use Rattle.filter.specs.Found.{begun_first, begun_next, begun, asked, going_starts, left_out_holds, kept_too, all_kept}
 use Rattle.laws.specs.Clauses.{of_two}
@@ -28,9 +27,10 @@ loop-a-preserved c =
     let t = c.loop-a-test.true in
     let g = c.search_start-start in
     let b = begun_next _ l.a _ (begun c.args.area c.args.at c.args.ws.now c.requires.0.holds c.requires.0.behind c.requires.0.ascends l.many l.ws l.a l.invariant.0 l.start l.invariant.1 t g.result g.ensures) in
-    elim c.if-not-finds_other.branch
-    [ then-not-finds_other w ↦ rw (w.ws-is, w.many-is) (kept_too c.args.area c.args.at c.args.ws.now c.requires.0.holds c.requires.0.behind l.many l.ws l.a l.invariant.0 t (sym w.if-not-finds_other.true ∙ c.finds_other.ensures) _ w.put_u32.ensures, b)
-    | else-not-finds_other w ↦ rw (w.ws-is, w.many-is) (left_out_holds c.args.area c.args.at c.args.ws.now c.requires.0.holds c.requires.0.behind l.many l.ws l.a l.invariant.0 t (sym w.if-not-finds_other.false ∙ c.finds_other.ensures), b) ]
+    elim c.if-not-finds_other.branch [
+      | then-not-finds_other w ↦ rw (w.ws-is, w.many-is) (kept_too c.args.area c.args.at c.args.ws.now c.requires.0.holds c.requires.0.behind l.many l.ws l.a l.invariant.0 t (sym w.if-not-finds_other.true ∙ c.finds_other.ensures) _ w.put_u32.ensures, b)
+      | else-not-finds_other w ↦ rw (w.ws-is, w.many-is) (left_out_holds c.args.area c.args.at c.args.ws.now c.requires.0.holds c.requires.0.behind l.many l.ws l.a l.invariant.0 t (sym w.if-not-finds_other.false ∙ c.finds_other.ensures), b)
+    ]
 
 pub returns : goal.returns
 returns c = of_two (λ x0 x1. record { many = x0; numbers = x1 })

@@ -52,9 +52,10 @@ loop-b-preserved c =
     let g = c.items_found-found in
     let few = found_few (get_or lists a []) (get_or lists l.b []) in
     let on = walked_on lists a l.b g.result g.ensures in
-    elim c.if-found-length_at.branch
-    [ then-found-length_at+else-a-b w ↦ (omega arith, itself lists a l.b l.invariant.1 w.if-a-b.false, on)
-    | else-found-length_at w ↦ (omega arith, not_found lists a l.b l.invariant.1 (found_not (get_or lists a []) (get_or lists l.b []) (omega (arith, g.ensures, c.length_at.ensures, w.if-found-length_at.false))), on) ]
+    elim c.if-found-length_at.branch [
+      | then-found-length_at+else-a-b w ↦ (omega arith, itself lists a l.b l.invariant.1 w.if-a-b.false, on)
+      | else-found-length_at w ↦ (omega arith, not_found lists a l.b l.invariant.1 (found_not (get_or lists a []) (get_or lists l.b []) (omega (arith, g.ensures, c.length_at.ensures, w.if-found-length_at.false))), on)
+    ]
 
 pub returns : goal.returns
 returns c =

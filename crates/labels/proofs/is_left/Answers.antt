@@ -32,8 +32,8 @@ pub loop-i-preserved : goal.loop-i-preserved
 loop-i-preserved c = let l = c.loop-i in
     let g = c.item_at-x in
     elim c.if-x-y.branch [
-      then-x-y+else-next_at-x w ↦ rw w.j-is (left_passed _ _ _ l.i l.j l.invariant g.result (omega arith) g.ensures (omega arith) (omega arith) (omega arith))
-    | else-x-y w ↦ rw w.j-is (left_taken _ _ _ l.i l.j l.invariant g.result (omega arith) g.ensures (omega arith) (omega arith))
+      | then-x-y+else-next_at-x w ↦ rw w.j-is (left_passed _ _ _ l.i l.j l.invariant g.result (omega arith) g.ensures (omega arith) (omega arith) (omega arith))
+      | else-x-y w ↦ rw w.j-is (left_taken _ _ _ l.i l.j l.invariant g.result (omega arith) g.ensures (omega arith) (omega arith))
     ]
 
 pub returns : goal.returns

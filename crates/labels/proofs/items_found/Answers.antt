@@ -41,8 +41,8 @@ loop-j-preserved c =
     let is_y = g.ensures ∙ read_inside y l.j 0 65536 inside in
     let before : l.i < length x = before_end x l.i (omega arith) in
     elim c.if-item-sought.branch [
-      then-item-sought w ↦ rw w.j-is (omega arith, omega arith, items_same x y l.i l.j l.invariant.2 g.result inside is_y (omega arith) (omega arith))
-    | else-item-sought w ↦ rw w.j-is (omega arith, omega arith, items_pass x y l.i l.j l.invariant.2 g.result inside is_y (omega arith) (omega arith))
+      | then-item-sought w ↦ rw w.j-is (omega arith, omega arith, items_same x y l.i l.j l.invariant.2 g.result inside is_y (omega arith) (omega arith))
+      | else-item-sought w ↦ rw w.j-is (omega arith, omega arith, items_pass x y l.i l.j l.invariant.2 g.result inside is_y (omega arith) (omega arith))
     ]
 
 pub returns : goal.returns

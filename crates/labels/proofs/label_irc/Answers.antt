@@ -92,8 +92,8 @@ loop-j-preserved c =
     let i : l.j < length y = omega (arith, c.length_at-n.ensures) in
     let v = rw l.invariant.0 at g.ensures ∙ read_inside y l.j 0 65536 i in
     elim c.if-x-y.branch [
-      then-x-y w ↦ rw w.j-is (l.invariant.0, omega (arith, k.invariant.long), omega arith, found_same x y l.i l.j l.invariant.3 g.result i v (omega arith) (omega (arith, c.next_at-x.ensures)))
-    | else-x-y w ↦ rw w.j-is (l.invariant.0, omega (arith, k.invariant.long), omega arith, found_pass x y l.i l.j l.invariant.3 g.result i v (omega arith) (omega (arith, c.next_at-x.ensures)))
+      | then-x-y w ↦ rw w.j-is (l.invariant.0, omega (arith, k.invariant.long), omega arith, found_same x y l.i l.j l.invariant.3 g.result i v (omega arith) (omega (arith, c.next_at-x.ensures)))
+      | else-x-y w ↦ rw w.j-is (l.invariant.0, omega (arith, k.invariant.long), omega arith, found_pass x y l.i l.j l.invariant.3 g.result i v (omega arith) (omega (arith, c.next_at-x.ensures)))
     ]
 
 pub loop-c-init : goal.loop-c-init
@@ -189,8 +189,8 @@ a-preserved c =
     let n = lists_length c.args.area.most c.args.area.bytes c.args.area.count k.ws in (
       without_label c.args.area c.args.at c.args.ws.now c.requires.3 c.requires.4 c.requires.0 k.ws c.a.a v
           (elim c.subset-test.branch [
-            else-subset-test w ↦ label_end (list_of c.args.area k.ws c.a.a) (lists_of c.args.area k.ws) k.b k.invariant.label (omega (arith, w.subset-test.false))
-          | then-subset-test+then-starts_above w ↦ label_stop (list_of c.args.area k.ws c.a.a) (lists_of c.args.area k.ws) k.b k.invariant.label (omega (arith, w.subset-test.true)) k.invariant.ascends (sym w.starts_above.ensures ∙ w.if-starts_above.true)
+            | else-subset-test w ↦ label_end (list_of c.args.area k.ws c.a.a) (lists_of c.args.area k.ws) k.b k.invariant.label (omega (arith, w.subset-test.false))
+            | then-subset-test+then-starts_above w ↦ label_stop (list_of c.args.area k.ws c.a.a) (lists_of c.args.area k.ws) k.b k.invariant.label (omega (arith, w.subset-test.true)) k.invariant.ascends (sym w.starts_above.ensures ∙ w.if-starts_above.true)
           ]),
       started_next _ o.a c.a.a _ r k.invariant.base,
     )

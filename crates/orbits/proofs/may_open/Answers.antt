@@ -9,4 +9,4 @@ returns-then-is_seen c = rw (sym c.is_seen.ensures ∙ c.if-is_seen.true) refl
 
 pub returns : goal.returns
 unfolding may_open
-returns c = rw (sym c.is_seen.ensures ∙ c.if-is_seen.false, c.IsPlace-in.ensures) refl
+returns c = rw (sym c.is_seen.ensures ∙ c.if-is_seen.false, c.place_in.ensures) refl

@@ -21,4 +21,4 @@ pub returns : goal.returns
 returns c = let g = c.gather_images-k in
     let differs = c.if-count-bound.false in
     let room = c.requires.2 in
-    opened_by c.args.bound c.args.known c.args.count c.args.ws.now c.args.set _ g.result _ room (omega (arith, g.ensures.few, c.requires.1)) c.ranges.set.fits (omega (arith, room.count_fits, differs)) _ _ _ c.put_u32.ensures c.put_u32-2.ensures c.merge.ensures (merge-requires c.before.before.before c.merge.lifetimes).1 g.ensures.gathers
+    opened_by c.args.bound c.args.known c.args.count c.args.ws.now c.args.set _ g.result _ room (omega (arith, g.ensures.few, c.requires.1)) c.ranges.set.fits (omega (arith, room.count_fits, differs)) _ _ _ c.put_u32.ensures c.put_u32-2.ensures c.merge.ensures (search rules) g.ensures.gathers

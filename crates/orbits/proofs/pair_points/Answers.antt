@@ -14,12 +14,11 @@ with_point-one-requires c = let e = c.new.ensures in
     (e.fits, omega (arith, e.n_is), rw e.d_is (point_own c.args.flat c.requires.0 c.args.v c.requires.1 _ c.point.ensures))
 
 pub with_point-requires : goal.with_point-requires
-with_point-requires c = let h = c.with_point-one.ensures.0 in let e = c.new.ensures in
-    (
-      h.fits,
-      omega (arith, simp length-append at h.n_is, points_length c.new.result, e.n_is),
-      rw (h.d_is, e.d_is) (point_own c.args.flat c.requires.0 c.args.w c.requires.2 _ c.point-2.ensures),
-    )
+with_point-requires c = let h = c.with_point-one.ensures.0 in let e = c.new.ensures in (
+  h.fits,
+  omega (arith, simp length-append at h.n_is, points_length c.new.result, e.n_is),
+  rw (h.d_is, e.d_is) (point_own c.args.flat c.requires.0 c.args.w c.requires.2 _ c.point-2.ensures),
+)
 
 pub returns : goal.returns
 returns c = let a = c.args in

@@ -12,12 +12,7 @@ use Rattle.openers.specs.Meaning.{pairs_in}
 use Rattle.orbits.specs.Walks.{Walked}
 use Rattle.orbits.specs.Answers.{pair_tuples}
 use Rattle.orbits.proofs.PairSteps.{pairs_count, pair_at, pair_in, walk_start, walk_turn, walk_ends_holds}
-use Rattle.orbits.proofs.walk_pairs.Reads as reads
-use Rattle.orbits.proofs.walk_pairs.Lts as lts
 use Rattle.orbits.proofs.walk_pairs.Goals as goal
-
-codes_long : {called : lts.Claims} (s : lts.Start called reads.Pre reads.Post invariant-loop decreases-loop) → length s.args.t3.codes ≡ 190
-codes_long s = search rules
 
 pub loop-k-init : goal.loop-k-init
 loop-k-init c = let a = c.args in
@@ -36,21 +31,25 @@ pub offset_bounds-pairs-k : goal.offset_bounds-pairs-k
 offset_bounds-pairs-k c = omega (arith, c.requires.2)
 
 pub bounds-pairs-k : goal.bounds-pairs-k
-bounds-pairs-k c = omega (arith, c.requires.2, codes_long c)
+bounds-pairs-k c =
+    let long : length c.args.pairs.codes ≡ 190 = search rules in
+    omega (arith, c.requires.2, long)
 
 pub pair_points-requires : goal.pair_points-requires
 pair_points-requires c =
+    let long : length c.args.pairs.codes ≡ 190 = search rules in
     let a = c.args in
-    let m = pair_in a.pairs c.requires.2 (codes_long c) c.loop-k.k (omega arith) in
+    let m = pair_in a.pairs c.requires.2 long c.loop-k.k (omega arith) in
     let up = c.requires.1.rise _ m in
     let below = c.requires.1.below _ m in
     (c.requires.0.flat_fit, omega arith, omega arith)
 
 pub extend-next-requires : goal.extend-next-requires
 extend-next-requires c =
+    let long : length c.args.pairs.codes ≡ 190 = search rules in
     let a = c.args in
     let l = c.loop-k in
-    let m = pair_in a.pairs c.requires.2 (codes_long c) l.k c.loop-k-test.true in
+    let m = pair_in a.pairs c.requires.2 long l.k c.loop-k-test.true in
     let up = c.requires.1.rise _ m in
     let below = c.requires.1.below _ m in
     let h = c.pair_points.ensures in
@@ -58,20 +57,23 @@ extend-next-requires c =
 
 pub loop-k-preserved : goal.loop-k-preserved
 loop-k-preserved c =
+    let long : length c.args.pairs.codes ≡ 190 = search rules in
     let a = c.args in
     let l = c.loop-k in
     let below : l.k < a.pairs.count = c.loop-k-test.true in
-    let count = pairs_count a.pairs c.requires.2 (codes_long c) in (
+    let count = pairs_count a.pairs c.requires.2 long in (
       omega (arith, below),
-      c.ws-1.given ∙ l.invariant.1,
-      walk_turn a.tolerance a.most (limits_of a.min a.max) (points_of a.points) (points_of a.flat) a.flat.n a.more (rows_in a.flat.n a.m a.rows.now) a.bound a.state a.ws.now (pairs_in a.pairs) l.k _ _ (points_of c.pair_points.result) l.reached l.ws _ _ (omega (arith, below, count)) (pair_at a.pairs c.requires.2 (codes_long c) l.k below) c.pair_points.ensures.means l.invariant.2 c.extend-next.ensures,
+      c.extend-next.auto.ws ∙ l.invariant.1,
+      walk_turn a.tolerance a.most (limits_of a.min a.max) (points_of a.points) (points_of a.flat) a.flat.n a.more (rows_in a.flat.n a.m a.rows.now) a.bound a.state a.ws.now (pairs_in a.pairs) l.k _ _ (points_of c.pair_points.result) l.reached l.ws _ _ (omega (arith, below, count)) (pair_at a.pairs c.requires.2 long l.k below) c.pair_points.ensures.means l.invariant.2 c.extend-next.ensures,
     )
 
 pub shape_of-ws : goal.shape_of-ws
 shape_of-ws c = c.loop-k.invariant.1
 
 pub returns : goal.returns
-returns c = let a = c.args in let l = c.loop-k in
-    let count = pairs_count a.pairs c.requires.2 (codes_long c) in
+returns c =
+    let long : length c.args.pairs.codes ≡ 190 = search rules in
+    let a = c.args in let l = c.loop-k in
+    let count = pairs_count a.pairs c.requires.2 long in
     let all : take l.k (pairs_in a.pairs) ≡ pairs_in a.pairs = take_all l.k (pairs_in a.pairs) (omega arith) in
     subst (λ (ps : List Pair). Walked a.tolerance a.most (points_of a.flat) (rows_in a.flat.n a.m a.rows.now) a.bound a.state a.ws.now (pair_tuples a.tolerance (limits_of a.min a.max) (points_of a.points) (points_of a.flat) a.flat.n a.more ps) l.reached l.ws) all l.invariant.2

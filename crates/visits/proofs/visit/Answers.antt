@@ -63,14 +63,13 @@ judge_totals-v-requires c =
 
 pub returns : goal.returns
 unfolding kind_at
-returns c =
-    (
-      refl,
-      refl,
-      λ t ok. let p = frames_part c.args.a c.args.ws.now in
-          let k : c.get_u16-kind.result ≡ kind_at p (c.args.s.depth - 1) = c.get_u16-kind.ensures in
-          let x : c.candidate-x.result ≡ get_or (numbers t (kind_at p (c.args.s.depth - 1))) (c.args.place - 1) 0 = rw k at (c.candidate-x.ensures t ok.stands.inputs) in
-          let e = c.judge_totals-v.ensures in
-          rw (c.join-over.ensures.counts, c.take_place.ensures)
-          (visited t c.args.a c.args.ws.now c.args.s.depth c.args.place c.candidate-x.result ok x c.judge_totals-v.result (rw (c.join-over.ensures.counts, c.take_place.ensures) at e)),
-    )
+returns c = (
+  refl,
+  refl,
+  λ t ok. let p = frames_part c.args.a c.args.ws.now in
+      let k : c.get_u16-kind.result ≡ kind_at p (c.args.s.depth - 1) = c.get_u16-kind.ensures in
+      let x : c.candidate-x.result ≡ get_or (numbers t (kind_at p (c.args.s.depth - 1))) (c.args.place - 1) 0 = rw k at (c.candidate-x.ensures t ok.stands.inputs) in
+      let e = c.judge_totals-v.ensures in
+      rw (c.join-over.ensures.counts, c.take_place.ensures)
+      (visited t c.args.a c.args.ws.now c.args.s.depth c.args.place c.candidate-x.result ok x c.judge_totals-v.result (rw (c.join-over.ensures.counts, c.take_place.ensures) at e)),
+)

@@ -1,0 +1,13 @@
+-- `move_together` meets its contract. The orbits looked at that are kept stand in front, and the others are as they were.
+use Prim.Native.Nat.{◌-◌, ◌≤◌}
+use lib.ListN.{drop}
+use Rattle.words.specs.Words.{words}
+use Rattle.openers.specs.Rows.{row_at}
+use Rattle.tallies.proofs.Moving.{MovedTo}
+use Rattle.tallies.proofs.move_together.Given as goal
+
+abbrev pub invariant-loop-i : goal.invariant-loop-i
+invariant-loop-i l = (l.i ≤ l.orbits) × MovedTo l.n (row_at l.n 0 l.globals) (words 4 (drop 2048 l.initial.ws) l.known) l.sums l.initial.ws l.orbits l.i l.kept l.ws
+
+abbrev pub decreases-loop-i : goal.decreases-loop-i
+decreases-loop-i l = l.orbits - l.i
