@@ -5,7 +5,7 @@ use Rattle.std.proofs.Math.Dec.{eqb_refl}
 use Rattle.definitions.specs.Lists.{any_of}
 use Rattle.definitions.specs.Orbits.{Row, image}
 use Rattle.laws.specs.Bools.{holds→true, true→holds}
-use Rattle.laws.specs.Lists.{Mem, any_of_holds, any_witness, member_at, at_member}
+use Rattle.laws.specs.Lists.{any_of_holds, any_witness, member_at, at_member}
 use Rattle.laws.specs.Parts.{get_d_rows, length_rows}
 use Rattle.laws.specs.Segments.{le_or_lt}
 use Rattle.openers.specs.Rows.{rows_in, image_at_holds}

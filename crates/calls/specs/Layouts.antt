@@ -1,6 +1,6 @@
 -- Where a call of rank 3 or 4 keeps what, in the workspace of [11.3]: 524,288 bytes at rank 3, 4,194,304 at rank 4. The sizes: at rank 3 at most 190 orbits, of one facet with one edge
 -- and at most two places each; at rank 4 at most 256 orbits with 190 inner orbits each, and 1,024 facets with 190 places and 190 edges each. Leans on the shelf.
-use Rattle.std.specs.Prelude.{◌≡◌, Bool, true, false, cond, ℕ, ◌+◌, ◌*◌, ◌-◌, ◌≤◌, ◌<◌, eqb}
+use Rattle.std.specs.Prelude.{◌≡◌, Bool, cond, ℕ, ◌+◌, ◌*◌, ◌-◌, ◌≤◌, eqb}
 use Rattle.std.proofs.Common.{sym, ap, arith, eq-eqb, ne_eqb}
 use Rattle.pool.specs.Pool.{base}
 use Rattle.shelf.specs.Keeps.{ShelfFits}

@@ -1,5 +1,5 @@
 -- Edges as marks: a place for each code of a pair. What is marked, read off upward, is the marked edges in order, each once. Leans on the marks and codes of openers.
-use Rattle.std.specs.Prelude.{◌≡◌, refl, Bool, ◌||◌, cond, ◌⊎◌, eqb, length, replicate}
+use Rattle.std.specs.Prelude.{◌≡◌, refl, Bool, ◌||◌, cond, eqb, length, replicate}
 use Rattle.std.proofs.Math.Path.{sym, ap, subst}
 use Rattle.std.proofs.Common.{◌∙◌, inl, inr, arith}
 use Rattle.std.proofs.Math.Bool.{false}

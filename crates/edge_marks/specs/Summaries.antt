@@ -1,6 +1,6 @@
 -- The summary of a figure from its marked edges, at every rank; and which vertices are their ends, mark by mark. Leans on
 -- Marks, and on the points that a summary counts.
-use Rattle.std.specs.Prelude.{◌≡◌, ◌||◌, List, [], ◌∷◌, ◌++◌, eqb}
+use Rattle.std.specs.Prelude.{◌≡◌, ◌||◌, List, [], ◌∷◌, eqb}
 use Rattle.std.proofs.Math.Path.{refl, ap, subst}
 use Rattle.std.proofs.Common.{sym, ◌∙◌}
 use Rattle.std.proofs.Math.Bool.{Bool, true, false, cond}

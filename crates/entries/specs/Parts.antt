@@ -190,6 +190,7 @@ module _ (kept : List Kept) (each : (k : Kept) → Mem k kept → Splittable k) 
       ∙ sym (parts_at_holds a r)))
     where
       only : (a b : ℕ) → Mem b (a ∷ []) → (o : ℕ) → Of to bound o a → Of to bound o b
+      only a b (mathlib.Core.List.Memᴰ.tail x5) o is = elim x5 [ ]
       only a b (Memᴰ.head q) o is = subst (Of to bound o) (sym q) is
 
   -- a list of numbered facets, split
@@ -215,6 +216,7 @@ module _ (kept : List Kept) (each : (k : Kept) → Mem k kept → Splittable k) 
       split_nats_below bound table table_below 380 (q.0 ∷ []) (alone q.0 (below r.0 r.1 q.0 q.1)) x q.2
     where
       alone : (a : ℕ) → a < bound → ItemsBelow bound (a ∷ [])
+      alone a h b (mathlib.Core.List.Memᴰ.tail x5) = elim x5 [ ]
       alone a h b (Memᴰ.head e) = subst (λ (n : ℕ). n < bound) (sym e) h
 
   -- ---- how many parts a list has
@@ -251,6 +253,7 @@ module _ (kept : List Kept) (each : (k : Kept) → Mem k kept → Splittable k) 
       (parts_below (l ∷ []) (λ m i. alone m i) (split_list 380 table l) (here refl))
     where
       alone : (m : List ℕ) → Mem m (l ∷ []) → ItemsBelow bound m
+      alone m (mathlib.Core.List.Memᴰ.tail x4) = elim x4 [ ]
       alone m (Memᴰ.head e) = subst (ItemsBelow bound) (sym e) below
 
 -- ---- no compounds

@@ -1,10 +1,10 @@
 -- The fields of a job as the code hands them on, and what they mean: the definition's `Job`, its plane, its points and its rows. Leans on Places and on what the crate of spaces says.
-use Rattle.std.specs.Prelude.{◌≡◌, refl, List, [], map, ℕ, ◌+◌, ◌-◌, ◌*◌, ◌≤◌, ◌<◌, length, take, drop, Float}
+use Rattle.std.specs.Prelude.{◌≡◌, refl, List, map, ℕ, ◌+◌, ◌-◌, ◌*◌, ◌≤◌, length, take, drop, Float}
 use Rattle.std.proofs.Common.{sym, subst, arith}
 use Rattle.std.proofs.Math.Option.{Option, some, none}
 use Rattle.definitions.specs.Lists.{count_from}
 use Rattle.definitions.specs.Orbits.{Row}
-use Rattle.definitions.specs.Job.{Bytes, Job, read_job, floats_at, vectors_at}
+use Rattle.definitions.specs.Job.{Bytes, read_job, floats_at, vectors_at}
 use Rattle.space.specs.declared.Limit.{Limit}
 use Rattle.space.specs.declared.Limit.TheVariants.{Absent, Length}
 use Rattle.space.specs.Meaning.{length_of}

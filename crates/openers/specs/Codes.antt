@@ -1,5 +1,5 @@
 -- Codes of pairs: a pair is its code, and the codes of a pair's images are read where the rows lie. Leans on Rows and Meaning.
-use Rattle.std.specs.Prelude.{◌≡◌, refl, List, [], ◌∷◌, ◌++◌, map, ℕ, ◌+◌, ◌*◌, ◌/◌, ◌%◌, ◌≤◌, ◌<◌, min, max, T, eqb, length, get_or, take, drop}
+use Rattle.std.specs.Prelude.{◌≡◌, refl, List, [], ◌∷◌, ◌++◌, map, ℕ, ◌+◌, ◌*◌, ◌/◌, ◌%◌, ◌≤◌, ◌<◌, min, max, T, eqb, get_or, take, drop}
 use Rattle.std.proofs.Common.{sym, ap, subst, ◌∙◌, arith, eqb→eq}
 use Rattle.std.proofs.Math.Dec.{eqb_refl, compare_is_eq}
 use Rattle.definitions.specs.Lists.{Pair, compare_pair, any_of, member_nat, member_pair}

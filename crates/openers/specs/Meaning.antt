@@ -1,5 +1,5 @@
 -- What the structs of this crate mean, and how vertices and pairs are walked with marks. Leans on Marks.
-use Rattle.std.specs.Prelude.{◌≡◌, Bool, false, List, [], ◌∷◌, map, ℕ, ◌+◌, ◌*◌, ◌/◌, ◌%◌, ◌≤◌, ◌<◌, length, take, Float}
+use Rattle.std.specs.Prelude.{◌≡◌, Bool, false, List, map, ℕ, ◌+◌, ◌*◌, ◌/◌, ◌%◌, ◌≤◌, length, take, Float}
 use Rattle.definitions.specs.Lists.{Pair}
 use Rattle.definitions.specs.Vectors.{Vec}
 use Rattle.definitions.specs.Orbits.{Row, Limits, image, pair_image, breaks_limit, above}

@@ -4,7 +4,7 @@ use Rattle.std.specs.Prelude.{◌≡◌, Bool, ◌&&◌, leb, length, drop}
 use Rattle.std.proofs.Math.Path.{refl, sym, ap, subst}
 use Rattle.std.proofs.Common.{◌∙◌, ne_eqb, ltb→lt, length-drop, length-take-le}
 use Rattle.std.proofs.Math.Bool.{true, false}
-use mathlib.Core.List.{List, [], ◌∷◌, map}
+use mathlib.Core.List.{List, [], map}
 use Prim.Native.Nat.{ℕ, zero, suc, ◌+◌, ◌*◌, ◌≤◌, ◌<◌}
 use native.Mathlib.Omega.{arith}
 use Rattle.std.proofs.Math.Dec.{T, ltb, eqb, leb→le, eqb→eq}
@@ -12,9 +12,9 @@ use Rattle.std.proofs.Math.ListN.{get_or, take}
 use Rattle.definitions.specs.Lists.{all_of, count_from}
 use Rattle.definitions.specs.Orbits.{Row, image}
 use Rattle.definitions.specs.Job.{Bytes, number_at, between, same_nats, is_permutation}
-use Rattle.definitions.specs.Noble.{Package, package_end, read_package, distinct, package_counts, globals_good, full_rows_good, package_good}
+use Rattle.definitions.specs.Noble.{package_end, read_package, distinct, package_counts, globals_good, full_rows_good, package_good}
 use Rattle.laws.specs.Bools.{true→holds, first, second}
-use Rattle.laws.specs.Lists.{Mem, all_of_holds, member_at}
+use Rattle.laws.specs.Lists.{all_of_holds, member_at}
 use Rattle.laws.specs.Parts.{get_d_rows}
 use Rattle.openers.specs.Rows.{rows_in, row_at, image_at_holds}
 use Rattle.stabilizers.specs.Permutations.{Permutations, permutations_of}

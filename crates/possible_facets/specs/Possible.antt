@@ -1,6 +1,6 @@
 -- The words of the possible facets from what stands in the workspace: for each orbit how many facets it has, and their figures. Leans on Facets.
 use mathlib.Core.List.{List, [], ◌∷◌, ◌++◌, map, flat_map}
-use Rattle.std.specs.Prelude.{◌*◌, ℕ, zero, suc, ◌+◌, length, get_or, take, drop}
+use Rattle.std.specs.Prelude.{◌*◌, ℕ, zero, suc, length, get_or, take, drop}
 use Rattle.definitions.specs.Job.{number_at, figure_words}
 use Rattle.laws.specs.Sets.{vertices_of}
 use Rattle.openers.specs.Meaning.{pair_of}

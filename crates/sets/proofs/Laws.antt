@@ -1,20 +1,18 @@
 -- A power that a shift makes, and the turns of the loops over a set. Leans on Steps.
 use mathlib.Core.Path.{◌≡◌, refl, sym, ap, ◌∙◌}
 use mathlib.Core.Bool.{Bool, true, false, cond}
-use mathlib.Core.List.{List, [], ◌∷◌, ◌++◌, map, append-nil, append_assoc, map-append}
+use mathlib.Core.List.{List, [], ◌∷◌, ◌++◌, map, append-nil, map-append}
 use Prim.Native.Nat.{ℕ, zero, suc, ◌+◌, ◌*◌, ◌-◌, ◌/◌, ◌%◌, ◌^◌, ◌≤◌, ◌<◌}
 use native.Mathlib.Omega.{arith}
 use native.Mathlib.Nat.{mod-eq_of_lt, pow-le-pow_right}
-use native.Mathlib.Numerals.{add-one}
 use borrow.Author.Tests.{eq-eqb, ne_eqb}
 use lib.Dec.{eqb}
-use lib.ListN.{length, get_or, take, drop, length-append, length-map, length-drop, drop_of_length-le}
+use lib.ListN.{length, get_or, take, drop, length-drop, drop_of_length-le}
 use lib.Seq.{length-take-le}
 use lib.Ieee.{Float, lt, nan}
 use Rattle.definitions.specs.Vectors.{Vec}
-use Rattle.definitions.specs.Lists.{sort_nats}
 use Rattle.definitions.specs.Subspace.{Subspace, distance}
-use Rattle.definitions.specs.Orbits.{Row, image, point_at, points_near, set_image}
+use Rattle.definitions.specs.Orbits.{image, point_at, points_near, set_image}
 use Rattle.laws.specs.Parts.{set_five}
 use Rattle.laws.specs.Sets.{set_number, vertices_from, vertices_of, number_sorted, number_small}
 use Rattle.vectors.specs.Meaning.{five}

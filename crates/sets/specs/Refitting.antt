@@ -1,5 +1,5 @@
 -- What a refit answers [6.4]: refusal 14 where the plane of a set's points has another number of basis vectors than is wanted. Leans on what the structs mean.
-use Rattle.std.specs.Prelude.{◌≡◌, Bool, true, false, cond, ℕ, ◌<◌, eqb, length}
+use Rattle.std.specs.Prelude.{◌≡◌, cond, ℕ, ◌<◌, eqb, length}
 use Rattle.std.proofs.Math.Option.{Option, some, none}
 use Rattle.definitions.specs.Subspace.{Subspace}
 use Rattle.space.specs.declared.Points.{Points}

@@ -1,7 +1,7 @@
 -- One vertex more of a set, as the loops take it: what its bit adds to a sum of powers, and the points near a plane. Leans on the sets of the crate of laws.
 use Rattle.std.specs.Prelude.{◌≡◌, Bool, ℕ, zero, suc, ◌+◌, ◌*◌, ◌/◌, ◌%◌, ◌^◌, ◌≤◌, ◌<◌, eqb, length, get_or, drop, Float}
 use Rattle.std.proofs.Math.Path.{refl}
-use Rattle.std.proofs.Common.{sym, ap, ◌∙◌, drop-cons}
+use Rattle.std.proofs.Common.{drop-cons}
 use Rattle.std.proofs.Math.Bool.{true, false, cond}
 use mathlib.Core.List.{List, [], ◌∷◌, ◌++◌, map}
 use native.Mathlib.Omega.{arith}
@@ -10,7 +10,7 @@ use Rattle.std.specs.Float.Ieee.{lt}
 use Rattle.definitions.specs.Vectors.{Vec}
 use Rattle.definitions.specs.Subspace.{Subspace, distance}
 use Rattle.definitions.specs.Orbits.{point_at, points_near}
-use Rattle.laws.specs.Sets.{set_number, vertices_from, vertices_of, SetFrom, empty, without, with}
+use Rattle.laws.specs.Sets.{set_number, vertices_from, SetFrom, empty, without, with}
 
 -- ---- sums over a set
 

@@ -1,17 +1,15 @@
 -- The steps of the code over marks and tallies: the place of a number, the latest mark, marks gathered and merged, and
 -- one orbit counted. Leans on Marks and Counts, on the sorted sets and on numbers in bytes.
 use mathlib.Core.Path.{◌≡◌, refl, sym, ap, subst, ◌∙◌}
-use mathlib.Core.Bool.{Bool, true, false, not}
 use mathlib.Core.List.{List, [], ◌∷◌, ◌++◌, map}
-use mathlib.Core.Logic.{◌⊎◌, inl, inr}
 use mathlib.Core.Option.{Option, some, none}
 use Prim.Native.Nat.{ℕ, zero, suc, ◌+◌, ◌*◌, ◌-◌, ◌/◌, ◌%◌, ◌^◌, ◌≤◌, ◌<◌}
 use native.Mathlib.Nat.{pow-le-pow_right}
 use native.Mathlib.Omega.{arith}
 use native.Mathlib.Numerals.{add-one}
 use borrow.Author.Tests.{lt-leb}
-use lib.Dec.{T, leb, le→leb}
-use lib.ListN.{length, get_or, take, drop, set, length-map, length-append}
+use lib.Dec.{leb, le→leb}
+use lib.ListN.{length, get_or, take, drop, set, length-map}
 use Rattle.definitions.specs.Lists.{place_of}
 use Rattle.definitions.specs.Orbits.{Row, image, set_image}
 use Rattle.definitions.specs.Job.{number_at}
@@ -21,16 +19,15 @@ use Rattle.laws.specs.Parts.{rows, map_rows_more, length_rows}
 use Rattle.laws.specs.Segments.{onto, take_onto}
 use Rattle.laws.specs.Sets.{set_number, vertices_of, vertices_set, image_set, number_small}
 use Rattle.words.specs.Words.{words, words_length, get_d_words, put}
-use Rattle.sorted.specs.Ascending.{Ascending, insert_new, union, up_to, ascending_nil, insert_few}
-use Rattle.sorted.specs.Gathering.{added, ascending_added, Fresh}
+use Rattle.sorted.specs.Ascending.{Ascending, insert_new, union, up_to, ascending_nil}
+use Rattle.sorted.specs.Gathering.{added, ascending_added}
 use Rattle.sorted.specs.Merging.{New, Merged}
 use Rattle.openers.specs.Rows.{rows_in, row_at, image_at_holds}
-use Rattle.stabilizers.specs.Permutations.{Permutation, Permutations}
+use Rattle.stabilizers.specs.Permutations.{Permutation}
 use Rattle.orbits.specs.Numbers.{image_numbers}
 use Rattle.tallies.specs.Marks.{mark_number, latest, marked_as, latest_is, none_before, last_marks, last_other, mark_more, marks_ascend, new_marks}
-use Rattle.tallies.specs.Counts.{Counted, count_by, count_one, sum_by, most_weight, CountFits, Ready, added_few, images_few, found_opened}
+use Rattle.tallies.specs.Counts.{Counted, count_by, count_one, sum_by, most_weight, added_few, images_few, found_opened}
 use Rattle.tallies.specs.Meaning.{counted_in, TallyFits}
-use Rattle.tallies.specs.declared.Marked.{Marked}
 use Rattle.tallies.specs.declared.Marked.TheVariants.{Unmarked, With}
 
 -- ---- the place of the first number that is not below x, by halving

@@ -13,20 +13,20 @@ use lib.Dec.{leb}
 use lib.ListN.{length, get_or, take, drop, replicate, length-replicate, length-drop, get_or-append}
 use lib.Seq.{take_all, get_or_at}
 use Rattle.definitions.specs.Lists.{Pair, keep}
-use Rattle.definitions.specs.Orbits.{Row, Orbit, set_image}
+use Rattle.definitions.specs.Orbits.{Row, set_image}
 use Rattle.definitions.specs.Job.{number_at}
-use Rattle.definitions.specs.Noble.{Package, kept_by}
+use Rattle.definitions.specs.Noble.{kept_by}
 use Rattle.laws.specs.Parts.{length_rows}
 use Rattle.laws.specs.Segments.{le_or_lt, placed, part_placed, take_placed, placed_length}
 use Rattle.laws.specs.Sets.{set_number, vertices_of}
-use Rattle.words.specs.Words.{words, words_length, words_take, put, put_length, drop_put, take_put, number_at_put, number_at_put_off, number_at_take, number_at_drop}
+use Rattle.words.specs.Words.{words, words_length, put, put_length, drop_put, take_put, number_at_put, number_at_put_off, number_at_take}
 use Rattle.sorted.specs.Ascending.{Ascending}
 use Rattle.openers.specs.Rows.{rows_in, row_at}
 use Rattle.orbits.specs.Numbers.{orbit_of}
 use Rattle.orbits.specs.Workspace.{orbits_in, orbits_length, orbits_front}
 use Rattle.orbits.specs.Answers.{rows_permute}
 use Rattle.tallies.specs.Marks.{latest}
-use Rattle.tallies.specs.Counts.{Counted, count_one, count_all, count_more, none_counted, pair_key, sum_by, keeps_pair, keep_pairs, most_weight, CountFits, Ready, none_fits, one_fits, all_fit}
+use Rattle.tallies.specs.Counts.{Counted, count_one, count_all, count_more, none_counted, pair_key, sum_by, keeps_pair, keep_pairs, most_weight, CountFits, none_fits, one_fits, all_fit}
 use Rattle.tallies.specs.Agreement.{kept_are}
 use Rattle.tallies.specs.Meaning.{PackageFits, package_in, counted_in, TallyFits, WeightsFit, key_set}
 use Rattle.tallies.specs.declared.FullSet.{FullSet}

@@ -4,24 +4,23 @@ use Rattle.std.specs.Prelude.{◌≡◌, Bool, true, false, ◌||◌, leb, eqb, 
 use Rattle.std.proofs.Math.Path.{refl, sym, ap, subst}
 use Rattle.std.proofs.Common.{◌∙◌, arith, eq-eqb, ne_eqb, get_or-set_same, get_or-set_other}
 use Rattle.std.proofs.Math.Bool.{cond}
-use mathlib.Core.List.{List, [], ◌∷◌, ◌++◌, map, append-nil, Memᴰ}
+use mathlib.Core.List.{List, [], ◌∷◌, ◌++◌, map, append-nil}
 use Rattle.std.proofs.Math.Option.{Option, some, none}
 use Prim.Native.Nat.{ℕ, zero, suc, ◌+◌, ◌*◌, ◌/◌, ◌≤◌, ◌<◌}
 use Rattle.std.proofs.Math.Decide.{ℕ_discrete}
-use Rattle.std.proofs.Math.Dec.{compare_is_eq}
 use Rattle.std.proofs.Math.ListN.{length, length-append, get_or-append}
-use Rattle.std.proofs.lemmas.List.{length-map, get_or_at}
-use Rattle.definitions.specs.Lists.{Pair, any_of, member_nat, keep, map_at, fresh, compare_nats, sort_nats}
+use Rattle.std.proofs.lemmas.List.{get_or_at}
+use Rattle.definitions.specs.Lists.{Pair, any_of, member_nat, keep, map_at}
 use Rattle.definitions.specs.Orbits.{Row, Orbit, image, set_image}
 use Rattle.definitions.specs.Job.{same_nats}
 use Rattle.definitions.specs.Noble.{Package, key_of, key_images, Mark, Tally, Tallies, mark_of, portion, open_tally, add_portion, add_to_tally, tally_by, tally_orbit, tally_orbits, sum_at, keeps_orbit, kept_by}
 use Rattle.laws.specs.Lists.{Mem, here, there, of_map}
-use Rattle.laws.specs.Sets.{set_number, vertices_of, SetFrom, vertices_set, vertices_number, compare_sets, image_set}
+use Rattle.laws.specs.Sets.{set_number, vertices_of, SetFrom, vertices_number, compare_sets, image_set}
 use Rattle.sorted.specs.Ascending.{ascending_nil}
 use Rattle.sorted.specs.Gathering.{added}
 use Rattle.orbits.specs.Numbers.{image_numbers, orbit_of}
 use Rattle.orbits.specs.Hyperplanes.{Permutes, SeenAs, Joined, joined}
-use Rattle.tallies.specs.Marks.{mark_number, latest, latest_none, latest_new}
+use Rattle.tallies.specs.Marks.{latest, latest_none, latest_new}
 use Rattle.tallies.specs.Counts.{Counted, count_by, count_one, count_all, pair_key, none_counted, sum_by, keeps_pair, keep_pairs, most_weight, CountFits, none_fits, one_fits, all_fit, found_opened}
 
 -- a tally with nothing in it

@@ -1,8 +1,8 @@
 -- Tallies as the code keeps them: marks as ascending numbers, and two arrays of numbers by tally. What one orbit
 -- changes, what all do, and that nothing runs over. Leans on Marks. Assumes nothing.
-use Rattle.std.specs.Prelude.{◌≡◌, Bool, true, false, cond, ◌⊎◌, ℕ, zero, suc, ◌+◌, ◌*◌, ◌/◌, ◌%◌, ◌≤◌, ◌<◌, leb, eqb, set, replicate}
+use Rattle.std.specs.Prelude.{◌≡◌, Bool, true, false, cond, ℕ, suc, ◌+◌, ◌*◌, ◌/◌, ◌%◌, ◌≤◌, ◌<◌, leb, eqb, set, replicate}
 use Rattle.std.proofs.Math.Path.{refl}
-use Rattle.std.proofs.Common.{sym, ap, subst, ◌∙◌, inl, inr, div-le_self, arith, length-append, get_or-set_same, get_or-set_other}
+use Rattle.std.proofs.Common.{ap, subst, ◌∙◌, div-le_self, arith, get_or-set_same, get_or-set_other}
 use Rattle.std.proofs.Math.Bool.{or-true}
 use mathlib.Core.List.{List, [], ◌∷◌, ◌++◌, map}
 use Rattle.std.proofs.Math.Option.{Option, some, none}
@@ -13,9 +13,9 @@ use Rattle.definitions.specs.Lists.{Pair, any_of, member_nat, keep}
 use Rattle.definitions.specs.Orbits.{Row, set_image}
 use Rattle.laws.specs.Sets.{set_number, vertices_of}
 use Rattle.sorted.specs.Ascending.{Ascending, insert_new, union, ascending_nil, ascending_union, ascending_head, ascending_tail, member_union, member_head, member_below, length_insert, insert_few}
-use Rattle.sorted.specs.Gathering.{added, added_more, ascending_added, Fresh}
+use Rattle.sorted.specs.Gathering.{added, ascending_added, Fresh}
 use Rattle.orbits.specs.Numbers.{image_numbers}
-use Rattle.tallies.specs.Marks.{mark_number, latest, LatestIs, latest_is, TalliesBelow, marks_ascend, tallies_new, new_marks}
+use Rattle.tallies.specs.Marks.{mark_number, latest, latest_is, TalliesBelow, marks_ascend, tallies_new, new_marks}
 
 member_later : (x y : ℕ) (l : List ℕ) → member_nat x l ≡ true → member_nat x (y ∷ l) ≡ true
 unfolding member_nat any_of

@@ -1,19 +1,18 @@
 -- What the code is given: the full set's numbers by value, global numbers and full rows in bytes, rows at a stride of 32.
 -- What they mean is a package [17.1]. Leans on the rows in bytes and on Counts.
-use Rattle.std.specs.Prelude.{◌≡◌, refl, List, [], ◌∷◌, map, ℕ, zero, suc, ◌+◌, ◌*◌, ◌^◌, ◌≤◌, ◌<◌, length, get_or, take, drop}
+use Rattle.std.specs.Prelude.{◌≡◌, List, map, ℕ, ◌+◌, ◌*◌, ◌^◌, ◌≤◌, ◌<◌, length, get_or, take, drop}
 use Rattle.std.proofs.Common.{sym, ap, subst, ◌∙◌, arith}
 use Rattle.std.proofs.Math.Nat.{pow-le-pow_right}
-use Rattle.definitions.specs.Lists.{Pair, sort_nats}
-use Rattle.definitions.specs.Orbits.{Row, image, set_image}
+use Rattle.definitions.specs.Orbits.{image, set_image}
 use Rattle.definitions.specs.Job.{number_at}
 use Rattle.definitions.specs.Noble.{Package}
-use Rattle.laws.specs.Lists.{Mem, of_map}
+use Rattle.laws.specs.Lists.{of_map}
 use Rattle.laws.specs.Pairs.{pairs_map}
 use Rattle.laws.specs.Sets.{set_number, number_small, vertices_of, SetFrom, vertices_set, set_range, set_rises, sorted_set}
 use Rattle.words.specs.Words.{words}
 use Rattle.openers.specs.Rows.{rows_in, row_at, image_at_holds}
 use Rattle.stabilizers.specs.Permutations.{Permutations}
-use Rattle.tallies.specs.Counts.{Counted, most_weight, CountFits, Ready}
+use Rattle.tallies.specs.Counts.{Counted, most_weight, Ready}
 use Rattle.tallies.specs.declared.FullSet.{FullSet}
 
 -- the global numbers of n vertices in a full set of g points, none twice

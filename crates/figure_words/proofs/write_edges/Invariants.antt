@@ -1,5 +1,5 @@
 -- `figure_words::write_edges` meets its contract.
-use mathlib.Core.List.{◌∷◌, map}
+use mathlib.Core.List.{map}
 use Prim.Native.Nat.{◌-◌, ◌≤◌}
 use lib.ListN.{take}
 use Rattle.openers.specs.Meaning.{pair_of}

@@ -28,9 +28,9 @@ bounds-marks-at-then-marks-at-eq0 c = let l = c.loop-i in let b = sent_below c.a
 
 pub loop-i-preserved : goal.loop-i-preserved
 loop-i-preserved c = let l = c.loop-i in elim c.if-marks-at-eq0.branch [
-      then-marks-at-eq0 w ↦ rw (w.marks-is, w.count-is) (opening_joins l.invariant c.loop-i-test.true c.requires.1 _ c.image_key-at.ensures w.if-marks-at-eq0.true)
-    | else-marks-at-eq0 w ↦ rw (w.marks-is, w.count-is) (opening_stays l.invariant c.loop-i-test.true c.requires.1 _ c.image_key-at.ensures w.if-marks-at-eq0.false)
-    ]
+  | then-marks-at-eq0 w ↦ rw (w.marks-is, w.count-is) (opening_joins l.invariant c.loop-i-test.true c.requires.1 _ c.image_key-at.ensures w.if-marks-at-eq0.true)
+  | else-marks-at-eq0 w ↦ rw (w.marks-is, w.count-is) (opening_stays l.invariant c.loop-i-test.true c.requires.1 _ c.image_key-at.ensures w.if-marks-at-eq0.false)
+]
 
 pub returns : goal.returns
 returns c = of_two (λ x0 x1. record { counts = x0; marks = x1 })

@@ -21,10 +21,10 @@ try_vertex-more-requires c = let l = c.loop-v in let few = found_few (vertex_ima
 
 pub loop-v-preserved : goal.loop-v-preserved
 loop-v-preserved c = let l = c.loop-v in let images = vertex_images (rows_in 32 c.args.m c.args.rows.now) in (
-      omega arith,
-      rw (found_more images (replicate 20 false) l.v, ← l.invariant.1.means, ← l.invariant.2) c.try_vertex-more.ensures.joins,
-      rw (marks_more images (replicate 20 false) l.v, ← l.invariant.2) c.try_vertex-more.ensures.marks,
-    )
+  omega arith,
+  rw (found_more images (replicate 20 false) l.v, ← l.invariant.1.means, ← l.invariant.2) c.try_vertex-more.ensures.joins,
+  rw (marks_more images (replicate 20 false) l.v, ← l.invariant.2) c.try_vertex-more.ensures.marks,
+)
 
 pub returns : goal.returns
 returns c = let l = c.loop-v in let e : l.v ≡ c.args.n = omega arith in

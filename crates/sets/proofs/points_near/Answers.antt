@@ -1,6 +1,6 @@
 use mathlib.Core.Path.{◌≡◌, refl, ◌∙◌}
 use mathlib.Core.Bool.{cond}
-use Prim.Native.Nat.{◌+◌, ◌^◌}
+use Prim.Native.Nat.{◌^◌}
 use native.Mathlib.Omega.{arith}
 use borrow.Author.Rules.{rules}
 use lib.Ieee.{lt}
@@ -9,7 +9,7 @@ use Rattle.definitions.specs.Subspace.{distance}
 use Rattle.definitions.specs.Orbits.{point_at}
 use Rattle.space.specs.Meaning.{points_of, subspace_of}
 use Rattle.space.specs.Counts.{points_length, point_row}
-use Rattle.sets.proofs.Laws.{near_from, near_turn, near_end, near_small}
+use Rattle.sets.proofs.Laws.{near_turn, near_end, near_small}
 use Rattle.sets.proofs.points_near.Goals as goal
 
 -- src/lib.rt:82:5

@@ -1,5 +1,4 @@
 use mathlib.Core.Path.{◌≡◌, ap, ◌∙◌}
-use mathlib.Core.Logic.{⊎_elim}
 use Prim.Native.Nat.{ℕ}
 use native.Mathlib.Omega.{arith}
 use lib.ListN.{drop}
@@ -10,6 +9,7 @@ use Rattle.openers.specs.Rows.{row_at}
 use Rattle.tallies.proofs.Moving.{moved_start, moved_kept, moved_past, marks_asked, sum_here}
 use Rattle.laws.specs.Clauses.{of_two}
 use Rattle.tallies.proofs.move_together.Goals as goal
+use Rattle.tallies.proofs.move_together.Goals.{then-sum_of-ge2, else-sum_of-ge2}
 
 pub loop-i-init : goal.loop-i-init
 loop-i-init c = (omega arith, moved_start c.args.n (row_at c.args.n 0 c.args.globals.now) (words 4 (drop 2048 c.args.ws.now) c.args.known) c.args.sums.now c.args.ws.now c.args.orbits c.requires.1 (omega (arith, c.requires.2)))
@@ -37,10 +37,10 @@ loop-i-preserved c = let l = c.loop-i in
     let key = c.key_of-key.ensures.0 ∙ ap (λ (x : ℕ). set_number (set_image (vertices_of c.args.n x) (row_at c.args.n 0 c.args.globals.now))) c.get_u32.ensures in
     let sum = sum_here l.ws c.args.ws.now c.args.known _ c.args.sums.now _ (omega (arith, l.invariant.1.long, c.requires.2)) l.invariant.1.behind c.sum_of.ensures in (
       omega arith,
-      ⊎_elim
-          (λ w. rw (w.5, w.6, w.2.ensures.1) (moved_kept c.args.n (row_at c.args.n 0 c.args.globals.now) (words 4 (drop 2048 c.args.ws.now) c.args.known) c.args.sums.now c.args.ws.now c.args.orbits c.requires.1 (omega (arith, c.requires.2)) l.i l.auto l.ws l.invariant.1 (omega arith) _ key _ sum w.0.taken w.2.ensures.0.0 w.2.ensures.0.1))
-          (λ w. rw (w.1, w.2) (moved_past c.args.n (row_at c.args.n 0 c.args.globals.now) (words 4 (drop 2048 c.args.ws.now) c.args.known) c.args.sums.now c.args.ws.now c.args.orbits c.requires.1 (omega (arith, c.requires.2)) l.i l.auto l.ws l.invariant.1 (omega arith) _ key _ sum (omega (arith, w.0.left))))
-          c.if-sum_of-ge2.branch,
+      elim c.if-sum_of-ge2.branch [
+        | then-sum_of-ge2 w ↦ rw (w.kept-is, w.ws-is, w.move_orbit.ensures.moved) (moved_kept c.args.n (row_at c.args.n 0 c.args.globals.now) (words 4 (drop 2048 c.args.ws.now) c.args.known) c.args.sums.now c.args.ws.now c.args.orbits c.requires.1 (omega (arith, c.requires.2)) l.i l.kept l.ws l.invariant.1 (omega arith) _ key _ sum w.if-sum_of-ge2.true w.move_orbit.ensures.small.0 w.move_orbit.ensures.small.1)
+        | else-sum_of-ge2 w ↦ rw (w.kept-is, w.ws-is) (moved_past c.args.n (row_at c.args.n 0 c.args.globals.now) (words 4 (drop 2048 c.args.ws.now) c.args.known) c.args.sums.now c.args.ws.now c.args.orbits c.requires.1 (omega (arith, c.requires.2)) l.i l.kept l.ws l.invariant.1 (omega arith) _ key _ sum (omega (arith, w.if-sum_of-ge2.false)))
+      ],
     )
 
 pub shape_of-ws : goal.shape_of-ws

@@ -48,4 +48,4 @@ shape_of-sums c = (same_long _ _ _ _ _ _ c.args.images.now c.args.sums.now c.loo
 pub returns : goal.returns
 returns c = of_three (λ x0 x1 x2. record { counted = x0; front = x1; light = x2 })
     (let l = c.loop-i in let e : l.i ≡ c.args.orbits = omega (arith, c.loop-i-test.false, l.invariant.0) in
-    (rw (← e) l.invariant.1.counted, (l.invariant.1.front, record { light = rw (← e) l.invariant.1.light })))
+    (rw (← e) l.invariant.1.counted, l.invariant.1.front, record { light = rw (← e) l.invariant.1.light }))

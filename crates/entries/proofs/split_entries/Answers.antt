@@ -1,0 +1,15 @@
+-- `entries::split_entries` meets its contract: the pool is moved, the part from the table of components on is lent to splitting, and the split lists are put in order. Assumes nothing.
+use Rattle.entries.specs.Split.{split_asked, sort_asked, split_left}
+use Rattle.entries.proofs.split_entries.Goals as goal
+
+pub split_lists-requires : goal.split_lists-requires
+split_lists-requires c = split_asked c.args.shelf c.args.from c.args.bytes c.args.ws.now c.requires c.copy_within.new.s c.copy_within.ensures
+
+pub sort_entries-sorted-requires : goal.sort_entries-sorted-requires
+sort_entries-sorted-requires c = let m = c.copy_within in let p = c.split_lists in
+    sort_asked c.args.shelf c.args.from c.args.bytes c.args.ws.now c.requires m.new.s m.ensures p.new.ws c.ws-2-1.given.0 p.ensures
+
+pub returns : goal.returns
+returns c = let m = c.copy_within in let p = c.split_lists in
+    let r = c.sort_entries-sorted in
+    split_left c.args.shelf c.args.from c.args.bytes c.args.ws.now c.requires m.new.s m.ensures p.new.ws c.ws-2-1.given.0 p.ensures r.result r.new.ws r.ensures

@@ -1,0 +1,13 @@
+-- `entry_lists::first_facets` meets its contract.
+use mathlib.Core.Path.{◌≡◌}
+use Prim.Native.Nat.{◌≤◌}
+use lib.ListN.{length}
+use Rattle.words.specs.Words.{words}
+use Rattle.possible_facets.specs.Facets.{FirstsFrom}
+use Rattle.entry_lists.proofs.first_facets.Given as goal
+
+abbrev pub invariant-loop-x : goal.invariant-loop-x
+invariant-loop-x l = (l.x ≤ l.facets) × (length l.firsts ≡ 256) × FirstsFrom (words 2 l.owners l.facets) l.firsts l.x
+
+abbrev pub decreases-loop-x : goal.decreases-loop-x
+decreases-loop-x l = l.x

@@ -1,0 +1,39 @@
+-- `packages::load_package` meets its contract: global numbers and full rows are copied from where they stand. Assumes nothing.
+use mathlib.Core.Path.{◌∙◌}
+use native.Mathlib.Omega.{arith}
+use Rattle.packages.specs.Passed.{loaded_numbers, package_fits, package_is}
+use Rattle.laws.specs.Clauses.{of_two}
+use Rattle.packages.proofs.load_package.Goals as goal
+
+pub get_u16-rows-requires : goal.get_u16-rows-requires
+get_u16-rows-requires c =
+    let k = loaded_numbers c.args.n c.args.pack.now c.requires.0 c.requires.1 in
+    omega (arith, k.long)
+
+pub bounds-pack-2 : goal.bounds-pack-2
+bounds-pack-2 c =
+    let k = loaded_numbers c.args.n c.args.pack.now c.requires.0 c.requires.1 in
+    omega (arith, k.long)
+
+pub get_u16-count-requires : goal.get_u16-count-requires
+get_u16-count-requires c =
+    let k = loaded_numbers c.args.n c.args.pack.now c.requires.0 c.requires.1 in
+    omega (arith, k.long)
+
+pub copy_rows-requires : goal.copy_rows-requires
+copy_rows-requires c =
+    let k = loaded_numbers c.args.n c.args.pack.now c.requires.0 c.requires.1 in
+    (omega arith, omega (arith, k.long), omega (arith, c.requires.2))
+
+pub copy_rows-requires-2 : goal.copy_rows-requires-2
+copy_rows-requires-2 c =
+    let k = loaded_numbers c.args.n c.args.pack.now c.requires.0 c.requires.1 in
+    rw (c.wide-size.ensures, c.get_u16-rows.ensures) (omega (arith, k.size_most), omega (arith, k.long), omega (arith, k.rows_most, c.requires.3))
+
+pub returns : goal.returns
+returns c = of_two (λ x0 x1. record { fits = x0; is = x1 })
+    (let globals = c.copy_rows.ensures.rows in
+    let full = rw (c.wide-size.ensures, c.get_u16-rows.ensures) at c.copy_rows-2.ensures.rows in (
+      package_fits c.args.n c.args.pack.now c.requires.0 c.requires.1 _ _ _ c.wide-size.ensures c.get_u16-rows.ensures c.get_u16-count.ensures globals.0 (globals.1 ∙ c.requires.2) full.0 (full.1 ∙ c.requires.3),
+      package_is c.args.n c.args.pack.now c.requires.0 c.requires.1 _ _ _ c.wide-size.ensures c.get_u16-rows.ensures c.get_u16-count.ensures globals.0 (globals.1 ∙ c.requires.2) full.0 (full.1 ∙ c.requires.3),
+    ))

@@ -1,0 +1,14 @@
+-- `possible_facets::write_polygon_facets` meets its contract.
+use mathlib.Core.List.{flat_map}
+use Prim.Native.Nat.{◌-◌, ◌≤◌}
+use lib.ListN.{take, drop}
+use Rattle.pool.specs.Pool.{closed_lists}
+use Rattle.figure_words.specs.Wrote.{Wrote}
+use Rattle.possible_facets.specs.Possible.{polygon_words}
+use Rattle.possible_facets.proofs.write_polygon_facets.Given as goal
+
+abbrev pub invariant-loop-x : goal.invariant-loop-x
+invariant-loop-x l = (l.from ≤ l.x) × (l.x ≤ l.to) × Wrote l.initial.answer l.initial.cursor l.answer l.cursor (flat_map (polygon_words l.n) (take (l.x - l.from) (drop l.from (closed_lists 2 1024 l.edges))))
+
+abbrev pub decreases-loop-x : goal.decreases-loop-x
+decreases-loop-x l = l.to - l.x

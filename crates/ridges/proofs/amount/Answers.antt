@@ -1,0 +1,10 @@
+-- `amount` meets its contract: two u32 numbers have a product that fits. Assumes nothing.
+use Prim.Native.Nat.{◌*◌, ◌≤◌}
+use native.Mathlib.Omega.{arith}
+use native.Mathlib.Nat.{mul-le-mul_left}
+use Rattle.ridges.proofs.amount.Goals as goal
+
+pub overflow_mul-total : goal.overflow_mul-total
+overflow_mul-total c =
+    let m : c.args.last * c.args.places ≤ c.args.last * 4294967295 = mul-le-mul_left c.args.last (omega arith) in
+    omega arith

@@ -1,0 +1,43 @@
+use mathlib.Core.Path.{◌∙◌}
+use mathlib.Core.List.{[]}
+use mathlib.Core.Logic.{⊎_elim}
+use Prim.Native.Nat.{◌%◌, ◌<◌}
+use native.Mathlib.Omega.{arith}
+use lib.ListN.{length, get_or}
+use Rattle.pool.specs.Pool.{closed_lists}
+use Rattle.shares.specs.Laying.{length_read, item_asks, item_read}
+use Rattle.ridges.proofs.Tables.{all_start, all_joins, all_stay, all_end}
+use Rattle.ridges.proofs.count_places.Goals as goal
+
+pub loop-i-init : goal.loop-i-init
+loop-i-init c =
+    (c.list_length-n.ensures ∙ length_read 4 1024 _ c.requires.0 c.args.x c.requires.1, omega arith, all_start _ _ _ _ c.requires.3)
+
+pub item_u32-code-requires : goal.item_u32-code-requires
+item_u32-code-requires c =
+    let l = c.loop-i in
+    item_asks 4 1024 _ c.requires.0 c.args.x c.requires.1 l.i (omega (arith, l.invariant.0, c.loop-i-test.true))
+
+pub overflow_add-places : goal.overflow_add-places
+overflow_add-places c =
+    let l = c.loop-i in
+    let a = l.invariant.2.each (c.item_u32-code.result % 65536) c.if-ridge-ridges.true in
+    omega (arith, a.few, c.list_length-n.type_inv)
+
+pub loop-i-preserved : goal.loop-i-preserved
+loop-i-preserved c =
+    let l = c.loop-i in
+    let h : l.i < length (get_or (closed_lists 4 1024 c.args.shares.now) c.args.x []) = omega (arith, l.invariant.0, c.loop-i-test.true) in
+    let v = c.item_u32-code.ensures ∙ item_read 4 1024 _ c.requires.0 c.args.x c.requires.1 l.i h in (
+      l.invariant.0,
+      omega arith,
+      ⊎_elim
+          (λ w. rw (w.2, w.3) (all_joins l.invariant.2 h c.item_u32-code.result v (omega (arith, c.item_u32-code.type_inv)) c.requires.2 w.0.taken))
+          (λ w. rw (w.1, w.2) (all_stay l.invariant.2 h c.item_u32-code.result v (omega (arith, c.item_u32-code.type_inv)) c.requires.2 w.0.left))
+          c.if-ridge-ridges.branch,
+    )
+
+pub returns : goal.returns
+returns c =
+    let l = c.loop-i in
+    all_end l.invariant.2 (omega (arith, l.invariant.0, c.loop-i-test.false))
