@@ -8,7 +8,7 @@ ghost use Rattle.calls.specs.Layouts.{shelf_for};
 use shelf::{Level, Shelf};
 
 // What is alike at every depth: the tolerance, the limits on lengths and on entries, how many hyperplane orbits, possible facets and entries a call may have, and the rule of crowded lines.
-#[derive(Drop)]
+#[derive(Clone, Copy)]
 pub struct Rules {
     pub tolerance: f64,
     pub min: space::Limit,

@@ -27,7 +27,7 @@ use tallies::FullSet;
 // ---- the orbits
 
 // How a call goes [17.8]: plain, or by the package of this full set, whose global numbers and rows it is lent. A plain call reads neither.
-#[derive(Drop)]
+#[derive(Clone, Copy)]
 pub struct Way {
     pub plain: bool,
     pub whole: FullSet,

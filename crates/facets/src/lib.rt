@@ -7,7 +7,7 @@ ghost use Rattle.definitions.specs.Search.{judge};
 ghost use Rattle.facets.specs.Layout.{verdict};
 
 // The verdict on a list, the open case with its ridge orbit.
-#[derive(Drop)]
+#[derive(Clone, Copy)]
 pub enum Verdict {
     Over,
     Open(u16),
@@ -15,7 +15,7 @@ pub enum Verdict {
 }
 
 // How many facets, ridge orbits and orbits there are, how many lists may be emitted, and where in the workspace each area begins.
-#[derive(Drop)]
+#[derive(Clone, Copy)]
 pub struct Areas {
     pub facets: usize,
     pub ridges: usize,

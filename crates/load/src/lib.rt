@@ -14,7 +14,7 @@ use words::Read;
 // ---- the header
 
 // The version, the counts, the last that of the rows, and the flags.
-#[derive(Drop)]
+#[derive(Clone, Copy)]
 pub struct Header {
     pub version: usize,
     pub rank: usize,
@@ -125,7 +125,7 @@ fn limit_at(job: &[u8], flags: usize, weight: usize, at: usize) -> Limit
 }
 
 // The entry limit is absent or a number.
-#[derive(Drop)]
+#[derive(Clone, Copy)]
 pub enum EntryLimit {
     Unlimited,
     Number(u32),
@@ -169,7 +169,7 @@ fn rule_at(job: &[u8], version: usize, at: usize) -> usize
 // ---- all fields
 
 // The counts, the limits, the tolerance, the rule and the budget by value; the last four are the places in the job where offset, basis, points and rows begin.
-#[derive(Drop)]
+#[derive(Clone, Copy)]
 pub struct Fields {
     pub rank: usize,
     pub d: usize,

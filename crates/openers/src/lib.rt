@@ -23,7 +23,7 @@ pub fn image(rows: &[u8], i: usize, v: usize) -> usize
 // ---- vertices
 
 // Vertices in order, 20 at most.
-#[derive(Drop)]
+#[derive(Clone, Copy)]
 pub struct Vertices {
     pub at: [usize; 20],
     pub count: usize,

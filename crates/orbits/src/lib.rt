@@ -22,7 +22,7 @@ use sorted::Found;
 use space::{Limit, Points, Subspace};
 
 // Whether another orbit was due than the bound allows.
-#[derive(Drop)]
+#[derive(Clone, Copy)]
 pub enum Walk {
     Going,
     Refused,

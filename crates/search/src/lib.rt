@@ -14,14 +14,14 @@ use facets::{Areas, Verdict};
 use visits::State;
 
 // The limit on entries.
-#[derive(Drop)]
+#[derive(Clone, Copy)]
 pub enum Limit {
     Absent,
     Entries(u32),
 }
 
 // How the search goes: its limit on entries, and whether a closed list is extended.
-#[derive(Drop)]
+#[derive(Clone, Copy)]
 pub struct Course {
     pub limit: Limit,
     pub extended: bool,

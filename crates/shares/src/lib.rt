@@ -17,7 +17,7 @@ use shelf::Shelf;
 
 // Where what is made for a search lies in the workspace, behind the shelf: the numbers of the ridges, orbit by orbit, and the shares of the facets, which serve only here; then the tables
 // that the search reads, and what it works in.
-#[derive(Drop)]
+#[derive(Clone, Copy)]
 pub struct Desk {
     pub numbers: usize,
     pub shares: usize,

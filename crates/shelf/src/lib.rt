@@ -3,7 +3,7 @@
 // search's tables are made from: the ridges of each orbit, and the places of each facet.
 
 // Where the areas begin, and how many orbits and facets are kept.
-#[derive(Drop)]
+#[derive(Clone, Copy)]
 pub struct Shelf {
     pub orbits: usize,
     pub facets: usize,
@@ -17,7 +17,7 @@ pub struct Shelf {
 
 // What a call leaves: the shelf, a pool of `extent` bytes at `emitted` with the lists as the search emitted them, and an area with its entries' split lists. From `lists` on there are a pool of
 // `bytes` bytes, whose list k is the emitted list k split, the numbers of its lists in the entries' order, and at `bytes` + 2,048 the entries' labels. Where nothing is split both pools are one.
-#[derive(Drop)]
+#[derive(Clone, Copy)]
 pub struct Level {
     pub shelf: Shelf,
     pub emitted: usize,

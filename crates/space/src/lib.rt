@@ -13,7 +13,7 @@ ghost use Rattle.space.specs.Meaning.{subspace_of, SubspaceFits, HoldsSubspace, 
 // ---- subspaces
 
 // [4.1] d numbers of offset, and `rank` basis vectors
-#[derive(Drop)]
+#[derive(Clone, Copy)]
 pub struct Subspace {
     pub offset: [f64; 5],
     pub basis: [f64; 25],
@@ -194,7 +194,7 @@ pub fn is_near(plane: Subspace, points: &[f64], at: usize, tolerance: f64) -> bo
 // ---- points
 
 // n points of d numbers each, 20 at most.
-#[derive(Drop)]
+#[derive(Clone, Copy)]
 pub struct Points {
     pub at: [f64; 100],
     pub n: usize,
@@ -294,7 +294,7 @@ pub fn put_point(points: &mut [f64; 100], i: usize, p: [f64; 5])
 // ---- limits
 
 // A limit on lengths is either absent or a length.
-#[derive(Drop)]
+#[derive(Clone, Copy)]
 pub enum Limit {
     Absent,
     Length(f64),

@@ -11,7 +11,7 @@ ghost use Rattle.splitting.specs.Splitting.{split_nats, push_all, fill_all, Pool
 
 // Where splitting finds what it reads and puts what it makes: a table of the components of `facets` facets at the start, the pool of lists from `from` to `to`, and the
 // pool of split lists from `to` on. Both pools have room for `most` lists. `steps` bounds the steps of one facet.
-#[derive(Drop)]
+#[derive(Clone, Copy)]
 pub struct Layout {
     pub facets: usize,
     pub from: usize,

@@ -82,7 +82,7 @@ fn gather_marks(full: &[u8], m: usize, g: usize, key: u32, tally: u32, new: &mut
 // ---- tallies
 
 // The full set: its number of points, how many rows it has, and what each set of an orbit counts for.
-#[derive(Drop)]
+#[derive(Clone, Copy)]
 pub struct FullSet {
     pub size: usize,
     pub rows: usize,

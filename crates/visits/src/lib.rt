@@ -8,7 +8,7 @@ ghost use Rattle.frames.specs.Steps.{next_place, Visited, CandidateDue};
 use facets::{Areas, Verdict};
 
 // Where the search stands: the verdict on the list that was examined last, how many frames there are, and how many lists may still be examined.
-#[derive(Drop)]
+#[derive(Clone, Copy)]
 pub struct State {
     pub verdict: Verdict,
     pub depth: usize,
