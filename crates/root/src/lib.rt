@@ -1,6 +1,8 @@
 // The square root [3.2]: of every finite double not below zero, the nearest double to its root, ties to even.
 // The argument is q × 2^w / 2^1126 with 2^52 ≤ q < 2^53. Its root is that of a whole number of 107 or 108 binary digits, times a power of two, and the whole root of that number decides the rounding:
 // from the value of a polynomial, two of Newton's steps lead to its upper half, and one more division to all of it. Only whole numbers below 2^64 occur.
+#![tactic(auto)]
+
 ghost use Rattle.std.specs.Prelude.{◌≡◌, ◌+◌, ◌*◌, ◌/◌, ◌%◌, ◌^◌, ◌≤◌, ◌<◌};
 ghost use Rattle.std.proofs.Math.Option.{some};
 ghost use Rattle.std.specs.Float.{binary64};
@@ -133,9 +135,8 @@ pub fn root(x: f64) -> Root
     Root::Value(f64::from_bits(root_bits(bits)))
 }
 
-// The same for callers with no place for a refusal: the value, or a NaN where there is none.
-#[unsafe(no_mangle)]
-pub extern "C" fn root_or_nan(x: f64) -> f64
+// The same for callers with no place for a refusal: the value, or a NaN where there is none. The crate `root_c` exports it to C.
+pub fn root_or_nan(x: f64) -> f64
     ensures { result ≡ value_of (square_root x) }
 {
     match root(x) {
