@@ -15,7 +15,7 @@ PLACE = $(DESTDIR)$(PREFIX)
 all: $(SHARED)
 
 $(STATIC):
-	rt staticlib register
+	./library register
 
 $(SHARED): $(STATIC)
 	mkdir -p $(@D)

@@ -2,7 +2,7 @@
  * The facetings of a square, from C. Makes the bytes of the job, asks the register
  * with a longer buffer as often as it takes, and prints each figure's parts.
  *
- *     rt staticlib register
+ *     ./library register
  *     cc -I include examples/figures.c target/staticlib/libregister.a -o figures
  *     ./figures
  */

@@ -1,6 +1,6 @@
 """The facetings of a square, from Python.
 
-    rt staticlib register && make
+    ./library register && make
     PYTHONPATH=python python3 examples/figures.py
 """
 

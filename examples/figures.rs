@@ -1,6 +1,6 @@
 //! The facetings of a square, from Rust, by the safe wrapper in host/wrapper.
 //!
-//!     rt staticlib register
+//!     ./library register
 //!     cd host && cargo run --release --example figures
 
 use std::error::Error;

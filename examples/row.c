@@ -3,7 +3,7 @@
  * points of another version. Prints for each the length of its answer, or the number
  * of its refusal.
  *
- *     rt staticlib register
+ *     ./library register
  *     cc -I include examples/row.c target/staticlib/libregister.a -o row
  *     ./row
  */

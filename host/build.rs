@@ -1,7 +1,7 @@
 //! Cuts the original functions out of the published Rust source, patches them
 //! and writes them to OUT_DIR, where `src/engines/original` includes them.
 //!
-//! The proved square root is linked where `rt staticlib root` has written it; the
+//! The proved square root is linked where `./library root` has written it; the
 //! register itself is linked by the crate in `wrapper`.
 //!
 //! The source is looked for where the variable MIRATOPE_SRC points, else in
@@ -185,7 +185,7 @@ fn main() {
     println!("cargo::rustc-cfg=has_miratope");
 }
 
-/// The libraries lie where `rt staticlib` leaves them, below the repository.
+/// The libraries lie where `./library` leaves them, below the repository.
 fn link_proved() {
     let place = fs::canonicalize("../target/staticlib").unwrap_or_default();
     for (name, flag) in PROVED {

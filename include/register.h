@@ -1,7 +1,7 @@
 /*
  * The register of facetings: functions, every promise of which is proved
  * (docs/READING.md). They live in target/staticlib/libregister.a, which
- * `rt staticlib register` proves and writes:
+ * `./library register` proves and writes:
  *
  *     cc -I include program.c target/staticlib/libregister.a -o program
  *

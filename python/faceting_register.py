@@ -1,6 +1,6 @@
 """The faceting register for Python: jobs and answers as values, and the proved function.
 
-Needs nothing but the shared library, which `make` builds from what `rt staticlib register`
+Needs nothing but the shared library, which `make` builds from what `./library register`
 has proved (docs/FORMAT.md has the bytes, include/register.h every promise):
 
     from faceting_register import Register, job

@@ -77,7 +77,7 @@ fn every_crate_has_its_place_in_the_picture() {
     let crates = std::fs::read_to_string(repository().join("crates.txt"));
     let crates = crates.expect("the list of crates is there");
     let names = crates.lines().filter(|line| !line.starts_with('#'));
-    for name in names.filter_map(|line| line.split(':').next()) {
+    for name in names.filter_map(|line| line.split([':', ' ']).next()) {
         // A program only calls what is in the picture.
         let program = repository()
             .join(format!("crates/{name}/src/main.rt"))

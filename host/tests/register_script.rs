@@ -13,22 +13,24 @@ use std::time::{Duration, SystemTime};
 use common::place::{names, Done, Place};
 
 const SCRIPT: &str = include_str!("../../register");
+const LIBRARY: &str = include_str!("../../library");
 const HELP: &str = include_str!("../help/register.txt");
 const TEXT_FORM: &str = include_str!("../help/text.txt");
 const COMMAND: &str = env!("CARGO_BIN_EXE_register");
 
 /// Tools of the system that the script and the stand-ins use.
-const TOOLS: [&str; 17] = [
-    "sh", "awk", "cat", "chmod", "date", "dirname", "env", "find", "flock", "head", "mkdir", "mv",
-    "readlink", "rm", "sed", "sleep", "tail",
+const TOOLS: [&str; 18] = [
+    "sh", "awk", "cat", "chmod", "cp", "date", "dirname", "env", "find", "flock", "head", "mkdir",
+    "mv", "readlink", "rm", "sed", "sleep", "tail",
 ];
 
-/// The library's crate leans on one other; a third has nothing to do with it.
-const CRATES: &str = "# Crates.\na:\nregister: a # leans on it\nother: a register\n";
+/// The crate of the exports leans on two others; a fourth has nothing to do with it.
+const CRATES: &str =
+    "# Crates.\na:\nregister: a # leans on it\nregister_c staticlib: register\nother: a register\n";
 
-/// Each stand-in notes that it was called. The command prints where it was started
-/// and its words, and ends with a status of its own.
-const RT: &str = "#!/bin/sh\necho rt $* >>../called\nwhile [ -f ../slow ]; do sleep 0.05; done\n[ ! -f ../broken ] || { echo wrong; exit 1; }\necho 'rt: a proved (3 s)' >&2\nmkdir -p target/staticlib\necho made >target/staticlib/libregister.a\n";
+/// Each stand-in notes that it was called, that of rt in which crate. The command prints
+/// where it was started and its words, and ends with a status of its own.
+const RT: &str = "#!/bin/sh\nat=../../..\necho rt $* in ${PWD##*/} >>$at/called\nwhile [ -f $at/slow ]; do sleep 0.05; done\n[ ! -f $at/broken ] || { echo wrong; exit 1; }\necho 'fn a::f: proved'\necho 'fn a::g: proved'\necho 'logic=proved functions=2 sum=0' >&2\nmkdir -p out\necho made >out/libregister_c.a\n";
 const CARGO: &str = "#!/bin/sh\necho cargo $1 >>../../called\nmkdir -p target/release\ncat >target/release/register <<'END'\n#!/bin/sh\npwd\nprintf '[%s]\\n' \"$@\"\nexit 7\nEND\nchmod +x target/release/register\n";
 
 /// A repository with the script and nothing built, and a folder of tools.
@@ -38,6 +40,7 @@ fn repository(name: &str, tools: &[(&str, &str)]) -> Place {
         ("crates.txt", CRATES),
         ("crates/a/src/lib.rt", ""),
         ("crates/a/must-fail/x.edit", ""),
+        ("crates/register_c/src/lib.rt", ""),
         ("host/src/lib.rs", ""),
         ("host/wrapper/src/lib.rs", ""),
         ("host/build.rs", ""),
@@ -48,6 +51,7 @@ fn repository(name: &str, tools: &[(&str, &str)]) -> Place {
         place.write(&format!("my repository/{file}"), text);
     }
     executable(&place, "my repository/register", SCRIPT);
+    executable(&place, "my repository/library", LIBRARY);
     place.write("tools/a b.txt", "");
     for tool in TOOLS {
         symlink(found(tool), place.path("tools").join(tool)).expect("links can be made");
@@ -110,7 +114,7 @@ fn touch(place: &Place, name: &str) {
     set.expect("the time can be set");
 }
 
-const BOTH: &str = "rt staticlib register\ncargo build\n";
+const BOTH: &str = "rt lib in register_c\ncargo build\n";
 
 #[test]
 fn builds_what_is_missing_and_passes_words_and_status_on() {
@@ -121,8 +125,11 @@ fn builds_what_is_missing_and_passes_words_and_status_on() {
     let lines: Vec<&str> = first.error.lines().collect();
     assert_eq!(lines.len(), 6, "{}", first.error);
     assert!(lines.iter().all(|line| line.starts_with("register: ")));
-    assert!(lines[1].contains("building the proved library (rt staticlib register)"));
-    assert_eq!(lines[2], "register: 1 of 2 crates proved: a proved (3 s)");
+    assert!(lines[1].contains("building the proved library (./library register)"));
+    assert_eq!(
+        lines[2],
+        "register: 1 of at most 3 crates proved: a (functions: 2)"
+    );
     assert!(lines[3].starts_with("register: built in ") && lines[3].ends_with(" s"));
     let here = place.path("tools");
     let here = fs::canonicalize(here).expect("the folder is there");

@@ -8,7 +8,7 @@ const COUNT: u64 = 2_000_000;
 #[test]
 fn the_proved_root_is_the_processors() {
     if !LINKED {
-        println!("skipped: the proved root is not linked (rt staticlib root)");
+        println!("skipped: the proved root is not linked (./library root)");
         return;
     }
     let (compared, wrong) = compare(proved, 5, COUNT);

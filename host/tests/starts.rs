@@ -11,12 +11,12 @@ use common::object::{read_only, sections, sections_of};
 /// A table of 768 starts takes no less than this.
 const TABLE: usize = 768 * 2;
 
-/// What `rt staticlib` has written; where it is not there, the test says so.
+/// What `./library` has written; where it is not there, the test says so.
 fn library(name: &str) -> Option<Vec<u8>> {
     let file = format!("../target/staticlib/lib{name}.a");
     let bytes = std::fs::read(Path::new(&file)).ok();
     if bytes.is_none() {
-        println!("skipped: {file} is not there (rt staticlib {name})");
+        println!("skipped: {file} is not there (./library {name})");
     }
     bytes
 }

@@ -1,4 +1,4 @@
-//! Links the proved library where `rt staticlib register` has written it: below the
+//! Links the proved library where `./library register` has written it: below the
 //! repository, or in the folder that the variable REGISTER_LIBRARY names. Without it
 //! the crate builds, and `Register::open` says that it is not there.
 

@@ -1,28 +1,30 @@
 // The register as a program: a job on standard input, its answer on standard output. Where the job is refused nothing is written there, and a line on standard error has the number.
 // A job has at most 3,211 bytes, so what is longer than the buffer is refused for its length all the same.
+#![tactic(auto)]
+
+use std::io;
 
 #![tactic(auto)]
 
 // Says which refusal a return code is; their numbers are below 28.
-fn tell_refusal(code: i64) {
+fn tell_refusal(rt: &impl Eprint, code: i64) -> io::Result<()> {
     let mut number: u8 = 1;
     while number < 28 {
         if code == register::refusal(number) {
-            io::write_all(2, b"facetings: refused ");
-            io::print_decimal(2, number as u64);
-            io::write_all(2, b"\n");
+            eprintln!(rt; "facetings: refused {number}")?;
         }
         number += 1;
     }
+    Ok(())
 }
 
-fn main() {
-    let mut job = io::buffer();
-    let n = io::read_full(0, &mut job);
-    let mut workspace = buffers::workspace();
-    let mut answer = buffers::room();
+fn main(rt: HostRuntime) -> io::Result<()> {
+    let mut job = [0; 4096];
+    let n = buffers::read_full(&mut rt.stdin(), &mut job)?;
+    let mut workspace = buffers::workspace(rt.alloc())?;
+    let mut answer = buffers::room(rt.alloc())?;
     let code = register::register_answer(&job[..n], &mut workspace, &mut answer);
-    tell_refusal(code);
-    let end = io::count(code as isize, &answer);
-    io::write_all(1, &answer[..end]);
+    tell_refusal(&rt, code)?;
+    let end = usize::try_from(code).unwrap_or(0).min(answer.len());
+    rt.write_all(&answer[..end])
 }

@@ -1,7 +1,6 @@
 // Lists the hyperplane orbits of jobs, so that they can be held beside those that the Rust finds. Standard input holds jobs, each behind its length, a u16. Each job has a line with its
 // number and how many orbits it has, or its refusal; then a line for each orbit, its count and the vertices of its first set; then, orbit by orbit, the rows of the inner call or the
 // refusal of the refit, which ends the list. No contract can say what is written: that is held to the file stdout, which the Rust wrote.
-
 #![tactic(auto)]
 
 ghost use Rattle.std.specs.Prelude.{◌≡◌, ◌+◌, ◌*◌, ◌^◌, ◌≤◌, ◌<◌, length};
@@ -15,86 +14,106 @@ use load::Fields;
 use orbits::Answer;
 use sets::Fit;
 use space::Points;
+use std::io;
 
 // ---- words and numbers
 
-fn put(text: &[u8]) {
-    io::write_all(1, text);
+fn put(rt: &impl Print, text: &[u8]) -> io::Result<()> {
+    rt.write_all(text)
 }
 
-fn put_number(x: usize) {
-    io::print_decimal(1, x as u64);
+fn put_number(rt: &impl Print, x: usize) -> io::Result<()> {
+    print!(rt; "{x}")
 }
 
 // The vertices of a set, each behind a blank.
-fn put_vertices(n: usize, set: u32) {
+fn put_vertices(rt: &impl Print, n: usize, set: u32) -> io::Result<()> {
     let mut rest = set;
     let mut v = 0;
     while v < n {
         if rest % 2 == 1 {
-            put(b" ");
-            put_number(v);
+            put(rt, b" ")?;
+            put_number(rt, v)?;
         }
         rest = rest / 2;
         v += 1;
     }
+    Ok(())
 }
 
 // The images of row i, each behind a blank.
-fn put_row(rows: &[u8], i: usize, size: usize)
+fn put_row(rt: &impl Print, rows: &[u8], i: usize, size: usize) -> io::Result<()>
     requires { 32 * i + size ≤ length rows.now }
 {
     let mut v = 0;
     while v < size {
-        put(b" ");
-        put_number(openers::image(rows, i, v));
+        put(rt, b" ")?;
+        put_number(rt, openers::image(rows, i, v))?;
         v += 1;
     }
+    Ok(())
 }
 
 // So many rows, a comma between two.
-fn put_rows(rows: &[u8], count: usize, size: usize)
+fn put_rows(rt: &impl Print, rows: &[u8], count: usize, size: usize) -> io::Result<()>
     requires { (32 * count ≤ length rows.now) × (size ≤ 32) }
 {
     let mut i = 0;
     while i < count {
         if 0 < i {
-            put(b",");
+            put(rt, b",")?;
         }
-        put_row(rows, i, size);
+        put_row(rt, rows, i, size)?;
         i += 1;
     }
+    Ok(())
 }
 
 // ---- orbits
 
-fn list_orbits(ws: &[u8], count: usize, n: usize)
+fn list_orbits(rt: &impl Print, ws: &[u8], count: usize, n: usize) -> io::Result<()>
     requires { (8 * count ≤ length ws.now) × (n ≤ 20) }
 {
     let mut k = 0;
     while k < count {
-        put_number(words::get_u32(ws, 8 * k + 4) as usize);
-        put(b":");
-        put_vertices(n, orbits::set_at(ws, k, n));
-        put(b"\n");
+        put_number(rt, words::get_u32(ws, 8 * k + 4) as usize)?;
+        put(rt, b":")?;
+        put_vertices(rt, n, orbits::set_at(ws, k, n))?;
+        put(rt, b"\n")?;
         k += 1;
     }
+    Ok(())
 }
 
 // ---- inner calls
 
 // The rows that keep a set of so many vertices.
-fn list_rows(rows: &[u8], m: usize, n: usize, set: u32, size: usize)
+fn list_rows(
+    rt: &impl Print,
+    rows: &[u8],
+    m: usize,
+    n: usize,
+    set: u32,
+    size: usize,
+) -> io::Result<()>
     requires { Permutations n m rows.now × (m ≤ 120) × (set < 2 ^ n) × (size ≤ 20) }
 {
     let mut inner = [0; 3840];
     let count = stabilizers::rows_within(rows, m, n, set, &mut inner);
-    put_rows(&inner, count, size);
-    put(b"\n");
+    put_rows(rt, &inner, count, size)?;
+    put(rt, b"\n")
 }
 
 // Whether a set's refit was not refused.
-fn list_inner(flat: Points, rank: usize, tolerance: f64, rows: &[u8], m: usize, set: u32) -> bool
+fn list_inner(
+    rt: &impl Print,
+    flat: Points,
+    rank: usize,
+    tolerance: f64,
+    rows: &[u8],
+    m: usize,
+    set: u32,
+) -> io::Result<bool>
     requires { PointsFit flat × (2 ≤ rank) × Permutations flat.n m rows.now × (m ≤ 120) × (set < 2 ^ flat.n) }
 {
     let chosen = sets::chosen_points(flat, set);
@@ -102,18 +121,19 @@ fn list_inner(flat: Points, rank: usize, tolerance: f64, rows: &[u8], m: usize, 
     let fit = refitted.fit;
     match fit {
         Fit::Refused => {
-            put(b" refused 14\n");
-            false
+            put(rt, b" refused 14\n")?;
+            Ok(false)
         }
         Fit::Fitted => {
-            list_rows(rows, m, flat.n, set, chosen.n);
-            true
+            list_rows(rt, rows, m, flat.n, set, chosen.n)?;
+            Ok(true)
         }
     }
 }
 
 // Orbit by orbit, up to the first refit that is refused.
 fn list_inners(
+    rt: &impl Print,
     flat: Points,
     rank: usize,
     tolerance: f64,
@@ -121,26 +141,28 @@ fn list_inners(
     m: usize,
     ws: &[u8],
     count: usize,
-)
+) -> io::Result<()>
     requires { PointsFit flat × (2 ≤ rank) × Permutations flat.n m rows.now × (m ≤ 120) × (8 * count ≤ length ws.now) }
 {
     let n = flat.n;
     let mut k = 0;
     while k < count {
-        put(b"inner ");
-        put_number(k);
-        put(b":");
-        if !list_inner(flat, rank, tolerance, rows, m, orbits::set_at(ws, k, n)) {
-            return;
+        put(rt, b"inner ")?;
+        put_number(rt, k)?;
+        put(rt, b":")?;
+        if !list_inner(rt, flat, rank, tolerance, rows, m, orbits::set_at(ws, k, n))? {
+            return Ok(());
         }
         k += 1;
     }
+    Ok(())
 }
 
 // ---- jobs
 
 // How many orbits were found, the orbits, and what comes of each.
 fn list_found(
+    rt: &impl Print,
     flat: Points,
     rank: usize,
     tolerance: f64,
@@ -148,18 +170,18 @@ fn list_found(
     m: usize,
     ws: &[u8],
     count: usize,
-)
+) -> io::Result<()>
     requires { PointsFit flat × (2 ≤ rank) × Permutations flat.n m rows.now × (m ≤ 120) × (8 * count ≤ length ws.now) }
 {
-    put(b" ");
-    put_number(count);
-    put(b" orbits\n");
-    list_orbits(ws, count, flat.n);
-    list_inners(flat, rank, tolerance, rows, m, ws, count);
+    put(rt, b" ")?;
+    put_number(rt, count)?;
+    put(rt, b" orbits\n")?;
+    list_orbits(rt, ws, count, flat.n)?;
+    list_inners(rt, flat, rank, tolerance, rows, m, ws, count)
 }
 
 // A job of rank 3 or 4 that passes the refusals before the call.
-fn list_call(job: &[u8], fields: Fields, ws: &mut [u8])
+fn list_call(rt: &impl Print, job: &[u8], fields: Fields, ws: &mut [u8]) -> io::Result<()>
     requires { (Passed fields ≡ checked_of job.now 4194304) × (3 ≤ fields.rank) × (124928 ≤ length ws.old) }
 {
     let points = load::points_of(job, fields);
@@ -185,33 +207,32 @@ fn list_call(job: &[u8], fields: Fields, ws: &mut [u8])
         256,
         ws,
     ) {
-        Answer::Refused => put(b" refused 13\n"),
-        Answer::Orbits(count) => list_found(flat, rank, tolerance, &rows, m, ws, count),
+        Answer::Refused => put(rt, b" refused 13\n"),
+        Answer::Orbits(count) => list_found(rt, flat, rank, tolerance, &rows, m, ws, count),
     }
 }
 
 // One job's lines. A call of rank 2 has no hyperplane orbits.
-fn list_job(job: &[u8], ws: &mut [u8])
+fn list_job(rt: &impl Print, job: &[u8], ws: &mut [u8]) -> io::Result<()>
     requires { 124928 ≤ length ws.old }
 {
     match job::check(job, 4194304) {
         Checked::Refused(number) => {
-            put(b" refused ");
-            put_number(number as usize);
-            put(b"\n");
+            put(rt, b" refused ")?;
+            put_number(rt, number as usize)?;
+            put(rt, b"\n")
         }
         Checked::Passed(fields) => {
             if fields.rank == 2 {
-                put(b" rank 2\n");
-                return;
+                return put(rt, b" rank 2\n");
             }
-            list_call(job, fields, ws);
+            list_call(rt, job, fields, ws)
         }
     }
 }
 
 // Each job, up to one that is not there whole.
-fn list_jobs(input: &[u8], ws: &mut [u8])
+fn list_jobs(rt: &impl Print, input: &[u8], ws: &mut [u8]) -> io::Result<()>
     requires { 124928 ≤ length ws.old }
 {
     let end = input.len();
@@ -221,20 +242,21 @@ fn list_jobs(input: &[u8], ws: &mut [u8])
         let from = at + 2;
         let to = from + words::get_u16(input, at) as usize;
         if end < to {
-            return;
+            return Ok(());
         }
-        put(b"job ");
-        put_number(number);
-        put(b":");
-        list_job(&input[from..to], ws);
+        put(rt, b"job ")?;
+        put_number(rt, number)?;
+        put(rt, b":")?;
+        list_job(rt, &input[from..to], ws)?;
         number += 1;
         at = to;
     }
+    Ok(())
 }
 
-fn main() {
-    let mut input = io::large_buffer();
-    let n = io::read_full(0, &mut input);
+fn main(rt: HostRuntime) -> io::Result<()> {
+    let mut input = [0; 65536];
+    let n = buffers::read_full(&mut rt.stdin(), &mut input)?;
     let mut ws = [0; 124928];
-    list_jobs(&input[..n], &mut ws);
+    list_jobs(&rt, &input[..n], &mut ws)
 }

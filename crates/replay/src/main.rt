@@ -1,16 +1,18 @@
 // Replays recorded results of the Rust. Standard input holds them, every number a u32: how many there are; then for each the length of the job, the job, the lengths of workspace and answer
 // buffer, the refusal number or 0, the answer's length or 0, and a hash of the whole buffer at exit. They were made by `facetings-host record --seed 3`. The buffers stay as the call before left them. No contract can say what the Rust answered:
 // that every result is the same is held to the file stdout.
-
 #![tactic(auto)]
 
-ghost use Rattle.std.specs.Prelude.{◌≤◌};
+ghost use Rattle.std.specs.Prelude.{◌≤◌, IfOk};
+
+use std::io;
+use std::io::Read;
 
 // The next number of the input; 0 where it has ended.
-fn next_number() -> u32 {
+fn next_number(input: &mut impl Read) -> io::Result<u32> {
     let mut bytes = [0; 4];
-    io::read_full(0, &mut bytes);
-    words::get_u32(&bytes, 0)
+    buffers::read_full(input, &mut bytes)?;
+    Ok(words::get_u32(&bytes, 0))
 }
 
 // From 0, each byte takes the hash to (hash × 16,777,619 + byte + 1) modulo the largest prime below 2^32, so that no step passes 2^57.
@@ -40,64 +42,84 @@ fn has_result(job: &[u8], workspace: &mut [u8], answer: &mut [u8], code: i64, su
 }
 
 // Whether the job that comes next, which is as long as its slice, has the result recorded behind it.
-fn replay_job(job: &mut [u8], workspace: &mut [u8], answer: &mut [u8]) -> bool {
-    io::read_full(0, job);
-    let size = next_number() as usize;
-    let room = next_number() as usize;
-    let refused = next_number();
-    let length = next_number();
-    let sum = next_number() as u64;
+fn replay_job(
+    input: &mut impl Read,
+    job: &mut [u8],
+    workspace: &mut [u8],
+    answer: &mut [u8],
+) -> io::Result<bool> {
+    buffers::read_full(input, job)?;
+    let size = next_number(input)? as usize;
+    let room = next_number(input)? as usize;
+    let refused = next_number(input)?;
+    let length = next_number(input)?;
+    let sum = next_number(input)? as u64;
     let code = code_of(refused, length);
     if workspace.len() < size {
-        return false;
+        return Ok(false);
     }
     if answer.len() < room {
-        return false;
+        return Ok(false);
     }
-    has_result(job, &mut workspace[..size], &mut answer[..room], code, sum)
+    Ok(has_result(job, &mut workspace[..size], &mut answer[..room], code, sum))
 }
 
 // The next record, in buffers that are long enough.
-fn replay(job: &mut [u8], workspace: &mut [u8], answer: &mut [u8]) -> bool {
-    let end = next_number() as usize;
+fn replay(
+    input: &mut impl Read,
+    job: &mut [u8],
+    workspace: &mut [u8],
+    answer: &mut [u8],
+) -> io::Result<bool> {
+    let end = next_number(input)? as usize;
     if job.len() < end {
-        return false;
+        return Ok(false);
     }
-    replay_job(&mut job[..end], workspace, answer)
+    replay_job(input, &mut job[..end], workspace, answer)
 }
 
 // One more that is the same, or a line with the number of the record that is not.
-fn tell(same: bool, record: u32) -> u32
-    ensures { result ≤ 1 }
+fn tell(rt: &impl Print, same: bool, record: u32) -> io::Result<u32>
+    ensures { IfOk result (λ n. n ≤ 1) }
 {
     if same {
-        return 1;
+        return Ok(1);
     }
-    io::write_all(1, b"differs: record ");
-    io::print_decimal(1, record as u64);
-    io::write_all(1, b"\n");
-    0
+    println!(rt; "differs: record {record}")?;
+    Ok(0)
 }
 
 // How many of so many records are the same.
-fn replay_all(count: u32, job: &mut [u8], workspace: &mut [u8], answer: &mut [u8]) -> u32 {
+fn replay_all(
+    rt: &impl Print,
+    input: &mut impl Read,
+    count: u32,
+    job: &mut [u8],
+    workspace: &mut [u8],
+    answer: &mut [u8],
+) -> io::Result<u32> {
     let mut same = 0;
     let mut i = 0;
     while i < count {
-        same += tell(replay(job, workspace, answer), i);
+        same += tell(rt, replay(input, job, workspace, answer)?, i)?;
         i += 1;
     }
-    same
+    Ok(same)
 }
 
-fn main() {
-    let count = next_number();
-    let mut job = io::buffer();
-    let mut workspace = buffers::workspace();
-    let mut answer = buffers::room();
-    let same = replay_all(count, &mut job, &mut workspace, &mut answer);
-    io::print_decimal(1, same as u64);
-    io::write_all(1, b" of ");
-    io::print_decimal(1, count as u64);
-    io::write_all(1, b" results are the Rust's\n");
+fn main(rt: HostRuntime) -> io::Result<()> {
+    let mut input = rt.stdin();
+    let count = next_number(&mut input)?;
+    let mut job = [0; 4096];
+    let mut workspace = buffers::workspace(rt.alloc())?;
+    let mut answer = buffers::room(rt.alloc())?;
+    let same = replay_all(
+        &rt,
+        &mut input,
+        count,
+        &mut job,
+        &mut workspace,
+        &mut answer,
+    )?;
+    println!(rt; "{same} of {count} results are the Rust's")
 }

@@ -136,7 +136,7 @@ pub fn root(x: f64) -> Root
     Root::Value(f64::from_bits(root_bits(bits)))
 }
 
-// The same for callers with no place for a refusal: the value, or a NaN where there is none.
+// The same for callers with no place for a refusal: the value, or a NaN where there is none. The crate `root_c` exports it to C.
 pub fn root_or_nan(x: f64) -> f64
     ensures { result ≡ value_of (square_root x) }
 {

@@ -36,7 +36,7 @@ The lists before splitting are held to those that the Rust has when it begins to
 them; where nothing else differs, the difference says so.
 Prints the first difference of each call, until D cases have one (default: 10), how
 often each result and rare event was reached, and the rate. Exit status 1 if any
-call differs. The register is linked where 'rt staticlib register' has left it
+call differs. The register is linked where './library register' has left it
 before the build; --library takes the function from a shared library instead.
 With --tolerance all generated cases are of version 2 and name T: points and lengths
 around T, at least, above and below. The Rust runs with the job's tolerance in the six

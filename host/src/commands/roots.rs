@@ -15,7 +15,7 @@ pub const ROOTS: Command = Command {
         "\
 Compares special values and N drawn ones (default: 10000000), prints those that
 differ, and measures a step of a chain of roots in one run. The library with the
-proved root is linked where 'rt staticlib root' has left it before the build.
+proved root is linked where './library root' has left it before the build.
 "
         .into()
     },

@@ -16,7 +16,7 @@ pub struct NotLinked;
 
 impl fmt::Display for NotLinked {
     fn fmt(&self, f: &mut fmt::Formatter<'_>) -> fmt::Result {
-        f.write_str("the proved root is not linked: run 'rt staticlib root', then build again")
+        f.write_str("the proved root is not linked: run './library root', then build again")
     }
 }
 

@@ -1,6 +1,6 @@
 //! The faceting register for programs in Rust: jobs and answers as values, and the
 //! proved function behind a safe call. It needs nothing but the standard library and
-//! the library that `rt staticlib register` writes.
+//! the library that `./library register` writes.
 //!
 //! ```no_run
 //! use faceting_register::{answer, Job, Register};

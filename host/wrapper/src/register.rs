@@ -35,7 +35,7 @@ pub struct NotLinked;
 
 impl fmt::Display for NotLinked {
     fn fmt(&self, f: &mut fmt::Formatter<'_>) -> fmt::Result {
-        f.write_str("the register is not linked: run 'rt staticlib register', then build again")
+        f.write_str("the register is not linked: run './library register', then build again")
     }
 }
 

@@ -34,11 +34,9 @@ returns c = of_three (λ x0 x1 x2. record { shelf = x0; within = x1; keeps = x2 
     let one = c.store_ridges.ensures N c.args.m c.args.rows.now inner l in
     polygons_within c.args.n c.args.shelf c.args.m inner c.args.level c.args.rows.now c.args.at c.args.ws.now vs holds c.requires.0 l c.requires.2 c.requires.1 keeps ridges one (c.keep_facets.ensures N inner (source_then c.args.n c.args.shelf c.args.m inner c.args.level c.args.rows.now c.args.at c.args.ws.now vs holds c.requires.0 l c.requires.2 c.requires.1 keeps ridges one))) in (
       c.one_more.ensures,
-      (
-        (beside_take near 2048 c.requires.3.2.fits.orbit_room, near),
-        λ kept inner i left keeps ridges l is-orbit answers.
-            let one = c.store_ridges.ensures N c.args.m c.args.rows.now inner l in
-            let two = c.keep_facets.ensures N inner (source_then c.args.n c.args.shelf c.args.m inner c.args.level c.args.rows.now c.args.at c.args.ws.now vs holds c.requires.0 l c.requires.2 c.requires.1 keeps ridges one) in
-            rw c.one_more.ensures (polygons_more c.args.n c.args.shelf c.args.m inner c.args.level c.args.rows.now c.args.at c.args.ws.now vs holds c.requires.0 l c.requires.2 c.requires.1 keeps ridges one two c.requires.3.5.facet_room c.requires.3.5.orbit_room left i is-orbit answers),
-      ),
+      (beside_take near 2048 c.requires.3.2.fits.orbit_room, near),
+      λ kept inner i left keeps ridges l is-orbit answers.
+          let one = c.store_ridges.ensures N c.args.m c.args.rows.now inner l in
+          let two = c.keep_facets.ensures N inner (source_then c.args.n c.args.shelf c.args.m inner c.args.level c.args.rows.now c.args.at c.args.ws.now vs holds c.requires.0 l c.requires.2 c.requires.1 keeps ridges one) in
+          rw c.one_more.ensures (polygons_more c.args.n c.args.shelf c.args.m inner c.args.level c.args.rows.now c.args.at c.args.ws.now vs holds c.requires.0 l c.requires.2 c.requires.1 keeps ridges one two c.requires.3.5.facet_room c.requires.3.5.orbit_room left i is-orbit answers),
     ))
