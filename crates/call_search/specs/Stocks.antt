@@ -1,6 +1,6 @@
 -- What a call has when its search begins: all inner calls are made and kept in the workspace. Its tables can be laid, at rank 3 and at rank 4. Leans on the desks, on what is kept of inner calls
 -- and how much that can be.
-use Rattle.std.specs.Prelude.{◌≡◌, Bool, List, map, ℕ, zero, suc, ◌+◌, ◌-◌, ◌≤◌}
+use Rattle.std.specs.Prelude.{◌≡◌, Bool, List, map, ℕ, zero, suc, ◌+◌, ◌≤◌}
 use Rattle.std.proofs.Common.{sym, ◌∙◌, subst, arith}
 use Rattle.std.proofs.Math.Path.{ap}
 use Rattle.std.proofs.Math.ListN.{length}

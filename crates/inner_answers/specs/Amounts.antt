@@ -1,6 +1,6 @@
 -- How much stands in the pools of a shelf: at most so many ridges and facets for an orbit, and so many places and edges for a facet. A call of rank 3 keeps two ridges and places and one edge at most, a call of
 -- rank 4 no more than there are pairs of 20 points. From an orbit's inner answer alone. Leans on the shelf and on the sizes of answers.
-use Rattle.std.specs.Prelude.{◌≡◌, refl, ℕ, zero, suc, ◌+◌, ◌*◌, ◌≤◌}
+use Rattle.std.specs.Prelude.{◌≡◌, ℕ, zero, suc, ◌+◌, ◌*◌, ◌≤◌}
 use Rattle.std.proofs.Common.{sym, ◌∙◌}
 use Rattle.std.proofs.Math.Path.{ap, subst}
 use mathlib.Core.List.{List, [], ◌∷◌, ◌++◌, map, flat_map, map-append, append-nil}

@@ -1,9 +1,9 @@
 -- How much is kept of one inner call: from its answer alone. Leans on Amounts and on the sizes of answers of rank 2 and 3.
-use Rattle.std.specs.Prelude.{◌≡◌, refl}
-use Rattle.std.proofs.Common.{sym, ◌∙◌, subst}
+use Rattle.std.specs.Prelude.{◌≡◌}
+use Rattle.std.proofs.Common.{◌∙◌, subst}
 use Rattle.std.proofs.Math.Path.{ap}
-use mathlib.Core.List.{List, [], ◌∷◌, ◌++◌, map, zip_with, Memᴰ}
-use Prim.Native.Nat.{ℕ, zero, suc, ◌+◌, ◌*◌, ◌/◌, ◌≤◌, ◌<◌}
+use mathlib.Core.List.{List, [], ◌∷◌, map, zip_with, Memᴰ}
+use Prim.Native.Nat.{ℕ, ◌/◌, ◌≤◌}
 use native.Mathlib.Omega.{arith}
 use Rattle.std.proofs.Math.ListN.{length, get_or, length-map}
 use Rattle.std.proofs.lemmas.List.{length-replicate}
@@ -11,21 +11,21 @@ use Rattle.definitions.specs.Lists.{Pair, count_from}
 use Rattle.definitions.specs.Outcome.{answered}
 use Rattle.definitions.specs.Vectors.{Vec}
 use Rattle.definitions.specs.Subspace.{Subspace}
-use Rattle.definitions.specs.Orbits.{Row, Orbit}
+use Rattle.definitions.specs.Orbits.{Row}
 use Rattle.definitions.specs.Figures.{Figure, rank_of, move_ends, dyad}
-use Rattle.definitions.specs.Recursion.{Rules, Entry, Answer, Inner}
+use Rattle.definitions.specs.Recursion.{Rules, Entry, Inner}
 use Rattle.definitions.specs.Faceting.{faceting, possible_facets}
 use Rattle.laws.specs.Lists.{Mem, of_map, count_length}
 use Rattle.shapes.specs.Answered.{answered_call}
 use Rattle.shapes.specs.Calls.{Given}
-use Rattle.shapes.specs.EdgeSets.{EdgeSet, polygon}
+use Rattle.shapes.specs.EdgeSets.{polygon}
 use Rattle.shapes.specs.Polygons.{ends_via, edge_pairs, polygon_raised, polygon_edges}
 use Rattle.shapes.specs.Sizes.{edges_few}
 use Rattle.shapes.specs.FewOrbits.{pairs_few}
 use Rattle.shapes.specs.LowRanks.{RankTwo, rank_two, few_entries_holds}
 use Rattle.shapes.specs.EntryFigures.{entry_polygon}
 use Rattle.shapes.specs.KeptSizes.{answer_sized, few_counts, two_few}
-use Rattle.shapes.specs.Kept.{Kept, kept_of}
+use Rattle.shapes.specs.Kept.{kept_of}
 use Rattle.shelf.specs.Keeps.{ridge_code, ridge_codes}
 use Rattle.keep.specs.Rooms.{kept_evenly}
 use Rattle.inner_answers.specs.Amounts.{OrbitAmounts, most_at}

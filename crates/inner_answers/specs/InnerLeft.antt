@@ -22,7 +22,6 @@ use Rattle.shapes.specs.LowRanks.{edge_of}
 use Rattle.shapes.specs.Kept.{Kept, kept_of}
 use Rattle.shapes.specs.KeptSizes.{kept_edge, kept_sized}
 use Rattle.shapes.specs.SplitCalls.{split_answer}
-use Rattle.order.specs.Areas.{lists_length}
 use Rattle.labels.specs.Labels.{labels_in}
 use Rattle.openers.specs.Rows.{rows_in, RowsFit}
 use Rattle.shelf.specs.Leaves.{Leaves, answer_left, entry_left, both_left, both_length}
@@ -49,6 +48,7 @@ one_edges rules plane points rows p given made few k m =
 -- a label is one of the compounds
 compound_in : (a : ℕ) (os : List (Option Pair)) (p : Pair) → Mem (some p) os → (w : ℕ) × Mem (record { whole = w; first = p.0; second = p.1 }) (compounds_from a os)
 unfolding compounds_from compound_at
+compound_in a [] p x' = elim x' [ ]
 compound_in a (some q ∷ os) p (Memᴰ.head e) = (a, here (ap (λ (o : Option Pair). made a o) e))
   where
     made : ℕ → Option Pair → Compound

@@ -1,21 +1,21 @@
 -- What an inner call says is kept: what is asked before, at rank 3 and at rank 4, and that the loop has come one turn further. Leans on Says.
-use Rattle.std.specs.Prelude.{◌≡◌, Bool, true, false, cond, get_or, take, drop}
+use Rattle.std.specs.Prelude.{◌≡◌, Bool, true, false, take, drop}
 use Rattle.std.proofs.Math.Path.{refl, ap, subst}
 use Rattle.std.proofs.Common.{sym, ◌∙◌}
 use mathlib.Core.List.{List, [], ◌∷◌, ◌++◌, map}
-use Prim.Native.Nat.{ℕ, zero, suc, ◌+◌, ◌*◌, ◌-◌, ◌≤◌, ◌<◌}
+use Prim.Native.Nat.{ℕ, zero, suc, ◌+◌, ◌*◌, ◌≤◌, ◌<◌}
 use native.Mathlib.Omega.{arith}
 use Rattle.std.proofs.Math.ListN.{length, length-map}
-use Rattle.definitions.specs.Outcome.{Outcome, refused, answered}
+use Rattle.definitions.specs.Outcome.{refused, answered}
 use Rattle.definitions.specs.Job.{number_at}
 use Rattle.definitions.specs.Subspace.{flatten}
 use Rattle.definitions.specs.Orbits.{Row, point_at}
-use Rattle.definitions.specs.Recursion.{Rules, Entry, Answer, Inner, swapped_ends, separate_ends}
+use Rattle.definitions.specs.Recursion.{Answer, Inner, swapped_ends, separate_ends}
 use Rattle.definitions.specs.Faceting.{plain_way, prepare, faceting, faceting_with}
 use Rattle.laws.specs.Sets.{vertices_of}
 use Rattle.stabilizers.specs.Places.{vertices_few}
 use Rattle.orbits.specs.Numbers.{orbit_of}
-use Rattle.openers.specs.Rows.{rows_in, RowsFit}
+use Rattle.openers.specs.Rows.{rows_in}
 use Rattle.shapes.specs.Answered.{Preparation, plain_takes, preparation_with}
 use Rattle.shapes.specs.Calls.{Given}
 use Rattle.shapes.specs.Kept.{Kept, kept_of}
@@ -26,8 +26,8 @@ use Rattle.shelf.specs.declared.Shelf.{Shelf}
 use Rattle.shelf.specs.declared.Level.{Level}
 use Rattle.calls.specs.Layouts.{shelf_for, shelf_three, shelf_four, at_three, at_four}
 use Rattle.calls.specs.declared.Called.{Called}
-use Rattle.calls.specs.declared.Called.TheVariants.{Refused, Ends, Left}
-use Rattle.keep.specs.Adding.{orbit_at, with_facets}
+use Rattle.calls.specs.declared.Called.TheVariants.{Ends, Left}
+use Rattle.keep.specs.Adding.{orbit_at}
 use Rattle.kept_edges.specs.Edges.{edge_answer}
 use Rattle.keep.specs.Rooms.{RoomFor}
 use Rattle.kept_polygons.specs.Whole.{next_vertices, vertex_in, PolygonRoom}

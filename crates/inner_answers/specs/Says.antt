@@ -1,5 +1,5 @@
 -- What a call of rank 2 + more answers, by what the code gives back, and one turn of the loop over its orbits. Leans on Turns, Spaces, InnerLeft and the rules' meaning.
-use Rattle.std.specs.Prelude.{◌≡◌, true, List, map, ℕ, zero, suc, ◌+◌, ◌-◌, ◌≤◌, ◌<◌, eqb, length, drop}
+use Rattle.std.specs.Prelude.{◌≡◌, true, List, map, ℕ, zero, suc, ◌+◌, ◌≤◌, ◌<◌, eqb, length, drop}
 use Rattle.definitions.specs.Outcome.{Outcome, refused, answered}
 use Rattle.definitions.specs.Vectors.{Vec}
 use Rattle.definitions.specs.Subspace.{Subspace, flatten, from_points}
@@ -22,7 +22,6 @@ use Rattle.keep.specs.Adding.{orbit_at}
 use Rattle.kept_edges.specs.Edges.{edge_answer}
 use Rattle.inner_answers.specs.State as state
 use Rattle.inner_answers.specs.State.{State}
-use Rattle.inner_answers.specs.Turns as turns
 use Rattle.inner_answers.specs.Spaces.{Laid}
 
 -- A call of rank 3 + more is answered, and its answer stands in the workspace. Wherever its entries lie, they end before the byte 3,211,264: at rank 4 the images of all facets, at most 1,024 under

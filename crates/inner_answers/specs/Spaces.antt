@@ -1,12 +1,10 @@
 -- There is room on the shelf for what the next inner call leaves: at rank 3 one edge with two ridges and places, at rank 4 all its entries. Leans on State, Amounts and the layouts.
-use Rattle.std.specs.Prelude.{◌≡◌, refl, List, map, ℕ, zero, suc, ◌+◌, ◌*◌, ◌-◌, ◌≤◌, ◌<◌, length}
-use Rattle.std.proofs.Common.{sym, ap, ◌∙◌, subst, mul-le-mul_left, arith}
-use Rattle.std.proofs.lemmas.List.{length-map}
+use Rattle.std.specs.Prelude.{◌≡◌, refl, List, map, ℕ, ◌+◌, ◌*◌, ◌≤◌, ◌<◌, length}
+use Rattle.std.proofs.Common.{sym, ◌∙◌, subst, arith}
 use Rattle.laws.specs.Lists.{Mem, of_map}
-use Rattle.pool.specs.Pool.{base}
 use Rattle.shapes.specs.Kept.{Kept, kept_of}
 use Rattle.definitions.specs.Recursion.{Inner}
-use Rattle.shelf.specs.Keeps.{Keeps, facets_in, facets_of, places_of}
+use Rattle.shelf.specs.Keeps.{Keeps, facets_in, places_of}
 use Rattle.shelf.specs.declared.Shelf.{Shelf}
 use Rattle.calls.specs.Layouts.{shelf_three, shelf_four}
 use Rattle.keep.specs.Rooms.{RoomFor, kept_evenly, places_number}

@@ -1,6 +1,6 @@
 -- The words of an answer of rank 4 from what stands in the workspace and the facets' images in order, said of bytes alone. Leans on Standing and Images.
 use Rattle.std.specs.Prelude.{Bool, false, ℕ, ◌+◌, ◌*◌, ◌-◌, ◌%◌, ◌/◌, ◌≤◌, ◌<◌, length, drop, replicate}
-use mathlib.Core.List.{List, [], ◌∷◌, ◌++◌, map, flat_map}
+use mathlib.Core.List.{List, ◌∷◌, ◌++◌, map, flat_map}
 use Rattle.definitions.specs.Job.{counted, compound_words}
 use Rattle.definitions.specs.Figures.{compounds_from}
 use Rattle.words.specs.Words.{words}

@@ -1,6 +1,6 @@
 -- What stands in the workspace when an answer is written, said of its bytes alone: what the writing functions ask, and the words of an answer of rank 3 in those terms.
 -- Written says that this is what a call leaves, and that the words are the definition's. Leans on Facets, Marks and Answers.
-use mathlib.Core.List.{List, [], ◌∷◌, ◌++◌, flat_map}
+use mathlib.Core.List.{List, ◌∷◌, ◌++◌, flat_map}
 use Rattle.std.specs.Prelude.{ℕ, ◌+◌, ◌*◌, ◌-◌, ◌≤◌, length, drop}
 use Rattle.definitions.specs.Job.{counted, figure_words, compound_words}
 use Rattle.definitions.specs.Orbits.{Row}

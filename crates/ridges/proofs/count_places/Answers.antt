@@ -1,6 +1,5 @@
 use mathlib.Core.Path.{◌∙◌}
 use mathlib.Core.List.{[]}
-use mathlib.Core.Logic.{⊎_elim}
 use Prim.Native.Nat.{◌%◌, ◌<◌}
 use native.Mathlib.Omega.{arith}
 use lib.ListN.{length, get_or}
@@ -8,6 +7,7 @@ use Rattle.pool.specs.Pool.{closed_lists}
 use Rattle.shares.specs.Laying.{length_read, item_asks, item_read}
 use Rattle.ridges.proofs.Tables.{all_start, all_joins, all_stay, all_end}
 use Rattle.ridges.proofs.count_places.Goals as goal
+use Rattle.ridges.proofs.count_places.Goals.{else-ridge-ridges, then-ridge-ridges}
 
 pub loop-i-init : goal.loop-i-init
 loop-i-init c =
@@ -31,10 +31,8 @@ loop-i-preserved c =
     let v = c.item_u32-code.ensures ∙ item_read 4 1024 _ c.requires.0 c.args.x c.requires.1 l.i h in (
       l.invariant.0,
       omega arith,
-      ⊎_elim
-          (λ w. rw (w.2, w.3) (all_joins l.invariant.2 h c.item_u32-code.result v (omega (arith, c.item_u32-code.type_inv)) c.requires.2 w.0.taken))
-          (λ w. rw (w.1, w.2) (all_stay l.invariant.2 h c.item_u32-code.result v (omega (arith, c.item_u32-code.type_inv)) c.requires.2 w.0.left))
-          c.if-ridge-ridges.branch,
+      elim c.if-ridge-ridges.branch [ then-ridge-ridges w ↦ rw (w.places-is, w.last-is) (all_joins l.invariant.2 h c.item_u32-code.result v (omega (arith, c.item_u32-code.type_inv)) c.requires.2 w.if-ridge-ridges.true)
+    | else-ridge-ridges w ↦ rw (w.places-is, w.last-is) (all_stay l.invariant.2 h c.item_u32-code.result v (omega (arith, c.item_u32-code.type_inv)) c.requires.2 w.if-ridge-ridges.false) ],
     )
 
 pub returns : goal.returns

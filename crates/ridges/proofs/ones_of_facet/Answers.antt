@@ -2,13 +2,13 @@ use Rattle.shares.specs.Laying.{length_read, item_asks, item_read}
 use Rattle.ridges.proofs.Tables.{ones_start, ones_asks, ones_joins, ones_stays, ones_end}
 use mathlib.Core.Path.{refl, ◌∙◌}
 use mathlib.Core.List.{[]}
-use mathlib.Core.Logic.{⊎_elim}
 use Prim.Native.Nat.{◌<◌}
 use native.Mathlib.Omega.{arith}
 use lib.ListN.{length, get_or}
 use Rattle.pool.specs.Pool.{closed_lists}
 use Rattle.shares.specs.Areas.{area, area_kept}
 use Rattle.ridges.proofs.ones_of_facet.Goals as goal
+use Rattle.ridges.proofs.ones_of_facet.Goals.{else-ridge-code, then-ridge-code}
 
 pub loop-i-init : goal.loop-i-init
 loop-i-init c = (refl, c.list_length-n.ensures ∙ length_read 4 1024 _ c.requires.2 c.args.x c.requires.3, omega arith, ones_start _ _ _ c.requires.6)
@@ -30,10 +30,8 @@ loop-i-preserved c = let l = c.loop-i in
     let e = area_kept c.args.desk.ones c.args.desk.shares c.args.desk.touched c.args.ws.now l.ws l.invariant.3.front c.requires.0 c.requires.1 in
     let h : l.i < length (get_or (closed_lists 4 1024 (area c.args.desk.shares c.args.desk.touched c.args.ws.now)) c.args.x []) = omega (arith, l.invariant.1, c.loop-i-test.true) in
     let v = rw e at c.item_u32-code.ensures ∙ item_read 4 1024 _ c.requires.2 c.args.x c.requires.3 l.i h in
-    ⊎_elim
-    (λ w. let j = ones_joins c.args.ridge c.args.x _ c.requires.6 l.i l.invariant.3 h _ v w.0.taken c.requires.5 _ w.2.ensures in rw w.5 (j.long, l.invariant.1, omega arith, j))
-    (λ w. let j = ones_stays c.args.ridge c.args.x _ c.requires.6 l.i l.invariant.3 h _ v w.0.left in rw w.1 (j.long, l.invariant.1, omega arith, j))
-    c.if-ridge-code.branch
+    elim c.if-ridge-code.branch [ then-ridge-code w ↦ let j = ones_joins c.args.ridge c.args.x _ c.requires.6 l.i l.invariant.3 h _ v w.if-ridge-code.true c.requires.5 _ w.push_u16.ensures in rw w.ws-is (j.long, l.invariant.1, omega arith, j)
+    | else-ridge-code w ↦ let j = ones_stays c.args.ridge c.args.x _ c.requires.6 l.i l.invariant.3 h _ v w.if-ridge-code.false in rw w.ws-is (j.long, l.invariant.1, omega arith, j) ]
 
 pub returns : goal.returns
 returns c = let l = c.loop-i in ones_end c.args.ridge c.args.x _ c.requires.6 l.i l.invariant.3 (omega (arith, l.invariant.1, c.loop-i-test.false))

@@ -1,12 +1,12 @@
 use mathlib.Core.Path.{◌≡◌, refl}
 use mathlib.Core.List.{[]}
-use mathlib.Core.Logic.{⊎_elim}
 use native.Mathlib.Omega.{arith}
 use lib.ListN.{get_or}
 use Rattle.pool.specs.Pool.{closed_lists}
 use Rattle.shares.specs.Areas.{area, end_asks, joined_end}
 use Rattle.ridges.proofs.Tables.{none_counted_holds, counted_amount, touch_start, touch_asks, touch_joins, touch_stays}
 use Rattle.ridges.proofs.touch_facet.Goals as goal
+use Rattle.ridges.proofs.touch_facet.Goals.{else-added-gt0, then-added-gt0}
 
 pub count_places-requires : goal.count_places-requires
 count_places-requires c =
@@ -40,10 +40,8 @@ loop-ridge-preserved c =
     let l = c.loop-ridge in
     let codes = get_or (closed_lists 4 1024 (area c.args.desk.shares c.args.desk.touched c.args.ws.now)) c.args.x [] in
     let v = counted_amount c.count_places.ensures l.ridge c.loop-ridge-test.true _ c.amount-added.ensures in
-    ⊎_elim
-    (λ w. let j = touch_joins codes c.requires.4 l.ridge l.invariant.2 c.loop-ridge-test.true _ v w.0.taken c.requires.3 _ w.2.ensures in rw w.5 (j.long, omega arith, j))
-    (λ w. let j = touch_stays codes c.requires.4 l.ridge l.invariant.2 _ v w.0.left in rw w.1 (j.long, omega arith, j))
-    c.if-added-gt0.branch
+    elim c.if-added-gt0.branch [ then-added-gt0 w ↦ let j = touch_joins codes c.requires.4 l.ridge l.invariant.2 c.loop-ridge-test.true _ v w.if-added-gt0.true c.requires.3 _ w.push_u16.ensures in rw w.ws-is (j.long, omega arith, j)
+    | else-added-gt0 w ↦ let j = touch_stays codes c.requires.4 l.ridge l.invariant.2 _ v w.if-added-gt0.false in rw w.ws-is (j.long, omega arith, j) ]
 
 pub end_list-requires : goal.end_list-requires
 end_list-requires c =
