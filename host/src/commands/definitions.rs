@@ -73,8 +73,8 @@ struct Checked {
 
 fn check(scratch: &Path) -> Result<Checked, Failure> {
     let result = Process::new("rt")
-        .args(["check", "held"])
-        .current_dir(scratch)
+        .arg("check")
+        .current_dir(scratch.join("crates/held"))
         .output()
         .map_err(|error| format!("cannot run rt: {error}"))?;
     let both = [result.stdout, result.stderr].concat();

@@ -11,10 +11,9 @@ use crate::cases::sample::Sample;
 const TO_A_FILE: usize = 20;
 
 const HEAD: &str = "\
-use mathlib.Core.List.{List, [], _∷_}
-use lib.Dec.{T}
-use Rattle·definitions.specs.Open.{open-all}
-use Rattle·definitions.specs.Examples.{gives, refuses, open-examples, passes}
+use Rattle.std.specs.Prelude.{List, [], ◌∷◌, T}
+use Rattle.definitions.specs.Open.{open_all}
+use Rattle.definitions.specs.Examples.{gives, refuses, open_examples, passes}
 ";
 
 /// Writes the scratch repository: `definitions` as it stands, and `held`.
@@ -57,7 +56,7 @@ fn test((number, picked): (usize, &Sample)) -> String {
         "
 -- {}
 case-{number} : T (passes (record {{ job = {job}; workspace = {workspace}; room = {room}; expected = {expected} }}))
-unfolding open-all open-examples
+unfolding open_all open_examples
 case-{number} = tt
 ",
         picked.tag_line()

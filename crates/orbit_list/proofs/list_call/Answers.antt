@@ -1,0 +1,39 @@
+-- `list_call` meets what it calls: a job that passes has points, a plane and rows as the orbits ask, and no more orbits are found than the bound.
+use Rattle.std.proofs.Common.{arith, rules}
+use Rattle.orbit_list.proofs.Laws.{exact, own_fields, counts, call_fits, orbits_few}
+use Rattle.orbit_list.proofs.list_call.Goals as goal
+
+pub points_of-requires : goal.points_of-requires
+points_of-requires g c = (exact c.args.job.now c.args.fields c.requires.0, own_fields c.args.job.now c.args.fields c.requires.0)
+
+pub plane_of-requires : goal.plane_of-requires
+plane_of-requires g c = (exact c.args.job.now c.args.fields c.requires.0, own_fields c.args.job.now c.args.fields c.requires.0)
+
+pub load_rows-requires : goal.load_rows-requires
+load_rows-requires g c =
+    (exact c.args.job.now c.args.fields c.requires.0, own_fields c.args.job.now c.args.fields c.requires.0, omega (arith, (counts c.args.job.now c.args.fields c.requires.0).count_most))
+
+pub find_orbits-requires : goal.find_orbits-requires
+find_orbits-requires g c =
+    let p = c.points_of-points in
+    let f = c.flatten_all-flat in
+    let l = c.load_rows in
+    let k = counts c.args.job.now c.args.fields c.requires.0 in (
+      call_fits c.args.job.now c.args.fields c.requires.0 p.result f.result p.ensures.0.fits f.ensures.0.fits p.ensures.1 f.ensures.1 _ (omega (arith, k.count_most, l.ensures.rows.1)) l.ensures.rows.0,
+      omega arith,
+      search rules,
+    )
+
+pub list_found-requires : goal.list_found-requires
+list_found-requires g c =
+    let p = c.points_of-points in
+    let f = c.flatten_all-flat in
+    let l = c.load_rows in
+    let k = counts c.args.job.now c.args.fields c.requires.0 in
+    let few = orbits_few f.result.n c.in-Orbits.count 256 _ _ c.find_orbits.result c.in-Orbits.is c.find_orbits.ensures in (
+      f.ensures.0.fits,
+      omega arith,
+      (call_fits c.args.job.now c.args.fields c.requires.0 p.result f.result p.ensures.0.fits f.ensures.0.fits p.ensures.1 f.ensures.1 _ (omega (arith, k.count_most, l.ensures.rows.1)) l.ensures.rows.0).permute,
+      k.count_most,
+      omega (arith, few),
+    )
