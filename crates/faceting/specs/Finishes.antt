@@ -1,13 +1,12 @@
 -- How the loop of a call ends: at a refusal, which is the call's, or with every orbit's inner call made and kept, which is what its search begins with. What the search says is what the call says.
 -- Leans on State, Stocks, Answers and the steps of a call.
-use Rattle.std.specs.Prelude.{◌≡◌, refl, Bool, List, [], map, ℕ, suc, ◌+◌, ◌≤◌, ◌<◌, length, drop}
+use Rattle.std.specs.Prelude.{◌≡◌, refl, Bool, List, [], ℕ, suc, ◌+◌, ◌≤◌, ◌<◌, length, drop}
 use Rattle.std.proofs.Common.{ap, ◌∙◌, subst, arith}
 use Rattle.std.proofs.Math.Seq.{drop-length}
 use Rattle.definitions.specs.Outcome as result
 use Rattle.definitions.specs.Vectors.{Vec}
 use Rattle.definitions.specs.Subspace.{Subspace}
 use Rattle.definitions.specs.Orbits.{Row, Orbit}
-use Rattle.definitions.specs.Recursion.{InnerCalls}
 use Rattle.definitions.specs.Faceting.{Way, Prepared, prepare_with, faceting}
 use Rattle.openers.specs.Rows.{rows_in, RowsFit}
 use Rattle.shapes.specs.Answered.{TakesSome, preparation_with}

@@ -42,8 +42,6 @@ use Rattle.calls.specs.declared.Called.{Called}
 use Rattle.calls.specs.declared.Called.TheVariants.{Refused, Ends}
 use Rattle.kept_edges.specs.Edges.{edge_answer}
 use Rattle.faceting.specs.declared.Next.{Next}
-use Rattle.inner_answers.specs.declared.Stored.{Stored}
-use Rattle.inner_answers.specs.declared.Stored.TheVariants.{Kept as KeptStored}
 use Rattle.faceting.specs.Asked.{Asked}
 use Rattle.inner_answers.specs.Spaces.{Laid}
 use Rattle.call_search.specs.Stocks.{Stock, Stocked, call_rules}

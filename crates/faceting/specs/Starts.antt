@@ -1,15 +1,12 @@
 -- How the loop of a call starts: from what is kept of the orbits that are found, 13 or those in the front of the workspace, and from a cleared shelf. Leans on State, Says and Ways.
-use Rattle.std.specs.Prelude.{◌≡◌, refl, Bool, true, false, cond, List, [], map, ℕ, ◌+◌, ◌*◌, ◌≤◌, ◌<◌, T, eqb, ltb, length, take}
-use Rattle.std.proofs.Common.{sym, ap, ◌∙◌, subst, ⊎_elim, arith, ltb-false, le-ltb}
-use Rattle.std.proofs.lemmas.List.{length-map}
+use Rattle.std.specs.Prelude.{◌≡◌, refl, Bool, true, false, cond, List, [], map, ℕ, ◌*◌, ◌≤◌, eqb, length, take}
+use Rattle.std.proofs.Common.{sym, ap, ◌∙◌, subst, arith}
 use Rattle.definitions.specs.Lists.{Pair}
-use Rattle.definitions.specs.Outcome.{Outcome, refused, answered, refuse_if}
+use Rattle.definitions.specs.Outcome.{answered}
 use Rattle.definitions.specs.Orbits.{Orbit}
 use Rattle.definitions.specs.Faceting.{Way}
-use Rattle.laws.specs.Segments.{le_or_lt}
-use Rattle.laws.specs.Outcomes.{not_refused_if}
 use Rattle.orbits.specs.Numbers.{orbit_of}
-use Rattle.orbits.specs.Workspace.{orbits_in, orbits_length, orbits_front}
+use Rattle.orbits.specs.Workspace.{orbits_in, orbits_front}
 use Rattle.orbits.specs.Answers.{answer_in}
 use Rattle.orbits.specs.declared.Answer.{Answer}
 use Rattle.orbits.specs.declared.Answer.TheVariants.{Orbits, Refused as RefusedAnswer}

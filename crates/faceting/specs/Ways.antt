@@ -1,6 +1,6 @@
 -- The way of a call by what the code holds: plain, or by the package of a full set whose global numbers and rows are lent [17.8]. What is taken of the orbits that were found, and what 13 counts: all
 -- of them. Leans on the package in bytes and on the orbits' answer.
-use Rattle.std.specs.Prelude.{◌≡◌, Bool, List, [], map, ℕ, ◌≤◌, ◌<◌, ltb, length}
+use Rattle.std.specs.Prelude.{◌≡◌, Bool, List, map, ℕ, ◌≤◌, ◌<◌, ltb, length}
 use Rattle.std.proofs.Math.Path.{refl, sym, ap}
 use Rattle.std.proofs.Common.{◌∙◌, subst, ltb-false, le-ltb, lt-ltb}
 use Rattle.std.proofs.Math.Bool.{true, false, cond}
