@@ -11,9 +11,9 @@ use Rattle.definitions.specs.Vectors.{Vec, dot, has_root, norm, is_double, minus
 use Rattle.definitions.specs.Subspace.{Subspace, residual, from_points, flatten}
 use Rattle.definitions.specs.Orbits.{point_at}
 use Rattle.definitions.specs.Job.{least_tolerance}
-use Rattle.bounds.specs.Sizes.{Each, each_get_d, each_map, each_of_map, is_double_holds, Small, small_none, small_wider, Tame, minus_small, residual_small, flatten_small}
+use Rattle.bounds.specs.Sizes.{Each, each_get_d, each_map, each_of_map, is_double_holds, Small, small_none, Tame, flatten_small}
 use Rattle.bounds.specs.Norms.{norm_has_root, norm_finite}
-use Rattle.bounds.specs.Fits.{FitTakes, fit_tame, fit_takes_small}
+use Rattle.bounds.specs.Fits.{FitTakes, fit_tame}
 
 -- ---- the norms that a call takes
 
@@ -80,22 +80,6 @@ module _ (n k : ℕ) (plane : Subspace) (points : List Vec) (room : NormsFit n k
     unfolding through
     inner_bounded vertices = record { tame = fit_tame n (k + 2 + n) tolerance (omega arith) low (chosen plane points vertices) (chosen_small vertices); small = chosen_small vertices }
 
-    -- what the call takes norms of
-    pub takes_small : {v : Vec} → Takes tolerance plane points v → Small n (k + 6 + 3 * n) v
-    unfolding point_at
-    takes_small (in_length v w) =
-        let at : (u : ℕ) → Small n k (point_at points u) = λ u. each_get_d (Small n k) points u [] (small_none n k) h.small in
-        let length = minus (point_at points w) (point_at points v) in
-        small_wider length (omega arith) (minus_small (point_at points w) (point_at points v) (omega arith) (at w) (at v))
-    takes_small {v} (in_fit vertices t) =
-        small_wider v (omega arith) (fit_takes_small n (k + 2 + n) tolerance (omega arith) low (chosen plane points vertices) v (chosen_small vertices) t)
-    takes_small (in_distance vertices u) =
-        let s = through tolerance plane points vertices in
-        let p = point_at (flattened plane points) u in
-        small_wider (residual s p) (omega arith)
-        (residual_small n (k + 2 + n) s p (omega arith) (inner_bounded vertices).tame
-        (each_get_d (Small n (k + 2 + n)) (flattened plane points) u [] (small_none n (k + 2 + n)) flattened_small))
-
 -- ---- every call
 
 -- the root that the norm of v asks for has a value, and the norm is a finite double
@@ -110,19 +94,3 @@ small_rooted n k v room a = record { root = norm_has_root n k v room a; double =
 unfoldable pub bound_at : ℕ → ℕ → ℕ → ℕ
 bound_at n k zero = k
 bound_at n k (suc depth) = bound_at n k depth + 2 + n
-
-module _ (n k : ℕ) (tolerance : Float) (low : T (le least_tolerance tolerance)) (top : ℕ) (outer : Subspace) (given : List Vec) (h : Bounded n k outer given) where
-  pub occurs_bounded : {depth more : ℕ} {plane : Subspace} {points : List Vec} → NormsFit n (bound_at n k depth) → Occurs tolerance top outer given depth more plane points
-      → Bounded n (bound_at n k depth) plane points
-  unfolding bound_at
-  occurs_bounded room outermost = h
-  occurs_bounded {depth} room (inner {depth = before} {plane = plane} {points = points} c vertices e) =
-      let r : NormsFit n (bound_at n k before) = omega arith in
-      inner_bounded n (bound_at n k before) plane points r (occurs_bounded r c) tolerance low vertices
-
-  -- no norm asks for a root that has no value, and every norm is a finite double
-  pub every_norm_has_its_root : {depth more : ℕ} {plane : Subspace} {points : List Vec} {v : Vec} → NormsFit n (bound_at n k depth)
-      → Occurs tolerance top outer given depth more plane points → Takes tolerance plane points v → Rooted v
-  every_norm_has_its_root {depth} {plane = plane} {points = points} {v = v} room c t =
-      let bound = bound_at n k depth in
-      small_rooted n (bound + 6 + 3 * n) v (omega arith) (takes_small n bound plane points room (occurs_bounded room c) tolerance low t)

@@ -1,6 +1,6 @@
 -- No root is refused inside a job. A job's numbers are doubles, its points' and offset's at most 2 ^ 16 in size and its basis' at most 1, so that Calls' theorem holds for every call of it:
 -- for every rank and every tolerance from 1e-9 on, where a point has at most 5 coordinates; and so for every job that passes its own refusals. Leans on Calls and on `of_bits-fits`.
-use Rattle.std.specs.Prelude.{◌≡◌, refl, Bool, true, ◌&&◌, List, [], ◌∷◌, ℕ, zero, suc, ◌+◌, ◌-◌, ◌*◌, ◌^◌, ◌≤◌, T, leb, length, Float}
+use Rattle.std.specs.Prelude.{◌≡◌, refl, Bool, ◌&&◌, List, [], ◌∷◌, ℕ, zero, suc, ◌+◌, ◌-◌, ◌*◌, ◌^◌, ◌≤◌, T, leb, length, Float}
 use Rattle.std.proofs.Common.{ap, ◌∙◌, zero-le, arith, leb→le}
 use Rattle.std.proofs.lemmas.List.{length-map}
 use Rattle.std.specs.Float.{nan, inf, fin, binary64}
@@ -10,11 +10,11 @@ use Rattle.std.specs.Float.Ieee.Fits.{and_l, and_r}
 use Rattle.laws.specs.Floats.{AtMostPower, not_above}
 use Rattle.laws.specs.Refusals.{AllPassed, passes_at, passed}
 use Rattle.definitions.specs.Lists.{all_of, count_from}
-use Rattle.definitions.specs.Vectors.{Vec, dot, has_root}
+use Rattle.definitions.specs.Vectors.{Vec}
 use Rattle.definitions.specs.Subspace.{Subspace}
 use Rattle.definitions.specs.Job.{Bytes, Job, float_at, floats_at, vectors_at, read_job, between, within, all_within, limit_good, floats_good, is_finite, tolerance_good, header_tests, value_tests, job_tests, least_tolerance, greatest_tolerance, plane_of}
 use Rattle.bounds.specs.Sizes.{Each, IsDouble, is_double_holds, each_of_map, each_so, each_both, Double, Small, small_wider}
-use Rattle.bounds.specs.Calls.{Takes, Occurs, depth_and_rank, Bounded, Rooted, NormsFit, bound_at, flattened, flattened_small, occurs_bounded, every_norm_has_its_root}
+use Rattle.bounds.specs.Calls.{Bounded, NormsFit, bound_at, flattened, flattened_small}
 
 -- ---- tests over lists
 
@@ -140,28 +140,6 @@ bounded_doubles n k plane points room h = record {
   flat = each_so (Small n (k + 2 + n)) (Each IsDouble) (small_doubles n (k + 2 + n)) (flattened plane points) (flattened_small n k plane points room h);
 }
 
-module _ (job : Job) (w : Whole job) (h : Admitted 5 job) (tolerance : Float) (low : T (le least_tolerance tolerance)) where
-  call_room : {depth more : ℕ} {plane : Subspace} {points : List Vec} → Occurs tolerance (job.rank - 2) (plane_of job) job.points depth more plane points → NormsFit 5 (bound_at 5 16 depth)
-  call_room {depth} c =
-      let e = depth_and_rank c in
-      let a = h.enough in
-      let b = h.few in
-      room_at depth (omega arith)
-
-  call_bounded : {depth more : ℕ} {plane : Subspace} {points : List Vec} → Occurs tolerance (job.rank - 2) (plane_of job) job.points depth more plane points
-      → Bounded 5 (bound_at 5 16 depth) plane points
-  call_bounded c = occurs_bounded 5 16 tolerance low (job.rank - 2) (plane_of job) job.points (job_bounded 5 job w h) (call_room c) c
-
-  -- For any rank, any tolerance from 1e-9 on and points of at most 5 coordinates: whatever norm a call of the job takes, its root has a value, and the norm is a finite double.
-  pub job_asks_for_roots_that_exist : {depth more : ℕ} {plane : Subspace} {points : List Vec} {v : Vec}
-      → Occurs tolerance (job.rank - 2) (plane_of job) job.points depth more plane points → Takes tolerance plane points v → Rooted v
-  job_asks_for_roots_that_exist c t = every_norm_has_its_root 5 16 tolerance low (job.rank - 2) (plane_of job) job.points (job_bounded 5 job w h) (call_room c) c t
-
-  -- And every number that it is given or flattens is a finite double.
-  pub job_handles_doubles : {depth more : ℕ} {plane : Subspace} {points : List Vec} → Occurs tolerance (job.rank - 2) (plane_of job) job.points depth more plane points
-      → AllDoubles plane points
-  job_handles_doubles {depth} {plane = plane} {points = points} c = bounded_doubles 5 (bound_at 5 16 depth) plane points (call_room c) (call_bounded c)
-
 -- ---- a job that passes its tests
 
 pub passed_is_admitted : (bytes : Bytes) → AllPassed (job_tests bytes) → Admitted 5 (read_job bytes)
@@ -178,10 +156,3 @@ unfolding passes_at job_tests header_tests value_tests tolerance_good
 tolerance_high_enough bytes h =
     let tolerance = (read_job bytes).tolerance in
     and_l (le least_tolerance tolerance) (le tolerance greatest_tolerance) (passed 22 (job_tests bytes) h)
-
--- A double that is negative, infinite or no number has no root [3.2]: no job that passes its own refusals ever asks for it, at whatever tolerance it names.
-pub no_root_is_refused : (bytes : Bytes) → AllPassed (job_tests bytes)
-    → {depth more : ℕ} {plane : Subspace} {points : List Vec} {v : Vec}
-    → Occurs (read_job bytes).tolerance ((read_job bytes).rank - 2) (plane_of (read_job bytes)) (read_job bytes).points depth more plane points → Takes (read_job bytes).tolerance plane points v
-    → has_root (dot v v) ≡ true
-no_root_is_refused bytes t c k = (job_asks_for_roots_that_exist (read_job bytes) (job_whole bytes) (passed_is_admitted bytes t) (read_job bytes).tolerance (tolerance_high_enough bytes t) c k).root

@@ -9,8 +9,10 @@ use Rattle.std.proofs.lemmas.List.{length-map}
 use Rattle.std.specs.Float.{nan, inf, fin, binary64}
 use Rattle.std.specs.Float.Ieee.{up, down, of_bits, add, mul, div, lt, le, fits}
 use Rattle.std.specs.Float.Ieee.Fits.{down_pos}
-use Rattle.laws.specs.Floats.{wider, add_sized, mul_sized}
-use Rattle.laws.specs.LowerBounds.{Plus, AtLeast, Reaches, NotBeyond, add_plus, square_plus, square_at_least, add_at_least_left, add_at_least_right, below_at_least, div_sized, power_below, below_twice}
+use Rattle.laws.specs.Floats.{wider}
+use Rattle.laws.proofs.Sums.{add_sized, mul_sized}
+use Rattle.laws.specs.LowerBounds.{Plus, AtLeast, Reaches, NotBeyond, add_plus, square_plus, square_at_least, add_at_least_left, add_at_least_right, below_at_least, power_below, below_twice}
+use Rattle.laws.proofs.LowerBounds.{div_sized}
 use Rattle.definitions.specs.Vectors.{Vec, zero64, dot_from, dot, value_of, square_root, has_root, norm, normalised}
 use Rattle.definitions.specs.Job.{least_tolerance}
 use Rattle.bounds.specs.Sizes.{Each, each_map, each_both, Double, Small, zero_small}

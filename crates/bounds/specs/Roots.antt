@@ -6,7 +6,8 @@ use Rattle.std.proofs.Math.Dec.{nleb→lt}
 use Rattle.std.specs.Float.{nan, inf, fin, binary64}
 use Rattle.std.specs.Float.Ieee.{fits, up, down}
 use Rattle.std.specs.Float.Ieee.Fits.{down_pos}
-use Rattle.laws.specs.Floats.{round_sized, held_digits, held_exponent}
+use Rattle.laws.specs.Floats.{held_digits, held_exponent}
+use Rattle.laws.proofs.Rounding.{round_sized}
 use Rattle.laws.specs.LowerBounds.{Plus, AtLeast, round_at_least}
 use Rattle.definitions.specs.Vectors.{whole_root, twice_root, root_times, square_root, value_of, has_root}
 use Rattle.bounds.specs.Sizes.{Double}

@@ -5,7 +5,9 @@ use Rattle.std.specs.Prelude.{List, [], ◌∷◌, ◌++◌, map, ℕ, zero, suc
 use Rattle.std.proofs.lemmas.List.{length-map}
 use Rattle.std.specs.Float.{nan, inf, fin, binary64}
 use Rattle.std.specs.Float.Ieee.{of_bits, add, mul, fits}
-use Rattle.laws.specs.Floats.{AtMostPower, Sized, wider, add_sized, sub_sized, mul_sized}
+use Rattle.laws.specs.Floats.{AtMostPower, Sized, wider}
+use Rattle.laws.proofs.Differences.{sub_sized}
+use Rattle.laws.proofs.Sums.{add_sized, mul_sized}
 use Rattle.definitions.specs.Vectors.{Vec, zero64, is_double, dot_from, dot, minus, plus_times}
 use Rattle.definitions.specs.Subspace.{Subspace, gains, project, residual, flatten}
 

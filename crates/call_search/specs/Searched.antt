@@ -25,8 +25,8 @@ use Rattle.search.specs.Outcomes.{search_limit, entry_limits_of, search_outcome,
 use Rattle.shapes.specs.Answered.{Preparation}
 use Rattle.shapes.specs.Emitted.{found_apart}
 use Rattle.shapes.specs.Kept.{Kept, kept_table, kept_answer}
-use Rattle.shapes.specs.KeptTable.{kept_table_holds}
-use Rattle.shapes.specs.KeptAnswer.{kept_finish}
+use Rattle.shapes.proofs.KeptAnswer.{kept_finish}
+use Rattle.shapes.proofs.KeptTable.{kept_table_holds}
 use Rattle.shelf.specs.declared.Shelf.{Shelf}
 use Rattle.shelf.specs.declared.Level.{Level}
 use Rattle.shelf.specs.Keeps.{Keeps, facets_of}

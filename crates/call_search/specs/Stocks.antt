@@ -17,8 +17,10 @@ use Rattle.search.specs.Outcomes.{search_limit}
 use Rattle.shapes.specs.Answered.{Preparation}
 use Rattle.shapes.specs.Calls.{Given}
 use Rattle.shapes.specs.Kept.{Kept, kept_of, numbers_kept}
-use Rattle.shapes.specs.KeptSizes.{KeptSized, kept_sized, kept_edge, few_orbits_three}
-use Rattle.shapes.specs.KeptRidges.{RidgesKept, ridges_kept, rank_three_ridges}
+use Rattle.shapes.specs.KeptSizes.{KeptSized, kept_edge}
+use Rattle.shapes.proofs.KeptSizes.{kept_sized, few_orbits_three}
+use Rattle.shapes.specs.KeptRidges.{RidgesKept, rank_three_ridges}
+use Rattle.shapes.proofs.RidgesKept.{ridges_kept}
 use Rattle.shelf.specs.declared.Shelf.{Shelf}
 use Rattle.shelf.specs.Keeps.{Keeps, Ridges}
 use Rattle.calls.specs.declared.Rules.{Rules}

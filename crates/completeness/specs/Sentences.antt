@@ -3,10 +3,10 @@
 use Rattle.std.specs.Prelude.{◌≡◌, refl, Bool, not, List, [], ◌∷◌, ◌++◌, map, T, length, get_or, take, drop}
 use Rattle.std.proofs.Common.{sym, ◌∙◌, subst, arith, T_not}
 use Rattle.std.proofs.Math.Option.{none}
-use Prim.Native.Nat.{ℕ, suc, ◌<◌, Ordering}
+use Prim.Native.Nat.{ℕ, suc, Ordering}
 use Rattle.std.proofs.Math.Dec.{compare_is_eq}
 use Rattle.std.proofs.lemmas.List.{length-map}
-use Rattle.definitions.specs.Lists.{any_of, all_of, count_from}
+use Rattle.definitions.specs.Lists.{any_of}
 use Rattle.definitions.specs.Outcome.{Outcome}
 use Rattle.definitions.specs.Search.{Facet}
 use Rattle.definitions.specs.Recursion.{Entry}
@@ -16,11 +16,11 @@ use Rattle.definitions.specs.Demands.{CallComplete, choice_of, choices_of, equal
 use Rattle.definitions.specs.RuledOut.{same_entries, square_bytes, square_entries, open_square, other_figure, closed_in_order, sensible}
 use Rattle.definitions.proofs.RuledOut.{only_these, square_accepted, square_sensible}
 use Rattle.laws.specs.Bools.{first}
-use Rattle.laws.specs.Lists.{Mem, any_of_holds, all_of_holds, member_at, in_count}
+use Rattle.laws.specs.Lists.{Mem, any_of_holds, member_at}
 use Rattle.laws.specs.Orders.{nat_lists}
 use Rattle.laws.specs.Sorting.{perm_length}
 use Rattle.completeness.specs.Jobs.{accepted_answers}
-use Rattle.completeness.specs.Determined.{EveryEntry, EveryChoice, OneToOne, none_missing, same_choices}
+use Rattle.completeness.specs.Determined.{EveryEntry, OneToOne, none_missing, same_choices}
 
 -- ---- the square's call
 
@@ -31,10 +31,10 @@ square_call =
     let done = r.2.holds square_accepted tt in
     subst (CallComplete (read_job square_bytes)) (only_these (read_job square_bytes) r.0.entries done) done
 
-abbrev p : Prepared
+abbrev pub p : Prepared
 p = square_call.before
 
-square_equal : T (equal_shares (table_for p))
+pub square_equal : T (equal_shares (table_for p))
 unfolding sensible
 square_equal =
     let lists = map (λ (e : Entry). e.before) square_entries in
@@ -44,7 +44,7 @@ no_limit : (read_job square_bytes).entry_limit ≡ none
 unfolding open_square
 no_limit = refl
 
-seven_entries : length square_entries ≡ 7
+pub seven_entries : length square_entries ≡ 7
 unfolding open_square
 seven_entries = refl
 
@@ -53,7 +53,7 @@ seven_entries = refl
 unfoldable pub among_them : Entry → List Entry → Bool
 among_them e = any_of (λ (x : Entry). same_entries (e ∷ []) (x ∷ []))
 
-among_them_holds : (e : Entry) (l : List Entry) → Mem e l → T (among_them e l)
+pub among_them_holds : (e : Entry) (l : List Entry) → Mem e l → T (among_them e l)
 unfolding among_them same_entries
 among_them_holds e l m =
     any_of_holds (λ (x : Entry). same_entries (e ∷ []) (x ∷ [])) e l m (subst (λ (o : Ordering). T (compare_is_eq o)) (sym (nat_lists.self (counted entry_words (e ∷ [])))) tt)
@@ -66,19 +66,6 @@ left_out k = take k square_entries ++ drop (suc k) square_entries
 
 unfoldable pub no_entry : Entry
 no_entry = record { list = []; before = []; figure = [] }
-
-each_missed : T (all_of (λ (k : ℕ). not (among_them (get_or square_entries k no_entry) (left_out k))) (count_from 0 7))
-unfolding open_square among_them left_out no_entry
-each_missed = tt
-
--- refuses the list, whichever of the seven is missing
-pub none_left_out : (k : ℕ) → k < 7 → EveryChoice p (left_out k) → ⊥
-none_left_out k h all =
-    let e = get_or square_entries k no_entry in
-    let seven = seven_entries in
-    let still : Mem e (left_out k) = none_missing p square_equal square_entries (left_out k) square_call.complete.every_entry all e (member_at square_entries k no_entry (omega arith)) in
-    T_not (among_them e (left_out k)) (all_of_holds (λ (i : ℕ). not (among_them (get_or square_entries i no_entry) (left_out i))) (count_from 0 7) each_missed k (in_count 0 7 k (omega arith) (omega arith)))
-    (among_them_holds e (left_out k) still)
 
 -- ---- the records' own choices are all closed choices, once each
 

@@ -18,11 +18,12 @@ use Rattle.laws.specs.Ascending.{ascends_distinct}
 use Rattle.laws.specs.Ranges.{distinct_below}
 use Rattle.shapes.specs.Answered.{facet_number, facet_sum, Preparation, answered_call, made_few}
 use Rattle.shapes.specs.Calls.{inner_set}
-use Rattle.shapes.specs.CallOrbits.{call_orbits_most}
+use Rattle.shapes.proofs.CallOrbits.{call_orbits_most}
 use Rattle.shapes.specs.Emitted.{entry_of_list}
 use Rattle.shapes.specs.LowRanks.{rank_two}
-use Rattle.shapes.specs.Sizes.{split_length}
-use Rattle.shapes.specs.SplitCalls.{lists_of, split_answer}
+use Rattle.shapes.proofs.Sizes.{split_length}
+use Rattle.shapes.specs.SplitCalls.{lists_of}
+use Rattle.shapes.proofs.SplitCalls.{split_answer}
 use Rattle.shapes.specs.Kept.{Kept, kept_of}
 use Rattle.entries.specs.Parts.{Splittable, inner_splittable}
 

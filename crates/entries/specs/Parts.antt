@@ -25,7 +25,7 @@ use Rattle.splitting.specs.Splitting.{split_nats, split_list}
 use Rattle.splitting.specs.Parts.{Of, Matches, within, queue_numbered, lists_numbered, split_nats_below}
 use Rattle.shapes.specs.Compounds.{Composed, components_of_holds}
 use Rattle.shapes.specs.LowRanks.{nothing_to_split}
-use Rattle.shapes.specs.Splitting.{parts_stable, parts_distinct}
+use Rattle.shapes.proofs.Splitting.{parts_stable, parts_distinct}
 use Rattle.shapes.specs.SplitCalls.{SplitAnswer, lists_of}
 use Rattle.shapes.specs.Kept.{Kept, kept_of, kept_at, kept_parts}
 use Rattle.shelf.specs.Keeps.{facets_in, raised, labels_from}

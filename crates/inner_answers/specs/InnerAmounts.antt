@@ -23,8 +23,9 @@ use Rattle.shapes.specs.Polygons.{ends_via, edge_pairs, polygon_raised, polygon_
 use Rattle.shapes.specs.Sizes.{edges_few}
 use Rattle.shapes.specs.FewOrbits.{pairs_few}
 use Rattle.shapes.specs.LowRanks.{RankTwo, rank_two, few_entries_holds}
-use Rattle.shapes.specs.EntryFigures.{entry_polygon}
-use Rattle.shapes.specs.KeptSizes.{answer_sized, few_counts, two_few}
+use Rattle.shapes.proofs.EntryFigures.{entry_polygon}
+use Rattle.shapes.specs.KeptSizes.{two_few}
+use Rattle.shapes.proofs.KeptSizes.{answer_sized, few_counts}
 use Rattle.shapes.specs.Kept.{kept_of}
 use Rattle.shelf.specs.Keeps.{ridge_code, ridge_codes}
 use Rattle.keep.specs.Rooms.{kept_evenly}

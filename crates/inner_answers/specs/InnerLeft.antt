@@ -20,8 +20,9 @@ use Rattle.shapes.specs.Calls.{Given}
 use Rattle.shapes.specs.EdgeSets.{Proper}
 use Rattle.shapes.specs.LowRanks.{edge_of}
 use Rattle.shapes.specs.Kept.{Kept, kept_of}
-use Rattle.shapes.specs.KeptSizes.{kept_edge, kept_sized}
-use Rattle.shapes.specs.SplitCalls.{split_answer}
+use Rattle.shapes.specs.KeptSizes.{kept_edge}
+use Rattle.shapes.proofs.SplitCalls.{split_answer}
+use Rattle.shapes.proofs.KeptSizes.{kept_sized}
 use Rattle.labels.specs.Labels.{labels_in}
 use Rattle.openers.specs.Rows.{rows_in, RowsFit}
 use Rattle.shelf.specs.Leaves.{Leaves, answer_left, entry_left, both_left, both_length}

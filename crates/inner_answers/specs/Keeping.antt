@@ -19,7 +19,7 @@ use Rattle.openers.specs.Rows.{rows_in}
 use Rattle.shapes.specs.Answered.{Preparation, plain_takes, preparation_with}
 use Rattle.shapes.specs.Calls.{Given}
 use Rattle.shapes.specs.Kept.{Kept, kept_of}
-use Rattle.shapes.specs.KeptSizes.{few_counts}
+use Rattle.shapes.proofs.KeptSizes.{few_counts}
 use Rattle.shelf.specs.Keeps.{Keeps, Ridges, joined}
 use Rattle.shelf.specs.Leaves.{Leaves, answer_left, entry_left, lists_left, both_left, both_length}
 use Rattle.shelf.specs.declared.Shelf.{Shelf}

@@ -10,7 +10,7 @@ use Rattle.shapes.specs.Answered.{TakesSome}
 use Rattle.laws.specs.Sets.{vertices_of}
 use Rattle.orbits.specs.Numbers.{orbit_of}
 use Rattle.shapes.specs.FewOrbits.{pairs_few}
-use Rattle.shapes.specs.CallOrbits.{call_orbits_few}
+use Rattle.shapes.proofs.CallOrbits.{call_orbits_few}
 use Rattle.shapes.specs.Kept.{Kept, kept_of}
 use Rattle.shelf.specs.Keeps.{Keeps, Ridges}
 use Rattle.shelf.specs.declared.Shelf.{Shelf}

@@ -12,7 +12,8 @@ use Rattle.openers.specs.Rows.{rows_in, RowsFit}
 use Rattle.shapes.specs.Answered.{TakesSome, preparation_with}
 use Rattle.shapes.specs.Calls.{Given}
 use Rattle.shapes.specs.Kept.{Kept, kept_of}
-use Rattle.shapes.specs.KeptSizes.{KeptSized, kept_sized}
+use Rattle.shapes.specs.KeptSizes.{KeptSized}
+use Rattle.shapes.proofs.KeptSizes.{kept_sized}
 use Rattle.laws.specs.Lists.{Mem}
 use Rattle.shelf.specs.Keeps.{edges_part}
 use Rattle.shelf.specs.Leaves.{Leaves, answer_left}

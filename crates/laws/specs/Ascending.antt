@@ -62,16 +62,10 @@ module _ {A : Type 0} (c : A → A → Ordering) (order : Linear c) where
 
   -- ---- sorting
 
-  insert_first : (x : A) (l : List A) → ((y : A) → Mem y l → c x y ≡ Ordering.lt) → insert_by c x l ≡ x ∷ l
+  pub insert_first : (x : A) (l : List A) → ((y : A) → Mem y l → c x y ≡ Ordering.lt) → insert_by c x l ≡ x ∷ l
   unfolding insert_by is_gt
   insert_first x [] h = refl
   insert_first x (y ∷ l) h = ap (λ (o : Ordering). cond (is_gt o) (y ∷ insert_by c x l) (x ∷ y ∷ l)) (h y (here refl))
-
-  -- what ascends is sorted already
-  pub sort_ascending : (l : List A) → Ascends c l → sort_by c l ≡ l
-  unfolding sort_by
-  sort_ascending [] h = refl
-  sort_ascending (x ∷ l) h = ap (insert_by c x) (sort_ascending l h.1) ∙ insert_first x l h.0
 
   insert_distinct : (x : A) (l : List A) → Ascends c l → ((y : A) → Mem y l → Differ x y) → Ascends c (insert_by c x l)
   unfolding insert_by is_gt

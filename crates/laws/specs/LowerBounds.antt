@@ -1,17 +1,17 @@
 -- How small a float is at least, in units of the format's smallest value. `Reaches f i x`: x is finite and at least 2 ^ i units in size. `AtLeast f i x`: it has the sign + too.
 -- Rounding keeps the bound, so the square of a value that reaches 2 ^ j has one, and a sum of values with the sign + is at least as large as each.
 -- `NotBeyond k x y`: x is at most 2 ^ k times y in size; then the quotient x / y is at most 2 ^ k. Leans on Floats.
-use Rattle.std.specs.Prelude.{◌≡◌, Bool, true, false, cond, ℕ, zero, suc, ◌+◌, ◌*◌, ◌/◌, ◌^◌, ◌≤◌, ◌<◌, T, eqb, ℤ, Float}
+use Rattle.std.specs.Prelude.{◌≡◌, Bool, true, false, ℕ, zero, suc, ◌+◌, ◌*◌, ◌/◌, ◌^◌, ◌≤◌, ◌<◌, T, eqb, ℤ, Float}
 use Rattle.std.proofs.Common.{sym, ap, ◌∙◌, subst, true≢false, le_trans, le_of_eq, mul-le-mul, mul-le-mul_right, mul-pos, mul_comm, le_of_mul-le-mul_right, le-div_iff_mul-le, div-lt_iff_lt-mul, pow-suc, arith, ltb→lt, eqb→eq, pow_pos, pow-add}
 use Rattle.std.proofs.Math.Pow.{pow-lt}
 use Rattle.std.specs.Float.{nan, inf, fin, Format}
-use Rattle.std.specs.Float.Ieee.{prec, emax, low, up, down, unlike, size, round, sum, add, mul, div, lt, le}
+use Rattle.std.specs.Float.Ieee.{prec, emax, low, up, down, unlike, size, round, sum, add, mul, lt, le}
 use Rattle.std.specs.Float.Ieee.Digits.{size-lt, size_reaches}
 use Rattle.std.specs.Float.Ieee.Fits.{down_pos, two, two-le_pos, and_r}
 use Rattle.std.specs.Float.Ieee.Exact.{HasValue, round_exact}
 use Rattle.std.specs.Float.Ieee.Order.{round_mono}
 use Rattle.std.specs.Float.Ieee.Positive.{through}
-use Rattle.laws.specs.Floats.{AtMostPower, Sized, Upright, round_upright, round_sized, not_above, one_below_power}
+use Rattle.laws.specs.Floats.{AtMostPower, Upright, round_upright, not_above, one_below_power}
 
 -- finite, with the sign +
 abbrev pub Plus : Float → Type 0
@@ -148,7 +148,7 @@ square_at_least f i j k (fin s m d) I e h w = go s w
 
 -- ---- what a comparison says
 
-not_zero : (b p a l q : ℕ) → 0 < b → 0 < p → 0 < q → b * p ≤ a * l → a * q ≡ 0 → ⊥
+pub not_zero : (b p a l q : ℕ) → 0 < b → 0 < p → 0 < q → b * p ≤ a * l → a * q ≡ 0 → ⊥
 not_zero b p a l q B P Q h e = let r = mul-pos (mul-pos B P) Q in let s = mul-le-mul_right q h in let g = ap (λ (z : ℕ). z * l) e in omega arith
 
 -- x at least 2 ^ i units, x ≤ y, and y < z: so is z
@@ -182,26 +182,6 @@ NotBeyond k (inf s) y = ⊥
 NotBeyond k (fin s m e) nan = ⊥
 NotBeyond k (fin s m e) (inf t) = ⊥
 NotBeyond k (fin s m e) (fin t n d) = m * up e * down d ≤ 2 ^ k * (n * up d * down e)
-
--- a denominator above zero
-below_line : (b p n u l q : ℕ) → 0 < b → 0 < p → b * p ≤ n * u * l → 0 < q → 0 < n * u * q
-below_line b p zero u l q B P h Q = let r = mul-pos B P in omega arith
-below_line b p (suc n) zero l q B P h Q = let r = mul-pos B P in omega arith
-below_line b p (suc n) (suc u) l q B P h Q = mul-pos (mul-pos {m = suc n} (omega arith) (omega arith)) Q
-
-pub div_sized : (f : Format) (i k : ℕ) (x y : Float) → k ≤ emax f → AtLeast f i y → NotBeyond k x y → Sized f k (div f x y)
-unfolding div
-div_sized f i k nan y K h b = absurd b
-div_sized f i k (inf s) y K h b = absurd b
-div_sized f i k (fin s m e) nan K h b = absurd b
-div_sized f i k (fin s m e) (inf t) K h b = absurd b
-div_sized f i k (fin s m e) (fin true n d) K h b = absurd h
-div_sized f i k (fin s m e) (fin false n d) K h b = go (eqb n 0) (eqb→eq n 0)
-  where
-    go : (z : Bool) → (T z → n ≡ 0) → Sized f k (cond z (cond (eqb m 0) nan (inf (unlike s false))) (round f (unlike s false) (m * up e * down d) (n * up d * down e)))
-    go true zer = absurd (not_zero (2 ^ i) (down d) n (up d * 2 ^ low f) 1 (pow_pos i) (down_pos d) (pow_pos 0) (let g = h in omega arith) (let g = zer tt in omega arith))
-    go false zer =
-        round_sized f (unlike s false) (m * up e * down d) (n * up d * down e) k (below_line (2 ^ i) (down d) n (up d) (2 ^ low f) (down e) (pow_pos i) (down_pos d) h (down_pos e)) K b
 
 -- ---- the power of two below a value
 

@@ -13,8 +13,8 @@ use Rattle.definitions.specs.Lists.{sort_nats, count_from, keep, any_of, fresh}
 use Rattle.laws.specs.Lists.{Mem, here, there, in_map, of_map, in_flat_map, of_flat_map, member_at, of_count, in_count, count_length, in_keep, kept}
 use Rattle.laws.specs.Pairs.{Pairs, count_ascends, pairs_keep}
 use Rattle.laws.specs.Orders.{Linear, nats, compare_lt, lt_compare}
-use Rattle.laws.specs.Sorting.{pairs_perm, sort_perm, in_sorted, of_sorted}
-use Rattle.laws.specs.Ascending.{Differ, Distinct, Ascends, SameItems, ascends_distinct, sorted_ascends, sorted_length, same_ascending, in_order, in_order_ascends, in_in_order, of_in_order, seen_among, seen_member, member_seen}
+use Rattle.laws.specs.Sorting.{pairs_perm, sort_perm, in_sorted}
+use Rattle.laws.specs.Ascending.{Differ, Distinct, Ascends, SameItems, ascends_distinct, sorted_length, same_ascending, in_order, in_order_ascends, in_in_order, of_in_order, seen_among, seen_member, member_seen}
 use Rattle.laws.specs.Places.{place_in, place_at_holds, map_self}
 
 -- ---- the same items
@@ -50,21 +50,6 @@ ascending_span low high (x ∷ l) h a r =
     let q = here_in.1 in
     let k = ascending_span (suc x) high l q a.1 (λ y i. let s = compare_lt x y (a.0 y i) in let t = (r y (there i)).1 in (s, t)) in
     omega arith
-
--- as many as the range has numbers: all of them
-pub ascending_full : (a n : ℕ) (l : List ℕ) → Ascends compare l → ((x : ℕ) → Mem x l → (a ≤ x) × (x < a + n)) → length l ≡ n → l ≡ count_from a n
-unfolding count_from
-ascending_full a zero [] h r e = refl
-ascending_full a zero (x ∷ l) h r e = absurd (omega arith)
-ascending_full a (suc n) [] h r e = absurd (omega arith)
-ascending_full a (suc n) (x ∷ l) h r e =
-    let p = (r x (here refl)).0 in
-    let q = (r x (here refl)).1 in
-    let above : (y : ℕ) → Mem y l → (suc x ≤ y) × (y < a + suc n) = λ y i. (compare_lt x y (h.0 y i), (r y (there i)).1) in
-    let k = ascending_span (suc x) (a + suc n) l q h.1 above in
-    let first : x ≡ a = omega arith in
-    let rest = ascending_full (suc a) n l h.1 (λ y i. let s = (above y i).0 in let t = (above y i).1 in (omega arith, omega arith)) (omega arith) in
-    λ t. first t ∷ rest t
 
 -- what is said of the items at all places, in turn, is said of the items
 module _ {B : Type 0} where
@@ -120,13 +105,6 @@ module _ (n : ℕ) (row : List ℕ) where
 
     pub permutes_apart : (v w : ℕ) → v < n → w < n → get_or row v 0 ≡ get_or row w 0 → v ≡ w
     permutes_apart v w h k e = let l = permutes_length in places_apart row permutes_distinct v w 0 (omega arith) (omega arith) e
-
-  pub permutes_of : Distinct row → ((x : ℕ) → Mem x row → x < n) → length row ≡ n → Permutes n row
-  unfolding sort_nats
-  permutes_of d h e = record {
-    sorted = ascending_full 0 n (sort_nats row) (sorted_ascends compare nats row d)
-        (λ x i. let k = h x (of_sorted compare x row i) in (omega arith, omega arith)) (sorted_length compare nats row ∙ e);
-  }
 
 -- ---- how many items there can be
 

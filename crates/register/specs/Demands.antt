@@ -15,8 +15,9 @@ use Rattle.completeness.specs.Jobs.{demand_1, demand_2, demand_3}
 use Rattle.completeness.specs.Refusals.{CodeSays, code_says}
 use Rattle.shapes.specs.Answered.{answers_equal}
 use Rattle.shapes.specs.Jobs.{RowsPassed, rows_passed}
-use Rattle.shapes.specs.Symmetry.{job_symmetric}
-use Rattle.shapes.specs.JobWords.{AreBytes, rank_passed, job_words, budget_below}
+use Rattle.shapes.proofs.Symmetry.{job_symmetric}
+use Rattle.shapes.specs.JobWords.{AreBytes, rank_passed, budget_below}
+use Rattle.shapes.proofs.JobWords.{job_words}
 use Rattle.register.specs.Reading.{words_read, entries_read, answer_back, entries_read_holds}
 
 -- ---- what an answered job says

@@ -16,8 +16,9 @@ use Rattle.laws.specs.Refusals.{answered_passed, front_passed, first_refused, re
 use Rattle.completeness.specs.Jobs.{noble_first, noble_second, noble_third}
 use Rattle.shapes.specs.Answered.{answers_equal}
 use Rattle.shapes.specs.Jobs.{RowsPassed, rows_passed}
-use Rattle.shapes.specs.Symmetry.{noble_symmetric}
-use Rattle.shapes.specs.JobWords.{rank_passed, noble_words}
+use Rattle.shapes.proofs.Symmetry.{noble_symmetric}
+use Rattle.shapes.specs.JobWords.{rank_passed}
+use Rattle.shapes.proofs.JobWords.{noble_words}
 use Rattle.answering.specs.declared.Written.{Written}
 use Rattle.answering.specs.Closed.{written_in, buffer_in}
 use Rattle.answering.specs.Codes.{code_written, written_code}

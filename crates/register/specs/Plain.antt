@@ -19,7 +19,8 @@ use Rattle.laws.specs.Refusals.{answered_passed}
 use Rattle.laws.specs.Filtered.{left_out_holds}
 use Rattle.shapes.specs.Answered.{answers_equal}
 use Rattle.shapes.specs.FigureNumbers.{WordsBelow}
-use Rattle.shapes.specs.JobWords.{u32s, job_words}
+use Rattle.shapes.specs.JobWords.{u32s}
+use Rattle.shapes.proofs.JobWords.{job_words}
 use Rattle.answering.specs.declared.Written.{Written}
 use Rattle.answering.specs.Closed.{written_in, buffer_in}
 use Rattle.answering.specs.Codes.{code_written, written_code}

@@ -8,10 +8,10 @@ use Rattle.definitions.specs.Lists.{Pair, then_by, compare_pair, compare_pairs, 
 use Rattle.definitions.specs.Orbits.{above, pairs_from}
 use Rattle.laws.specs.Lists.{Mem, in_map, of_map, in_flat_map, of_flat_map, in_count, of_count}
 use Rattle.laws.specs.Pairs.{pairs_map, pairs_flat_map, count_ascends}
-use Rattle.laws.specs.Orders.{nats, pairs, pair_lists, lt_compare}
+use Rattle.laws.specs.Orders.{nats, pair_lists, lt_compare}
 use Rattle.laws.specs.Ascending.{Ascends, seen_among}
 use Rattle.laws.specs.Ranges.{count_ascending, in_order_kept, ascending_kept}
-use Rattle.shapes.specs.EdgeSets.{Proper, EdgeSet, edges_in_order, polygons_in_order}
+use Rattle.shapes.specs.EdgeSets.{Proper, polygons_in_order}
 use Rattle.shapes.specs.Sets.{VertexSet}
 
 -- ---- sets
@@ -60,13 +60,6 @@ all_pairs_ascend n =
     (count_ascends 0 n)
 
 -- ---- edges and polygons
-
--- edges in order: the pairs among them, pair by pair
-pub edges_read : (n : ℕ) (l : List Pair) → ((e : Pair) → Mem e l → Proper n e) → edges_in_order l ≡ keep (λ (e : Pair). seen_among compare_pair pairs e l) (all_pairs n)
-edges_read n l h = in_order_kept compare_pair pairs l (all_pairs n) (all_pairs_ascend n) (λ e m. in_all_pairs n e (h e m))
-
-pub edge_set_read : (n : ℕ) (l : List Pair) → EdgeSet n l → keep (λ (e : Pair). seen_among compare_pair pairs e l) (all_pairs n) ≡ l
-edge_set_read n l h = ascending_kept compare_pair pairs l (all_pairs n) h.ascends (all_pairs_ascend n) (λ e m. in_all_pairs n e (h.proper e m))
 
 -- polygons in order: those among them, of an ascending list that has them all (say, of all images of all possible facets of the call)
 pub polygons_read : (l all : List (List Pair)) → Ascends compare_pairs all → ((s : List Pair) → Mem s l → Mem s all) → polygons_in_order l ≡ keep (λ (s : List Pair). seen_among compare_pairs pair_lists s l) all

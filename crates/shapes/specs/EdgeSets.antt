@@ -1,19 +1,17 @@
 -- Edges as pairs of vertices, the smaller first, and figures of rank 3 and 4 written from edge sets alone: a rank 3 figure is its edges in the order of the pairs, a rank 4 figure its edges and
 -- its polygons, each the list of its edges' numbers, in the order of their lists of edges. EntryFigures shows that nested sets have these figures. Leans on FigureOf.
-use Rattle.std.specs.Prelude.{◌≡◌, length, drop, replicate}
-use Rattle.std.proofs.Common.{sym, ap, ◌∙◌, subst, arith}
+use Rattle.std.specs.Prelude.{◌≡◌, length, replicate}
+use Rattle.std.proofs.Common.{ap, arith}
 use mathlib.Core.List.{List, [], ◌∷◌, map, Memᴰ}
 use Prim.Native.Nat.{Ordering}
 use Prim.Native.Nat.{ℕ, ◌<◌, compare}
-use Rattle.std.proofs.lemmas.List.{length-map}
 use Rattle.definitions.specs.Lists.{Pair, then_by, compare_list, compare_pair, compare_nats, compare_pairs, count_from}
 use Rattle.definitions.specs.Figures.{Figure}
-use Rattle.laws.specs.Lists.{Mem, of_map}
-use Rattle.laws.specs.Orders.{pairs, nat_lists, pair_lists, lt_compare, then_alone}
-use Rattle.laws.specs.Ascending.{Ascends, ascends_distinct, in_order}
-use Rattle.laws.specs.Places.{place_in, ascends_map}
-use Rattle.shapes.specs.Shape.{Element, Rank, Stack}
-use Rattle.shapes.specs.FigureOf.{body_element}
+use Rattle.laws.specs.Lists.{Mem}
+use Rattle.laws.specs.Orders.{pairs, pair_lists, lt_compare, then_alone}
+use Rattle.laws.specs.Ascending.{Ascends, in_order}
+use Rattle.laws.specs.Places.{place_in}
+use Rattle.shapes.specs.Shape.{Element}
 
 -- ---- edges as pairs
 
@@ -71,15 +69,3 @@ polygons_in_order = in_order compare_pairs pair_lists
 -- the figure of rank 4 with so many points, these edges, and these polygons given by their edges
 unfoldable pub polyhedron : ℕ → List Pair → List (List Pair) → Figure
 polyhedron n edges polygons = ([] ∷ []) ∷ replicate n (0 ∷ []) ∷ map ends edges ∷ map (map (edge_number edges)) polygons ∷ (count_from 0 (length polygons) ∷ []) ∷ []
-
-pub polygon_stack : (n k : ℕ) (l : List Pair) → EdgeSet n l → Stack n (drop 2 (polygon k l))
-unfolding polygon
-polygon_stack n k l h = (
-  record {
-    elements = λ d m. let r = of_map ends d l m in subst (Element n) (sym r.2) (ends_element n r.0 (h.proper r.0 r.1));
-    distinct =
-        ascends_distinct compare_nats nat_lists (map ends l)
-        (ascends_map compare_pair pairs compare_nats nat_lists ends (λ e. Unit {0}) (λ d e u v q. compare_ends d e ∙ q) l (λ e m. tt) h.ascends);
-  },
-  (subst (λ (many : ℕ). Rank many (count_from 0 (length l) ∷ [])) (sym (length-map l ends)) (body_element (length l)), tt),
-)

@@ -10,8 +10,7 @@ use Rattle.definitions.specs.Vectors.{Vec}
 use Rattle.definitions.specs.Subspace.{from_points, is_hyperplane}
 use Rattle.definitions.specs.Orbits.{Row, Limits, Orbit, image, pair_image, vertex_openers, breaks_limit, pair_openers, above, pairs_from, tuples, point_at, points_near, set_image, most_vertices, hyperplanes, hyperplane_orbits}
 use Rattle.laws.specs.Lists.{all_of_holds, flat_map_append, in_count, keep_few}
-use Rattle.shapes.specs.Sizes.{edges_few}
-use Rattle.shapes.specs.AllPairs.{all_pairs, of_all_pairs, all_pairs_ascend}
+use Rattle.shapes.specs.AllPairs.{all_pairs}
 
 -- ---- openers
 
@@ -65,19 +64,6 @@ unfolding flat_map
 flat_twice g f [] = refl
 flat_twice {C = C} g f (x ∷ l) = flat_map_append g (f x) (flat_map f l) ∙ ap (λ (r : List C). flat_map g (f x) ++ r) (flat_twice g f l)
 
--- at rank 3 a tuple is its pair
-pairs_tuples : (n : ℕ) → length (all_tuples n 0) ≤ length (all_pairs n)
-unfolding all_tuples choose flat_map
-pairs_tuples n = ones (all_pairs n)
-  where
-    one : (l : List ℕ) → length (choose l 0) ≡ 1
-    one [] = refl
-    one (x ∷ l) = refl
-
-    ones : (ps : List Pair) → length (flat_map (λ (p : Pair). choose (above n p.1) 0) ps) ≤ length ps
-    ones [] = omega arith
-    ones (p ∷ ps) = let e = length-append (choose (above n p.1) 0) (flat_map (λ (q : Pair). choose (above n q.1) 0) ps) in let a = one (above n p.1) in let b = ones ps in omega arith
-
 -- ---- orbits
 
 hyperplanes_few : (tolerance : Float) (most : ℕ) (flat : List Vec) (rows : List Row) (seen ts : List (List ℕ)) → length (hyperplanes tolerance most flat rows seen ts) ≤ length ts
@@ -112,16 +98,6 @@ orbits_tuples tolerance limits rule more points flat rows =
     let d = vertices_few (λ (v : ℕ). flat_map added (from v)) rows [] (count_from 0 n) in
     let e = ap length (flat_twice added from openers) in
     let f = ap length (flat_twice added from (count_from 0 n)) in
-    omega arith
-
--- at rank 3 no more than n (n − 1) / 2
-pub orbits_few : (tolerance : Float) (limits : Limits) (rule : ℕ) (points flat : List Vec) (rows : List Row)
-    → 2 * length (hyperplane_orbits tolerance limits rule 0 points flat rows) + length points ≤ length points * length points
-orbits_few tolerance limits rule points flat rows =
-    let n = length points in
-    let a = orbits_tuples tolerance limits rule 0 points flat rows in
-    let b = pairs_tuples n in
-    let e = edges_few n (all_pairs n) (record { ascends = all_pairs_ascend n; proper = of_all_pairs n }) in
     omega arith
 
 -- the pairs of 20 points at most

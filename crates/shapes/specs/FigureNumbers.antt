@@ -4,21 +4,17 @@ use Rattle.std.specs.Prelude.{◌≡◌, refl, ◌⊎◌, take, replicate}
 use Rattle.std.proofs.Common.{sym, inl, inr}
 use Rattle.std.proofs.Math.Path.{ap, subst}
 use mathlib.Core.List.{List, [], ◌∷◌, ◌++◌, map, flat_map, Memᴰ}
-use Prim.Native.Nat.{ℕ, suc, ◌-◌, ◌≤◌, ◌<◌, compare}
+use Prim.Native.Nat.{ℕ, ◌-◌, ◌≤◌, ◌<◌}
 use native.Mathlib.Omega.{arith}
 use Rattle.std.proofs.Math.ListN.{length, drop}
 use Rattle.std.proofs.lemmas.List.{length-replicate}
 use Rattle.definitions.specs.Figures.{Elements, Figure, rank_of, dyad, move_ends, sort_strong, assemble, figure_of}
 use Rattle.definitions.specs.Recursion.{Entry, vertex_ridge}
-use Rattle.definitions.specs.Job.{counted, figure_words, used_points, summary_words}
+use Rattle.definitions.specs.Job.{counted, used_points, summary_words}
 use Rattle.laws.specs.Lists.{Mem, here, there, in_map, in_replicate}
-use Rattle.laws.specs.Orders.{nats}
-use Rattle.laws.specs.Ascending.{ascends_distinct}
-use Rattle.laws.specs.Ranges.{distinct_below}
 use Rattle.shapes.specs.UsedPoints.{used_few}
-use Rattle.shapes.specs.Shape.{Rank, Stack, Shaped, number_of_ranks}
+use Rattle.shapes.specs.Shape.{Shaped}
 use Rattle.shapes.specs.Calls.{at_or}
-use Rattle.shapes.specs.FigureWords.{rank_words, figure_words_holds}
 use Rattle.shapes.specs.FewElements.{sizes, Few}
 
 -- ---- lists of numbers below a bound
@@ -135,53 +131,20 @@ ridge_ground n v h = on_points n 1 [] h (omega arith) (λ e m. elim m [ ])
 
 -- ---- one figure
 
--- the numbers of a rank
-ground_rank : (most : ℕ) (es : Elements) → 1 < most → length es < most → ((e : List ℕ) → Mem e es → length e ≤ 1) → ((e : List ℕ) → Mem e es → (x : ℕ) → Mem x e → x ≡ 0) → WordsBelow most (rank_words es)
-unfolding rank_words
-ground_rank most es two few short zeros =
-    more_below few (each_below (λ (e : List ℕ). length e ∷ e) es (λ e i. let k = short e i in more_below (omega arith) (record { word = λ x j. let z = zeros e i x j in omega arith })))
-
-rank_below : (most bound : ℕ) (es : Elements) → bound < most → Rank bound es → length es < most → WordsBelow most (rank_words es)
-unfolding rank_words
-rank_below most bound es b r few =
-    more_below few (each_below (λ (e : List ℕ). length e ∷ e) es (λ e i.
-    let h = r.elements e i in
-    let many = distinct_below bound e (ascends_distinct compare nats e h.ascends) h.below in
-    more_below (omega arith) (record { word = λ x j. let k = h.below x j in omega arith })))
-
-stack_below : (most bound : ℕ) (ranks : List Elements) → bound < most → Stack bound ranks → ((es : Elements) → Mem es ranks → length es < most) → WordsBelow most (flat_map rank_words ranks)
-unfolding flat_map
-stack_below most bound [] b s few = none_below
-stack_below most bound (es ∷ ranks) b s few =
-    joined_below (rank_words es) (rank_below most bound es b s.0 (few es (here refl))) (stack_below most (length es) ranks (few es (here refl)) s.1 (λ fs i. few fs (there i)))
-
 -- a figure with its shape, on so many points, with at most so many elements in each rank from the edges up
 module _ (most n w rank : ℕ) (f : Figure) (shaped : Shaped n rank f) (ground : OnGround n f) (few : Few w f) (two : 1 < most) (points : n < most) (elements : w < most) where
-  low_few : (es : Elements) → Mem es (take 2 f) → length es < most
+  pub low_few : (es : Elements) → Mem es (take 2 f) → length es < most
   low_few es i = let k = ground.few es i in omega arith
 
-  ranks_few : (es : Elements) → Mem es shaped.ranks → length es < most
+  pub ranks_few : (es : Elements) → Mem es shaped.ranks → length es < most
   unfolding sizes
   ranks_few es i =
       let above : drop 2 (sizes f) ≡ sizes shaped.ranks = ap (λ (g : Figure). drop 2 (sizes g)) shaped.is in
       let k = few (length es) (subst (λ (l : List ℕ). Mem (length es) l) (sym above) (in_map (λ (e : Elements). length e) es shaped.ranks i)) in
       omega arith
 
-  lowest : take 2 f ≡ shaped.empty ∷ shaped.vertices ∷ []
+  pub lowest : take 2 f ≡ shaped.empty ∷ shaped.vertices ∷ []
   lowest = ap (take 2) shaped.is
-
-  low_rank : (es : Elements) → Mem es (shaped.empty ∷ shaped.vertices ∷ []) → WordsBelow most (rank_words es)
-  low_rank es i = let j = subst (λ (l : List Elements). Mem es l) (sym lowest) i in ground_rank most es two (low_few es j) (ground.short es j) (ground.zeros es j)
-
-  pub figure_below : suc rank < most → WordsBelow most (figure_words f)
-  unfolding flat_map
-  figure_below ranks =
-      let number = number_of_ranks n rank f shaped in
-      subst (WordsBelow most) (sym (figure_words_holds f))
-      (more_below (omega arith)
-      (subst (λ (g : Figure). WordsBelow most (flat_map rank_words g)) (sym shaped.is)
-      (joined_below (rank_words shaped.empty) (low_rank shaped.empty (here refl))
-      (joined_below (rank_words shaped.vertices) (low_rank shaped.vertices (there (here refl))) (stack_below most n shaped.ranks points shaped.tower.stack ranks_few)))))
 
   -- any rank of it, and where it has none
   rank_few : (k : ℕ) → length (rank_of k f) < most

@@ -1,13 +1,13 @@
 -- What a job guarantees of its outermost call: two points at least, and rows that are permutations with the identity first. So every figure of an accepted job's answer has its shape.
 -- Leans on Calls.
-use Rattle.std.specs.Prelude.{◌≡◌, List, [], ◌∷◌, ℕ, ◌-◌, ◌≤◌, T, leb, length, get_or}
+use Rattle.std.specs.Prelude.{◌≡◌, List, [], ◌∷◌, ℕ, ◌≤◌, T, leb, length, get_or}
 use Rattle.std.proofs.Common.{sym, ap, ◌∙◌, subst, arith, leb→le}
 use Rattle.std.proofs.lemmas.List.{length-map}
 use Rattle.definitions.specs.Lists.{count_from, compare_nats, sort_nats, all_of}
-use Rattle.definitions.specs.Outcome.{Outcome, answered, and_then}
+use Rattle.definitions.specs.Outcome.{Outcome, and_then}
 use Rattle.definitions.specs.Orbits.{Row}
-use Rattle.definitions.specs.Recursion.{Answer, Bounds}
-use Rattle.definitions.specs.Job.{Bytes, Job, read_job, vectors_at, between, same_nats, is_permutation, header_tests, value_tests, job_tests, workspace_tests, tests, rules_of, plane_of, call_of, bounds1, outcome, outcome_within, fitting, answer_bytes}
+use Rattle.definitions.specs.Recursion.{Answer}
+use Rattle.definitions.specs.Job.{Bytes, Job, read_job, vectors_at, between, same_nats, is_permutation, header_tests, value_tests, job_tests, workspace_tests, tests, call_of, bounds1, outcome, outcome_within, fitting, answer_bytes}
 use Rattle.definitions.specs.Demands.{Accepted}
 use Rattle.laws.specs.Bools.{first}
 use Rattle.laws.specs.Lists.{all_of_holds, count_length}
@@ -15,7 +15,7 @@ use Rattle.laws.specs.Refusals.{AllPassed, passes_at, passed, front_passed, answ
 use Rattle.laws.specs.Orders.{nat_lists}
 use Rattle.laws.specs.Ascending.{tested_equal}
 use Rattle.shapes.specs.Sets.{Rows}
-use Rattle.shapes.specs.Calls.{Given, ShapedAnswer, shaped_answer}
+use Rattle.shapes.specs.Calls.{Given}
 
 -- what refusals 5, 6, 10 and 11 leave
 pub record RowsPassed (job : Job) : Type 0 where
@@ -64,14 +64,6 @@ job_given bytes h =
       rows_good = subst (λ (k : ℕ). Rows k job.rows) (sym n) (good_rows job.n job.rows (omega arith) h.first_row h.permutations);
     }
 
--- every figure of an accepted job's answer has its shape, whatever the bounds
-pub job_shaped : (bounds : Bounds) (bytes : Bytes) → RowsPassed (read_job bytes) → (a : Answer) → call_of bounds (read_job bytes) ≡ answered a → ShapedAnswer (read_job bytes).n ((read_job bytes).rank - 2) a
-unfolding call_of
-job_shaped bounds bytes h a e =
-    let job = read_job bytes in
-    subst (λ (n : ℕ). ShapedAnswer n (job.rank - 2) a) (points_length bytes)
-    (shaped_answer (job.rank - 2) (rules_of bounds job) (plane_of job) job.points job.rows job.budget a (job_given bytes h) e)
-
 -- what an accepted job passed
 pub accepted_passed : (bytes : Bytes) → Accepted bytes → AllPassed (job_tests bytes)
 unfolding outcome outcome_within tests
@@ -82,6 +74,3 @@ accepted_passed bytes accepted =
 
 pub accepted_rows : (bytes : Bytes) → Accepted bytes → RowsPassed (read_job bytes)
 accepted_rows bytes accepted = rows_passed bytes (accepted_passed bytes accepted)
-
-pub accepted_shaped : (bytes : Bytes) → Accepted bytes → (a : Answer) → call_of bounds1 (read_job bytes) ≡ answered a → ShapedAnswer (read_job bytes).n ((read_job bytes).rank - 2) a
-accepted_shaped bytes accepted = job_shaped bounds1 bytes (accepted_rows bytes accepted)

@@ -3,20 +3,19 @@
 use Rattle.std.specs.Prelude.{◌≡◌, get_or}
 use Rattle.std.proofs.Math.Path.{refl, sym, ap, subst}
 use Rattle.std.proofs.Common.{◌∙◌}
-use mathlib.Core.List.{List, [], ◌∷◌, ◌++◌, map, flat_map, map-map}
+use mathlib.Core.List.{List, [], ◌∷◌, ◌++◌, map, flat_map}
 use Prim.Native.Nat.{ℕ, zero, suc, ◌<◌, compare, Ordering}
 use Rattle.std.proofs.Math.ListN.{length}
-use Rattle.std.proofs.lemmas.List.{length-map}
-use Rattle.definitions.specs.Lists.{compare_nats, sort_nats, count_from}
-use Rattle.definitions.specs.Figures.{Elements, number_in, lowest_ranks, without_lowest}
+use Rattle.definitions.specs.Lists.{compare_nats}
+use Rattle.definitions.specs.Figures.{Elements, number_in, lowest_ranks}
 use Rattle.laws.specs.Lists.{Mem, of_map, in_flat_map, of_flat_map, map_at_holds}
 use Rattle.laws.specs.Orders.{Linear, nats, nat_lists, lt_compare}
-use Rattle.laws.specs.Ascending.{Ascends, ascends_distinct, sort_ascending, same_ascending, in_order, in_order_ascends, in_in_order, of_in_order}
-use Rattle.laws.specs.Places.{place_in, place_below, at_place, place_ascends, place_map, keeps_compare, compare_map, ascends_map, in_order_map, map_same}
-use Rattle.shapes.specs.Shape.{Element, Rank, Stack}
-use Rattle.shapes.specs.Assemble.{lowest_of, lowest_all, lowest_by}
-use Rattle.shapes.specs.Gathered.{elements_of, gathered}
-use Rattle.shapes.specs.Levels.{Levels, Sets, over, over_sets, items_in_order, AllGood, lowest, lowest_in, places_in, upper_ranks, body_of, ranks_on, ranks_of, lowest_items, lowest_ascends, lowest_in_ascends, lowest_in_good, lowest_in_over, ranks_over, ranks_of_over, ranks_of_sent}
+use Rattle.laws.specs.Ascending.{Ascends, ascends_distinct, same_ascending, in_order, in_order_ascends, in_in_order, of_in_order}
+use Rattle.laws.specs.Places.{place_in, place_below, at_place, place_ascends, place_map, keeps_compare, compare_map, ascends_map, in_order_map}
+use Rattle.shapes.specs.Shape.{Element, Rank}
+use Rattle.shapes.specs.Assemble.{lowest_of, lowest_all}
+use Rattle.shapes.specs.Gathered.{elements_of}
+use Rattle.shapes.specs.Levels.{Levels, Sets, over, over_sets, items_in_order, lowest, lowest_in, places_in, ranks_on, ranks_of, lowest_items, lowest_ascends, lowest_in_good, lowest_in_over}
 
 -- ---- items written as elements
 
@@ -52,7 +51,7 @@ module _ (T : Levels) (G : Sets T) (all : List (T.Item zero)) (up : Ascends (T.o
   abbrev c : T.Item zero → T.Item zero → Ordering
   c = T.order zero
 
-  abbrev order : Linear c
+  abbrev pub order : Linear c
   order = T.linear zero
 
   abbrev place_among : T.Item zero → ℕ
@@ -79,19 +78,6 @@ pub over_within : (T : Levels) (G : Sets T) (k : ℕ) (x : T.Item (suc k)) → G
     → (y : T.Item (suc zero)) → Mem y (lowest_in (over T) k x) → Within T G all y
 over_within T G k x h all within y m = (lowest_in_good (over T) (over_sets T G) k x h y m, λ z i. within z (lowest_in_over T k x y m z i))
 
--- ---- their ranks stand one upon the other
-
-pub ranks_stack : (k : ℕ) (T : Levels) (G : Sets T) (bound : ℕ) (P : T.Item zero → Type 0) (write : T.Item zero → List ℕ) → Written T bound P write → (x : T.Item k) → G.Good k x
-    → ((z : T.Item zero) → Mem z (lowest_in T k x) → P z) → Stack bound (ranks_of T write k x)
-unfolding lowest_in ranks_of
-ranks_stack zero T G bound P write written x h p = (written_rank T bound P write written (x ∷ []) p ((λ y i. elim i [ ]), tt), tt)
-ranks_stack (suc k) T G bound P write written x h p =
-    let own = lowest_in T (suc k) x in
-    let up = lowest_in_ascends T G (suc k) x h in
-    let rest = ranks_stack k (over T) (over_sets T G) (length own) (Within T G own) (places_in T zero own) (places_written T G own up) x h (over_within T G k x h own (λ z m. m)) in
-    subst (Stack bound) (sym (ranks_of_over T G write k x h))
-    (written_rank T bound P write written own p up, subst (λ (n : ℕ). Stack n (ranks_of (over T) (places_in T zero own) k x)) (sym (length-map own write)) rest)
-
 -- ---- one rank taken off
 
 pub lowest_of_ranks : (T : Levels) (write : T.Item zero → List ℕ) (k : ℕ) (x : T.Item k) → lowest_of (ranks_of T write k x) ≡ map write (lowest_in T k x)
@@ -104,33 +90,7 @@ pub written_at : (T : Levels) (write : T.Item zero → List ℕ) (own : List (T.
 written_at T write own z m =
     map_at_holds write own (place_in (T.order zero) (T.linear zero) own z) [] z (place_below (T.order zero) (T.linear zero) z own m) ∙ ap write (at_place (T.order zero) (T.linear zero) z z own m)
 
-without_by : (all x : Elements) (ranks : List Elements) → without_lowest all (x ∷ ranks) ≡ lowest_by (λ (i : ℕ). number_in all (get_or x i [])) ranks
-unfolding without_lowest lowest_by
-without_by all x [] = refl
-without_by all x (r ∷ ranks) = refl
-
 module _ (T : Levels) (bound : ℕ) (P : T.Item zero → Type 0) (write : T.Item zero → List ℕ) (written : Written T bound P write) where
-  abbrev place : List (T.Item zero) → T.Item zero → ℕ
-  place = place_in (T.order zero) (T.linear zero)
-
-  -- an item above, without its lowest rank, named by the numbers in a larger rank
-  pub ranks_without : (G : Sets T) (k : ℕ) (x : T.Item (suc k)) → G.Good (suc k) x → (all : List (T.Item zero)) → Ascends (T.order zero) all → ((z : T.Item zero) → Mem z all → P z)
-      → ((z : T.Item zero) → Mem z (lowest_in T (suc k) x) → Mem z all) → without_lowest (map write all) (ranks_of T write (suc k) x) ≡ ranks_of (over T) (places_in T zero all) k x
-  unfolding sort_nats
-  ranks_without G k x h all up p within =
-      let own = lowest_in T (suc k) x in
-      let number : ℕ → ℕ = λ i. number_in (map write all) (get_or (map write own) i []) in
-      let one : (y : T.Item (suc zero)) → Mem y (lowest_in (over T) k x) → sort_nats (map number (places_in T zero own y)) ≡ places_in T zero all y = λ y m.
-      let own-subs = (over_within T G k x h own (λ z i. i) y m).1 in
-      ap sort_nats
-      (map-map number (place own) (T.subs zero y)
-      ∙ map_same (λ (z : T.Item zero). number (place own z)) (place all) (T.subs zero y)
-      (λ z i. ap (number_in (map write all)) (written_at T write own z (own-subs z i)) ∙ written_number T bound P write written all p z (p z (within z (own-subs z i)))))
-      ∙ sort_ascending compare nats (places_in T zero all y) ((places_written T G all up).element y (over_within T G k x h all within y m)).ascends in
-      ap (without_lowest (map write all)) (ranks_of_over T G write k x h)
-      ∙ without_by (map write all) (map write own) (ranks_of (over T) (places_in T zero own) k x)
-      ∙ ranks_of_sent (over T) (places_in T zero own) (places_in T zero all) number k x one
-
   -- ---- the lowest rank of facets
 
   lowest_all_holds : (k : ℕ) (xs : List (T.Item k)) → lowest_all (map (ranks_of T write k) xs) ≡ map write (flat_map (lowest_in T k) xs)
@@ -166,32 +126,3 @@ module _ (T : Levels) (bound : ℕ) (P : T.Item zero → Type 0) (write : T.Item
             let r = (lowest_items T k sorted).back z m in
             in_in_order c order z all (in_flat_map (lowest_in T k) z r.0 xs (of_in_order (T.order k) (T.linear k) r.0 xs r.1) r.2);
       }))
-
--- ---- the figure of a list of items
-
-pub gathered_items : (k : ℕ) (T : Levels) (G : Sets T) (bound : ℕ) (P : T.Item zero → Type 0) (write : T.Item zero → List ℕ) → Written T bound P write → (xs : List (T.Item k)) → AllGood T G k xs
-    → ((x : T.Item k) → Mem x xs → (z : T.Item zero) → Mem z (lowest_in T k x) → P z) → gathered k (map (ranks_of T write k) xs) ≡ ranks_on T write k (items_in_order T k xs)
-unfolding gathered ranks_on upper_ranks lowest body_of
-gathered_items zero T G bound P write written xs h p =
-    let es = elements_of_items T bound P write written zero xs p in
-    let many : length (elements_of (map (ranks_of T write zero) xs)) ≡ length (items_in_order T zero xs) = ap length es ∙ length-map (items_in_order T zero xs) write in
-    λ t. es t ∷ (count_from 0 (many t) ∷ []) ∷ []
-gathered_items (suc k) T G bound P write written xs h p =
-    let facets = map (ranks_of T write (suc k)) xs in
-    let sorted = items_in_order T (suc k) xs in
-    let all = lowest T (suc k) sorted in
-    let up = lowest_ascends T (suc k) sorted (in_order_ascends (T.order (suc k)) (T.linear (suc k)) xs) in
-    let inside : (z : T.Item zero) → Mem z all → P z = λ z m.
-    let r = (lowest_items T (suc k) sorted).back z m in
-    p r.0 (of_in_order (T.order (suc k)) (T.linear (suc k)) r.0 xs r.1) z r.2 in
-    let within : (x : T.Item (suc k)) → Mem x xs → (z : T.Item zero) → Mem z (lowest_in T (suc k) x) → Mem z all = λ x m z i.
-    (lowest_items T (suc k) sorted).into x (in_in_order (T.order (suc k)) (T.linear (suc k)) x xs m) z i in
-    let upper : map (without_lowest (map write all)) facets ≡ map (ranks_of (over T) (places_in T zero all) k) xs =
-    map-map (without_lowest (map write all)) (ranks_of T write (suc k)) xs
-    ∙ map_same (λ (x : T.Item (suc k)). without_lowest (map write all) (ranks_of T write (suc k) x)) (ranks_of (over T) (places_in T zero all) k) xs
-    (λ x m. ranks_without T bound P write written G k x (h x m) all up inside (within x m)) in
-    ap (λ (es : Elements). es ∷ gathered k (map (without_lowest es) facets)) (elements_of_items T bound P write written (suc k) xs p)
-    ∙ ap (λ (fs : List (List Elements)). map write all ∷ gathered k fs) upper
-    ∙ ap (λ (ranks : List Elements). map write all ∷ ranks)
-    (gathered_items k (over T) (over_sets T G) (length all) (Within T G all) (places_in T zero all) (places_written T G all up) xs h (λ x m. over_within T G k x (h x m) all (within x m)))
-    ∙ sym (ranks_over T write k sorted)

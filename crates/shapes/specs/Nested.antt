@@ -10,15 +10,15 @@ use Rattle.definitions.specs.Lists.{Pair, then_by, compare_list, compare_pair}
 use Rattle.laws.specs.Lists.{Mem, in_map, of_map}
 use Rattle.laws.specs.Orders.{Linear, nats, pairs, lists, lt_compare, compare_lt}
 use Rattle.laws.specs.Segments.{le_or_lt}
-use Rattle.laws.specs.Ascending.{Ascends, ascends_distinct, sort_ascending, same_ascending, in_order, in_order_ascends, in_in_order, of_in_order, in_order_same}
-use Rattle.laws.specs.Places.{keeps_compare, compare_map, ascends_map, sort_distinct, map_same, map_self}
+use Rattle.laws.specs.Ascending.{Ascends, ascends_distinct, same_ascending, in_order, in_order_ascends, in_in_order, of_in_order, in_order_same}
+use Rattle.laws.proofs.Ascending.{sort_ascending}
+use Rattle.laws.specs.Places.{keeps_compare, compare_map, sort_distinct, map_same, map_self}
 use Rattle.laws.specs.Ranges.{same_map}
 use Rattle.shapes.specs.Move.{Into, Rising}
-use Rattle.shapes.specs.EdgeSets.{Proper, ends, compare_ends, ends_element}
+use Rattle.shapes.specs.EdgeSets.{Proper}
 use Rattle.shapes.specs.Polygons.{edge_via, ends_via, via_proper}
 use Rattle.shapes.specs.Levels.{Levels, Sets, lowest_in}
-use Rattle.shapes.specs.LevelFigures.{Written}
-use Rattle.shapes.specs.LevelMoves.{Sending, Keeping}
+use Rattle.shapes.specs.LevelMoves.{Sending}
 
 -- ---- nested sets
 
@@ -50,10 +50,6 @@ nested = record { Item = Nested; order = compare_nested; linear = nested_order; 
 
 abbrev pub nested_sets : ℕ → Sets nested
 nested_sets n = record { Good = NestedSet n; ascends = λ k l h. h.0; good = λ k l h. h.1; by_subs = λ k x y h j. refl }
-
--- edges are written by their ends
-pub ends_written : (n : ℕ) → Written nested n (Proper n) ends
-ends_written n = record { element = ends_element n; keeps = λ d e p q. compare_ends d e }
 
 -- the edges of an element, ascending
 abbrev pub edges_under : (k : ℕ) → Nested k → List Pair
@@ -162,29 +158,6 @@ module _ (n m : ℕ) (to : ℕ → ℕ) (up : Rising n m to) where
       ∙ ap (then_by (compare d.0 e.0)) (same d.1 e.1 b g)
   raised_compare (suc k) x y p q =
       compare_map (compare_nested k) (nested_order k) (compare_nested k) (nested_order k) (raise_nested to k) (NestedSet n k) (raised_compare k) x y p.1 q.1
-
-  pub raised_set : (k : ℕ) (x : Nested k) → NestedSet n k x → NestedSet m k (raise_nested to k x)
-  unfolding raise_nested ends_via
-  raised_set zero e p = record { rises = up.rises e.0 e.1 p.rises p.below; below = up.below e.1 p.below }
-  raised_set (suc k) l p = (
-    ascends_map (compare_nested k) (nested_order k) (compare_nested k) (nested_order k) (raise_nested to k) (NestedSet n k) (λ x y i j e. raised_compare k x y i j ∙ e) l p.1 p.0,
-    λ y i. let r = of_map (raise_nested to k) y l i in subst (NestedSet m k) (sym r.2) (raised_set k r.0 (p.1 r.0 r.1)),
-  )
-
-  unfoldable pub nested_raising : Keeping nested (nested_sets n) nested
-  unfolding raise_nested
-  nested_raising = record { to = raise_nested to; subs = λ k x h. refl; keeps = raised_compare }
-
-  -- putting in order changes nothing
-  pub raised_moved : (k : ℕ) (x : Nested k) → NestedSet n k x → move_nested to k x ≡ raise_nested to k x
-  unfolding move_nested raise_nested edge_via ends_via
-  raised_moved zero e p =
-      let r = up.rises e.0 e.1 p.rises p.below in
-      let low : min (to e.0) (to e.1) ≡ to e.0 = omega arith in
-      let high : max (to e.0) (to e.1) ≡ to e.1 = omega arith in
-      λ t. (low t, high t)
-  raised_moved (suc k) l p =
-      ap (nested_in_order k) (map_same (move_nested to k) (raise_nested to k) l (λ x i. raised_moved k x (p.1 x i))) ∙ set_in_order m k (map (raise_nested to k) l) (raised_set (suc k) l p)
 
 -- ---- maps act
 

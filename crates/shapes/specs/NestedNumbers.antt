@@ -7,10 +7,10 @@ use Rattle.definitions.specs.Lists.{Pair, then_by, compare_pair, compare_nats}
 use Rattle.laws.specs.Lists.{Mem}
 use Rattle.laws.specs.Orders.{nats, pairs, lt≢gt, lt_compare, compare_lt}
 use Rattle.laws.specs.Ascending.{Ascends, in_order}
-use Rattle.laws.specs.Places.{place_in, place_ascends, place_map, keeps_compare, compare_map, ascends_map, in_order_map}
-use Rattle.laws.specs.Subsets.{set_number, set_number_below, set_number_order}
+use Rattle.laws.specs.Places.{place_in, place_map, keeps_compare, compare_map, ascends_map, in_order_map}
+use Rattle.laws.specs.Subsets.{set_number, set_number_below}
 use Rattle.shapes.specs.EdgeSets.{Proper}
-use Rattle.shapes.specs.AllPairs.{all_pairs, in_all_pairs, all_pairs_ascend}
+use Rattle.shapes.specs.AllPairs.{all_pairs}
 use Rattle.shapes.specs.Nested.{Nested, compare_nested, nested_order, nested_in_order, NestedSet}
 
 -- on so many points, for the elements of rank 2 + k
@@ -72,13 +72,6 @@ edges_coded = record { keeps = keeps_compare compare_pair pairs compare nats edg
         go (inl r) = let b = p.below in let c = q.below in omega arith
         go (inr r) = let a = r.0 in let b = r.1 in omega arith
 
--- its place among all pairs of n points
-pub edges_placed : (n : ℕ) → Numbering n zero (place_in compare_pair pairs (all_pairs n))
-edges_placed n = record {
-  keeps = keeps_compare compare_pair pairs compare nats (place_in compare_pair pairs (all_pairs n)) (Proper n)
-      (λ d e p q h. lt_compare (place_in compare_pair pairs (all_pairs n) d) (place_in compare_pair pairs (all_pairs n) e) (place_ascends compare_pair pairs d d e (all_pairs n) (all_pairs_ascend n) (in_all_pairs n d p) (in_all_pairs n e q) h));
-}
-
 -- ---- sets of edges
 
 -- a polygon as one number
@@ -88,9 +81,3 @@ polygon_number n edges = set_number compare_pair pairs (all_pairs n) edges
 pub polygon_number_below : (n : ℕ) (edges : List Pair) → polygon_number n edges < 2 ^ length (all_pairs n)
 unfolding polygon_number
 polygon_number_below n edges = set_number_below compare_pair pairs (all_pairs n) edges
-
-pub polygons_numbered : (n : ℕ) → Numbering n (suc zero) (polygon_number n)
-unfolding polygon_number
-polygons_numbered n = record {
-  keeps = λ x y h j. set_number_order compare_pair pairs (all_pairs n) (all_pairs_ascend n) x y h.0 j.0 (λ e m. in_all_pairs n e (h.1 e m)) (λ e m. in_all_pairs n e (j.1 e m));
-}

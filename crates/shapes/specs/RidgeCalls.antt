@@ -1,9 +1,9 @@
 -- The ridges of calls of rank 3 and 4: vertices at rank 3, edges at rank 4, so that such a call numbers its ridges by vertices or by pairs of ends (at rank 3 a vertex twice). From what the call has before its search. Leans on Ridges.
 use Rattle.std.specs.Prelude.{◌≡◌}
 use Rattle.std.proofs.Math.Path.{sym, ap}
-use Rattle.std.proofs.Common.{◌∙◌, arith}
+use Rattle.std.proofs.Common.{◌∙◌}
 use mathlib.Core.List.{List, [], ◌∷◌, map, map-map}
-use Prim.Native.Nat.{ℕ, zero, suc, compare, ◌/◌, ◌≤◌}
+use Prim.Native.Nat.{ℕ, compare, ◌/◌}
 use Rattle.std.proofs.Math.ListN.{length, length-replicate}
 use Rattle.definitions.specs.Lists.{Pair, compare_pair, count_from}
 use Rattle.definitions.specs.Vectors.{Vec}
@@ -19,7 +19,7 @@ use Rattle.shapes.specs.LowRanks.{inner_rank_two, edge_of, possible_edges}
 use Rattle.shapes.specs.Calls.{inner_points}
 use Rattle.shapes.specs.Polygons.{edge_via}
 use Rattle.shapes.specs.Kept.{ends_of}
-use Rattle.shapes.specs.Ridges.{AnyKey, AnyMap, any_keys, key_numbers, ridge_numbers, numbers_carried, numbers_by_keys, vertices_keyed, edges_keyed, twice, vertices_twice}
+use Rattle.shapes.specs.Ridges.{AnyKey, AnyMap, any_keys, key_numbers, ridge_numbers, numbers_by_keys, vertices_keyed, edges_keyed, twice}
 
 -- the ridges of an orbit's inner answer as pairs of ends, in the set's positions
 unfoldable pub end_keys : Inner → List (List Pair)
@@ -54,10 +54,6 @@ module _ (rules : Rules) (plane : Subspace) (points : List Vec) (rows : List Row
       ∙ map-map (map ends_of) (λ (v : ℕ). vertex_ridge v ∷ []) ends
       ∙ sym (map-map (map twice) (λ (v : ℕ). v ∷ []) ends)
 
-  -- numbered by pairs of ends
-  pub rank_three_ends : ridge_numbers p.rows p.inner ≡ key_numbers compare_pair edge_via p.rows end_keys p.inner
-  rank_three_ends = rank_three_vertices ∙ sym (numbers_carried compare (λ to v. to v) compare_pair edge_via twice AnyKey AnyMap vertices_twice 0 p.rows vertex_keys end_keys p.inner vertices_as_ends (any_keys 0 p.rows vertex_keys p.inner))
-
 -- ---- rank 4
 
 module _ (rules : Rules) (plane : Subspace) (points : List Vec) (rows : List Row) (p : Prepared) (made : Preparation 1 rules (faceting 1 rules) plane points rows p) where
@@ -76,11 +72,3 @@ module _ (rules : Rules) (plane : Subspace) (points : List Vec) (rows : List Row
   -- the ridges of a call of rank 4, numbered by pairs of ends
   pub rank_four_ends : ridge_numbers p.rows p.inner ≡ key_numbers compare_pair edge_via p.rows end_keys p.inner
   rank_four_ends = numbers_by_keys compare_pair edge_via edge_figure AnyKey AnyMap edges_keyed 0 p.rows end_keys p.inner edge_ridges (any_keys 0 p.rows end_keys p.inner)
-
--- ---- both
-
-pub ridge_ends : (more : ℕ) (rules : Rules) (plane : Subspace) (points : List Vec) (rows : List Row) (p : Prepared) → more ≤ 1 → Preparation more rules (faceting more rules) plane points rows p
-    → ridge_numbers p.rows p.inner ≡ key_numbers compare_pair edge_via p.rows end_keys p.inner
-ridge_ends zero rules plane points rows p few made = rank_three_ends rules plane points rows p made
-ridge_ends (suc zero) rules plane points rows p few made = rank_four_ends rules plane points rows p made
-ridge_ends (suc (suc more)) rules plane points rows p few made = absurd (omega arith)

@@ -18,10 +18,12 @@ use Rattle.laws.specs.Bools.{same_test, holds→true}
 use Rattle.laws.specs.Lists.{Mem, kept, of_map, in_map, count_at, member_at}
 use Rattle.laws.specs.Orders.{nats, nat_lists, lt_compare, compare_lt}
 use Rattle.laws.specs.Sorting.{in_sorted}
-use Rattle.laws.specs.Ascending.{Ascends, SameItems, same_ascending, equal_tested, tested_equal, ascends_distinct, sort_ascending}
+use Rattle.laws.specs.Ascending.{Ascends, SameItems, same_ascending, equal_tested, tested_equal, ascends_distinct}
+use Rattle.laws.proofs.Ascending.{sort_ascending}
 use Rattle.laws.specs.Places.{place_in, place_below, place_apart, place_ascends, ascending_at, ascends_map, distinct_map, map_self}
-use Rattle.laws.specs.Ranges.{Permutes, permutes_at, permutes_apart, permutes_of, ascending_full}
-use Rattle.shapes.specs.Move.{Into, Rising, element_sent}
+use Rattle.laws.specs.Ranges.{Permutes, permutes_at, permutes_apart}
+use Rattle.laws.proofs.Ranges.{permutes_of, ascending_full}
+use Rattle.shapes.specs.Move.{Into, Rising}
 
 -- ---- sets
 
@@ -97,13 +99,6 @@ pub record Rows (n : ℕ) (rows : List Row) : Type 0 where
 pub row_into : (n : ℕ) (row : Row) → Permutes n row → Into n n (image row)
 unfolding image
 row_into n row p = record { below = permutes_at n row p; apart = permutes_apart n row p }
-
--- a set's image under a row is a set again
-pub set_image_holds : (n : ℕ) (vertices : List ℕ) (row : Row) → VertexSet n vertices → Permutes n row → VertexSet n (set_image vertices row)
-unfolding set_image sort_nats
-set_image_holds n vertices row h p =
-    let e = element_sent n n (image row) (row_into n row p) vertices (record { ascends = h.ascends; below = h.below }) in
-    record { ascends = e.ascends; below = e.below }
 
 -- two sets are equal exactly when they have the same vertices
 pub same_set : (n : ℕ) (k l : List ℕ) → VertexSet n k → VertexSet n l → SameItems k l → k ≡ l
