@@ -2,7 +2,7 @@
 -- workspace can be written. Leans on Says, Spent and Writable.
 use Rattle.std.specs.Prelude.{◌≡◌, Bool, true, false, List, [], length}
 use Rattle.std.proofs.Math.Path.{refl}
-use Rattle.std.proofs.Common.{sym, ap, subst}
+use Rattle.std.proofs.Common.{subst}
 use Prim.Native.Nat.{ℕ, zero, suc, ◌-◌, ◌≤◌}
 use native.Mathlib.Omega.{arith}
 use Rattle.definitions.specs.Outcome.{Outcome, refused, answered}

@@ -1,6 +1,6 @@
 -- What a call above rank 2 leaves can be written: the rows, the edges of its facets and its entries stand as the writing functions ask, and at rank 4 there is room for the images of its facets
 -- behind the entries. Leans on what a call keeps and leaves, and on the laws of writing and of the images' order.
-use Rattle.std.specs.Prelude.{◌≡◌, List, map, ℕ, suc, ◌+◌, ◌*◌, ◌-◌, ◌≤◌, ◌<◌, length, take, drop}
+use Rattle.std.specs.Prelude.{◌≡◌, List, map, ℕ, suc, ◌+◌, ◌*◌, ◌-◌, ◌≤◌, length, take, drop}
 use Rattle.std.proofs.Common.{sym, ap, subst, arith}
 use Rattle.definitions.specs.Vectors.{Vec}
 use Rattle.definitions.specs.Subspace.{Subspace}
