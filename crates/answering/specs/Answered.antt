@@ -1,6 +1,6 @@
 -- What is written of a job that was called, from what its call says: the two clauses of `answer_job`, case by case. Leans on Said, Closed and
 -- Loaded.
-use Rattle.std.specs.Prelude.{◌≡◌, refl, Bool, List, ℕ, ◌-◌, ◌≤◌, ◌<◌, length, replicate}
+use Rattle.std.specs.Prelude.{◌≡◌, Bool, List, ℕ, ◌-◌, ◌≤◌, ◌<◌, length, replicate}
 use Rattle.std.proofs.Math.Path.{sym, ap}
 use Rattle.std.proofs.Common.{◌∙◌, subst}
 use Rattle.definitions.specs.Outcome.{Outcome, refused, answered, and_then}

@@ -1,6 +1,6 @@
 -- The end of writing. Every word has room and the cursor is the answer's length, or some word has none and the cursor is past the buffer: by
 -- that the function tells whether an answer was written. Leans on the writer's buffer and cursor.
-use Rattle.std.specs.Prelude.{◌≡◌, refl, Bool, cond, List, [], ℕ, ◌*◌, ◌≤◌, ◌<◌, ltb, replicate}
+use Rattle.std.specs.Prelude.{◌≡◌, refl, cond, List, [], ℕ, ◌*◌, ◌≤◌, ◌<◌, ltb, replicate}
 use Rattle.std.proofs.Common.{sym, ap, ◌∙◌, arith}
 use Rattle.std.proofs.Math.Logic.{⊎_elim}
 use borrow.Author.Tests.{lt-ltb, le-ltb}

@@ -1,0 +1,27 @@
+-- `answering::write_left` meets its contract: rank 3 and rank 4, each by its writer. Assumes nothing.
+use mathlib.Core.Path.{◌≡◌}
+use Prim.Native.Nat.{◌-◌}
+use native.Mathlib.Omega.{arith}
+use Rattle.job_calls.specs.Writable.{polygons_asked, polygons_wrote}
+use Rattle.answering.proofs.write_left.Goals as goal
+
+pub write_answer-requires : goal.write_answer-requires
+write_answer-requires c =
+    let e : c.args.rank - 3 ≡ 0 = omega arith in
+    let h = polygons_asked (rw e at c.requires.2.1) in
+    (h.0, h.1, omega (arith, h.2))
+
+pub returns-then-rank-eq3 : goal.returns-then-rank-eq3
+returns-then-rank-eq3 c =
+    let e : c.args.rank - 3 ≡ 0 = omega arith in
+    λ kept w. rw e (polygons_wrote (rw e at w) _ _ _ c.write_answer.ensures)
+
+pub write_polyhedra-requires : goal.write_polyhedra-requires
+write_polyhedra-requires c =
+    let e : c.args.rank - 3 ≡ 1 = omega arith in
+    (c.requires.2.0, rw e at c.requires.2.1)
+
+pub returns : goal.returns
+returns c =
+    let e : c.args.rank - 3 ≡ 1 = omega arith in
+    λ kept w. rw e (c.write_polyhedra.ensures kept (rw e at w))

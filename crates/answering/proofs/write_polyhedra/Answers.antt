@@ -1,0 +1,21 @@
+-- `answering::write_polyhedra` meets its contract: the laws of Writable say what is asked, and that the words written are the definition's. Assumes nothing.
+use borrow.Author.Rules.{rules}
+use Rattle.job_calls.specs.Writable.{images_asked, images_inside, solid_asked, solid_wrote}
+use Rattle.answering.proofs.write_polyhedra.Goals as goal
+
+pub order_images-images-requires : goal.order_images-images-requires
+order_images-images-requires c = images_asked c.requires.1
+
+pub slice_bounds-write_solid_answer-count : goal.slice_bounds-write_solid_answer-count
+slice_bounds-write_solid_answer-count c = images_inside c.requires.1 c.order_images-images.ensures
+
+pub slice_bounds-write_solid_answer-start : goal.slice_bounds-write_solid_answer-start
+slice_bounds-write_solid_answer-start c =
+    let h = images_inside c.requires.1 c.order_images-images.ensures in
+    search rules
+
+pub write_solid_answer-requires : goal.write_solid_answer-requires
+write_solid_answer-requires c = solid_asked c.requires.1 c.order_images-images.ensures
+
+pub returns : goal.returns
+returns c = λ kept w. solid_wrote w c.order_images-images.ensures _ _ _ c.write_solid_answer.ensures
