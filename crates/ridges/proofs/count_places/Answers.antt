@@ -31,8 +31,10 @@ loop-i-preserved c =
     let v = c.item_u32-code.ensures ∙ item_read 4 1024 _ c.requires.0 c.args.x c.requires.1 l.i h in (
       l.invariant.0,
       omega arith,
-      elim c.if-ridge-ridges.branch [ then-ridge-ridges w ↦ rw (w.places-is, w.last-is) (all_joins l.invariant.2 h c.item_u32-code.result v (omega (arith, c.item_u32-code.type_inv)) c.requires.2 w.if-ridge-ridges.true)
-    | else-ridge-ridges w ↦ rw (w.places-is, w.last-is) (all_stay l.invariant.2 h c.item_u32-code.result v (omega (arith, c.item_u32-code.type_inv)) c.requires.2 w.if-ridge-ridges.false) ],
+      elim c.if-ridge-ridges.branch [
+        | then-ridge-ridges w ↦ rw (w.places-is, w.last-is) (all_joins l.invariant.2 h c.item_u32-code.result v (omega (arith, c.item_u32-code.type_inv)) c.requires.2 w.if-ridge-ridges.true)
+        | else-ridge-ridges w ↦ rw (w.places-is, w.last-is) (all_stay l.invariant.2 h c.item_u32-code.result v (omega (arith, c.item_u32-code.type_inv)) c.requires.2 w.if-ridge-ridges.false)
+      ],
     )
 
 pub returns : goal.returns

@@ -40,8 +40,10 @@ loop-ridge-preserved c =
     let l = c.loop-ridge in
     let codes = get_or (closed_lists 4 1024 (area c.args.desk.shares c.args.desk.touched c.args.ws.now)) c.args.x [] in
     let v = counted_amount c.count_places.ensures l.ridge c.loop-ridge-test.true _ c.amount-added.ensures in
-    elim c.if-added-gt0.branch [ then-added-gt0 w ↦ let j = touch_joins codes c.requires.4 l.ridge l.invariant.2 c.loop-ridge-test.true _ v w.if-added-gt0.true c.requires.3 _ w.push_u16.ensures in rw w.ws-is (j.long, omega arith, j)
-    | else-added-gt0 w ↦ let j = touch_stays codes c.requires.4 l.ridge l.invariant.2 _ v w.if-added-gt0.false in rw w.ws-is (j.long, omega arith, j) ]
+    elim c.if-added-gt0.branch [
+      | then-added-gt0 w ↦ let j = touch_joins codes c.requires.4 l.ridge l.invariant.2 c.loop-ridge-test.true _ v w.if-added-gt0.true c.requires.3 _ w.push_u16.ensures in rw w.ws-is (j.long, omega arith, j)
+      | else-added-gt0 w ↦ let j = touch_stays codes c.requires.4 l.ridge l.invariant.2 _ v w.if-added-gt0.false in rw w.ws-is (j.long, omega arith, j)
+    ]
 
 pub end_list-requires : goal.end_list-requires
 end_list-requires c =
