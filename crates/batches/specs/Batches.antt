@@ -1,6 +1,6 @@
 -- The records of a row are what the first call gives each of its jobs [15.4]. About the definitions alone.
-use Rattle.std.specs.Prelude.{◌≡◌, refl, Bool, ℕ, ◌≤◌, ◌<◌, leb, ltb, length}
-use Rattle.std.proofs.Common.{sym, ap, ◌∙◌, nltb→le, le-ltb}
+use Rattle.std.specs.Prelude.{◌≡◌, refl, Bool, ℕ, ◌≤◌, leb, ltb, length}
+use Rattle.std.proofs.Common.{sym, ap, ◌∙◌, le-ltb}
 use mathlib.Core.List.{List, [], ◌∷◌, ◌++◌, Forall₂, flat_map}
 use Rattle.std.proofs.Math.Dec.{nleb→lt}
 use Rattle.definitions.specs.Outcome.{Outcome, refused, answered, and_then, refuse_if}

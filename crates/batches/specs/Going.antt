@@ -1,7 +1,7 @@
 -- The loop over a row's jobs: what holds before each of them, and what follows from the record of one. Leans on Cutting, Records and Heads.
-use Rattle.std.specs.Prelude.{◌≡◌, ℕ, ◌+◌, ◌-◌, ◌≤◌, ◌<◌, T, pos}
+use Rattle.std.specs.Prelude.{◌≡◌, ℕ, ◌+◌, ◌-◌, ◌≤◌, ◌<◌, pos}
 use Rattle.std.proofs.Math.Path.{refl, sym, ap}
-use Rattle.std.proofs.Common.{◌∙◌, subst, length-drop, drop_at, drop-drop}
+use Rattle.std.proofs.Common.{◌∙◌, length-drop, drop_at, drop-drop}
 use Rattle.std.proofs.Math.Bool.{true}
 use mathlib.Core.List.{List, [], ◌∷◌, ◌++◌, append_assoc, append-nil}
 use native.Mathlib.Omega.{arith}
@@ -13,8 +13,8 @@ use Rattle.definitions.specs.Job.{Bytes, number_at, code_of, buffer_of, alone}
 use Rattle.words.specs.Lent.{lent_tail, back_whole, back_length}
 use Rattle.batches.specs.declared.Recorded.{Recorded}
 use Rattle.batches.specs.declared.Recorded.TheVariants.{TooLong, Wrote}
-use Rattle.definitions.specs.Batch.{jobs_in, record_of, records_of, fitting_all, batch}
-use Rattle.batches.specs.Cutting.{first_length, behind_first, with_first, cut_empty, cut_first, is_cut, first_passes, begins, cut_refused}
+use Rattle.definitions.specs.Batch.{jobs_in, records_of, fitting_all, batch}
+use Rattle.batches.specs.Cutting.{first_length, behind_first, cut_empty, cut_first, is_cut, first_passes, begins, cut_refused}
 use Rattle.batches.specs.Records.{record_in, recorded_as, fits_all, wrote_too_long, too_long_wrote, wrote_length, record_of_holds, behind_these, at_first, one_more, none_more}
 
 -- Before the job at `at`: what is behind it is jobs, and the records so far stand in the front of the buffer, zeros behind them.

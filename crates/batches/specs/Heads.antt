@@ -1,13 +1,13 @@
 -- The head of a record in front of what stands behind it, in a buffer that was zero [15.2]: the clauses of `write_record`, case by case. Leans on
 -- Records, on what is written of a job, and on the laws of lent parts.
-use Rattle.std.specs.Prelude.{◌≡◌, List, [], ◌∷◌, ◌++◌, ℕ, ◌+◌, ◌-◌, ◌≤◌, ◌<◌, take, drop, replicate}
+use Rattle.std.specs.Prelude.{◌≡◌, ◌∷◌, ◌++◌, ℕ, ◌+◌, ◌-◌, ◌≤◌, ◌<◌, take, drop, replicate}
 use Rattle.std.proofs.Math.Path.{refl, sym, ap}
-use Rattle.std.proofs.Common.{◌∙◌, length-drop, take_at}
+use Rattle.std.proofs.Common.{◌∙◌, take_at}
 use native.Mathlib.Omega.{arith}
 use Rattle.std.proofs.Math.ListN.{length}
 use Rattle.std.proofs.lemmas.List.{length-replicate, replicate-append-replicate}
 use Rattle.definitions.specs.Outcome.{Outcome, refused, answered, and_then}
-use Rattle.definitions.specs.Job.{Bytes, word_bytes, buffer_of, fitting}
+use Rattle.definitions.specs.Job.{Bytes, word_bytes, buffer_of}
 use Rattle.laws.specs.Segments.{drop_replicate}
 use Rattle.words.specs.Words.{put, bytes_of, word_bytes_is}
 use Rattle.words.specs.Lent.{lent_tail, back_whole}

@@ -1,14 +1,13 @@
 -- A record in the front of a buffer that is zero throughout, and what is left to write behind the records written so far. Leans on the
 -- definitions of records and on what is written of one job.
-use Rattle.std.specs.Prelude.{◌≡◌, Bool, true, false, List, [], ◌∷◌, ◌++◌, ℕ, zero, suc, ◌+◌, ◌-◌, ◌/◌, ◌%◌, ◌≤◌, ◌<◌, T, leb, ltb, length, take, drop, replicate}
+use Rattle.std.specs.Prelude.{◌≡◌, false, List, [], ◌∷◌, ◌++◌, ℕ, ◌+◌, ◌-◌, ◌≤◌, ◌<◌, leb, ltb, length}
 use Rattle.std.proofs.Math.Path.{refl, ap}
-use Rattle.std.proofs.Common.{sym, ◌∙◌, subst, append_assoc, append-nil, arith, lt-ltb, le-ltb, le-leb, ltb-false, length-append}
+use Rattle.std.proofs.Common.{sym, ◌∙◌, subst, append_assoc, arith, lt-ltb, le-ltb, le-leb, ltb-false, length-append}
 use Rattle.std.proofs.Math.Logic.{⊎_elim}
 use Rattle.std.proofs.lemmas.Bool.{lt-leb}
-use Rattle.std.proofs.lemmas.List.{length-replicate}
 use Rattle.definitions.specs.Outcome.{Outcome, refused, answered, and_then, refuse_if}
-use Rattle.definitions.specs.Job.{Bytes, word_bytes, buffer_of, code_of, alone}
-use Rattle.completeness.specs.Refusals.{RefusedWithin, same_number, by_answer, by_test, by_then}
+use Rattle.definitions.specs.Job.{Bytes, word_bytes, alone}
+use Rattle.completeness.specs.Refusals.{RefusedWithin, by_answer, by_test, by_then}
 use Rattle.laws.specs.Segments.{le_or_lt}
 use Rattle.laws.specs.Outcomes.{answered_before, not_refused_if}
 use Rattle.shapes.specs.Answered.{answers_equal}

@@ -35,9 +35,11 @@ use Rattle.shelf.specs.Leaves.{Leaves, answer_left, facet_at}
 use Rattle.entries.specs.Listed.{ListsBehind, Listed}
 use Rattle.entries.specs.Split.{Splits, split_on}
 use Rattle.entries.specs.Parts.{Splittable}
-use Rattle.entries.specs.Emitted.{found_lists, numbers_below, sort_ready, split_ready}
+use Rattle.entries.specs.Emitted.{found_lists, numbers_below, sort_ready}
+use Rattle.entries.proofs.Emitted.{split_ready}
 use Rattle.entries.specs.Calls.{three_plain, four_splittable}
-use Rattle.entries.specs.Answer.{left_whole, left_split}
+use Rattle.entries.specs.Answer.{left_whole}
+use Rattle.entries.proofs.Answer.{left_split}
 use Rattle.calls.specs.declared.Rules.{Rules}
 use Rattle.calls.specs.declared.Called.TheVariants.{Refused, Left}
 use Rattle.shares.specs.declared.Desk.{Desk}

@@ -14,7 +14,7 @@ use Rattle.completeness.specs.Facets.{orbit_below}
 use Rattle.facets.specs.declared.Areas.{Areas}
 use Rattle.facets.specs.Frames.{Ascends, candidates, candidates_ascend, above, low_of, unused, waiting, pass_used, take_unused, none_waits}
 use Rattle.facets.specs.Layout.{Inputs, numbers, ridge_of, facet_of, Uses, flag, used_part}
-use Rattle.facets.specs.Numbers.{numbers_length, numbers_small, candidate_at}
+use Rattle.facets.proofs.Numbers.{numbers_length, numbers_small, candidate_at}
 
 -- ---- the first place above the mark
 

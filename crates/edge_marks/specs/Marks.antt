@@ -13,7 +13,7 @@ use Rattle.std.proofs.lemmas.List.{length-replicate, get_or-replicate}
 use Rattle.definitions.specs.Lists.{Pair, keep, count_from, compare_pair, then_by, member_nat}
 use Rattle.definitions.specs.Orbits.{Row, image, pair_image}
 use Rattle.laws.specs.Bools.{either, left_of}
-use Rattle.laws.specs.Lists.{Mem, in_keep, kept, in_map, of_map, any_of_holds, any_witness, in_count, of_count, flat_map_same, of_flat_map, member_at, map_at_holds}
+use Rattle.laws.specs.Lists.{Mem, in_keep, kept, in_map, of_map, any_of_holds, any_witness, in_count, of_count, flat_map_same}
 use Rattle.laws.specs.Segments.{le_or_lt}
 use Rattle.laws.specs.Orders.{nats, pairs, compare_lt, lt_compare}
 use Rattle.laws.specs.Pairs.{pairs_keep}
@@ -24,7 +24,8 @@ use Rattle.pool.specs.Pool.{count, Sound}
 use Rattle.openers.specs.Marks.{marked, marked_at_holds}
 use Rattle.openers.specs.Meaning.{pair_code, pair_of, pair_codes}
 use Rattle.openers.specs.Rows.{ImagesBelow, rows_in, RowsFit}
-use Rattle.openers.specs.Codes.{pair_of_code, code_small, row_below, codes_wide, map_codes}
+use Rattle.openers.specs.Codes.{pair_of_code, code_small, row_below, map_codes}
+use Rattle.openers.proofs.Codes.{codes_wide}
 use Rattle.order.specs.Areas.{list_at}
 use Rattle.shapes.specs.FigureWords.{edge_words}
 use Rattle.shapes.specs.EdgeSets.{edges_in_order}
@@ -163,27 +164,3 @@ module _ {n m : ℕ} {s : List ℕ} (fits : RowsFit n m s) where
       flat_map_map (λ (code : ℕ). pair_codes (rows_in 32 m s) (pair_of code)) pair_code es
       ∙ (flat_map_same (λ (e : Pair). pair_codes (rows_in 32 m s) (pair_of (pair_code e))) (λ (e : Pair). map pair_code (map (pair_image e) (rows_in n m s))) es (λ e i. one_edge e (h e i))
       ∙ sym (map_flat_map pair_code (λ (e : Pair). map (pair_image e) (rows_in n m s)) es))
-
-  -- the edges marked for numbered facets are all row images of their edges, in order
-  module _ (edges : List (List Pair)) (proper : (l : List Pair) → Mem l edges → (e : Pair) → Mem e l → Ends n e) where
-    abbrev images : ℕ → List Pair
-    images x = flat_map (λ (e : Pair). map (pair_image e) (rows_in n m s)) (get_or edges x [])
-
-    ends_at : (x : ℕ) → x < length edges → (e : Pair) → Mem e (get_or edges x []) → Ends n e
-    ends_at x h e i = proper (get_or edges x []) (member_at edges x [] h) e i
-
-    facet_images_holds : (x : ℕ) → x < length edges → image_codes (rows_in 32 m s) (get_or (map (map pair_code) edges) x []) ≡ map pair_code (images x)
-    facet_images_holds x h = ap (image_codes (rows_in 32 m s)) (map_at_holds (map pair_code) edges x [] [] h) ∙ edge_images (get_or edges x []) (ends_at x h)
-
-    pub marked_edges : (numbers : List ℕ) → ((x : ℕ) → Mem x numbers → x < length edges)
-        → edges_marked (marks_of (rows_in 32 m s) (map (map pair_code) edges) numbers) ≡ edges_in_order (flat_map images numbers)
-    unfolding marks_of facet_codes
-    marked_edges numbers h =
-        let codes : flat_map (λ (x : ℕ). image_codes (rows_in 32 m s) (get_or (map (map pair_code) edges) x [])) numbers ≡ map pair_code (flat_map images numbers) =
-        flat_map_same (λ (x : ℕ). image_codes (rows_in 32 m s) (get_or (map (map pair_code) edges) x [])) (λ (x : ℕ). map pair_code (images x)) numbers (λ x i. facet_images_holds x (h x i))
-        ∙ sym (map_flat_map pair_code images numbers) in
-        ap (λ (l : List ℕ). edges_marked (marked (replicate 400 false) l)) codes
-        ∙ marked_in_order (flat_map images numbers) (λ p i.
-        let r = of_flat_map images p numbers i in
-        let q = of_flat_map (λ (e : Pair). map (pair_image e) (rows_in n m s)) p (get_or edges r.0 []) r.2 in
-        image_ends q.0 p (ends_at r.0 (h r.0 r.1) q.0 q.1) q.2)

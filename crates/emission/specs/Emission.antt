@@ -20,7 +20,8 @@ use Rattle.facets.specs.Layout.{Inputs, AreasFit, holds_kept, facet_of, numbers,
 use Rattle.frames.specs.Paths.{kind_at, place_at, path, list_to, frames_to, taken_at, Path, PathStands, Numbered, Emitted, emitted_in, pushed_all, with_frame}
 use Rattle.totals.specs.Change.{placed_placed}
 use Rattle.facets.specs.Sums.{sum_at}
-use Rattle.facets.specs.Numbers.{numbers_all_length, numbers_length}
+use Rattle.facets.specs.Numbers.{numbers_all_length}
+use Rattle.facets.proofs.Numbers.{numbers_length}
 use Rattle.frames.specs.Places.{frame_length, frame_kind, frame_place, frame_frames}
 use Rattle.frames.specs.Steps.{path_short, put_tables, put_frames, put_totals, put_used, put_lists, put_inputs}
 use Rattle.words.specs.Words.{put, put_length, number_at_put, number_at_put_off}

@@ -32,7 +32,7 @@ use Rattle.shelf.specs.Leaves.{facet_at, both_at, both_left, figure_left, entry_
 use Rattle.entries.specs.Listed.{in_list_order, order_sorts, Listed}
 use Rattle.entries.specs.Split.{components_in, split_on}
 use Rattle.entries.specs.Facets.{facet_count, ordered}
-use Rattle.entries.specs.Parts.{Splittable, list_parts, parts_below, parts_few, list_whole}
+use Rattle.entries.specs.Parts.{Splittable, parts_below, list_whole}
 
 -- ---- any splitting that is the definition's
 

@@ -19,7 +19,7 @@ use Rattle.shelf.specs.Leaves.{facet_at}
 use Rattle.entries.specs.Listed.{ListsBehind}
 use Rattle.entries.specs.Split.{Splits}
 use Rattle.entries.specs.Parts.{Splittable}
-use Rattle.entries.specs.Answer.{split_numbers, split_short}
+use Rattle.entries.specs.Answer.{split_numbers}
 
 -- a table's facets are those of what was kept: then the search's lists are the numbered lists' facets, and their numbers are the call's
 emitted_numbers : (t : Table) (kept : List Kept) (a : Areas) (l : List ℕ) → all_facets t ≡ facets_of kept → emitted_in t a l ≡ map (map (facet_at kept)) (closed_lists 2 a.bound l)

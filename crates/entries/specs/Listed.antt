@@ -18,7 +18,8 @@ use Rattle.pool.specs.Pool.{count, closed_lists, closed_length, Sound}
 use Rattle.order.specs.Areas.{HoldsOrder, list_at, order_in, lists_in, lists_length, pool_kept, order_kept, lists_kept, holds_kept}
 use Rattle.order.specs.Numbers.{AllBelow, AllAscending}
 use Rattle.labels.specs.Labels.{label_bytes, labels_in, labels_read}
-use Rattle.order.specs.Sorted.{compare_at, order_from, ordered, ordered_length, ordered_pool, ordered_order, ordered_holds, ordered_ascends, sorted_lists}
+use Rattle.order.specs.Sorted.{compare_at, order_from, ordered, ordered_length, ordered_pool, ordered_order, ordered_holds}
+use Rattle.order.proofs.Sorted.{ordered_ascends, sorted_lists}
 use Rattle.shapes.specs.Kept.{Kept}
 use Rattle.shelf.specs.declared.Shelf.{Shelf}
 use Rattle.shelf.specs.declared.Level.{Level}

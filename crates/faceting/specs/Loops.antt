@@ -51,8 +51,8 @@ use Rattle.inner_answers.specs.Turns as turns
 use Rattle.faceting.specs.Begins as begins
 use Rattle.inner_answers.specs.Stored.{OneMore}
 use Rattle.faceting.specs.declared.Way.{Way}
-use Rattle.faceting.specs.Ways.{way_of, WayFits, way_takes, taken_or_refusal, found_too_many, found_few, found_count}
-use Rattle.faceting.specs.Starts.{loop_starts, shelf_empty}
+use Rattle.faceting.specs.Ways.{way_of, WayFits, way_takes, taken_or_refusal, found_too_many}
+use Rattle.faceting.specs.Starts.{shelf_empty}
 use Rattle.faceting.specs.Finishes as finishes
 use Rattle.faceting.specs.Finishes.{site}
 

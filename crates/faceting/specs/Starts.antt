@@ -18,7 +18,7 @@ use Rattle.keep.specs.Storing.{beside_take}
 use Rattle.keep.specs.Stocked.{ShelfWritten}
 use Rattle.inner_answers.specs.State as state
 use Rattle.inner_answers.specs.Says.{Site, SiteState, all_orbits, site_orbits}
-use Rattle.faceting.specs.Ways.{taken_or_refusal, found_few, found_count, found_all}
+use Rattle.faceting.specs.Ways.{taken_or_refusal}
 
 -- the answer still holds where the front of the workspace is as it was
 pub answer_kept : (way : Way) → TakesSome way → (bound : ℕ) (orbits : List Orbit) (n : ℕ) (r : Answer) (s u : List ℕ) → bound ≤ 256 → take 2048 u ≡ take 2048 s → answer_in n r s ≡ taken_or_refusal way bound orbits

@@ -11,7 +11,7 @@ use Rattle.std.proofs.Math.ListN.{length, length-append}
 use Rattle.std.proofs.Math.Seq.{take-length}
 use Rattle.definitions.specs.Lists.{any_of, keep, place_of, map_at, count_from}
 use Rattle.definitions.specs.Outcome.{Outcome, refused, answered, refuse_if}
-use Rattle.definitions.specs.Search.{Table, Facet, Share, Item, Verdict, over, closed, open_at, totals, judge, all_facets, starts, uses_orbit, may_join, joined, ones_at, open_next, closed_next, put_in, Found, EntryLimits, limit_reached, emit, emit_if, examine, search}
+use Rattle.definitions.specs.Search.{Table, Facet, Share, Item, Verdict, over, closed, totals, judge, all_facets, starts, uses_orbit, may_join, joined, ones_at, open_next, closed_next, put_in, Found, EntryLimits, limit_reached, emit, emit_if, examine}
 use Rattle.laws.specs.Bools.{holds→true}
 use Rattle.laws.specs.Lists.{Mem, of_map, of_map_at, in_replicate, keep_append}
 use Rattle.laws.specs.Pairs.{Pairs, pairs_flat_map, pairs_replicate}
@@ -202,9 +202,6 @@ pending_latest t fr frames place f e =
 -- ---- the search, step by step
 
 module _ (t : Table) (limits : EntryLimits) where
-  pub search_starts : (budget : ℕ) → search t limits budget ≡ examine t limits budget (pending t (root t ∷ [])) []
-  unfolding search pending
-  search_starts budget = ap (λ (l : List Item). examine t limits budget (reverse_aux l []) []) (enter_root t)
 
   pub examine_none : (left : ℕ) (emitted : List (List Facet)) → examine t limits left [] emitted ≡ answered (record { lists = emitted; left = left })
   unfolding examine
@@ -216,7 +213,7 @@ module _ (t : Table) (limits : EntryLimits) where
   examine_spent item later emitted = refl
 
   -- a list judged, by its verdict
-  judged : (left : ℕ) (item : Item) (later : List Item) (emitted : List (List Facet)) (v : Verdict) → judge (totals t item.list) ≡ v
+  pub judged : (left : ℕ) (item : Item) (later : List Item) (emitted : List (List Facet)) (v : Verdict) → judge (totals t item.list) ≡ v
       → examine t limits (suc left) (item ∷ later) emitted ≡ emit_if v limits item.list left emitted (examine t limits left (reverse_aux (put_in limits.extended t item v) later))
   unfolding examine
   judged left item later emitted v e = rw e refl
@@ -225,13 +222,6 @@ module _ (t : Table) (limits : EntryLimits) where
       → examine t limits (suc left) (item ∷ pending t frames) emitted ≡ examine t limits left (pending t frames) emitted
   unfolding emit_if put_in
   examine_over left item frames emitted e = judged left item (pending t frames) emitted over e
-
-  pub examine_open : (left : ℕ) (item : Item) (ridge : ℕ) (frames : List Frame) (emitted : List (List Facet)) → judge (totals t item.list) ≡ open_at ridge
-      → examine t limits (suc left) (item ∷ pending t frames) emitted ≡ examine t limits left (pending t (entered t item.list item.mark (some ridge) ∷ frames)) emitted
-  unfolding emit_if put_in pending
-  examine_open left item ridge frames emitted e =
-      judged left item (pending t frames) emitted (open_at ridge) e
-      ∙ ap (λ (l : List Item). examine t limits left (reverse_aux l (pending t frames)) emitted) (enter_open t item ridge)
 
   -- an entry past the bound
   pub examine_fifteen : (left : ℕ) (item : Item) (later : List Item) (emitted : List (List Facet)) → judge (totals t item.list) ≡ closed → limits.bound ≤ length emitted
@@ -247,7 +237,7 @@ module _ (t : Table) (limits : EntryLimits) where
       go true e = absurd (let k = leb→le limits.bound (length emitted) (subst T (sym e) tt) in omega arith)
       go false e = refl
 
-  emit_one : (list : List Facet) (left : ℕ) (emitted : List (List Facet)) (next : List (List Facet) → Outcome Found) (b : Bool) → length emitted < limits.bound
+  pub emit_one : (list : List Facet) (left : ℕ) (emitted : List (List Facet)) (next : List (List Facet) → Outcome Found) (b : Bool) → length emitted < limits.bound
       → limit_reached limits.limit (suc (length emitted)) ≡ b
       → emit limits list left emitted next ≡ elim b as (λ (x : Bool). Outcome Found) [ true ↦ answered (record { lists = emitted ++ (list ∷ []); left = left }) | false ↦ next (emitted ++ (list ∷ [])) ]
   unfolding emit refuse_if
@@ -262,18 +252,6 @@ module _ (t : Table) (limits : EntryLimits) where
   unfolding emit_if
   examine_stop left item later emitted e h r =
       judged left item later emitted closed e ∙ emit_one item.list left emitted (examine t limits left (reverse_aux (put_in limits.extended t item closed) later)) true h r
-
-  -- and where it is not reached, the list is extended
-  pub examine_closed : (left : ℕ) (item : Item) (frames : List Frame) (emitted : List (List Facet)) → judge (totals t item.list) ≡ closed → length emitted < limits.bound
-      → limit_reached limits.limit (suc (length emitted)) ≡ false → limits.extended ≡ true
-      → examine t limits (suc left) (item ∷ pending t frames) emitted
-      ≡ examine t limits left (pending t (entered t item.list item.mark none ∷ frames)) (emitted ++ (item.list ∷ []))
-  unfolding emit_if put_in pending
-  examine_closed left item frames emitted e h r x =
-      judged left item (pending t frames) emitted closed e
-      ∙ (emit_one item.list left emitted (examine t limits left (reverse_aux (put_in limits.extended t item closed) (pending t frames))) false h r
-      ∙ (ap (λ (b : Bool). examine t limits left (reverse_aux (put_in b t item closed) (pending t frames)) (emitted ++ (item.list ∷ []))) x
-      ∙ ap (λ (l : List Item). examine t limits left (reverse_aux l (pending t frames)) (emitted ++ (item.list ∷ []))) (enter_closed t item)))
 
   -- or not
   pub examine_kept : (left : ℕ) (item : Item) (frames : List Frame) (emitted : List (List Facet)) → judge (totals t item.list) ≡ closed → length emitted < limits.bound

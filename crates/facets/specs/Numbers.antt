@@ -10,7 +10,7 @@ use Rattle.std.proofs.lemmas.List.{length-map}
 use Rattle.definitions.specs.Lists.{count_from}
 use Rattle.definitions.specs.Job.{number_at}
 use Rattle.definitions.specs.Search.{Table, Facet, all_facets, ones_at}
-use Rattle.laws.specs.Lists.{Mem, map_at_holds, count_at, count_length, member_at, of_count, of_flat_map, in_replicate}
+use Rattle.laws.specs.Lists.{map_at_holds, count_at, count_length, member_at}
 use Rattle.completeness.specs.Facets.{orbit_below}
 use Rattle.words.specs.Words.{get_d_words}
 use Rattle.pool.specs.Pool.{count, closed_lists, length_at, place_at, closed_length, list_length, list_item, item_inside}
@@ -47,24 +47,6 @@ unfolding numbers candidates ridge_of ones_of
 numbers_are t zero = all_numbers t
 numbers_are t (suc ridge) =
     map_repeated (facet_of t) (ones_at t ridge) (count_from 0 (length (all_facets t))) ∙ ap (flat_map (λ (f : Facet). replicate (ones_at t ridge f) f)) (all_numbers t)
-
-pub numbers_length : (t : Table) (kind : ℕ) → length (candidates t (ridge_of kind)) ≡ length (numbers t kind)
-numbers_length t kind = ap length (sym (numbers_are t kind)) ∙ length-map (numbers t kind) (facet_of t)
-
-pub candidate_at : (t : Table) (kind i : ℕ) → i < length (numbers t kind) → get_or (candidates t (ridge_of kind)) i (0, 0) ≡ facet_of t (get_or (numbers t kind) i 0)
-candidate_at t kind i h = ap (λ (l : List Facet). get_or l i (0, 0)) (sym (numbers_are t kind)) ∙ map_at_holds (facet_of t) (numbers t kind) i (0, 0) 0 h
-
-in_numbers : (t : Table) (kind x : ℕ) → Mem x (numbers t kind) → x < length (all_facets t)
-unfolding numbers ones_of
-in_numbers t zero x m = let r = (of_count 0 (length (all_facets t)) x m).1 in omega arith
-in_numbers t (suc ridge) x m =
-    let r = of_flat_map (λ (y : ℕ). replicate (ones_at t ridge (facet_of t y)) y) x (count_from 0 (length (all_facets t))) m in
-    let e = in_replicate (ones_at t ridge (facet_of t r.0)) x r.0 r.2 in
-    let k = (of_count 0 (length (all_facets t)) r.0 r.1).1 in
-    omega arith
-
-pub numbers_small : (t : Table) (kind i : ℕ) → i < length (numbers t kind) → get_or (numbers t kind) i 0 < length (all_facets t)
-numbers_small t kind i h = in_numbers t kind (get_or (numbers t kind) i 0) (member_at (numbers t kind) i 0 h)
 
 -- of all facets the one at a place has that number
 pub numbers_all : (t : Table) (i : ℕ) → i < length (numbers t 0) → get_or (numbers t 0) i 0 ≡ i

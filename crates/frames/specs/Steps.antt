@@ -20,7 +20,8 @@ use Rattle.facets.specs.Frames.{Frame, candidates, unused, waiting, mark_of, chi
 use Rattle.facets.specs.Sums.{sum_at}
 use Rattle.facets.specs.Layout.{verdict, Inputs, AreasFit, holds_kept, facet_of, numbers, ridge_of, codes, touched_part, totals_part, used_part, frames_part, lists_part, lifted, with_facet, without_facet}
 use Rattle.frames.specs.Paths.{list_to, frame_at, frames_to, place_at, low_at, mark_at, kind_at, taken_at, mark_after, item_at, with_place, with_frame, Path, PathStands}
-use Rattle.facets.specs.Numbers.{numbers_length, numbers_small, candidate_at, numbers_few, facet_small}
+use Rattle.facets.specs.Numbers.{numbers_few, facet_small}
+use Rattle.facets.proofs.Numbers.{numbers_length, numbers_small, candidate_at}
 use Rattle.candidates.specs.Latest.{Latest, latest_none, latest_found, latest_is, last_free, not_below_holds}
 use Rattle.facets.specs.Judged.{none_over}
 use Rattle.totals.specs.Change.{over_after, change_frames, change_tables, change_totals, change_lists}

@@ -20,7 +20,8 @@ use Rattle.space.specs.declared.Points.{Points}
 use Rattle.space.specs.Meaning.{HoldsSubspace, HoldsPoints, subspace_of, points_of, limits_of}
 use Rattle.load.specs.declared.Fields.{Fields}
 use Rattle.load.specs.Places.{Exact}
-use Rattle.load.specs.Meaning.{fields_of, limit_number, Loadable, loadable}
+use Rattle.load.specs.Meaning.{fields_of, limit_number, Loadable}
+use Rattle.load.proofs.Meaning.{loadable}
 use Rattle.job.specs.declared.Checked.TheVariants.{Refused, Passed}
 use Rattle.job.specs.Refusal.{checked_of}
 use Rattle.job.specs.Passed.{refused_means, passed_means, own_passed, passed_exact, passed_rows, passed_workspace}

@@ -26,7 +26,8 @@ use Rattle.keep.specs.Rooms.{room_edges, room_places}
 use Rattle.kept_polygons.specs.Labels.{label_some}
 use Rattle.left_edges.specs.Marked.{marked_codes}
 use Rattle.left_edges.specs.Polygons.{EdgesLeft}
-use Rattle.left_edges.specs.Reading.{moved_code, marks_of, marked_below, entry_below, count_append, lent_tail}
+use Rattle.left_edges.specs.Reading.{moved_code, marks_of, entry_below, count_append, lent_tail}
+use Rattle.left_edges.proofs.Reading.{marked_below}
 
 -- ---- what is read
 

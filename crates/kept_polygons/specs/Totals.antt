@@ -13,7 +13,8 @@ use Rattle.shelf.specs.Keeps.{joined, facets_in, facets_of, edges_of, places_of}
 use Rattle.shelf.specs.Leaves.{answer_left, lists_left}
 use Rattle.keep.specs.Rooms.{places_number}
 use Rattle.left_edges.specs.Polygons.{EdgesLeft, entry_edges, polygon_kept, polygon_kept_holds}
-use Rattle.left_edges.specs.Reading.{entry_few, lists_below, lists_many}
+use Rattle.left_edges.specs.Reading.{lists_below, lists_many}
+use Rattle.left_edges.proofs.Reading.{entry_few}
 
 -- lists of at most so many items each
 pub joined_few : {A : Type 0} (most : ℕ) (ls : List (List A)) → ((l : List A) → Mem l ls → length l ≤ most) → length (joined ls) ≤ most * length ls

@@ -29,7 +29,8 @@ use Rattle.keep.specs.Rooms.{RoomFor, places_number, edges_number, codes_items}
 use Rattle.kept_polygons.specs.Labels.{labels_raised}
 use Rattle.keep.specs.Vertices.{vertex_at, vertex_below, vertex_rises}
 use Rattle.left_edges.specs.Polygons.{edge_in, OneEdge, EdgesLeft, entry_edges, polygon_kept, polygon_kept_holds}
-use Rattle.left_edges.specs.Reading.{moved_code, ridges_moved, entry_codes, lists_below}
+use Rattle.left_edges.specs.Reading.{moved_code, ridges_moved, lists_below}
+use Rattle.left_edges.proofs.Reading.{entry_codes}
 use Rattle.kept_polygons.specs.Facets.{Source, FacetsStored, FacetsRoom, codes_of, labels_left, labels_long, all_codes, all_labels, all_lists, source_kept, behind_same}
 
 -- the vertices of the next orbit's set

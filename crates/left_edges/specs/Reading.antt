@@ -7,31 +7,25 @@ use Prim.Native.Nat.{ℕ, zero, suc, ◌+◌, ◌*◌, ◌-◌, ◌/◌, ◌%◌
 use native.Mathlib.Omega.{arith}
 use Rattle.std.proofs.Math.ListN.{length, length-append, length-map, get_or-append}
 use Rattle.std.proofs.Math.Seq.{get_or-append_seam}
-use Rattle.definitions.specs.Lists.{Pair, compare_pair, keep, count_from}
+use Rattle.definitions.specs.Lists.{Pair, keep, count_from}
 use Rattle.definitions.specs.Job.{number_at}
 use Rattle.definitions.specs.Orbits.{Row, Orbit, image, pair_image}
-use Rattle.laws.specs.Lists.{Mem, in_map, of_map, of_flat_map, in_count, count_length, in_keep, map_at_holds, member_at, at_member, flat_map_append}
-use Rattle.laws.specs.Bools.{true→holds}
-use Rattle.laws.specs.Orders.{pairs}
-use Rattle.laws.specs.Ascending.{of_in_order}
-use Rattle.laws.specs.Places.{map_same}
+use Rattle.laws.specs.Lists.{Mem, of_map, of_flat_map, count_length, map_at_holds, member_at, at_member, flat_map_append}
 use Rattle.laws.specs.Segments.{le_or_lt}
 use Rattle.laws.specs.Parts.{rows, take_more, length_rows, get_d_rows}
 use Rattle.openers.specs.Rows.{rows_in, RowsFit, ImagesBelow, image_at_holds}
 use Rattle.order.specs.Areas.{lists_length}
 use Rattle.order.specs.Numbers.{AllBelow}
 use Rattle.openers.specs.Marks.{marked}
-use Rattle.openers.specs.Meaning.{pair_code, pair_of, pair_codes}
+use Rattle.openers.specs.Meaning.{pair_code, pair_codes}
 use Rattle.orbits.specs.Numbers.{orbit_of}
 use Rattle.orbits.specs.Workspace.{orbits_in, orbits_length}
-use Rattle.shapes.specs.EdgeSets.{edges_in_order}
-use Rattle.shapes.specs.Polygons.{ends_via}
 use Rattle.shapes.specs.Kept.{Kept}
 use Rattle.shelf.specs.declared.Level.{Level}
 use Rattle.shelf.specs.Keeps.{Keeps, edges_of}
 use Rattle.shelf.specs.Leaves.{lists_left}
-use Rattle.left_edges.specs.Marked.{marked_codes, edges_marked_holds, codes_wide}
-use Rattle.left_edges.specs.Polygons.{edge_in, edge_at, images_of, entry_edges, OneEdge, EdgesLeft, edge_proper, edge_list, edges_listed, facets_many, no_kept}
+use Rattle.left_edges.specs.Marked.{marked_codes, codes_wide}
+use Rattle.left_edges.specs.Polygons.{edge_in, edge_at, images_of, OneEdge, EdgesLeft, edge_proper, edge_list, edges_listed, facets_many, no_kept}
 
 -- a part lent to the end
 pub lent_tail : (at : ℕ) (s : List ℕ) → take (length s - at) (drop at s) ≡ drop at s
@@ -65,7 +59,7 @@ images_more rows inner marks l i x h e =
 abbrev pub moved_code : List ℕ → ℕ → ℕ
 moved_code vertices c = 20 * get_or vertices (c / 20) 0 + get_or vertices (c % 20) 0
 
-abbrev Test : List Bool → ℕ → Bool
+abbrev pub Test : List Bool → ℕ → Bool
 Test marks c = get_or marks c false
 
 -- the marked codes below c, moved
@@ -173,35 +167,6 @@ images_below n m s inner numbers fits each b e i =
 abbrev pub marks_of : List Row → List Kept → List ℕ → List Bool
 marks_of rows inner numbers = marked (replicate 400 false) (map pair_code (images_of rows inner numbers))
 
-module _ (n m : ℕ) (s : List ℕ) (inner : List Kept) (numbers : List ℕ) (fits : RowsFit n m s) (each : (k : Kept) → Mem k inner → OneEdge n k) (b : (x : ℕ) → Mem x numbers → x < length inner) where
-  in_order_holds : edges_in_order (images_of (rows_in n m s) inner numbers) ≡ map pair_of (marked_codes (marks_of (rows_in n m s) inner numbers))
-  in_order_holds =
-      edges_marked_holds (images_of (rows_in n m s) inner numbers)
-      (λ e i. let r = images_below n m s inner numbers fits each b e i in let v = r.0 in let w = r.1 in let f = fits.n_fits in (omega arith, omega arith))
-
-  -- a marked code is that of two points
-  code_below : (c : ℕ) → Mem c (marked_codes (marks_of (rows_in n m s) inner numbers)) → (c / 20 < n) × (c % 20 < n)
-  unfolding pair_of
-  code_below c i =
-      let images = images_of (rows_in n m s) inner numbers in
-      let among = subst (λ (l : List Pair). Mem (pair_of c) l) (sym in_order_holds) (in_map pair_of c (marked_codes (marks_of (rows_in n m s) inner numbers)) i) in
-      images_below n m s inner numbers fits each b (pair_of c) (of_in_order compare_pair pairs (pair_of c) images among)
-
-  pub marked_below : (c : ℕ) → c < 400 → get_or (marks_of (rows_in n m s) inner numbers) c false ≡ true → (c / 20 < n) × (c % 20 < n)
-  unfolding marked_codes
-  marked_below c h e = code_below c (in_keep (Test (marks_of (rows_in n m s) inner numbers)) c (count_from 0 400) (in_count 0 400 c (omega arith) (omega arith)) (true→holds e))
-
-  pub entry_codes : (vertices : List ℕ) (to : ℕ → ℕ) → ((p : ℕ) → p < n → get_or vertices p 0 ≡ to p)
-      → map pair_code (entry_edges to (rows_in n m s) inner numbers) ≡ map (moved_code vertices) (marked_codes (marks_of (rows_in n m s) inner numbers))
-  unfolding entry_edges pair_code ends_via pair_of
-  entry_codes vertices to same =
-      let codes = marked_codes (marks_of (rows_in n m s) inner numbers) in
-      ap (λ (l : List Pair). map pair_code (map (ends_via to) l)) in_order_holds
-      ∙ (map-map pair_code (ends_via to) (map pair_of codes)
-      ∙ (map-map (λ (e : Pair). pair_code (ends_via to e)) pair_of codes
-      ∙ map_same (λ (c : ℕ). pair_code (ends_via to (pair_of c))) (moved_code vertices) codes
-      (λ c i. let r = code_below c i in rw (same (c / 20) r.0, same (c % 20) r.1) refl)))
-
 -- how many edges an entry has at most
 few_kept : (p : ℕ → Bool) (l : List ℕ) → length (keep p l) ≤ length l
 unfolding keep
@@ -215,15 +180,6 @@ few_kept p (x ∷ l) = go (p x) (few_kept p l)
 pub few_marked : (marks : List Bool) → length (marked_codes marks) ≤ 400
 unfolding marked_codes
 few_marked marks = let n = count_length 0 400 in omega (arith, few_kept (Test marks) (count_from 0 400))
-
-pub entry_few : (n m : ℕ) (s : List ℕ) (inner : List Kept) (numbers : List ℕ) → RowsFit n m s → ((k : Kept) → Mem k inner → OneEdge n k) → ((x : ℕ) → Mem x numbers → x < length inner)
-    → (to : ℕ → ℕ) → length (entry_edges to (rows_in n m s) inner numbers) ≤ 400
-unfolding entry_edges
-entry_few n m s inner numbers fits each b to =
-    let marks = marks_of (rows_in n m s) inner numbers in
-    let e = length-map (edges_in_order (images_of (rows_in n m s) inner numbers)) (ends_via to) in
-    let c = ap length (in_order_holds n m s inner numbers fits each b) ∙ length-map (marked_codes marks) pair_of in
-    omega (arith, few_marked marks)
 
 -- ---- what a call of rank 3 has left, read
 

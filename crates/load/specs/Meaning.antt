@@ -1,6 +1,5 @@
 -- The fields of a job as the code hands them on, and what they mean: the definition's `Job`, its plane, its points and its rows. Leans on Places and on what the crate of spaces says.
 use Rattle.std.specs.Prelude.{◌≡◌, refl, List, map, ℕ, ◌+◌, ◌-◌, ◌*◌, ◌≤◌, length, take, drop, Float}
-use Rattle.std.proofs.Common.{sym, subst, arith}
 use Rattle.std.proofs.Math.Option.{Option, some, none}
 use Rattle.definitions.specs.Lists.{count_from}
 use Rattle.definitions.specs.Orbits.{Row}
@@ -11,7 +10,7 @@ use Rattle.space.specs.Meaning.{length_of}
 use Rattle.load.specs.declared.EntryLimit.{EntryLimit}
 use Rattle.load.specs.declared.EntryLimit.TheVariants.{Unlimited, Number}
 use Rattle.load.specs.declared.Fields.{Fields}
-use Rattle.load.specs.Places.{header_of, places_of, Exact}
+use Rattle.load.specs.Places.{header_of, places_of}
 
 -- ---- limits
 
@@ -99,40 +98,3 @@ pub record Loadable (bytes : Bytes) (f : Fields) : Type 0 where
   pub basis_is : (read_job bytes).basis ≡ vectors_at bytes f.basis f.d (f.rank - 1)
   pub points_is : (read_job bytes).points ≡ vectors_at bytes f.points f.d f.n
   pub rows_is : (read_job bytes).rows ≡ rows_at bytes f.rows f.n f.count
-
-own : (bytes : Bytes) → Exact bytes → Loadable bytes (fields_of bytes)
-unfolding fields_of read_job header_of places_of rows_at
-own bytes k =
-    let h = k.counted in
-    let long = k.long in
-    record {
-      rank_is = refl;
-      d_is = refl;
-      n_is = refl;
-      count_is = refl;
-      min_is = length_of_limit (read_job bytes).shortest;
-      max_is = length_of_limit (read_job bytes).longest;
-      entries_is = number_of_limit (read_job bytes).entry_limit;
-      tolerance_is = refl;
-      rule_is = refl;
-      budget_is = refl;
-      rank_least = h.rank_least;
-      rank_most = h.rank_most;
-      d_least = h.d_least;
-      d_most = h.d_most;
-      n_least = h.n_least;
-      n_most = h.n_most;
-      count_least = h.count_least;
-      count_most = h.count_most;
-      offset_fits = omega arith;
-      basis_fits = omega arith;
-      points_fit = omega arith;
-      rows_fit_holds = omega arith;
-      offset_is = refl;
-      basis_is = refl;
-      points_is = refl;
-      rows_is = refl;
-    }
-
-pub loadable : (bytes : Bytes) (f : Fields) → Exact bytes → f ≡ fields_of bytes → Loadable bytes f
-loadable bytes f k e = subst (Loadable bytes) (sym e) (own bytes k)

@@ -1,20 +1,21 @@
 -- What the tests of a job with a package leave [17.10]: the job passes its own tests and the workspace's, the package passes 18, and the job's call by that package is the definition's. Leans on the
 -- checks of a job and on what is written of a call.
-use Rattle.std.specs.Prelude.{◌≡◌, Bool, true, false, ℕ, ◌≤◌, T, leb}
+use Rattle.std.specs.Prelude.{◌≡◌, true, false, ℕ, ◌≤◌, T, leb}
 use Rattle.std.proofs.Math.Path.{refl, sym, ap}
 use Rattle.std.proofs.Common.{subst, ◌∙◌}
-use mathlib.Core.List.{List, [], ◌∷◌, ◌++◌}
+use mathlib.Core.List.{List, [], ◌++◌}
 use Rattle.std.proofs.Math.Option.{Option, some, none}
-use Rattle.definitions.specs.Outcome.{Outcome, refused, answered, and_then}
+use Rattle.definitions.specs.Outcome.{refused, answered, and_then}
 use Rattle.definitions.specs.Recursion.{Answer}
 use Rattle.definitions.specs.Faceting.{Way}
-use Rattle.definitions.specs.Job.{Bytes, Job, read_job, bounds1, workspace_for, Test, header_tests, value_tests, job_tests, workspace_tests, tests, answer_bytes}
-use Rattle.definitions.specs.Noble.{Package, read_package, package_good}
+use Rattle.definitions.specs.Job.{Bytes, read_job, bounds1, workspace_for, Test, header_tests, value_tests, job_tests, workspace_tests, tests, answer_bytes}
+use Rattle.definitions.specs.Noble.{read_package, package_good}
 use Rattle.definitions.specs.NobleCalls.{noble_way, noble_call_of, package_tests, noble_tests, noble_alone}
 use Rattle.laws.specs.Refusals.{stops, ends, first_refused, first_one_of, first_refused_append, pass_all_refused, pass_all_passed, passes_at, passed, none_refused, front_passed}
 use Rattle.load.specs.declared.Fields.{Fields}
 use Rattle.load.specs.Places.{header_of}
-use Rattle.load.specs.Meaning.{fields_of, loadable}
+use Rattle.load.specs.Meaning.{fields_of}
+use Rattle.load.proofs.Meaning.{loadable}
 use Rattle.job.specs.declared.Checked.TheVariants.{Refused, Passed}
 use Rattle.job.specs.Refusal.{checked_as, checked_by, checked_of}
 use Rattle.job.specs.Passed.{checked_passed, refused_as, rank_loaded, header_passed}

@@ -13,7 +13,8 @@ use Rattle.laws.specs.Lists.{Mem, here, there, of_map, of_flat_map, at_member, c
 use Rattle.laws.specs.Parts.{rows, take_more, take_more_set}
 use Rattle.openers.specs.Rows.{rows_in, RowsFit}
 use Rattle.openers.specs.Marks.{marked, marked_at_holds, marked_length, passed, walked, marks_after, walked_append, marks_append, walked_fewer, one_passed, one_opened}
-use Rattle.openers.specs.Codes.{pair_of_code, code_small, member_codes, map_codes, codes_wide, image_small}
+use Rattle.openers.specs.Codes.{pair_of_code, code_small, member_codes, map_codes}
+use Rattle.openers.proofs.Codes.{codes_wide, image_small}
 use Rattle.openers.specs.Meaning.{pair_code, pair_of, pairs_in, listed, HoldsPairs, HoldsCodes, pair_codes, pairs_above}
 use Rattle.openers.specs.declared.Pairs.{Pairs}
 use Rattle.openers.proofs.Laws.{same_cond}

@@ -1,14 +1,14 @@
 -- Codes of pairs: a pair is its code, and the codes of a pair's images are read where the rows lie. Leans on Rows and Meaning.
-use Rattle.std.specs.Prelude.{◌≡◌, refl, List, [], ◌∷◌, ◌++◌, map, ℕ, ◌+◌, ◌*◌, ◌/◌, ◌%◌, ◌≤◌, ◌<◌, min, max, T, eqb, get_or, take, drop}
+use Rattle.std.specs.Prelude.{◌≡◌, refl, List, [], ◌∷◌, ◌++◌, map, ℕ, ◌+◌, ◌*◌, ◌/◌, ◌%◌, ◌<◌, min, max, T, eqb, get_or, take, drop}
 use Rattle.std.proofs.Common.{sym, ap, subst, ◌∙◌, arith, eqb→eq}
 use Rattle.std.proofs.Math.Dec.{eqb_refl, compare_is_eq}
 use Rattle.definitions.specs.Lists.{Pair, compare_pair, any_of, member_nat, member_pair}
 use Rattle.definitions.specs.Orbits.{Row, image, pair_image}
 use Rattle.laws.specs.Bools.{same_test}
-use Rattle.laws.specs.Lists.{Mem, here, there, of_map, at_member}
+use Rattle.laws.specs.Lists.{Mem, here, there, at_member}
 use Rattle.laws.specs.Orders.{pairs, is_eq}
 use Rattle.laws.specs.Parts.{rows, get_d_rows, length_rows, map_rows_more}
-use Rattle.openers.specs.Rows.{rows_in, RowsFit, image_at_holds, same_images}
+use Rattle.openers.specs.Rows.{rows_in, RowsFit, image_at_holds}
 use Rattle.openers.specs.Meaning.{pair_code, pair_of, pair_codes}
 
 -- ---- a pair is its code
@@ -61,12 +61,6 @@ codes_more m v w s h k =
     map_rows_more (λ (row : Row). pair_code (pair_image (v, w) row)) 32 32 m s
     ∙ ap (λ (u : ℕ). map (λ (row : Row). pair_code (pair_image (v, w) row)) (rows_in 32 m s) ++ (u ∷ [])) (code_at 32 m s v w h k)
 
-pub codes_wide : (n m v w : ℕ) (s : List ℕ) → v < n → w < n → n ≤ 20 → pair_codes (rows_in 32 m s) (v, w) ≡ pair_codes (rows_in n m s) (v, w)
-unfolding pair_codes
-codes_wide n m v w s h k l =
-    same_images (λ (row : Row). pair_code (pair_image (v, w) row)) (λ (row : Row). pair_code (pair_image (v, w) row)) 32 n m s
-    (λ i _. code_at 32 i s v w (omega arith) (omega arith) ∙ sym (code_at n i s v w h k))
-
 -- rows that fit send vertices to vertices
 pub row_below : {n m : ℕ} {s : List ℕ} → RowsFit n m s → (row : Row) → Mem row (rows_in n m s) → (v : ℕ) → v < n → image row v < n
 unfolding rows_in
@@ -77,10 +71,3 @@ row_below {n} {m} {s} fits row h v below =
     let is : take n (drop (32 * r.0) s) ≡ row = sym (get_d_rows 32 n m s r.0 k) ∙ r.2 in
     let e : get_or s (32 * r.0 + v) 0 ≡ image row v = sym (image_at_holds n r.0 s v below) ∙ ap (λ (l : Row). image l v) is in
     omega (arith, (fits.images v below).below r.0 k)
-
-pub image_small : {n m : ℕ} {s : List ℕ} → RowsFit n m s → (p q : Pair) → p.0 < n → p.1 < n → Mem q (map (pair_image p) (rows_in n m s)) → q.1 < 20
-unfolding pair_image
-image_small {n} {m} {s} fits p q a b h =
-    let r = of_map (pair_image p) q (rows_in n m s) h in
-    let e : q.1 ≡ max (image r.0 p.0) (image r.0 p.1) = ap (λ (x : Pair). x.1) r.2 in
-    omega (arith, row_below fits r.0 r.1 p.0 a, row_below fits r.0 r.1 p.1 b, fits.n_fits)

@@ -16,7 +16,8 @@ use Rattle.space.specs.declared.Points.{Points}
 use Rattle.space.specs.Meaning.{PointsFit}
 use Rattle.load.specs.declared.Fields.{Fields}
 use Rattle.load.specs.Places.{Exact}
-use Rattle.load.specs.Meaning.{fields_of, Loadable, loadable}
+use Rattle.load.specs.Meaning.{fields_of, Loadable}
+use Rattle.load.proofs.Meaning.{loadable}
 use Rattle.job.specs.declared.Checked.TheVariants.{Passed}
 use Rattle.job.specs.Refusal.{checked_of}
 use Rattle.job.specs.Passed.{passed_means, passed_exact, passed_rows}

@@ -13,7 +13,7 @@ use Rattle.definitions.specs.Lists.{compare_pair, any_of, keep, count_from}
 use Rattle.definitions.specs.Orbits.{Row}
 use Rattle.definitions.specs.Recursion.{Entry, Answer, swapped_ends, separate_ends}
 use Rattle.definitions.specs.Job.{number_at, counted}
-use Rattle.definitions.specs.Plain.{finds, finds_other, filter_irc, split_lists, plain_of}
+use Rattle.definitions.specs.Plain.{finds_other, filter_irc, split_lists, plain_of}
 use Rattle.laws.specs.Lists.{Mem, kept, keep_few, of_count, count_length}
 use Rattle.laws.specs.Filtered.{filter_numbered}
 use Rattle.words.specs.Words.{words, words_length, words_more, number_at_drop}

@@ -1,5 +1,5 @@
 -- What is written of a job that was called, from what its call says: the two clauses of `plain_job`, case by case. Leans on what is called, and on the end of writing.
-use Rattle.std.specs.Prelude.{◌≡◌, refl, List, ℕ, ◌<◌, length, replicate}
+use Rattle.std.specs.Prelude.{◌≡◌, refl, ℕ, ◌<◌, length, replicate}
 use Rattle.std.proofs.Math.Path.{sym, ap}
 use Rattle.std.proofs.Common.{◌∙◌}
 use Rattle.definitions.specs.Outcome.{Outcome, refused, answered, and_then}

@@ -12,7 +12,8 @@ use Rattle.laws.specs.Parts.{take_more}
 use Rattle.laws.specs.Segments.{placed}
 use Rattle.pool.specs.Pool.{base, used, pushed, ended}
 use Rattle.shares.specs.Areas.{area, flat, AreaRoom, AreaEmpty, Joined, AreaGrown, flat_few, lists_to, lists_long, lists_at_holds, joined_room, joined_more, joined_none, push_asks, joined_push, joined_end}
-use Rattle.ridges.specs.Codes.{touched_of, ones_in, ones_to, ones_append, one_joins, one_stays, ones_left, ones_to_few, ones_more, PlacesCounted, shares_here, amount_of, here_none, here_joins, here_stays, touched_to, touched_code, touched_more, code_some, code_none, touched_few, amount_small}
+use Rattle.ridges.specs.Codes.{touched_of, ones_in, ones_to, ones_append, one_joins, one_stays, ones_to_few, ones_more, PlacesCounted, shares_here, amount_of, here_none, here_joins, here_stays, touched_to, touched_code, touched_more, code_some, code_none, touched_few, amount_small}
+use Rattle.ridges.proofs.Codes.{ones_left}
 
 -- ---- what a facet adds to one ridge orbit
 

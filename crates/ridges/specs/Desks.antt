@@ -35,7 +35,6 @@ use Rattle.shares.specs.Shares.{share_code, sources_of, count_of, owner_of, face
 use Rattle.ridges.specs.Facets.{At, item_at_holds, at_map, zip_at, zip_long}
 use Rattle.ridges.specs.Small.{Small, ends_of_code, numbers_are}
 use Rattle.ridges.specs.Shared.{Holding, facets_many, sources_fit, codes_are, shares_below, facets_same, orbits_same, ridges_same}
-use Rattle.ridges.specs.Laid.{tables_hold}
 use Rattle.facets.specs.Layout as layout
 use Rattle.ridges.specs.Codes as made
 

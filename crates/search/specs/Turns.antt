@@ -15,7 +15,8 @@ use Rattle.search.specs.declared.Course.{Course}
 use Rattle.search.specs.declared.Step.{Step}
 use Rattle.search.specs.declared.Step.TheVariants.{On, Stopped, Full}
 use Rattle.facets.specs.declared.Verdict.{Verdict}
-use Rattle.facets.specs.Frames.{Frame, pending, moved, child, pending_none, pending_latest, search_starts, examine_none, examine_spent, examine_over, examine_open, examine_fifteen, examine_stop, examine_closed, examine_kept}
+use Rattle.facets.specs.Frames.{Frame, pending, moved, child, pending_none, pending_latest, examine_none, examine_spent, examine_over, examine_fifteen, examine_stop, examine_kept}
+use Rattle.facets.proofs.Frames.{search_starts, examine_open, examine_closed}
 use Rattle.facets.specs.Sums.{judge_sums}
 use Rattle.facets.specs.Judged.{NotOver, judge_light, judge_inside}
 use Rattle.facets.specs.Layout.{verdict, Inputs, AreasFit, holds_kept, ridge_of, totals_part, frames_part, lists_part}

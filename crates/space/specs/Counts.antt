@@ -10,7 +10,8 @@ use Rattle.definitions.specs.Subspace.{Subspace, gains, project, residual, flatt
 use Rattle.definitions.specs.Orbits.{Limits, point_at, breaks_limit}
 use Rattle.laws.specs.Parts.{rows, length_rows, get_d_rows, set_five, set_five_is, rows_written}
 use Rattle.vectors.specs.Meaning.{vector_of, five}
-use Rattle.vectors.specs.Wholes.{five_means, five_own, minus_length, plus_times_length}
+use Rattle.vectors.specs.Wholes.{five_means, minus_length, plus_times_length}
+use Rattle.vectors.proofs.Wholes.{five_own}
 use Rattle.space.specs.declared.Subspace.{Subspace as StoredSubspace}
 use Rattle.space.specs.declared.Points.{Points}
 use Rattle.space.specs.Rows.{row_long, rows_length, row_is, joined_length, row_joins}

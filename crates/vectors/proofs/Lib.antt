@@ -1,2 +1,3 @@
 -- What the proofs of this crate share.
 mod Laws
+pub mod Wholes

@@ -57,6 +57,3 @@ module _ (r : List Float) (v : Vec) (d : ℕ) (is : r ≡ five v) (long : length
   pub five_rest : drop d r ≡ drop d (zeros 5)
   unfolding five
   five_rest = rw is (drop_onto v (zeros 5) d (sym long))
-
-  pub five_own : r ≡ five (vector_of d r)
-  five_own = rw five_means is

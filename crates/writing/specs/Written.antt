@@ -32,7 +32,8 @@ use Rattle.shelf.specs.declared.Level.{Level}
 use Rattle.figure_words.specs.Wrote.{Wrote}
 use Rattle.possible_facets.specs.Facets.{OwnersBelow, item_of, item_words, list_words, owners_from, owners_all, item_is, owners_below, Each, edges_at, many_edges, leading_is}
 use Rattle.edge_marks.specs.Summaries.{summary_marked}
-use Rattle.edge_marks.specs.Marks.{Ends, EdgesFit, marks_of, codes_marked, edges_marked, pair_code_holds, marked_edges}
+use Rattle.edge_marks.specs.Marks.{Ends, EdgesFit, marks_of, codes_marked, edges_marked, pair_code_holds}
+use Rattle.edge_marks.proofs.Marks.{marked_edges}
 use Rattle.entry_lists.specs.Counts.{count_words}
 use Rattle.possible_facets.specs.Possible.{edge_figure_words, possible_from}
 use Rattle.writing.specs.Standing.{owners_in, edges_in, Standing, both_words, entry_from, summary_from, answer_from}

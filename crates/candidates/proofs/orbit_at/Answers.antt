@@ -2,7 +2,8 @@
 use native.Mathlib.Omega.{arith}
 use mathlib.Core.Path.{sym, ap, ◌∙◌}
 use Rattle.definitions.specs.Search.{Facet}
-use Rattle.facets.specs.Numbers.{numbers_small, candidate_at, orbit_is, same_length}
+use Rattle.facets.specs.Numbers.{orbit_is, same_length}
+use Rattle.facets.proofs.Numbers.{numbers_small, candidate_at}
 use Rattle.candidates.proofs.orbit_at.Goals as goal
 
 pub overflow_mul-x : goal.overflow_mul-x

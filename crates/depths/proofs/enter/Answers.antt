@@ -5,7 +5,8 @@ use Rattle.definitions.specs.Lists.{place_of}
 use Rattle.laws.specs.Merging.{place_le}
 use Rattle.facets.specs.Frames.{low_of, candidates, above}
 use Rattle.facets.specs.Layout.{ridge_of}
-use Rattle.facets.specs.Numbers.{numbers_few, numbers_length}
+use Rattle.facets.specs.Numbers.{numbers_few}
+use Rattle.facets.proofs.Numbers.{numbers_length}
 use Rattle.frames.specs.Steps.{frame_room_holds, same_light, entered_is}
 use Rattle.depths.proofs.enter.Goals as goal
 

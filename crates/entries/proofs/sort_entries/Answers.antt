@@ -4,7 +4,8 @@ use Prim.Native.Nat.{◌≤◌}
 use native.Mathlib.Omega.{arith}
 use lib.ListN.{length, drop}
 use Rattle.words.specs.Lent.{lent_tail, back_length, back_front, back_tail}
-use Rattle.entries.specs.Listed.{labelled_length, ready_pool, listed}
+use Rattle.entries.specs.Listed.{labelled_length, ready_pool}
+use Rattle.entries.proofs.Listed.{listed}
 use Rattle.entries.proofs.sort_entries.Goals as goal
 
 pub order_lists-count-requires : goal.order_lists-count-requires

@@ -3,7 +3,8 @@ use mathlib.Core.Path.{◌≡◌, subst}
 use native.Mathlib.Omega.{arith}
 use Rattle.orbits.specs.Answers.{answer_in, orbits_or_refusal}
 use Rattle.orbits.specs.declared.Answer.{Answer}
-use Rattle.faceting.specs.Ways.{kept_plain, kept_refused, kept_some, few_counted}
+use Rattle.faceting.specs.Ways.{kept_plain}
+use Rattle.faceting.proofs.Ways.{kept_refused, kept_some, few_counted}
 use Rattle.faceting.proofs.keep_found.Goals as goal
 
 pub returns-then-way : goal.returns-then-way

@@ -6,7 +6,7 @@ use Rattle.shelf.specs.Keeps.{ShelfFits}
 use Rattle.shelf.specs.declared.Shelf.{Shelf}
 use Rattle.calls.specs.Layouts.{shelf_for}
 use Rattle.faceting.specs.Ways.{way_of, way_takes}
-use Rattle.faceting.specs.Starts.{start_kept}
+use Rattle.faceting.proofs.Starts.{start_kept}
 use Rattle.faceting.proofs.start_call.Goals as goal
 
 pub find_kept-answer-requires : goal.find_kept-answer-requires

@@ -2,7 +2,7 @@
 use mathlib.Core.Path.{refl, sym, ap, ◌∙◌}
 use Rattle.definitions.specs.Job.{between, tolerance_good, value_tests}
 use Rattle.laws.specs.Refusals.{goes_on, ends}
-use Rattle.load.specs.Meaning.{loadable}
+use Rattle.load.proofs.Meaning.{loadable}
 use Rattle.job.proofs.Laws.{first_row_fits, first_row, all_rows, refused_here, all_passed}
 use Rattle.job.proofs.check_values.Goals as goal
 

@@ -3,7 +3,7 @@ use mathlib.Core.Path.{sym, ◌∙◌}
 use Prim.Native.Nat.{◌-◌}
 use native.Mathlib.Omega.{arith}
 use Rattle.laws.specs.Tests.{product_at_most}
-use Rattle.load.specs.Meaning.{loadable}
+use Rattle.load.proofs.Meaning.{loadable}
 use Rattle.job.proofs.Laws.{limits_fail, offset_fails, basis_fails, points_decide}
 use Rattle.job.proofs.floats_good.Goals as goal
 

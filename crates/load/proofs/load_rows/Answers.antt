@@ -1,6 +1,6 @@
 -- `load::load_rows` meets its contract: the job's rows stand where its fields say. Assumes nothing.
 use native.Mathlib.Omega.{arith}
-use Rattle.load.specs.Meaning.{loadable}
+use Rattle.load.proofs.Meaning.{loadable}
 use Rattle.load.proofs.load_rows.Goals as goal
 
 pub copy_rows-requires : goal.copy_rows-requires

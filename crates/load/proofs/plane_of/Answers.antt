@@ -2,8 +2,9 @@ use mathlib.Core.Path.{◌≡◌, sym, ap, ◌∙◌}
 use Prim.Native.Nat.{ℕ, ◌+◌, ◌*◌, ◌-◌}
 use native.Mathlib.Omega.{arith}
 use Rattle.laws.specs.Tests.{next_fits}
-use Rattle.vectors.specs.Wholes.{five_means, five_own}
-use Rattle.load.specs.Meaning.{loadable}
+use Rattle.vectors.specs.Wholes.{five_means}
+use Rattle.vectors.proofs.Wholes.{five_own}
+use Rattle.load.proofs.Meaning.{loadable}
 use Rattle.load.proofs.Laws.{floats_length, offset_alone, plane_start, plane_turn, plane_end}
 use Rattle.load.proofs.plane_of.Goals as goal
 

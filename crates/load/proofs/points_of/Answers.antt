@@ -4,8 +4,9 @@ use native.Mathlib.Omega.{arith}
 use Rattle.definitions.specs.Job.{vectors_at}
 use Rattle.definitions.specs.Lists.{count_from}
 use Rattle.laws.specs.Tests.{next_fits}
-use Rattle.vectors.specs.Wholes.{five_means, five_own}
-use Rattle.load.specs.Meaning.{loadable}
+use Rattle.vectors.specs.Wholes.{five_means}
+use Rattle.vectors.proofs.Wholes.{five_own}
+use Rattle.load.proofs.Meaning.{loadable}
 use Rattle.load.proofs.Laws.{floats_length, points_turn}
 use Rattle.load.proofs.points_of.Goals as goal
 

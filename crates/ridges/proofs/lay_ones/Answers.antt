@@ -1,6 +1,7 @@
 use mathlib.Core.List.{[]}
 use Rattle.pool.specs.Pool.{closed_length, closed_lists}
-use Rattle.ridges.specs.Codes.{ones_room_holds, ones_of}
+use Rattle.ridges.specs.Codes.{ones_of}
+use Rattle.ridges.proofs.Codes.{ones_room_holds}
 use Rattle.shares.specs.Laying.{laid_start, laid_more, laid_ready, laid_end, laid_area, clear_area}
 use mathlib.Core.Path.{◌≡◌, refl}
 use native.Mathlib.Omega.{arith}

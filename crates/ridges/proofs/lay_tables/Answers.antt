@@ -1,7 +1,8 @@
 -- `lay_tables` meets its contract: each step leaves what the next one asks (specs/Desks).
 use mathlib.Core.Path.{refl}
 use native.Mathlib.Omega.{arith}
-use Rattle.ridges.specs.Desks.{areas_laid, desk_order, numbering_asks, orders, shares_fit, sharing_space, known_few, facets_count, touching_space, ones_asks, inputs_are, shelf_kept}
+use Rattle.ridges.specs.Desks.{areas_laid, desk_order, numbering_asks, orders, shares_fit, sharing_space, known_few, facets_count, touching_space, ones_asks, shelf_kept}
+use Rattle.ridges.proofs.Desks.{inputs_are}
 use Rattle.ridges.proofs.lay_tables.Goals as goal
 
 pub number_ridges-known-requires : goal.number_ridges-known-requires

@@ -4,7 +4,8 @@ use lib.ListN.{length, take, drop}
 use Rattle.laws.specs.Parts.{map_rows_more, rows}
 use Rattle.laws.specs.Segments.{onto}
 use Rattle.vectors.specs.Meaning.{vector_of, zeros}
-use Rattle.vectors.specs.Wholes.{five_length, five_means, five_own}
+use Rattle.vectors.specs.Wholes.{five_length, five_means}
+use Rattle.vectors.proofs.Wholes.{five_own}
 use Rattle.space.specs.Meaning.{points_of, in_rows, joined, subspace_of}
 use Rattle.space.specs.Counts.{offset_long, basis_long, holds_points, point_row, point_means, point_places, flatten_length, row_joined}
 use native.Mathlib.Omega.{arith}

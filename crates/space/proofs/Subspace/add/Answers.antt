@@ -9,7 +9,8 @@ use lib.Ieee.{lt}
 use Rattle.definitions.specs.Vectors.{norm, normalised}
 use Rattle.definitions.specs.Subspace.{residual}
 use Rattle.vectors.specs.Meaning.{vector_of}
-use Rattle.vectors.specs.Wholes.{five_means, five_own, normalised_length}
+use Rattle.vectors.specs.Wholes.{five_means, normalised_length}
+use Rattle.vectors.proofs.Wholes.{five_own}
 use Rattle.space.specs.Meaning.{subspace_of}
 use Rattle.space.specs.Counts.{holds_subspace}
 use Rattle.space.proofs.Laws.{add_point_joins, add_point_stays, read_residual}

@@ -1,5 +1,4 @@
--- The entries of a call, from its pools: the order of the split lists is the order of the entries, and the labels of the lists are the compounds among them.
--- Leans on the definitions, Numbers and Sorted. Assumes nothing.
+-- Theorems on the definitions of specs/Entries.
 use Rattle.std.specs.Prelude.{◌≡◌, length}
 use Rattle.std.proofs.Math.Path.{sym, ap}
 use Rattle.std.proofs.Common.{◌∙◌, subst, arith}

@@ -1,0 +1,23 @@
+use mathlib.Core.Path.{sym, subst}
+use Prim.Native.Nat.{ℕ, ◌+◌}
+use native.Mathlib.Omega.{arith}
+use Rattle.batches.specs.Cutting.{Looked, looked_first, looked_remainder, looked_overrun, looked_next, looked_all}
+use Rattle.batches.proofs.is_cut.Goals as goal
+
+pub loop-at-init : goal.loop-at-init
+loop-at-init c = looked_first _
+
+pub returns-then-left-lt-LENGTH_BYTES : goal.returns-then-left-lt-LENGTH_BYTES
+returns-then-left-lt-LENGTH_BYTES c = looked_remainder c.loop-at.invariant (omega arith) (omega arith)
+
+pub returns-then-left-many : goal.returns-then-left-many
+returns-then-left-many c =
+    looked_overrun c.loop-at.invariant (omega arith) (omega (arith, c.get_u32-many.ensures))
+
+pub loop-at-preserved : goal.loop-at-preserved
+loop-at-preserved c =
+    subst (λ (many : ℕ). Looked c.args.row.now (c.loop-at.at + (4 + many))) (sym c.get_u32-many.ensures)
+    (looked_next c.loop-at.invariant (omega arith) (omega (arith, c.get_u32-many.ensures)))
+
+pub returns : goal.returns
+returns c = looked_all c.loop-at.invariant (omega arith)

@@ -1,0 +1,53 @@
+-- `batches::write_record` meets its contract: by what came of the job in the buffer behind the head (Heads has each case). Assumes nothing.
+use mathlib.Core.Path.{sym, ap, ◌∙◌}
+use Prim.Native.Nat.{ℕ, ◌≤◌}
+use native.Mathlib.Omega.{arith}
+use lib.ListN.{length, replicate}
+use Rattle.definitions.specs.Job.{alone}
+use Rattle.words.specs.Lent.{lent_tail, back_length}
+use Rattle.batches.specs.Heads.{lent_clear, head_clauses, refused_clauses, short_clauses, long_clauses, answered_clauses}
+use Rattle.laws.specs.Clauses.{of_two}
+use Rattle.batches.proofs.write_record.Goals as goal
+
+-- ---- no room for a head
+pub returns-then-records-lt-HEAD_BYTES : goal.returns-then-records-lt-HEAD_BYTES
+returns-then-records-lt-HEAD_BYTES c = of_two (λ x0 x1. record { result = x0; buffer = x1 })
+    (head_clauses (length c.args.records.now) (alone c.args.job.now (length c.args.workspace.now)) (omega arith) _ c.requires)
+
+pub answer_job-requires : goal.answer_job-requires
+answer_job-requires c =
+    lent_clear c.args.records.now c.requires 6 (omega arith)
+
+pub returns-in-Refused : goal.returns-in-Refused
+returns-in-Refused c = of_two (λ x0 x1. record { result = x0; buffer = x1 })
+    (let records = c.args.records.now in
+    let inside : 6 ≤ length records = omega arith in
+    let k = refused_clauses records c.requires inside (alone c.args.job.now (length c.args.workspace.now)) c.answer_job.new.answer
+    c.answer_job.auto.answer c.answer_job.ensures.buffer _ (sym c.in-Refused.is ∙ c.answer_job.ensures.result) in
+    (k.0, c.put_u16.ensures ∙ k.1))
+
+pub returns-in-Short : goal.returns-in-Short
+returns-in-Short c = of_two (λ x0 x1. record { result = x0; buffer = x1 })
+    (let records = c.args.records.now in
+    let inside : 6 ≤ length records = omega arith in
+    short_clauses records c.requires inside (alone c.args.job.now (length c.args.workspace.now)) c.answer_job.new.answer
+    c.answer_job.auto.answer c.answer_job.ensures.buffer (sym c.in-Short.is ∙ c.answer_job.ensures.result))
+
+-- too long for a u32
+pub returns-then-many-gt4294967295 : goal.returns-then-many-gt4294967295
+returns-then-many-gt4294967295 c = of_two (λ x0 x1. record { result = x0; buffer = x1 })
+    (let records = c.args.records.now in
+    let inside : 6 ≤ length records = omega arith in
+    let p = c.answer_job.new.answer in
+    let same = c.answer_job.auto.answer in
+    let whole = back_length 6 records p inside (same ∙ ap length (lent_tail 6 records)) in
+    long_clauses records c.requires inside (alone c.args.job.now (length c.args.workspace.now)) p same c.answer_job.ensures.buffer
+    _ (sym c.in-Wrote.is ∙ c.answer_job.ensures.result) (omega arith) _ (c.clear.ensures ∙ ap (λ (k : ℕ). replicate k 0) whole))
+
+pub returns-else-many-gt4294967295 : goal.returns-else-many-gt4294967295
+returns-else-many-gt4294967295 c = of_two (λ x0 x1. record { result = x0; buffer = x1 })
+    (let records = c.args.records.now in
+    let inside : 6 ≤ length records = omega arith in
+    let k = answered_clauses records c.requires inside (alone c.args.job.now (length c.args.workspace.now)) c.answer_job.new.answer
+    c.answer_job.auto.answer c.answer_job.ensures.buffer _ (sym c.in-Wrote.is ∙ c.answer_job.ensures.result) (omega arith) in
+    (k.0, c.put_u32.ensures ∙ k.1))

@@ -1,0 +1,3 @@
+-- Theorems on the definitions of specs/.
+pub mod Frames
+pub mod Numbers

@@ -1,0 +1,20 @@
+-- `nobles::noble_job` meets its contract: the check's refusal, or what is written of the call. Assumes nothing.
+use mathlib.Core.Path.{sym, ap, ◌∙◌}
+use lib.ListN.{length}
+use Rattle.definitions.specs.Outcome.{and_then}
+use Rattle.definitions.specs.Job.{buffer_of}
+use Rattle.answering.specs.Closed.{written_in, buffer_in}
+use Rattle.nobles.specs.Passed.{noble_refused}
+use Rattle.laws.specs.Clauses.{of_two}
+use Rattle.nobles.proofs.noble_job.Goals as goal
+
+pub write_noble-requires : goal.write_noble-requires
+write_noble-requires c =
+    (sym c.in-Passed.is ∙ c.check_noble.ensures, c.requires)
+
+pub returns-in-Refused : goal.returns-in-Refused
+unfolding written_in buffer_in and_then buffer_of
+returns-in-Refused c = of_two (λ x0 x1. record { result = x0; buffer = x1 })
+    (let room = length c.args.answer.now in
+    let o = noble_refused c.args.job.now c.args.pack.now (length c.args.workspace.now) _ (sym c.in-Refused.is ∙ c.check_noble.ensures) in
+    (sym (ap (written_in room) o), c.requires ∙ sym (ap (buffer_in room) o)))

@@ -1,0 +1,12 @@
+-- `plain::write_numbers` meets its contract. Invariant: behind the count the first i numbers are written. Measure: the numbers that are left. Assumes nothing.
+use Prim.Native.Nat.{◌-◌, ◌≤◌}
+use lib.ListN.{drop}
+use Rattle.words.specs.Words.{words}
+use Rattle.figure_words.specs.Wrote.{Wrote}
+use Rattle.plain.proofs.write_numbers.Given as goal
+
+abbrev pub invariant-loop-i : goal.invariant-loop-i
+invariant-loop-i l = (l.i ≤ l.many) × Wrote l.initial.answer l.initial.cursor l.answer l.cursor (words 4 (drop l.from l.s) l.i)
+
+abbrev pub decreases-loop-i : goal.decreases-loop-i
+decreases-loop-i l = l.many - l.i
