@@ -5,7 +5,7 @@ use Rattle.std.proofs.Math.Path.{sym, ap}
 use Rattle.std.proofs.Common.{◌∙◌, subst, arith}
 use mathlib.Core.List.{List, [], map, flat_map, map-map}
 use Rattle.std.proofs.Math.Option.{Option}
-use Prim.Native.Nat.{ℕ, ◌≤◌, ◌<◌, compare}
+use Prim.Native.Nat.{ℕ, ◌<◌, compare}
 use Rattle.std.proofs.Math.ListN.{get_or}
 use Rattle.std.proofs.lemmas.List.{length-map}
 use Rattle.definitions.specs.Lists.{Pair, compare_pair, compare_pairs, compare_nats, sort_by, count_from}
@@ -15,12 +15,10 @@ use Rattle.definitions.specs.Search.{Facet, Found}
 use Rattle.definitions.specs.Recursion.{Entry}
 use Rattle.definitions.specs.Faceting.{compare_entries}
 use Rattle.laws.specs.Lists.{Mem, member_at, map_at_holds, of_count}
-use Rattle.laws.specs.Pairs.{Pairs}
 use Rattle.laws.specs.Sorting.{by_key, sort_map, of_sorted}
 use Rattle.laws.specs.Merging.{sort_same, map_count}
 use Rattle.laws.specs.Places.{map_same, map_self}
 use Rattle.laws.specs.Walks.{compare_numbered, labels_numbered}
-use Rattle.completeness.specs.Taken.{OtherOrbit}
 use Rattle.order.specs.Areas.{list_at}
 use Rattle.order.specs.Numbers.{AllBelow}
 use Rattle.splitting.specs.Splitting.{split_list}
@@ -45,7 +43,7 @@ module _ (more n : ℕ) (rows : List Row) (kept : List Kept) (split : List ℕ �
   abbrev entry : List ℕ × List ℕ → Entry
   entry = entry_left more n rows kept
 
-  abbrev lists : List (List ℕ)
+  abbrev pub lists : List (List ℕ)
   lists = map split emitted
 
   -- the two lists with a number, and the numbers in the order of the entries
@@ -134,26 +132,20 @@ module _ (more n : ℕ) (rows : List Row) (kept : List Kept) (split : List ℕ �
 
 -- numbered lists that a search emitted, beside a shelf
 module _ (n : ℕ) (shelf : Shelf) (kept : List Kept) (s : List ℕ) (keeps : Keeps n shelf kept s) (emitted : List (List ℕ)) (below : AllBelow shelf.facets emitted) where
-  all_below : AllBelow (facet_count kept) emitted
+  pub all_below : AllBelow (facet_count kept) emitted
   all_below = subst (λ (b : ℕ). AllBelow b emitted) keeps.facets below
 
-  table_is : components_in shelf s ≡ labels_from 0 kept
+  pub table_is : components_in shelf s ≡ labels_from 0 kept
   unfolding components_in
   table_is = keeps.labels
 
-  lists_are : map (split_on shelf s) emitted ≡ map (split_list 380 (labels_from 0 kept)) emitted
+  pub lists_are : map (split_on shelf s) emitted ≡ map (split_list 380 (labels_from 0 kept)) emitted
   lists_are = ap (λ (table : List (Option Pair)). map (split_list 380 table) emitted) table_is
 
   -- what `split_entries` is asked of the split lists
   pub split_numbers : ((k : Kept) → Mem k kept → Splittable k) → AllBelow shelf.facets (map (split_on shelf s) emitted)
   split_numbers each =
       subst (λ (b : ℕ). AllBelow b (map (split_on shelf s) emitted)) (sym keeps.facets) (subst (AllBelow (facet_count kept)) (sym lists_are) (parts_below kept each emitted all_below))
-
-  pub split_short : ((k : Kept) → Mem k kept → Splittable k) → (l : List ℕ) → Mem l emitted → Pairs OtherOrbit (map (facet_at kept) l) → length (split_on shelf s l) ≤ 1024
-  split_short each l m apart =
-      let few = parts_few kept each l (all_below l m) apart in
-      let e = ap (λ (table : List (Option Pair)). length (split_list 380 table l)) table_is in
-      omega (arith, keeps.few_facets, keeps.facets)
 
   module _ (more : ℕ) (rows : List Row) (found : Found) (is : found.lists ≡ map (map (facet_at kept)) emitted) (from origin extent at bytes : ℕ) (level : Level) (t : List ℕ) where
     -- where no orbit has compounds, the emitted lists are the entries'
@@ -165,10 +157,3 @@ module _ (n : ℕ) (shelf : Shelf) (kept : List Kept) (s : List ℕ) (keeps : Ke
       where
         itself : map (λ (l : List ℕ). l) emitted ≡ emitted
         itself = map_self (λ (l : List ℕ). l) emitted (λ l m. refl)
-
-    -- else they are split
-    pub left_split : ((k : Kept) → Mem k kept → Splittable k) → Listed shelf from origin extent at bytes emitted (map (split_on shelf s) emitted) s level t → answer_left more n rows kept level t found.left ≡ kept_answer more n rows kept found
-    left_split each l =
-        left_answer_holds more n rows kept (split_list 380 (labels_from 0 kept)) emitted (λ l m. list_parts kept each l (all_below l m))
-        (parts_below kept each emitted all_below) found is shelf from origin extent at bytes s t level
-        (subst (λ (ls : List (List ℕ)). Listed shelf from origin extent at bytes emitted ls s level t) lists_are l)

@@ -3,10 +3,8 @@
 use Rattle.std.specs.Prelude.{◌≡◌, List, [], map, ℕ, ◌+◌, ◌-◌, ◌≤◌, ◌<◌, length, get_or, take, drop}
 use Rattle.std.proofs.Common.{sym, ap, ◌∙◌, subst, arith, drop-drop}
 use Rattle.definitions.specs.Search.{Facet, Table, all_facets}
-use Rattle.laws.specs.Lists.{Mem, in_map, at_member}
-use Rattle.laws.specs.Pairs.{Pairs}
+use Rattle.laws.specs.Lists.{at_member}
 use Rattle.laws.specs.Segments.{part}
-use Rattle.completeness.specs.Taken.{OtherOrbit}
 use Rattle.pool.specs.Pool.{closed_lists, Sound}
 use Rattle.facets.specs.declared.Areas.{Areas}
 use Rattle.facets.specs.Layout.{facet_of, lists_part}
@@ -14,12 +12,9 @@ use Rattle.frames.specs.Paths.{emitted_in, Emitted}
 use Rattle.order.specs.Numbers.{AllBelow}
 use Rattle.shapes.specs.Kept.{Kept}
 use Rattle.shelf.specs.declared.Shelf.{Shelf}
-use Rattle.shelf.specs.Keeps.{Keeps, facets_of}
+use Rattle.shelf.specs.Keeps.{facets_of}
 use Rattle.shelf.specs.Leaves.{facet_at}
 use Rattle.entries.specs.Listed.{ListsBehind}
-use Rattle.entries.specs.Split.{Splits}
-use Rattle.entries.specs.Parts.{Splittable}
-use Rattle.entries.specs.Answer.{split_numbers}
 
 -- a table's facets are those of what was kept: then the search's lists are the numbered lists' facets, and their numbers are the call's
 emitted_numbers : (t : Table) (kept : List Kept) (a : Areas) (l : List ℕ) → all_facets t ≡ facets_of kept → emitted_in t a l ≡ map (map (facet_at kept)) (closed_lists 2 a.bound l)
@@ -58,7 +53,7 @@ module _ (shelf : Shelf) (a : Areas) (s : List ℕ) (most : a.bound ≡ 1024) wh
   found_lists t kept e = emitted_numbers t kept a left e ∙ ap (map (map (facet_at kept))) lists_are
 
   module _ (e : Emitted a left) (facets : a.facets ≡ shelf.facets) where
-    sound : Sound 2 1024 (part at bytes s)
+    pub sound : Sound 2 1024 (part at bytes s)
     sound = subst (Sound 2 1024) pool_is (subst (λ (n : ℕ). Sound 2 n left) most e.sound)
 
     pub numbers_below : AllBelow shelf.facets emitted
@@ -71,19 +66,4 @@ module _ (shelf : Shelf) (a : Areas) (s : List ℕ) (most : a.bound ≡ 1024) wh
       sound = sound;
       room = omega (arith, sound.few);
       numbers = numbers_below;
-    }
-
-    -- and `split_entries`
-    pub split_ready : (n : ℕ) (kept : List Kept) → Keeps n shelf kept s → ((k : Kept) → Mem k kept → Splittable k)
-        → ((l : List Facet) → Mem l (map (map (facet_at kept)) emitted) → Pairs OtherOrbit l)
-        → at + bytes ≤ length s → shelf.owners + (bytes + 2109452) ≤ length s → Splits shelf at bytes s
-    split_ready n kept keeps each apart inside room = record {
-      fits = keeps.fits;
-      few_facets = keeps.few_facets;
-      inside = inside;
-      sound = sound;
-      room = room;
-      short = λ l m. split_short n shelf kept s keeps emitted numbers_below each l m (apart (map (facet_at kept) l) (in_map (map (facet_at kept)) l emitted m));
-      whole = numbers_below;
-      numbers = split_numbers n shelf kept s keeps emitted numbers_below each;
     }

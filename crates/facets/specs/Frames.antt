@@ -202,7 +202,6 @@ pending_latest t fr frames place f e =
 -- ---- the search, step by step
 
 module _ (t : Table) (limits : EntryLimits) where
-
   pub examine_none : (left : ℕ) (emitted : List (List Facet)) → examine t limits left [] emitted ≡ answered (record { lists = emitted; left = left })
   unfolding examine
   examine_none zero emitted = refl

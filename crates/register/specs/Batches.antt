@@ -1,8 +1,8 @@
 -- What is promised of each job of a row and of its record [15.4]: what the first call gives it, and so the demands and the symmetry, of the entries
 -- read back from the record's answer. Leans on the demands of the first call.
-use Rattle.std.specs.Prelude.{◌≡◌, refl, ℕ, ◌-◌, ◌≤◌, pos, length, take, replicate}
+use Rattle.std.specs.Prelude.{◌≡◌, refl, ℕ, ◌-◌, pos, length, take, replicate}
 use Rattle.std.proofs.Common.{sym, ap, ◌∙◌, subst, arith, take_at}
-use mathlib.Core.List.{List, [], ◌∷◌, ◌++◌, Forall₂, append-nil}
+use mathlib.Core.List.{List, ◌++◌, Forall₂, append-nil}
 use Rattle.definitions.specs.Outcome.{Outcome, refused, answered}
 use Rattle.definitions.specs.Job.{Bytes, outcome, code_of, buffer_of}
 use Rattle.definitions.specs.Demands.{Demand2, Demand3}

@@ -6,7 +6,7 @@ use Rattle.std.proofs.Common.{◌∙◌, subst, arith}
 use Rattle.std.proofs.Math.Option.{Option, some, none}
 use Rattle.std.proofs.Math.ListN.{length, replicate}
 use Rattle.definitions.specs.Outcome.{Outcome, refused, answered, and_then}
-use Rattle.definitions.specs.Recursion.{Entry, Answer}
+use Rattle.definitions.specs.Recursion.{Answer}
 use Rattle.definitions.specs.Job.{Bytes, read_job, job_tests, workspace_tests, between, bounds1, answer_bytes, fitting, code_of, buffer_of}
 use Rattle.definitions.specs.Symmetry.{Symmetric}
 use Rattle.definitions.specs.Noble.{Package, read_package}

@@ -7,7 +7,7 @@ use mathlib.Core.List.{List, [], ◌∷◌, ◌++◌, flat_map, append-nil, Mem�
 use Rattle.std.proofs.Math.ListN.{length, replicate}
 use Rattle.std.proofs.lemmas.List.{length-map}
 use Rattle.definitions.specs.Lists.{Pair, compare_pair}
-use Rattle.definitions.specs.Outcome.{Outcome, answered, and_then}
+use Rattle.definitions.specs.Outcome.{Outcome, answered}
 use Rattle.definitions.specs.Recursion.{Entry, Answer}
 use Rattle.definitions.specs.Job.{Bytes, read_job, tests, bounds1, call_of, counted, figure_words, entry_words, compound_words, summary_words, answer_words, fitting, outcome, code_of, buffer_of}
 use Rattle.definitions.specs.Prices.{answer_of}
@@ -26,7 +26,7 @@ use Rattle.answering.specs.Closed.{written_in, buffer_in}
 use Rattle.answering.specs.Codes.{code_written, written_code}
 use Rattle.plain.specs.Numbers.{few_kept, place_kept, flat_self}
 use Rattle.register.specs.Reading.{entries_read, numbers_read, numbers_back}
-use Rattle.register.specs.Demands.{Called, called, entries_in_holds}
+use Rattle.register.specs.Demands.{called, entries_in_holds}
 
 -- ---- code and buffer, by what came of the job
 

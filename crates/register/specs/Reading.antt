@@ -1,5 +1,5 @@
 -- An answer read back from its bytes, which hold its numbers [12.3] as u32 [12.6]. Where every number is one, the bytes determine the words, and these the entries. Leans on the definition of the answer's bytes, and on numbers in bytes.
-use Rattle.std.specs.Prelude.{◌≡◌, refl, ℕ, zero, suc, ◌-◌, ◌<◌, length}
+use Rattle.std.specs.Prelude.{◌≡◌, refl, ℕ, zero, suc, ◌<◌, length}
 use Rattle.std.proofs.Common.{sym, ap, ◌∙◌}
 use mathlib.Core.List.{List, [], ◌∷◌, ◌++◌, map, flat_map, append_assoc, append-nil}
 use Rattle.definitions.specs.Lists.{Pair}

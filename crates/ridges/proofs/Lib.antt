@@ -1,2 +1,5 @@
 -- The laws that the proofs of this crate share.
 pub mod Tables
+pub mod Desks
+pub mod Laid
+pub mod Codes

@@ -1,19 +1,18 @@
 -- From what a call keeps to the inputs of its search: what `lay_tables` is given, what each of its steps asks, and what they come to. Leans on all specs of this crate.
-use Rattle.std.specs.Prelude.{◌≡◌, ℕ, zero, suc, ◌+◌, ◌-◌, ◌*◌, ◌%◌, ◌≤◌, ◌<◌, take, drop}
-use Rattle.std.proofs.Math.Path.{refl, sym, ap}
-use Rattle.std.proofs.Common.{subst, ◌∙◌, mul-le-mul_right, drop-drop}
+use Rattle.std.specs.Prelude.{◌≡◌, ℕ, zero, suc, ◌+◌, ◌-◌, ◌*◌, ◌%◌, ◌≤◌, ◌<◌, take}
+use Rattle.std.proofs.Math.Path.{sym, ap}
+use Rattle.std.proofs.Common.{◌∙◌, mul-le-mul_right}
 use mathlib.Core.List.{List, [], ◌∷◌, ◌++◌, map, map-map}
 use Rattle.std.proofs.Math.Logic.{⊎_elim}
 use native.Mathlib.Omega.{arith}
-use Rattle.std.proofs.Math.ListN.{length, get_or, length-drop, get_or-append}
+use Rattle.std.proofs.Math.ListN.{length, get_or, get_or-append}
 use Rattle.std.proofs.lemmas.List.{length-map}
 use Rattle.definitions.specs.Lists.{Pair}
 use Rattle.definitions.specs.Orbits.{Orbit}
 use Rattle.definitions.specs.Job.{number_at}
-use Rattle.definitions.specs.Search.{Facet, Share, all_facets, shares_of}
 use Rattle.laws.specs.Lists.{Mem, map_at_holds, member_at, of_map, of_flat_map, at_member}
-use Rattle.laws.specs.Segments.{part, le_or_lt}
-use Rattle.words.specs.Words.{words, words_take, get_d_words, number_at_take}
+use Rattle.laws.specs.Segments.{le_or_lt}
+use Rattle.words.specs.Words.{get_d_words, number_at_take}
 use Rattle.pool.specs.Pool.{base, count, closed_lists, Sound, closed_length}
 use Rattle.pool.specs.Holds.{holds_count}
 use Rattle.openers.specs.Rows.{rows_in, RowsFit}
@@ -21,20 +20,19 @@ use Rattle.openers.specs.Meaning.{pair_of}
 use Rattle.orbits.specs.Numbers.{orbit_of}
 use Rattle.orbits.specs.Workspace.{orbits_in, orbits_length}
 use Rattle.shapes.specs.Ridges.{KnownKeys, no_keys}
-use Rattle.shapes.specs.Kept.{Kept, numbers_kept, kept_table}
+use Rattle.shapes.specs.Kept.{Kept, numbers_kept}
 use Rattle.shelf.specs.declared.Shelf.{Shelf}
-use Rattle.shelf.specs.Keeps.{Keeps, Ridges, facets_of, owners_of, places_of, ridge_code, ridge_codes, owners_part, ridges_part, places_part}
-use Rattle.facets.specs.Layout.{Inputs, facet_of}
+use Rattle.shelf.specs.Keeps.{Keeps, Ridges, facets_of, places_of, ridge_code, ridge_codes, owners_part, ridges_part, places_part}
 use Rattle.facets.specs.declared.Areas.{Areas}
 use Rattle.shares.specs.declared.Desk.{Desk}
 use Rattle.shares.specs.Areas.{area, flat, Space, Made, area_kept, take_kept, flat_few, lists_to, lists_long, lists_at_holds, last_at, none_behind}
 use Rattle.numbering.specs.Numbering.{Sent}
 use Rattle.shares.specs.Ends.{Reads, ridges_at, all_numbered, AllNumbered}
 use Rattle.ridges.specs.Codes.{touched_of}
-use Rattle.shares.specs.Shares.{share_code, sources_of, count_of, owner_of, facet_codes, Orders, SourcesFit, codes_long}
+use Rattle.shares.specs.Shares.{sources_of, count_of, owner_of, facet_codes, Orders, SourcesFit, codes_long}
 use Rattle.ridges.specs.Facets.{At, item_at_holds, at_map, zip_at, zip_long}
 use Rattle.ridges.specs.Small.{Small, ends_of_code, numbers_are}
-use Rattle.ridges.specs.Shared.{Holding, facets_many, sources_fit, codes_are, shares_below, facets_same, orbits_same, ridges_same}
+use Rattle.ridges.specs.Shared.{Holding, facets_many, sources_fit}
 use Rattle.facets.specs.Layout as layout
 use Rattle.ridges.specs.Codes as made
 
@@ -82,13 +80,6 @@ areas_of shelf desk known = record {
 pub areas_laid : (shelf : Shelf) (desk : Desk) (known : ℕ) (r : Areas) → r ≡ areas_of shelf desk known → r ≡ areas_of shelf desk r.ridges
 unfolding areas_of
 areas_laid shelf desk known r e = e ∙ ap (areas_of shelf desk) (sym (ap (λ (a : Areas). a.ridges) e))
-
--- an area, counted from a place before it
-part_shift : (o a b : ℕ) (l : List ℕ) → o ≤ a → a ≤ b → part (a - o) (b - o - (a - o)) (drop o l) ≡ area a b l
-part_shift o a b l h k =
-    let e : o + (a - o) ≡ a = omega arith in
-    let f : b - o - (a - o) ≡ b - a = omega arith in
-    ap (take (b - o - (a - o))) (drop-drop (a - o) o l ∙ ap (λ (i : ℕ). drop i l) e) ∙ ap (λ (i : ℕ). take i (drop a l)) f
 
 -- ---- lists of bounded length
 
@@ -165,7 +156,7 @@ module _ (n most ridges m : ℕ) (rows : List ℕ) (kept : List Kept) (shelf : S
       }))
       (le_or_lt (length kept) o)
 
-  numbers_same : all_numbered (rows_in 32 m rows) (no_keys Pair) (closed_lists 4 256 (ridges_part shelf s)) ≡ numbers_kept (rows_in n m rows) kept
+  pub numbers_same : all_numbered (rows_in 32 m rows) (no_keys Pair) (closed_lists 4 256 (ridges_part shelf s)) ≡ numbers_kept (rows_in n m rows) kept
   numbers_same = ap (all_numbered (rows_in 32 m rows) (no_keys Pair)) g.made.ridges.lists_are ∙ numbers_are n m rows g.rows_fit_holds most kept g.small
 
   ridges_few : length (flat (closed_lists 4 256 (ridges_part shelf s))) ≤ 256 * most
@@ -210,11 +201,8 @@ module _ (n most ridges m : ℕ) (rows : List ℕ) (kept : List Kept) (shelf : S
   -- ---- the shares
 
   module _ (s1 counts : List ℕ) (known : ℕ) (a : AllNumbered m rows desk.numbers desk.shares (closed_lists 4 256 (ridges_part shelf s)) s s1 counts known) where
-    known_is : known ≡ length (numbers_kept (rows_in n m rows) kept).1.counts
+    pub known_is : known ≡ length (numbers_kept (rows_in n m rows) kept).1.counts
     known_is = a.known_is ∙ ap (λ (r : List (List ℕ) × KnownKeys Pair). length r.1.counts) numbers_same
-
-    counts_are : take known counts ≡ (numbers_kept (rows_in n m rows) kept).1.counts
-    counts_are = a.counts_are ∙ ap (λ (r : List (List ℕ) × KnownKeys Pair). r.1.counts) numbers_same
 
     pub known_few : (known ≤ ridges) × (known ≤ 190)
     known_few = (omega (arith, known_is, g.few), omega (arith, known_is, g.few, g.fits.few_ridges_holds))
@@ -236,7 +224,7 @@ module _ (n most ridges m : ℕ) (rows : List ℕ) (kept : List Kept) (shelf : S
           inside = omega (arith, a.long, f.share_room, f.touched_room, f.ones_room, f.frame_room, f.total_room, f.list_room, f.ends);
         }
 
-    holding : Holding (rows_in n m rows) kept (sources_of shelf desk s1)
+    pub holding : Holding (rows_in n m rows) kept (sources_of shelf desk s1)
     unfolding sources_of count_of owner_of orbit_of
     holding =
         let k = g.keeps.fits in
@@ -271,7 +259,7 @@ module _ (n most ridges m : ℕ) (rows : List ℕ) (kept : List Kept) (shelf : S
                 counts_of : (found : List Pair) → map (λ (p : Pair). p.1) found ≡ map (λ (o : Orbit). o.count) (map (orbit_of n) found)
                 counts_of found = sym (map-map (λ (o : Orbit). o.count) (orbit_of n) found)
 
-    facets_are : shelf.facets ≡ length (facets_of kept)
+    pub facets_are : shelf.facets ≡ length (facets_of kept)
     facets_are = g.keeps.facets
 
     pub shares_fit : SourcesFit (sources_of shelf desk s1) counts shelf.facets
@@ -339,7 +327,7 @@ module _ (n most ridges m : ℕ) (rows : List ℕ) (kept : List Kept) (shelf : S
               omega (arith, few_places_at r.0 h)
 
       module _ (s3 : List ℕ) (c : Made desk.touched desk.ones 2 shelf.facets s2 s3 (lists_to (touched_of known (closed_lists 4 1024 (area desk.shares desk.touched s2))) shelf.facets)) where
-        shares_kept : area desk.shares desk.touched s3 ≡ area desk.shares desk.touched s2
+        pub shares_kept : area desk.shares desk.touched s3 ≡ area desk.shares desk.touched s2
         shares_kept = area_kept desk.touched desk.shares desk.touched s2 s3 c.front (omega (arith, g.fits.share_room)) (omega arith)
 
         -- what `lay_ones` asks
@@ -362,9 +350,6 @@ module _ (n most ridges m : ℕ) (rows : List ℕ) (kept : List Kept) (shelf : S
             )
 
         module _ (s4 : List ℕ) (d : Made desk.ones desk.frames 2 known s3 s4 (lists_to (made.ones_of (closed_lists 4 1024 (area desk.shares desk.touched s3)) shelf.facets) known)) where
-          all_long : length s4 ≡ length s
-          all_long = d.long ∙ (c.long ∙ (b.long ∙ a.long))
-
           -- the shelf is as it was
           pub shelf_kept : take shelf.end s4 ≡ take shelf.end s
           shelf_kept =
@@ -373,83 +358,3 @@ module _ (n most ridges m : ℕ) (rows : List ℕ) (kept : List Kept) (shelf : S
               let y = take_kept desk.touched shelf.end s2 s3 c.front (omega (arith, f.before, f.number_room, f.share_room)) in
               let z = take_kept desk.shares shelf.end s1 s2 b.front (omega (arith, f.before, f.number_room)) in
               x ∙ (y ∙ (z ∙ take_kept desk.numbers shelf.end s s1 a.front f.before))
-
-          lists : List (List ℕ)
-          lists = closed_lists 4 1024 (area desk.shares desk.touched s2)
-
-          facet_is : (x : ℕ) → facet_of (kept_table (rows_in n m rows) kept) x ≡ get_or (facets_of kept) x (0, 0)
-          unfolding facet_of
-          facet_is x = ap (λ (l : List Facet). get_or l x (0, 0)) (facets_same (rows_in n m rows) kept)
-
-          same : (x : ℕ) → x < shelf.facets → get_or lists x [] ≡ map share_code (shares_of (kept_table (rows_in n m rows) kept) (facet_of (kept_table (rows_in n m rows) kept) x))
-          unfolding lists
-          same x h =
-              ap (λ (l : List (List ℕ)). get_or l x []) b.pool.lists_are
-              ∙ (lists_at_holds (facet_codes (sources_of shelf desk s1) counts) shelf.facets x [] h
-              ∙ (codes_are n most g.rows_fit_holds.n_fits (rows_in n m rows) kept g.small (sources_of shelf desk s1) holding counts known known_is counts_are x (omega (arith, facets_are))
-              ∙ ap (λ (f : Facet). map share_code (shares_of (kept_table (rows_in n m rows) kept) f)) (sym (facet_is x))))
-
-          below : (x : ℕ) → x < shelf.facets → (z : Share) → Mem z (shares_of (kept_table (rows_in n m rows) kept) (facet_of (kept_table (rows_in n m rows) kept) x)) → z.0 < 65536
-          below x h z i =
-              let j = subst (λ (f : Facet). Mem z (shares_of (kept_table (rows_in n m rows) kept) f)) (facet_is x) i in
-              omega (arith, known_few.1, shares_below n most g.rows_fit_holds.n_fits (rows_in n m rows) kept g.small (sources_of shelf desk s1) holding counts known known_is counts_are x (omega (arith, facets_are)) z j)
-
-          owners_are : words 2 (drop shelf.owners s4) shelf.facets ≡ map (λ (f : Facet). f.0) (all_facets (kept_table (rows_in n m rows) kept))
-          unfolding owners_of
-          owners_are =
-              let k = g.keeps.fits in
-              let e : owners_part shelf s4 ≡ owners_part shelf s = area_kept shelf.end shelf.owners shelf.ridges s s4 shelf_kept (omega (arith, k.owner_room)) (omega (arith, k.ridge_room, k.place_room)) in
-              sym (words_take 2 (drop shelf.owners s4) (shelf.ridges - shelf.owners) shelf.facets (omega (arith, k.owner_room, g.keeps.few_facets)))
-              ∙ (ap (λ (p : List ℕ). words 2 p shelf.facets) e ∙ (g.keeps.owners ∙ ap (map (λ (f : Facet). f.0)) (sym (facets_same (rows_in n m rows) kept))))
-
-          behind : (shelf.owners + 2048 ≤ desk.touched) × (desk.touched ≤ desk.ones) × (desk.ones ≤ desk.frames)
-          behind =
-              let f = g.fits in
-              let k = g.keeps.fits in
-              (omega (arith, k.owner_room, k.ridge_room, k.place_room, f.before, f.number_room, f.share_room), omega (arith, f.touched_room), omega (arith, f.ones_room))
-
-          touched_area : layout.touched_part (areas_of shelf desk known) (drop shelf.owners s4) ≡ area desk.touched desk.ones s3
-          unfolding areas_of
-          touched_area =
-              part_shift shelf.owners desk.touched desk.ones s4 (omega (arith, behind.0)) behind.1
-              ∙ area_kept desk.ones desk.touched desk.ones s3 s4 d.front behind.1 (omega arith)
-
-          ones_area : layout.ones_part (areas_of shelf desk known) (drop shelf.owners s4) ≡ area desk.ones desk.frames s4
-          unfolding areas_of
-          ones_area = part_shift shelf.owners desk.ones desk.frames s4 (omega (arith, behind.0, behind.1)) behind.2
-
-          search_fits : layout.AreasFit (areas_of shelf desk known) (length (drop shelf.owners s4))
-          unfolding areas_of
-          search_fits =
-              let f = g.fits in
-              let l = length-drop shelf.owners s4 in
-              let few = g.keeps.few_orbits in
-              let many = g.keeps.few_facets in
-              record {
-                few_facets = omega arith;
-                few_ridges = omega (arith, known_few.1);
-                few_orbits = omega arith;
-                few_items = omega arith;
-                few_lists = omega arith;
-                orbit_room = omega (arith, behind.0);
-                touched_room = omega (arith, behind.0, behind.1);
-                ones_room = omega (arith, behind.0, behind.1, behind.2);
-                frame_room = omega (arith, behind.0, behind.1, behind.2, f.frame_room);
-                total_room = refl;
-                used_room = omega (arith, behind.0, behind.1, behind.2, f.frame_room, f.total_room, known_few.1);
-                list_room = omega (arith, behind.0, behind.1, behind.2, f.frame_room, f.total_room, f.list_room);
-                ends = omega (arith, f.ends, all_long);
-              }
-
-          -- the search's inputs
-          pub inputs_are : Inputs (kept_table (rows_in n m rows) kept) (areas_of shelf desk known) (drop shelf.owners s4)
-          unfolding areas_of lists
-          inputs_are = record {
-            fits = search_fits;
-            holds =
-                tables_hold (kept_table (rows_in n m rows) kept) lists shelf.facets same below (areas_of shelf desk known) (words 2 (drop shelf.owners s4) shelf.facets)
-                (layout.touched_part (areas_of shelf desk known) (drop shelf.owners s4)) (layout.ones_part (areas_of shelf desk known) (drop shelf.owners s4))
-                (length (flat (lists_to (touched_of known lists) shelf.facets))) (length (flat (lists_to (made.ones_of lists shelf.facets) known)))
-                refl (facets_are ∙ sym (ap length (facets_same (rows_in n m rows) kept))) (known_is ∙ sym (ridges_same (rows_in n m rows) kept)) (omega (arith, known_few.1))
-                (g.keeps.orbits ∙ sym (orbits_same (rows_in n m rows) kept)) owners_are (rw touched_area c.pool) (rw ones_area (rw shares_kept at d.pool));
-          }

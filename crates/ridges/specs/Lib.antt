@@ -4,6 +4,5 @@ pub mod Facets
 pub mod Small
 pub mod Below
 pub mod Shared
-pub mod Laid
 pub mod Desks
 pub mod Ranks

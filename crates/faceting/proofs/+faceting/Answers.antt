@@ -20,6 +20,7 @@ use Rattle.definitions.specs.Outcome.{refused}
 use Rattle.inner_answers.specs.Says.{Site, site_whole, Turn}
 use Rattle.faceting.specs.Ways.{way_of, way_extended}
 use Rattle.faceting.specs.Loops as loops
+use Rattle.faceting.proofs.Loops as loops_proved
 use Rattle.faceting.specs.Loops.{Loop, site_in}
 use Rattle.faceting.proofs.+faceting.Goals as goal
 use Rattle.faceting.proofs.+faceting.Goals.{After-shelf_for-shelf, After-faceting-called, After-keep_inner-stored}
@@ -32,7 +33,7 @@ begun t c =
     let start = c.start_call-found in
     let flat = c.flatten_all-flat in
     let above : 3 ≤ a.rank = omega (arith, c.if-rank-eq2.false, asked.rank_least) in
-    loops.begun a.rank a.plane a.points a.rows.now a.m a.rules a.budget a.ws.now a.way a.globals.now a.full.now asked above flat.result flat.ensures.0 flat.ensures.1 start.result start.new.ws start.ensures.0 _ c.in-Orbits.is start.ensures.1 start.auto.ws
+    loops_proved.begun a.rank a.plane a.points a.rows.now a.m a.rules a.budget a.ws.now a.way a.globals.now a.full.now asked above flat.result flat.ensures.0 flat.ensures.1 start.result start.new.ws start.ensures.0 _ c.in-Orbits.is start.ensures.1 start.auto.ws
 
 -- ---- the inner call was made
 
@@ -92,7 +93,7 @@ returns-in_default t c =
     let a = c.args in
     let flat = c.flatten_all-flat in
     let start = c.start_call-found in
-    loops.start_refused a.rank a.plane a.points a.rows.now a.m a.rules a.budget a.ws.now a.way a.globals.now a.full.now c.requires (omega (arith, c.if-rank-eq2.false, c.requires.rank_least)) flat.result flat.ensures.0 flat.ensures.1
+    loops_proved.start_refused a.rank a.plane a.points a.rows.now a.m a.rules a.budget a.ws.now a.way a.globals.now a.full.now c.requires (omega (arith, c.if-rank-eq2.false, c.requires.rank_least)) flat.result flat.ensures.0 flat.ensures.1
     start.result start.new.ws start.ensures.0 c.in_default.is
 
 pub loop-shelf-init : goal.loop-shelf-init
