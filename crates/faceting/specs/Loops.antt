@@ -12,29 +12,26 @@ use Rattle.definitions.specs.Outcome as result
 use Rattle.definitions.specs.Job.{number_at}
 use Rattle.definitions.specs.Vectors.{Vec}
 use Rattle.definitions.specs.Subspace.{Subspace, flatten, from_points}
-use Rattle.definitions.specs.Orbits.{Row, image, point_at, hyperplane_orbits}
+use Rattle.definitions.specs.Orbits.{Row, image, point_at}
 use Rattle.definitions.specs.Lists.{any_of}
 use Rattle.definitions.specs.Recursion.{rows_within, edge_call, swapped_ends, separate_ends}
 use Rattle.definitions.specs.Faceting as def
-use Rattle.definitions.specs.Faceting.{plain_way, orbits_of}
+use Rattle.definitions.specs.Faceting.{plain_way}
 use Rattle.laws.specs.Segments.{le_or_lt}
 use Rattle.laws.specs.Sets.{vertices_of}
 use Rattle.openers.specs.Rows.{rows_in, RowsFit, written_rows}
 use Rattle.space.specs.declared.Subspace as stored
 use Rattle.space.specs.declared.Points.{Points}
-use Rattle.space.specs.Meaning.{PointsFit, subspace_of, points_of, HoldsPoints, limits_of}
-use Rattle.space.specs.Counts.{points_length}
+use Rattle.space.specs.Meaning.{PointsFit, subspace_of, points_of, HoldsPoints}
 use Rattle.stabilizers.specs.Permutations.{Permutations, rows_fit_holds}
 use Rattle.sets.specs.Refitting.{Refitted, refitted_plane, fitted}
 use Rattle.sets.specs.declared.Fit.{Fit}
 use Rattle.sets.specs.declared.Fit.TheVariants.{Fitted, Refused as RefusedFit}
-use Rattle.orbits.specs.Answers.{answer_in, CallFits}
-use Rattle.orbits.specs.declared.Answer.{Answer}
-use Rattle.orbits.specs.declared.Answer.TheVariants.{Orbits, Refused as RefusedAnswer}
+use Rattle.orbits.specs.Answers.{CallFits}
 use Rattle.shapes.specs.Answered.{TakesSome}
 use Rattle.shapes.specs.Calls.{Given}
 use Rattle.shapes.specs.Kept.{kept_of}
-use Rattle.shelf.specs.Keeps.{ShelfFits, Keeps, Ridges}
+use Rattle.shelf.specs.Keeps.{ShelfFits}
 use Rattle.shelf.specs.declared.Shelf.{Shelf}
 use Rattle.calls.specs.Layouts.{shelf_three, shelf_four, shelf_for, three_fits, four_fits, at_three, at_four}
 use Rattle.calls.specs.declared.Rules.{Rules}
@@ -51,7 +48,7 @@ use Rattle.inner_answers.specs.Turns as turns
 use Rattle.faceting.specs.Begins as begins
 use Rattle.inner_answers.specs.Stored.{OneMore}
 use Rattle.faceting.specs.declared.Way.{Way}
-use Rattle.faceting.specs.Ways.{way_of, WayFits, way_takes, taken_or_refusal, found_too_many}
+use Rattle.faceting.specs.Ways.{way_of, WayFits}
 use Rattle.faceting.specs.Starts.{shelf_empty}
 use Rattle.faceting.specs.Finishes as finishes
 use Rattle.faceting.specs.Finishes.{site}
@@ -82,7 +79,7 @@ pub record Loop (way : def.Way) (plane : Subspace) (points : List Vec) (rank : �
 
 -- ---- the ranks
 
-abbrev SaysOf : def.Way → ℕ → Rules → Subspace → List Vec → List Row → ℕ → Called → List ℕ → Type 0
+abbrev pub SaysOf : def.Way → ℕ → Rules → Subspace → List Vec → List Row → ℕ → Called → List ℕ → Type 0
 SaysOf way more rules = Says way more (call_rules rules)
 
 -- at rank 2 the rows alone answer
@@ -129,14 +126,7 @@ behind_four rank e = subst (λ (x : Shelf). x.end ≤ 4194304 - 524288) (at_four
 
 module _ (rank : ℕ) (plane : stored.Subspace) (points : Points) (rows : List ℕ) (m : ℕ) (rules : Rules) (budget : ℕ) (ws : List ℕ) (way : Way) (globals full : List ℕ) (asked : Asked rank plane points rows m rules ws way globals full) (above : 3 ≤ rank)
     (flat : Points) (holds : HoldsPoints flat plane.rank (map (flatten (subspace_of plane)) (points_of points))) (same_n : flat.n ≡ points.n) where
-  -- how the call goes
-  abbrev goes : def.Way
-  goes = way_of flat.n way globals full
-
-  abbrev called : Site
-  called = site_in goes (subspace_of plane) (points_of points) rank flat rows m rules budget
-
-  permute : Permutations flat.n m rows
+  pub permute : Permutations flat.n m rows
   permute = subst (λ (n : ℕ). Permutations n m rows) (sym same_n) asked.permute
 
   enough : 524288 ≤ length ws
@@ -152,48 +142,6 @@ module _ (rank : ℕ) (plane : stored.Subspace) (points : Points) (rows : List �
     above,
     subst (λ (n : ℕ). WayFits n way globals full) (sym same_n) asked.way_fits,
   )
-
-  module _ (r : Answer) (u : List ℕ)
-      (answers : answer_in flat.n r u ≡ taken_or_refusal goes rules.orbits (hyperplane_orbits rules.tolerance (limits_of rules.min rules.max) rules.rule (rank - 3) (points_of points) (points_of flat) (rows_in flat.n m rows))) where
-    found_for : answer_in flat.n r u ≡ taken_or_refusal goes (call_rules rules).bounds.orbits (all_orbits called)
-    unfolding call_rules orbits_of
-    found_for =
-        subst (λ (ps : List Vec). answer_in flat.n r u ≡ taken_or_refusal goes rules.orbits (hyperplane_orbits rules.tolerance (limits_of rules.min rules.max) rules.rule (rank - 3) (points_of points) ps (rows_in flat.n m rows))) holds.means answers
-
-    -- refusal 13
-    pub start_refused : r ≡ RefusedAnswer → SaysOf (way_of points.n way globals full) (rank - 2) rules (subspace_of plane) (points_of points) (rows_in points.n m rows) budget (Refused 13) u
-    start_refused e =
-        says_rank way globals full rank above flat.n points.n same_n rules (subspace_of plane) (points_of points) rows m budget (Refused 13) u
-        (finishes.says_thirteen goes (rank - 3) rules (subspace_of plane) (points_of points) (rows_in flat.n m rows) budget u
-        (found_too_many goes (call_rules rules).bounds.orbits (all_orbits called) flat.n u (subst (λ (a : Answer). answer_in flat.n a u ≡ taken_or_refusal goes (call_rules rules).bounds.orbits (all_orbits called)) e found_for)))
-
-    -- or the loop begins
-    pub begun : (count : ℕ) → r ≡ Orbits count → ((k : ℕ) → Keeps k (shelf_for rank) [] u × Ridges (shelf_for rank) [] u) → length u ≡ length ws
-        → Loop goes (subspace_of plane) (points_of points) rank flat rows m rules budget count u
-    unfolding call_rules
-    begun count e cleared long =
-        let all = subst (λ (a : Answer). answer_in flat.n a u ≡ taken_or_refusal goes (call_rules rules).bounds.orbits (all_orbits called)) e found_for in
-        let many = found_count goes (call_rules rules).bounds.orbits (all_orbits called) flat.n u count all in
-        let size : flat.n ≡ length (points_of points) = same_n ∙ sym (points_length points) in
-        record {
-          rank_least = above;
-          rank_most = asked.rank_most;
-          flat_fits = holds.fits;
-          flat_is = holds.means;
-          size = size;
-          permute = permute;
-          rows_few = asked.rows_few;
-          given = subst (λ (n : ℕ). Given (points_of points) (rows_in n m rows)) (sym same_n) asked.given;
-          few_orbits_holds = asked.few_orbits_holds;
-          few_facets_holds = asked.few_facets_holds;
-          entries_are = asked.entries_are;
-          found = many;
-          few_found = found_few goes (call_rules rules).bounds.orbits (all_orbits called) flat.n u count all;
-          takes = way_takes flat.n way globals full;
-          first = loop_starts called (way_takes flat.n way globals full) (shelf_for rank) flat.n count u u size all asked.few_orbits_holds refl (cleared (length (points_of points))).0 (cleared (length (points_of points))).1;
-          room_three = λ q. omega (arith, asked.room_three q);
-          room_four = λ q. omega (arith, asked.room_four q);
-        }
 
 -- ---- a turn
 

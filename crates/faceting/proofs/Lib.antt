@@ -1,0 +1,4 @@
+-- Theorems on the definitions of specs/.
+pub mod Loops
+pub mod Ways
+pub mod Starts
