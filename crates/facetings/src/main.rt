@@ -4,7 +4,6 @@
 
 use std::io;
 
-#![tactic(auto)]
 // Says which refusal a return code is; their numbers are below 28.
 fn tell_refusal(rt: &impl Eprint, code: i64) -> io::Result<()> {
     let mut number: u8 = 1;
