@@ -3,8 +3,8 @@ use Rattle.std.proofs.Common.{arith, rules}
 use Rattle.orbit_list.proofs.Laws.{exact, own_fields, counts, call_fits, orbits_few}
 use Rattle.orbit_list.proofs.list_call.Goals as goal
 
-pub points_of-requires : goal.points_of-requires
-points_of-requires g c = (exact c.args.job.now c.args.fields c.requires.0, own_fields c.args.job.now c.args.fields c.requires.0)
+pub points_of-points-requires : goal.points_of-points-requires
+points_of-points-requires g c = (exact c.args.job.now c.args.fields c.requires.0, own_fields c.args.job.now c.args.fields c.requires.0)
 
 pub plane_of-requires : goal.plane_of-requires
 plane_of-requires g c = (exact c.args.job.now c.args.fields c.requires.0, own_fields c.args.job.now c.args.fields c.requires.0)
