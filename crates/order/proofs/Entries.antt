@@ -1,4 +1,4 @@
--- Theorems on the definitions of specs/Entries.
+-- The entries of a call, from its pools: the order of the split lists is the order of the entries, and the labels of the lists are the compounds among them.
 use Rattle.std.specs.Prelude.{◌≡◌, length}
 use Rattle.std.proofs.Math.Path.{sym, ap}
 use Rattle.std.proofs.Common.{◌∙◌, subst, arith}

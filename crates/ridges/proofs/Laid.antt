@@ -1,4 +1,4 @@
--- Theorems on the definitions of specs/Laid.
+-- The tables laid from codes of shares are those that the search reads, for any table whose shares the codes are. Leans on Codes and on the layout of the search's tables.
 use Rattle.std.specs.Prelude.{◌≡◌}
 use Rattle.std.proofs.Math.Path.{refl, sym, ap}
 use Rattle.std.proofs.Common.{◌∙◌, arith, add-one}
