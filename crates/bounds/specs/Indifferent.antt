@@ -2,12 +2,12 @@
 -- Before it the same for a job's call of any rank, with any rules whose tolerance is 1e-9 or more (`call_is_indifferent`). Leans on Covered and Jobs.
 use Rattle.std.specs.Prelude.{◌≡◌, refl, true, false, cond, zero, suc, Float, pos, negsuc}
 use Rattle.std.proofs.Common.{sym, true≢false}
-use Rattle.std.proofs.Math.Option.{some}
+use Rattle.std.specs.Prelude.{Some}
 use Rattle.std.specs.Float.{nan, inf, fin}
 use Rattle.definitions.specs.Vectors.{Vec, square_root, value_of, has_root, dot, norm}
 
 -- where there is a root, it is the value
-pub root_has_value : (x : Float) → has_root x ≡ true → square_root x ≡ some (value_of (square_root x))
+pub root_has_value : (x : Float) → has_root x ≡ true → square_root x ≡ Some (value_of (square_root x))
 unfolding has_root square_root value_of
 root_has_value nan h = absurd (true≢false (sym h))
 root_has_value (inf s) h = absurd (true≢false (sym h))

@@ -5,7 +5,7 @@ use Rattle.std.proofs.Common.{sym, ◌∙◌, arith, length-take}
 use Rattle.std.proofs.Math.Bool.{true}
 use mathlib.Core.List.Permᴰ
 use mathlib.Core.List.{List, [], map, Nodup, Permᴰ, map-map, Pairwise}
-use Rattle.std.proofs.Math.Option.{Option, some, none}
+use Rattle.std.specs.Prelude.{Option, Some, None}
 use Prim.Native.Nat.{ℕ, ◌-◌, min, max}
 use Rattle.std.proofs.Math.Dec.{T}
 use Rattle.std.proofs.lemmas.List.{length-map}
@@ -92,8 +92,8 @@ module _ (rules : Rules) (p : Prepared) (found : Found) (is_found_holds : search
   in_tree l h = go rules.entry_limit (subst (λ (s : List (List Facet)). Mem l s) emitted_cut (perm_member sorted_perm l h))
     where
       go : (limit : Option ℕ) → Mem l (cut limit 0 (closed_lists p.extended t)) → Mem l (closed_lists p.extended t)
-      go none k = k
-      go (some m) k = in_take (max (m - 0) 1) l (closed_lists p.extended t) k
+      go None k = k
+      go (Some m) k = in_take (max (m - 0) 1) l (closed_lists p.extended t) k
 
   of_entry : (e : Entry) → Mem e entries → (l : List Facet) × Mem l sorted × (e ≡ entry_of p l)
   of_entry e h = of_map (entry_of p) e sorted (subst (λ (s : List Entry). Mem e s) entries_sorted h)
@@ -127,12 +127,12 @@ module _ (rules : Rules) (p : Prepared) (found : Found) (is_found_holds : search
     plain_cut = emitted_cut ∙ ap (λ (extended : Bool). cut rules.entry_limit 0 (closed_lists extended t)) plain
 
     -- without a limit
-    all_emitted : rules.entry_limit ≡ none → Permᴰ (closed_lists true t) sorted
+    all_emitted : rules.entry_limit ≡ None → Permᴰ (closed_lists true t) sorted
     unfolding cut
     all_emitted e =
         subst (λ (s : List (List Facet)). Permᴰ s sorted) (plain_cut ∙ ap (λ (limit : Option ℕ). cut limit 0 (closed_lists true t)) e) (Permᴰ.symm sorted_perm)
 
-    has_entry : rules.entry_limit ≡ none → (c : List Facet) → T (is_closed_choice t c) → (e : Entry) × Mem e entries × EntryOfChoice p e c
+    has_entry : rules.entry_limit ≡ None → (c : List Facet) → T (is_closed_choice t c) → (e : Entry) × Mem e entries × EntryOfChoice p e c
     unfolding entry_of
     has_entry e c h =
         let r = every_choice t c h in (
@@ -143,16 +143,16 @@ module _ (rules : Rules) (p : Prepared) (found : Found) (is_found_holds : search
 
     -- with a limit m
 
-    some_emitted : (m : ℕ) → rules.entry_limit ≡ some m → found.lists ≡ take (max (m - 0) 1) (closed_lists true t)
+    some_emitted : (m : ℕ) → rules.entry_limit ≡ Some m → found.lists ≡ take (max (m - 0) 1) (closed_lists true t)
     unfolding cut
     some_emitted m e = plain_cut ∙ ap (λ (limit : Option ℕ). cut limit 0 (closed_lists true t)) e
 
-    entries_number : (m : ℕ) → rules.entry_limit ≡ some m → length entries ≡ min (max m 1) (length (closed_lists true t))
+    entries_number : (m : ℕ) → rules.entry_limit ≡ Some m → length entries ≡ min (max m 1) (length (closed_lists true t))
     entries_number m e =
         let a : max (m - 0) 1 ≡ max m 1 = omega arith in
         entries_length ∙ ap length (some_emitted m e) ∙ length-take (max (m - 0) 1) (closed_lists true t) ∙ ap (λ (n : ℕ). min n (length (closed_lists true t))) a
 
-    differ : (m : ℕ) → rules.entry_limit ≡ some m → T (equal_shares t) → Nodup (map choice_of sorted)
+    differ : (m : ℕ) → rules.entry_limit ≡ Some m → T (equal_shares t) → Nodup (map choice_of sorted)
     differ m e equal =
         pairs→nodup (map choice_of sorted)
         (pairs_perm NotSame not_same_flip (Permᴰ.map choice_of (Permᴰ.symm sorted_perm))
@@ -175,7 +175,7 @@ module _ (rules : Rules) (p : Prepared) (found : Found) (is_found_holds : search
   -- ---- closed lists are not extended
 
   module _ (shortened : p.extended ≡ false) where
-    all_minimal : rules.entry_limit ≡ none → Permᴰ (closed_lists false t) sorted
+    all_minimal : rules.entry_limit ≡ None → Permᴰ (closed_lists false t) sorted
     unfolding cut
     all_minimal e =
         subst (λ (s : List (List Facet)). Permᴰ s sorted)

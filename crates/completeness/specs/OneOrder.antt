@@ -2,7 +2,7 @@
 -- a share 1 adds 1 at least, and so there is one such facet; elsewhere the facet of the lowest orbit is one. Over any table, and so for every rank from 3. Leans on Choices, Facets and Complete.
 use Rattle.std.specs.Prelude.{◌≡◌, refl, ◌⊎◌, ◌&&◌, List, [], ◌∷◌, ◌++◌, ℕ, suc, ◌+◌, ◌≤◌, ◌<◌, T, leb, ltb, length}
 use Rattle.std.proofs.Common.{sym, subst, inl, inr, arith, eqb→eq, leb→le, ltb→lt}
-use Rattle.std.proofs.Math.Option.{Option, some, none}
+use Rattle.std.specs.Prelude.{Option, Some, None}
 use Rattle.definitions.specs.Lists.{member_pair, all_of}
 use Rattle.definitions.specs.Search.{Table, Facet, Verdict, adds, total, totals, judge, all_facets, ones_at}
 use Rattle.definitions.specs.Demands.{is_closed_choice, lowest_open, is_next, without, is_order_of, equal_shares}
@@ -86,8 +86,8 @@ next_one t equal taken left r f g h k a b = by (judge (totals t taken)) (judge_m
 
     by : (v : Verdict) → Means t taken v → f ≡ g
     by v (is_over ridge x y) = absurd (never_over (total t taken ridge) (total t left ridge) y (r.closing ridge x))
-    by v (is_open ridge x one z low) = some_open ridge x one (at (some ridge) low) (same_or_not f g)
-    by v (is_closed z low) = none_open (at none low)
+    by v (is_open ridge x one z low) = some_open ridge x one (at (Some ridge) low) (same_or_not f g)
+    by v (is_closed z low) = none_open (at None low)
 
 -- ---- one order
 

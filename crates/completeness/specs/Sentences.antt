@@ -2,7 +2,7 @@
 -- Leans on Determined and evaluates.
 use Rattle.std.specs.Prelude.{◌≡◌, refl, Bool, not, List, [], ◌∷◌, ◌++◌, map, T, length, get_or, take, drop}
 use Rattle.std.proofs.Common.{sym, ◌∙◌, subst, arith, T_not}
-use Rattle.std.proofs.Math.Option.{none}
+use Rattle.std.specs.Prelude.{None}
 use Prim.Native.Nat.{ℕ, suc, Ordering}
 use Rattle.std.proofs.Math.Dec.{compare_is_eq}
 use Rattle.std.proofs.lemmas.List.{length-map}
@@ -40,7 +40,7 @@ square_equal =
     let lists = map (λ (e : Entry). e.before) square_entries in
     first (equal_shares (table_for p)) (closed_in_order (table_for p) lists) (subst (λ (o : Outcome Prepared). T (sensible o lists)) square_call.is_before square_sensible)
 
-no_limit : (read_job square_bytes).entry_limit ≡ none
+no_limit : (read_job square_bytes).entry_limit ≡ None
 unfolding open_square
 no_limit = refl
 

@@ -5,7 +5,7 @@ use Rattle.std.proofs.Math.Path.{ap, subst}
 use Rattle.std.proofs.Math.Bool.{true, false}
 use mathlib.Core.List.Permᴰ
 use mathlib.Core.List.{List, [], ◌∷◌, ◌++◌, map, reverse_aux, append_assoc, append-nil, Memᴰ, Permᴰ, Pairwise}
-use Rattle.std.proofs.Math.Option.{Option, some, none}
+use Rattle.std.specs.Prelude.{Option, Some, None}
 use Prim.Native.Nat.{ℕ, ◌≤◌, ◌<◌, compare, Ordering}
 use native.Mathlib.Omega.{arith}
 use Rattle.std.proofs.Math.Dec.{eqb_refl, compare_is_eq}
@@ -121,18 +121,18 @@ module _ (t : Table) (item : Item) (f : Facet) (mark : ℕ) (j : Joins t item f)
       all_join g (Memᴰ.tail h) = (later g h).0
 
 -- taken where a ridge orbit is open
-pub next_open : (t : Table) (taken remaining : List Facet) (f : Facet) (ridge : ℕ) → lowest_open t taken ≡ some ridge → 0 < ones_at t ridge f → T (is_next t (lowest_open t taken) remaining f)
+pub next_open : (t : Table) (taken remaining : List Facet) (f : Facet) (ridge : ℕ) → lowest_open t taken ≡ Some ridge → 0 < ones_at t ridge f → T (is_next t (lowest_open t taken) remaining f)
 unfolding is_next
 next_open t taken remaining f ridge e h = subst (λ (o : Option ℕ). T (is_next t o remaining f)) (sym e) (lt→ltb 0 (ones_at t ridge f) h)
 
 -- taken where none is open: the lowest orbit left
-pub next_lowest : (t : Table) (taken remaining : List Facet) (f : Facet) → lowest_open t taken ≡ none → ((g : Facet) → Mem g remaining → f.0 ≤ g.0) → T (is_next t (lowest_open t taken) remaining f)
+pub next_lowest : (t : Table) (taken remaining : List Facet) (f : Facet) → lowest_open t taken ≡ None → ((g : Facet) → Mem g remaining → f.0 ≤ g.0) → T (is_next t (lowest_open t taken) remaining f)
 unfolding is_next
 next_lowest t taken remaining f e h =
     subst (λ (o : Option ℕ). T (is_next t o remaining f)) (sym e) (all_by (λ (g : Facet). leb f.0 g.0) remaining (λ g m. le→leb f.0 g.0 (h g m)))
 
 module _ (extended : Bool) (t : Table) where
-  below_closed : (item : Item) (f : Facet) → Joins t item f → lowest_open t item.list ≡ none → (e : List Facet) → Extends t (joined item f.0 f) e → Extends t item e
+  below_closed : (item : Item) (f : Facet) → Joins t item f → lowest_open t item.list ≡ None → (e : List Facet) → Extends t (joined item f.0 f) e → Extends t item e
   unfolding joined
   below_closed item f j low e x =
       let k = j.1 in
@@ -244,17 +244,17 @@ unfolding starts
 start_of t item h = of_map start_at item (all_facets t) h
 
 -- nothing taken: no ridge orbit is open
-pub nothing_open : (t : Table) → lowest_open t [] ≡ none
+pub nothing_open : (t : Table) → lowest_open t [] ≡ None
 unfolding total
 nothing_open t = go (judge (totals t [])) (closed_judged t [] (λ ridge h. inl (no_total ridge))) (judge_means t [])
   where
     no_total : (ridge : ℕ) → total t [] ridge ≡ 0
     no_total ridge = refl
 
-    go : (v : Verdict) → v ≡ closed → Means t [] v → lowest_open t [] ≡ none
+    go : (v : Verdict) → v ≡ closed → Means t [] v → lowest_open t [] ≡ None
     go v e m = by (subst (Means t []) e m)
       where
-        by : Means t [] closed → lowest_open t [] ≡ none
+        by : Means t [] closed → lowest_open t [] ≡ None
         by (is_closed z low) = low
 
 -- what a list below a start says: it is an order of a closed choice

@@ -4,7 +4,7 @@ use Rattle.std.proofs.Math.Path.{refl, ap}
 use Rattle.std.proofs.Common.{sym, ◌∙◌, subst, inl, inr, arith, T_not, eqb→eq, ltb→lt, nltb→le}
 use Rattle.std.proofs.Math.Bool.{cond}
 use mathlib.Core.List.{List, [], ◌∷◌, ◌++◌, Memᴰ, Permᴰ}
-use Rattle.std.proofs.Math.Option.{some, none}
+use Rattle.std.specs.Prelude.{Some, None}
 use Rattle.std.proofs.Math.Dec.{eqb_refl}
 use Rattle.std.proofs.lemmas.List.{length-map}
 use Rattle.definitions.specs.Lists.{any_of, place_of, count_from}
@@ -54,8 +54,8 @@ total_perm t ridge (Permᴰ.trans d e) = total_perm t ridge d ∙ total_perm t r
 -- what a verdict says of a list
 pub data Means (t : Table) (l : List Facet) : Verdict → Type 0 where
   is_over : (ridge : ℕ) → ridge < t.ridges → 2 < total t l ridge → Means t l over
-  is_open : (ridge : ℕ) → ridge < t.ridges → total t l ridge ≡ 1 → ((r : ℕ) → r < t.ridges → total t l r ≤ 2) → lowest_open t l ≡ some ridge → Means t l (open_at ridge)
-  is_closed : ((ridge : ℕ) → ridge < t.ridges → (total t l ridge ≡ 0) ⊎ (total t l ridge ≡ 2)) → lowest_open t l ≡ none → Means t l closed
+  is_open : (ridge : ℕ) → ridge < t.ridges → total t l ridge ≡ 1 → ((r : ℕ) → r < t.ridges → total t l r ≤ 2) → lowest_open t l ≡ Some ridge → Means t l (open_at ridge)
+  is_closed : ((ridge : ℕ) → ridge < t.ridges → (total t l ridge ≡ 0) ⊎ (total t l ridge ≡ 2)) → lowest_open t l ≡ None → Means t l closed
 
 -- 0 or 2, for a total that is neither above 2 nor 1
 none_or_two : (n : ℕ) → n ≤ 2 → ¬ (n ≡ 1) → (n ≡ 0) ⊎ (n ≡ 2)
@@ -71,9 +71,9 @@ module _ (t : Table) (l : List Facet) where
   abbrev lowest : ℕ
   lowest = place_of (eqb 1) sums
 
-  open_is : (b : Bool) → ltb lowest (length sums) ≡ b → lowest_open t l ≡ cond b (some lowest) none
+  open_is : (b : Bool) → ltb lowest (length sums) ≡ b → lowest_open t l ≡ cond b (Some lowest) None
   unfolding lowest_open
-  open_is b e = ap (λ (x : Bool). cond x (some lowest) none) (ap (ltb lowest) (sym (totals_length t l)) ∙ e)
+  open_is b e = ap (λ (x : Bool). cond x (Some lowest) None) (ap (ltb lowest) (sym (totals_length t l)) ∙ e)
 
   not_over : T (not (any_of (ltb 2) sums)) → (ridge : ℕ) → ridge < t.ridges → total t l ridge ≤ 2
   not_over n ridge h = go (ltb 2 (total t l ridge)) refl

@@ -4,7 +4,7 @@ use Rattle.std.specs.Prelude.{◌≡◌, refl, ◌⊎◌, Bool, true, false, not
 use Rattle.std.proofs.Math.Path.{sym, ap}
 use Rattle.std.proofs.Common.{◌∙◌, subst, inl, inr, arith, T_not, eqb→eq, ltb→lt, lt→ltb, leb→le, length-append}
 use mathlib.Core.List.{List, [], ◌∷◌, ◌++◌, flat_map, reverse_aux, append_assoc, append-nil, Memᴰ}
-use Rattle.std.proofs.Math.Option.{Option, some, none}
+use Rattle.std.specs.Prelude.{Option, Some, None}
 use Prim.Native.Nat.{ℕ, zero, suc, ◌-◌, ◌≤◌, ◌<◌, max}
 use Rattle.std.proofs.Math.Dec.{eqb_refl, nleb→lt}
 use Rattle.std.proofs.Math.Seq.{take-nil}
@@ -180,25 +180,25 @@ closed_lists extended t = closed_among extended t (reverse_aux (starts t) [])
 
 -- with a limit m, and so many emitted before: as many more as make m, but one at least, since the limit is tested behind an emission
 unfoldable pub cut : Option ℕ → ℕ → List (List Facet) → List (List Facet)
-cut none before lists = lists
-cut (some m) before lists = take (max (m - before) 1) lists
+cut None before lists = lists
+cut (Some m) before lists = take (max (m - before) 1) lists
 
 cut_nothing : (limit : Option ℕ) (before : ℕ) → cut limit before [] ≡ []
 unfolding cut
-cut_nothing none before = refl
-cut_nothing (some m) before = take-nil (max (m - before) 1)
+cut_nothing None before = refl
+cut_nothing (Some m) before = take-nil (max (m - before) 1)
 
 -- where the limit is reached, one list more is all
 cut_last : (limit : Option ℕ) (before : ℕ) (l : List Facet) (rest : List (List Facet)) → T (limit_reached limit (suc before)) → cut limit before (l ∷ rest) ≡ l ∷ []
 unfolding cut limit_reached
-cut_last none before l rest h = absurd h
-cut_last (some m) before l rest h = let k = leb→le m (suc before) h in let e : max (m - before) 1 ≡ 1 = omega arith in ap (λ (n : ℕ). take n (l ∷ rest)) e
+cut_last None before l rest h = absurd h
+cut_last (Some m) before l rest h = let k = leb→le m (suc before) h in let e : max (m - before) 1 ≡ 1 = omega arith in ap (λ (n : ℕ). take n (l ∷ rest)) e
 
 -- where it is not reached, the next list and then the rest
 cut_more : (limit : Option ℕ) (before : ℕ) (l : List Facet) (rest : List (List Facet)) → T (not (limit_reached limit (suc before))) → cut limit before (l ∷ rest) ≡ l ∷ cut limit (suc before) rest
 unfolding cut limit_reached
-cut_more none before l rest h = refl
-cut_more (some m) before l rest h =
+cut_more None before l rest h = refl
+cut_more (Some m) before l rest h =
     let k = nleb→lt m (suc before) h in
     let e : max (m - before) 1 ≡ suc (max (m - suc before) 1) = omega arith in
     ap (λ (n : ℕ). take n (l ∷ rest)) e

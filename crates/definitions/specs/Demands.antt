@@ -4,7 +4,7 @@
 -- in Vectors.
 use Rattle.std.specs.Prelude.{◌≡◌, ◌↔◌, Bool, true, cond, not, ◌&&◌, ◌||◌, ℕ, ◌-◌, ◌≤◌, min, max, T, leb, ltb, eqb, ℤ, pos, neg_ℤ, length, get_or, take, drop, replicate}
 use mathlib.Core.List.{List, [], ◌∷◌, ◌++◌, map, Memᴰ, Nodup, Pairwise}
-use Rattle.std.proofs.Math.Option.{Option, some, none}
+use Rattle.std.specs.Prelude.{Option, Some, None}
 use Rattle.std.proofs.Math.Dec.{compare_is_eq}
 use Rattle.definitions.specs.Lists.{is_gt, compare_pair, sort_by, all_of, keep, place_of, member_pair}
 use Rattle.definitions.specs.Outcome.{Outcome, refused, answered}
@@ -60,13 +60,13 @@ is_closed_choice table c = is_choice table c && all_of (λ (t : ℕ). eqb 0 t ||
 unfoldable pub lowest_open : Table → List Facet → Option ℕ
 lowest_open table taken =
     let lowest = place_of (eqb 1) (totals table taken) in
-    cond (ltb lowest table.ridges) (some lowest) none
+    cond (ltb lowest table.ridges) (Some lowest) None
 
 -- [13.4] a facet that may be taken next: one with a share of 1 in the lowest open ridge orbit, or, where none is
 -- open, the one of the lowest orbit left
 unfoldable pub is_next : Table → Option ℕ → List Facet → Facet → Bool
-is_next table (some ridge) remaining f = ltb 0 (ones_at table ridge f)
-is_next table none remaining f = all_of (λ (g : Facet). leb f.0 g.0) remaining
+is_next table (Some ridge) remaining f = ltb 0 (ones_at table ridge f)
+is_next table None remaining f = all_of (λ (g : Facet). leb f.0 g.0) remaining
 
 -- [13.4] the facets but this one
 unfoldable pub without : Facet → List Facet → List Facet
@@ -113,18 +113,18 @@ pub record EntriesComplete (limit : Option ℕ) (p : Prepared) (emitted : List (
   -- sound: the choice that the record names is closed, and the entry is made from it
   pub every_entry : (e : Entry) → Memᴰ e entries → T (is_closed_choice (table_for p) (choice_of e.before)) × EntryOfChoice p e (choice_of e.before)
   -- complete, where no limit cuts it off
-  pub every_choice : limit ≡ none → (c : List Facet) → T (is_closed_choice (table_for p) c) → (e : Entry) × Memᴰ e entries × EntryOfChoice p e c
+  pub every_choice : limit ≡ None → (c : List Facet) → T (is_closed_choice (table_for p) c) → (e : Entry) × Memᴰ e entries × EntryOfChoice p e c
   -- under the proviso the choices that the records name, in the entries' order, are all closed choices, once each
-  pub one_to_one : limit ≡ none → T (equal_shares (table_for p)) → AllClosedChoices (table_for p) (choices_of entries)
+  pub one_to_one : limit ≡ None → T (equal_shares (table_for p)) → AllClosedChoices (table_for p) (choices_of entries)
   -- and just one order, so that there is one entry that it may have
   pub one_order : T (equal_shares (table_for p)) → (c : List Facet) → T (is_closed_choice (table_for p) c)
       → (d e : List Facet) → T (is_order_of (table_for p) [] c d) → T (is_order_of (table_for p) [] c e) → d ≡ e
   -- a limit of 0 lets one entry pass, as a limit of 1 does
-  pub at_most : (m : ℕ) → limit ≡ some m → length entries ≤ max m 1
+  pub at_most : (m : ℕ) → limit ≡ Some m → length entries ≤ max m 1
   -- cut off at a limit, under the proviso no choice has two entries
-  pub different_choices : (m : ℕ) → limit ≡ some m → T (equal_shares (table_for p)) → Nodup (choices_of entries)
+  pub different_choices : (m : ℕ) → limit ≡ Some m → T (equal_shares (table_for p)) → Nodup (choices_of entries)
   -- and nothing is cut off before the limit is reached
-  pub number : (m : ℕ) → limit ≡ some m → T (equal_shares (table_for p))
+  pub number : (m : ℕ) → limit ≡ Some m → T (equal_shares (table_for p))
       → (choices : List (List Facet)) × AllClosedChoices (table_for p) choices × (length entries ≡ min (max m 1) (length choices))
   -- sorted; equal lists may stand side by side
   pub ascending : Pairwise (λ (d e : Entry). T (not (is_gt (compare_entries d e)))) entries

@@ -3,7 +3,7 @@
 -- A figure is the list of its ranks, a rank the list of its elements, an element the list of its subs.
 use Rattle.std.specs.Prelude.{Bool, false, cond, not, ◌&&◌, ltb, eqb, length, get_or, drop, replicate}
 use mathlib.Core.List.{List, [], ◌∷◌, ◌++◌, map, flat_map}
-use Rattle.std.proofs.Math.Option.{Option, some, none}
+use Rattle.std.specs.Prelude.{Option, Some, None}
 use Prim.Native.Nat.{ℕ, zero, suc, ◌*◌, Ordering}
 use Rattle.std.proofs.Math.Dec.{compare_is_eq}
 use Rattle.definitions.specs.Lists.{Pair, is_gt, compare_list, compare_nats, sort_by, sort_nats, place_of, fresh, count_from}
@@ -91,8 +91,8 @@ pub record Compound : Type 0 where
 
 -- [8.6] the two components of a compound
 unfoldable pub components_of : List Compound → ℕ → Option Pair
-components_of [] a = none
-components_of (c ∷ cs) a = let later = components_of cs a in cond (eqb a c.whole) (some (c.first, c.second)) later
+components_of [] a = None
+components_of (c ∷ cs) a = let later = components_of cs a in cond (eqb a c.whole) (Some (c.first, c.second)) later
 
 -- [8.6] The first number of the queue is a part, or is taken away and its two components go to the end. `steps`
 -- bounds how long.
@@ -100,8 +100,8 @@ unfoldable pub split_queue : ℕ → List Compound → List ℕ → List ℕ
 split_queue zero compounds queue = queue
 split_queue (suc steps) compounds [] = []
 split_queue (suc steps) compounds (a ∷ queue) = elim (components_of compounds a) [
-  | none ↦ a ∷ split_queue steps compounds queue
-  | some parts ↦ split_queue steps compounds (queue ++ (parts.0 ∷ parts.1 ∷ []))
+  | None ↦ a ∷ split_queue steps compounds queue
+  | Some parts ↦ split_queue steps compounds (queue ++ (parts.0 ∷ parts.1 ∷ []))
 ]
 
 -- [8.6] The parts of one facet, whose own list has the given length. Two components have lists that are not empty
@@ -114,18 +114,18 @@ parts_of compounds items a = split_queue (2 * items) compounds (a ∷ [])
 
 -- [8.7] an item in front of the rest, where there is one
 unfoldable pub cons_in : {A : Type 0} → A → Option (List A) → Option (List A)
-cons_in x none = none
-cons_in x (some xs) = some (x ∷ xs)
+cons_in x None = None
+cons_in x (Some xs) = Some (x ∷ xs)
 
 -- [8.8] b and c, where there is a c
 unfoldable pub with_second : ℕ → Option ℕ → Option Pair
-with_second b none = none
-with_second b (some c) = some (b, c)
+with_second b None = None
+with_second b (Some c) = Some (b, c)
 
 -- [8.8] the triple of entry a, where it has a label
 unfoldable pub compound_at : ℕ → Option Pair → List Compound
-compound_at a none = []
-compound_at a (some p) = record { whole = a; first = p.0; second = p.1 } ∷ []
+compound_at a None = []
+compound_at a (Some p) = record { whole = a; first = p.0; second = p.1 } ∷ []
 
 -- [8.8] the triples of the entries from a on, by their labels
 unfoldable pub compounds_from : ℕ → List (Option Pair) → List Compound
@@ -138,13 +138,13 @@ module _ {A : Type 0} (c : A → A → Ordering) where
   -- [8.7] The walk of the second list through the first: an item below the next one sought is kept over, an equal one
   -- is used up with it, one above ends the walk. The value is the rest.
   unfoldable pub walk : List A → List A → Option (List A)
-  walk [] [] = some []
-  walk [] (y ∷ ys) = none
-  walk (x ∷ xs) [] = some (x ∷ xs)
+  walk [] [] = Some []
+  walk [] (y ∷ ys) = None
+  walk (x ∷ xs) [] = Some (x ∷ xs)
   walk (x ∷ xs) (y ∷ ys) = elim (c x y) [
     | Ordering.lt ↦ cons_in x (walk xs (y ∷ ys))
     | Ordering.eq ↦ walk xs ys
-    | Ordering.gt ↦ none
+    | Ordering.gt ↦ None
   ]
 
   -- [8.7] b's first item is above a's
@@ -155,20 +155,20 @@ module _ {A : Type 0} (c : A → A → Ordering) where
 
   -- [8.7] the rest of a, where b is found inside it
   unfoldable pub found_inside : List A → List A → Option (List A)
-  found_inside a b = cond (ltb (length b) (length a) && not (first_above b a)) (walk a b) none
+  found_inside a b = cond (ltb (length b) (length a) && not (first_above b a)) (walk a b) None
 
   -- [8.8] the place of the first list that equals this one, counted from k
   unfoldable pub seek : List A → List (List A) → ℕ → Option ℕ
-  seek items [] k = none
-  seek items (l ∷ ls) k = let later = seek items ls (suc k) in cond (compare_is_eq (compare_list c items l)) (some k) later
+  seek items [] k = None
+  seek items (l ∷ ls) k = let later = seek items ls (suc k) in cond (compare_is_eq (compare_list c items l)) (Some k) later
 
   -- [8.8] The first list found inside these items decides: with a second component behind it there is a label, without
   -- one there is none. The lists are those from place b on.
   unfoldable pub label_from : List A → List (List A) → ℕ → Option Pair
-  label_from items [] b = none
+  label_from items [] b = None
   label_from items (l ∷ ls) b = elim (found_inside items l) [
-    | none ↦ label_from items ls (suc b)
-    | some rest ↦ with_second b (seek rest ls (suc b))
+    | None ↦ label_from items ls (suc b)
+    | Some rest ↦ with_second b (seek rest ls (suc b))
   ]
 
   -- [8.8] for each list its label: the places of the two that it is made of

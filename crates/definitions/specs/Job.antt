@@ -2,7 +2,7 @@
 -- lengths to the return value and the whole answer buffer. Leans on Faceting.
 use Rattle.std.specs.Prelude.{Bool, true, false, cond, not, ◌&&◌, ℕ, ◌+◌, ◌-◌, ◌*◌, ◌/◌, ◌%◌, leb, ltb, eqb, ℤ, pos, neg_ℤ, length, get_or, take, drop, replicate, Float}
 use mathlib.Core.List.{List, [], ◌∷◌, ◌++◌, map, flat_map}
-use Rattle.std.proofs.Math.Option.{Option, some, none}
+use Rattle.std.specs.Prelude.{Option, Some, None}
 use Rattle.std.proofs.Math.Dec.{compare_is_eq}
 use Rattle.std.specs.Float.{nan, inf, fin, binary64}
 use Rattle.std.specs.Float.Ieee.{of_bits, le}
@@ -85,8 +85,8 @@ flag_set flags weight = eqb 1 (flags / weight % 2)
 
 -- [10.2] a field that is flagged, or nothing
 unfoldable pub present : {A : Type 0} → Bool → A → Option A
-present true a = some a
-present false a = none
+present true a = Some a
+present false a = None
 
 -- [10.2] each field behind the one before; `size` is where the last row ends. The tolerance is there from version 2
 -- on, and is 1e-7 before; the rule is there from version 3 on, and is 1 before.
@@ -168,8 +168,8 @@ all_within most = all_of (within most)
 
 -- [11.2] a min or max that is not there, or is from 0 to 131,072; −0 is not below 0
 unfoldable pub limit_good : Option Float → Bool
-limit_good none = true
-limit_good (some x) = within 131072 x && le zero64 x
+limit_good None = true
+limit_good (Some x) = within 131072 x && le zero64 x
 
 -- [11.2] neither an infinity nor a NaN
 unfoldable pub is_finite : Float → Bool

@@ -3,7 +3,7 @@
 -- `noble_package`. Leans on Orbits, Job and Demands.
 use Rattle.std.specs.Prelude.{◌≡◌, ◌↔◌, Bool, true, cond, not, ◌&&◌, ℕ, ◌+◌, ◌*◌, ◌/◌, T, leb, ltb, eqb, length, get_or, take, drop}
 use mathlib.Core.List.{List, [], ◌∷◌, ◌++◌, map, Memᴰ, Nodup}
-use Rattle.std.proofs.Math.Option.{Option, some, none}
+use Rattle.std.specs.Prelude.{Option, Some, None}
 use Rattle.definitions.specs.Lists.{member_nat, all_of, keep, map_at, count_from, fresh, compare_nats}
 use Rattle.definitions.specs.Orbits.{Row, Orbit, set_image}
 use Rattle.definitions.specs.Search.{Facet, Table}
@@ -88,8 +88,8 @@ pub record Tallies : Type 0 where
 
 -- [17.5] the tally of a key's latest mark, or none where it was never marked
 unfoldable pub mark_of : List ℕ → List Mark → Option ℕ
-mark_of key [] = none
-mark_of key (m ∷ ms) = let earlier = mark_of key ms in cond (same_nats key m.key) (some m.tally) earlier
+mark_of key [] = None
+mark_of key (m ∷ ms) = let earlier = mark_of key ms in cond (same_nats key m.key) (Some m.tally) earlier
 
 -- [17.5] what an orbit adds to a tally of a key with so many images
 unfoldable pub portion : Package → Orbit → ℕ → ℕ
@@ -117,8 +117,8 @@ add_to_tally p orbit number t = record {
 
 -- [17.5] by whether and with which tally the key is marked
 unfoldable pub tally_by : Option ℕ → Package → Orbit → Tallies → Tallies
-tally_by none p orbit t = open_tally p orbit t
-tally_by (some number) p orbit t = add_to_tally p orbit number t
+tally_by None p orbit t = open_tally p orbit t
+tally_by (Some number) p orbit t = add_to_tally p orbit number t
 
 -- [17.5] the tallies with an orbit more
 unfoldable pub tally_orbit : Package → Tallies → Orbit → Tallies
@@ -133,8 +133,8 @@ tally_orbits p t (orbit ∷ orbits) = tally_orbits p (tally_orbit p t orbit) orb
 
 -- [17.6] what the tally adds up to that a key is marked with
 unfoldable pub sum_at : Option ℕ → List Tally → ℕ
-sum_at none tallies = 0
-sum_at (some number) tallies = (get_or tallies number (record { images = 0; sum = 0 })).sum
+sum_at None tallies = 0
+sum_at (Some number) tallies = (get_or tallies number (record { images = 0; sum = 0 })).sum
 
 -- [17.6] an orbit whose key's tally, at the end, is 2 or more
 unfoldable pub keeps_orbit : Package → Tallies → Orbit → Bool

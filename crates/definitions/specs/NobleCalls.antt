@@ -3,7 +3,7 @@
 -- and Demands.
 use Rattle.std.specs.Prelude.{◌≡◌, refl, false, not, ℕ, zero, suc, ◌-◌, ◌≤◌, T, ℤ, pos, neg_ℤ, length, take, drop, replicate}
 use mathlib.Core.List.{List, [], ◌∷◌, ◌++◌, Memᴰ, Pairwise}
-use Rattle.std.proofs.Math.Option.{Option, none}
+use Rattle.std.specs.Prelude.{Option, None}
 use Rattle.definitions.specs.Lists.{is_gt}
 use Rattle.definitions.specs.Outcome.{Outcome, refused, answered, and_then}
 use Rattle.definitions.specs.Search.{Facet, Found}
@@ -73,7 +73,7 @@ pub record MinimalEntries (limit : Option ℕ) (p : Prepared) (emitted : List (L
   pub every_entry : (e : Entry) → Memᴰ e entries → T (is_closed_choice (table_for p) (choice_of e.before)) × EntryOfChoice p e (choice_of e.before)
   -- under the proviso and without a limit, the choices that the records name, in the entries' order, are the closed
   -- choices with none properly inside, once each
-  pub minimal : limit ≡ none → T (equal_shares (table_for p)) → AllMinimalChoices (table_for p) (choices_of entries)
+  pub minimal : limit ≡ None → T (equal_shares (table_for p)) → AllMinimalChoices (table_for p) (choices_of entries)
   -- sorted
   pub ascending : Pairwise (λ (d e : Entry). T (not (is_gt (compare_entries d e)))) entries
   -- and just those of the lists that the search emits

@@ -1,7 +1,7 @@
 -- Orbits of vertices, pairs and hyperplanes in one call: docs/SPECIFICATION.md, chapter 5. Leans on Subspace.
 use Rattle.std.specs.Prelude.{Bool, false, cond, not, ◌&&◌, ◌||◌, ℕ, suc, ◌-◌, min, max, leb, eqb, length, get_or, Float}
 use mathlib.Core.List.{List, [], ◌∷◌, ◌++◌, map, flat_map}
-use Rattle.std.proofs.Math.Option.{Option, some, none}
+use Rattle.std.specs.Prelude.{Option, Some, None}
 use Rattle.std.proofs.Math.Dec.{compare_is_eq}
 use Rattle.std.specs.Float.{binary64}
 use Rattle.std.specs.Float.Ieee.{add, sub, lt}
@@ -40,13 +40,13 @@ vertex_openers rows seen (v ∷ vs) =
 
 -- [5.3] below min less the tolerance
 unfoldable pub too_short : Float → Option Float → Float → Bool
-too_short tolerance none length = false
-too_short tolerance (some shortest) length = lt length (sub binary64 shortest tolerance)
+too_short tolerance None length = false
+too_short tolerance (Some shortest) length = lt length (sub binary64 shortest tolerance)
 
 -- [5.3] above max and the tolerance
 unfoldable pub too_long : Float → Option Float → Float → Bool
-too_long tolerance none length = false
-too_long tolerance (some longest) length = lt (add binary64 longest tolerance) length
+too_long tolerance None length = false
+too_long tolerance (Some longest) length = lt (add binary64 longest tolerance) length
 
 -- [5.3] the length between two vertices, of the points as passed, breaks a limit
 unfoldable pub breaks_limit : Float → Limits → List Vec → ℕ → ℕ → Bool

@@ -2,7 +2,7 @@
 -- Figures, Job and Prices.
 use Rattle.std.specs.Prelude.{◌≡◌, Bool, true, false, not, ◌&&◌, leb, eqb, length, get_or}
 use mathlib.Core.List.{List, [], ◌∷◌, map, flat_map, Memᴰ}
-use Rattle.std.proofs.Math.Option.{Option, some, none}
+use Rattle.std.specs.Prelude.{Option, Some, None}
 use Prim.Native.Nat.{ℕ, ◌<◌, Ordering}
 use Rattle.definitions.specs.Lists.{Pair, compare_pair, any_of, keep, count_from}
 use Rattle.definitions.specs.Outcome.{Outcome, answered, and_then}
@@ -15,8 +15,8 @@ use Rattle.definitions.specs.Prices.{answer_of}
 
 -- [18.1] the walk did not end before its list did
 unfoldable pub is_found : {A : Type 0} → Option (List A) → Bool
-is_found none = false
-is_found (some rest) = true
+is_found None = false
+is_found (Some rest) = true
 
 module _ {A : Type 0} (c : A → A → Ordering) where
   -- [18.1] b is found in a: it is no longer, its first item is not above a's, and the walk of [8.7] comes to its end

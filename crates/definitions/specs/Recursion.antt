@@ -3,7 +3,7 @@
 -- Leans on Orbits, Figures and Search.
 use Rattle.std.specs.Prelude.{Bool, cond, not, ℕ, ◌+◌, ◌*◌, ◌/◌, ltb, eqb, length, get_or, Float}
 use mathlib.Core.List.{List, [], ◌∷◌, ◌++◌, map, zip_with}
-use Rattle.std.proofs.Math.Option.{Option, some, none}
+use Rattle.std.specs.Prelude.{Option, Some, None}
 use Rattle.std.proofs.Math.Dec.{compare_is_eq}
 use Rattle.definitions.specs.Lists.{Pair, compare_nats, any_of, keep, fresh, place_of, map_with}
 use Rattle.definitions.specs.Outcome.{Outcome, answered, and_then, refuse_if}
@@ -148,8 +148,8 @@ no_ridges = record { held = []; counts = [] }
 
 -- [6.7] the number of the ridge orbit that holds a ridge
 unfoldable pub held_by : Figure → List Held → Option ℕ
-held_by ridge [] = none
-held_by ridge (h ∷ hs) = let later = held_by ridge hs in cond (compare_is_eq (compare_figures ridge h.ridge)) (some h.orbit) later
+held_by ridge [] = None
+held_by ridge (h ∷ hs) = let later = held_by ridge hs in cond (compare_is_eq (compare_figures ridge h.ridge)) (Some h.orbit) later
 
 -- [6.7] a figure moved and sorted
 unfoldable pub move_sorted : (ℕ → ℕ) → Figure → Figure
@@ -165,8 +165,8 @@ open_ridge_orbit rows known ridge =
 
 -- [6.7] the number of the ridge orbit that holds the ridge, or that of the one it opens
 unfoldable pub number_or_open : List Row → RidgeOrbits → Figure → Option ℕ → ℕ × RidgeOrbits
-number_or_open rows known ridge (some number) = (number, known)
-number_or_open rows known ridge none = (length known.counts, open_ridge_orbit rows known ridge)
+number_or_open rows known ridge (Some number) = (number, known)
+number_or_open rows known ridge None = (length known.counts, open_ridge_orbit rows known ridge)
 
 -- [6.7] a ridge of an inner answer, in this call's vertices and sorted, gets its number
 unfoldable pub number_ridge : List Row → List ℕ → RidgeOrbits → Figure → ℕ × RidgeOrbits

@@ -1,7 +1,7 @@
 -- The square root [3.2] at some values, evaluated: bit patterns of x and of its root, as a processor's own root
 -- instruction gives them.
 use Rattle.std.specs.Prelude.{Bool, ◌&&◌, List, [], ◌∷◌, ℕ, T, eqb, Float}
-use Rattle.std.proofs.Math.Option.{Option, some, none}
+use Rattle.std.specs.Prelude.{Option, Some, None}
 use Rattle.std.specs.Float.{binary64}
 use Rattle.std.specs.Float.Ieee.{of_bits, to_bits}
 use Rattle.definitions.specs.Lists.{Pair, all_of}
@@ -9,8 +9,8 @@ use Rattle.definitions.specs.Vectors.{square_root}
 use Rattle.definitions.specs.Open.{open_all}
 
 unfoldable pub bits_or : ℕ → Option Float → ℕ
-bits_or other none = other
-bits_or other (some r) = to_bits binary64 r
+bits_or other None = other
+bits_or other (Some r) = to_bits binary64 r
 
 -- the root of the first is the second
 unfoldable pub rooted : Pair → Bool

@@ -2,7 +2,7 @@
 -- where a table comes from is in Recursion.
 use Rattle.std.specs.Prelude.{Bool, true, false, cond, not, ◌&&◌, ℕ, zero, suc, ◌+◌, ◌*◌, leb, ltb, eqb, length, get_or, replicate}
 use mathlib.Core.List.{List, [], ◌∷◌, ◌++◌, map, flat_map, reverse_aux}
-use Rattle.std.proofs.Math.Option.{Option, some, none}
+use Rattle.std.specs.Prelude.{Option, Some, None}
 use Rattle.definitions.specs.Lists.{Pair, any_of, keep, place_of, map_at, count_from}
 use Rattle.definitions.specs.Outcome.{Outcome, refused, answered, refuse_if}
 
@@ -120,8 +120,8 @@ pub record Found : Type 0 where
 
 -- [7.9] whether an entry limit ends the search, with so many lists emitted
 unfoldable pub limit_reached : Option ℕ → ℕ → Bool
-limit_reached none emitted = false
-limit_reached (some m) emitted = leb m emitted
+limit_reached None emitted = false
+limit_reached (Some m) emitted = leb m emitted
 
 -- [7.9] the entry limit, the number of entries past which a call is refused with 15, and [17.9] whether closed lists
 -- are extended

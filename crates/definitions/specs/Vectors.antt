@@ -3,7 +3,7 @@
 -- The root is given twice: as a definition that computes, and by what IEEE 754 says of it (`NearestRoot`), with
 -- whole numbers only.
 use Rattle.std.specs.Prelude.{◌≡◌, Bool, true, false, cond, List, [], ◌∷◌, map, ℕ, zero, suc, ◌+◌, ◌*◌, ◌/◌, ◌%◌, ◌^◌, ◌≤◌, ◌<◌, T, leb, eqb, pos, negsuc, Float}
-use Rattle.std.proofs.Math.Option.{Option, some, none}
+use Rattle.std.specs.Prelude.{Option, Some, None}
 use Rattle.std.specs.Float.{nan, inf, fin, binary64}
 use Rattle.std.specs.Float.Ieee.{round, add, sub, mul, div, of_bits, to_bits, fits, up, down, low}
 
@@ -36,12 +36,12 @@ root_times m a b = let n = m * 2 ^ 112 in round binary64 false (twice_root n (wh
 -- [3.2] The root, with a value exactly for finite doubles not below zero; a zero keeps its sign. m × 2 ^ e is m or
 -- 2 m times an even power of 2, whose root is taken by halving the exponent.
 unfoldable pub square_root : Float → Option Float
-square_root nan = none
-square_root (inf s) = none
-square_root (fin s zero e) = some (fin s zero e)
-square_root (fin true (suc m) e) = none
-square_root (fin false (suc m) (pos k)) = some (root_times (suc m * 2 ^ (k % 2)) (2 ^ (k / 2)) 1)
-square_root (fin false (suc m) (negsuc k)) = some (root_times (suc m * 2 ^ (suc k % 2)) 1 (2 ^ (suc (suc k) / 2)))
+square_root nan = None
+square_root (inf s) = None
+square_root (fin s zero e) = Some (fin s zero e)
+square_root (fin true (suc m) e) = None
+square_root (fin false (suc m) (pos k)) = Some (root_times (suc m * 2 ^ (k % 2)) (2 ^ (k / 2)) 1)
+square_root (fin false (suc m) (negsuc k)) = Some (root_times (suc m * 2 ^ (suc k % 2)) 1 (2 ^ (suc (suc k) / 2)))
 
 -- ---- the square root, as IEEE 754 has it
 
@@ -94,8 +94,8 @@ has_root (fin s (suc m) e) = cond s false true
 -- [3.3] [13.2] What is to be proved of the definition: it has a value exactly where [3.2] says so, and that is the
 -- nearest one.
 pub record RootIsIeee : Type 0 where
-  pub value : (x : Float) → T (is_double x) → has_root x ≡ true → (r : Float) × (square_root x ≡ some r) × NearestRoot x r
-  pub refusal : (x : Float) → has_root x ≡ false → square_root x ≡ none
+  pub value : (x : Float) → T (is_double x) → has_root x ≡ true → (r : Float) × (square_root x ≡ Some r) × NearestRoot x r
+  pub refusal : (x : Float) → has_root x ≡ false → square_root x ≡ None
 
 -- ---- vectors
 
@@ -112,8 +112,8 @@ dot = dot_from zero64
 -- [3.5] Where a root has no value a norm is `nan`. No job that passes its own tests comes to it: that is a
 -- promise of its own.
 unfoldable pub value_of : Option Float → Float
-value_of none = nan
-value_of (some x) = x
+value_of None = nan
+value_of (Some x) = x
 
 -- [3.5] the root of v · v
 unfoldable pub norm : Vec → Float

@@ -5,7 +5,7 @@ use Rattle.std.proofs.Math.Path.{refl, ap, subst}
 use Rattle.std.proofs.Common.{◌∙◌, ne_eqb, le→leb}
 use Rattle.std.proofs.Math.Bool.{true, false, cond, not}
 use mathlib.Core.List.{List, [], ◌∷◌, map}
-use Rattle.std.proofs.Math.Option.{Option, some, none}
+use Rattle.std.specs.Prelude.{Option, Some, None}
 use Prim.Native.Nat.{ℕ, ◌<◌, Ordering}
 use native.Mathlib.Omega.{arith}
 use Rattle.std.proofs.Math.Dec.{T, ltb, ltb→lt, eqb_refl}
@@ -24,8 +24,8 @@ use Rattle.laws.specs.Walks.{map_rest, walk_numbered, first_numbered, labelled}
 module _ {A : Type 0} (c : A → A → Ordering) (order : Linear c) where
   found_behind : (x : A) (o : Option (List A)) → T (is_found (cons_in x o)) → T (is_found o)
   unfolding is_found cons_in
-  found_behind x none t = t
-  found_behind x (some rest) t = t
+  found_behind x None t = t
+  found_behind x (Some rest) t = t
 
   pub walk_inside : (a b : List A) → T (is_found (walk c a b)) → Inside b a
   unfolding walk is_found
@@ -34,7 +34,7 @@ module _ {A : Type 0} (c : A → A → Ordering) (order : Linear c) where
   walk_inside (x ∷ a) [] t = nothing (x ∷ a)
   walk_inside (x ∷ a) (y ∷ b) t = go (c x y) refl t (walk_inside a (y ∷ b)) (walk_inside a b)
     where
-      go : (o : Ordering) → c x y ≡ o → T (is_found {A = A} (elim o [ Ordering.lt ↦ cons_in x (walk c a (y ∷ b)) | Ordering.eq ↦ walk c a b | Ordering.gt ↦ none ]))
+      go : (o : Ordering) → c x y ≡ o → T (is_found {A = A} (elim o [ Ordering.lt ↦ cons_in x (walk c a (y ∷ b)) | Ordering.eq ↦ walk c a b | Ordering.gt ↦ None ]))
           → (T (is_found (walk c a (y ∷ b))) → Inside (y ∷ b) a) → (T (is_found (walk c a b)) → Inside b a) → Inside (y ∷ b) (x ∷ a)
       go Ordering.lt e u over on = passed x (y ∷ b) a (over (found_behind x (walk c a (y ∷ b)) u))
       go Ordering.eq e u over on = subst (λ (z : A). Inside (z ∷ b) (x ∷ a)) (order.equal x y e) (taken x b a (on u))
@@ -45,11 +45,11 @@ module _ {A : Type 0} (c : A → A → Ordering) (order : Linear c) where
   finds_inside a b t = walk_inside a b (second (leb (length b) (length a) && not (first_above c b a)) (is_found (walk c a b)) t)
 
   -- what `label_irc` finds inside a list is shorter, and `filter_irc` finds it too
-  inside_finds : (a b rest : List A) → found_inside c a b ≡ some rest → (length b < length a) × T (finds c a b)
+  inside_finds : (a b rest : List A) → found_inside c a b ≡ Some rest → (length b < length a) × T (finds c a b)
   unfolding found_inside finds is_found
   inside_finds a b rest e = go (ltb (length b) (length a) && not (first_above c b a)) refl e
     where
-      go : (t : Bool) → ltb (length b) (length a) && not (first_above c b a) ≡ t → cond t (walk c a b) none ≡ some rest → (length b < length a) × T (finds c a b)
+      go : (t : Bool) → ltb (length b) (length a) && not (first_above c b a) ≡ t → cond t (walk c a b) None ≡ Some rest → (length b < length a) × T (finds c a b)
       go true q w =
           let h = ltb→lt (length b) (length a) (first (ltb (length b) (length a)) (not (first_above c b a)) (true→holds q)) in
           (h, both (leb (length b) (length a) && not (first_above c b a)) (is_found (walk c a b)) (both (leb (length b) (length a)) (not (first_above c b a)) (le→leb (length b) (length a) (omega arith)) (second (ltb (length b) (length a)) (not (first_above c b a)) (true→holds q))) (rw w tt))
@@ -97,7 +97,7 @@ module _ {A : Type 0} (c : A → A → Ordering) (order : Linear c) where
         go a h out false e = absurd (out (in_keep (λ (n : ℕ). not (finds_other c lists n)) a (count_from 0 (length lists)) (in_count 0 (length lists) a (omega arith) (omega arith)) (false→fails e)))
 
     -- a list with a label is left out
-    pub labelled_left_out : (a : ℕ) (label : Pair) → label_from c (get_or lists a []) lists 0 ≡ some label → Mem a (filter_irc c lists) → ⊥
+    pub labelled_left_out : (a : ℕ) (label : Pair) → label_from c (get_or lists a []) lists 0 ≡ Some label → Mem a (filter_irc c lists) → ⊥
     unfolding finds_other
     labelled_left_out a label e =
         let l = labelled c order (get_or lists a []) lists 0 label e in
@@ -115,8 +115,8 @@ module _ {A B : Type 0} (c : A → A → Ordering) (d : B → B → Ordering) (t
 
   rest_found : (o : Option (List A)) → is_found (map_rest c d to Good ordered o) ≡ is_found o
   unfolding is_found map_rest
-  rest_found none = refl
-  rest_found (some l) = refl
+  rest_found None = refl
+  rest_found (Some l) = refl
 
   finds_numbered : (a b : List A) → AllGood a → AllGood b → finds d (map to a) (map to b) ≡ finds c a b
   unfolding finds

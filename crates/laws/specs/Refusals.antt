@@ -1,7 +1,7 @@
 -- Lists of tests in the order in which they refuse: the first that is not passed, what `pass_all` then answers, and a passed test found by its number. Leans on Outcomes.
 use Rattle.std.specs.Prelude.{◌≡◌, refl, Bool, true, false, cond, not, ◌&&◌, List, [], ◌∷◌, ◌++◌, ℕ, T, eqb}
 use Rattle.std.proofs.Common.{ap, ◌∙◌, true≢false, arith}
-use Rattle.std.proofs.Math.Option.{Option, some, none}
+use Rattle.std.specs.Prelude.{Option, Some, None}
 use Rattle.definitions.specs.Lists.{all_of}
 use Rattle.definitions.specs.Outcome.{Outcome, refused, answered, refuse_if}
 use Rattle.definitions.specs.Job.{Test, pass_all}
@@ -12,49 +12,49 @@ use Rattle.laws.specs.Outcomes.{not_refused_if}
 
 -- the number of the first test that is not passed
 unfoldable pub first_refused : List Test → Option ℕ
-first_refused [] = none
-first_refused (t ∷ ts) = let later = first_refused ts in cond (t.passes tt) later (some t.number)
+first_refused [] = None
+first_refused (t ∷ ts) = let later = first_refused ts in cond (t.passes tt) later (Some t.number)
 
 -- refused with a number, or what follows
 unfoldable pub refused_or : {A : Type 0} → Option ℕ → (Unit {0} → Outcome A) → Outcome A
-refused_or none next = next tt
-refused_or (some number) next = refused number
+refused_or None next = next tt
+refused_or (Some number) next = refused number
 
 pub pass_all_holds : {A : Type 0} (ts : List Test) (next : Unit {0} → Outcome A) → pass_all ts next ≡ refused_or (first_refused ts) next
 unfolding pass_all first_refused refused_or refuse_if
 pass_all_holds [] next = refl
 pass_all_holds {A} (t ∷ ts) next = go (t.passes tt) (pass_all_holds ts next)
   where
-    go : (b : Bool) → pass_all ts next ≡ refused_or (first_refused ts) next → refuse_if (not b) t.number (λ u. pass_all ts next) ≡ refused_or (cond b (first_refused ts) (some t.number)) next
+    go : (b : Bool) → pass_all ts next ≡ refused_or (first_refused ts) next → refuse_if (not b) t.number (λ u. pass_all ts next) ≡ refused_or (cond b (first_refused ts) (Some t.number)) next
     go true e = e
     go false e = refl
 
-pub pass_all_refused : {A : Type 0} (ts : List Test) (next : Unit {0} → Outcome A) (number : ℕ) → first_refused ts ≡ some number → pass_all ts next ≡ refused number
+pub pass_all_refused : {A : Type 0} (ts : List Test) (next : Unit {0} → Outcome A) (number : ℕ) → first_refused ts ≡ Some number → pass_all ts next ≡ refused number
 unfolding refused_or
 pass_all_refused ts next number e = pass_all_holds ts next ∙ ap (λ (o : Option ℕ). refused_or o next) e
 
-pub pass_all_passed : {A : Type 0} (ts : List Test) (next : Unit {0} → Outcome A) → first_refused ts ≡ none → pass_all ts next ≡ next tt
+pub pass_all_passed : {A : Type 0} (ts : List Test) (next : Unit {0} → Outcome A) → first_refused ts ≡ None → pass_all ts next ≡ next tt
 unfolding refused_or
 pass_all_passed ts next e = pass_all_holds ts next ∙ ap (λ (o : Option ℕ). refused_or o next) e
 
 -- a test that is passed leaves it to those behind it, and one that is not decides
 pub goes_on : (ts : List Test) (t : Test) (us : List Test) → first_refused ts ≡ first_refused (t ∷ us) → t.passes tt ≡ true → first_refused ts ≡ first_refused us
 unfolding first_refused
-goes_on ts t us e p = e ∙ ap (λ (b : Bool). cond b (first_refused us) (some t.number)) p
+goes_on ts t us e p = e ∙ ap (λ (b : Bool). cond b (first_refused us) (Some t.number)) p
 
-pub stops : (ts : List Test) (t : Test) (us : List Test) → first_refused ts ≡ first_refused (t ∷ us) → t.passes tt ≡ false → first_refused ts ≡ some t.number
+pub stops : (ts : List Test) (t : Test) (us : List Test) → first_refused ts ≡ first_refused (t ∷ us) → t.passes tt ≡ false → first_refused ts ≡ Some t.number
 unfolding first_refused
-stops ts t us e p = e ∙ ap (λ (b : Bool). cond b (first_refused us) (some t.number)) p
+stops ts t us e p = e ∙ ap (λ (b : Bool). cond b (first_refused us) (Some t.number)) p
 
 -- the last test is passed, so that none fails
-pub ends : (ts : List Test) (t : Test) → first_refused ts ≡ first_refused (t ∷ []) → t.passes tt ≡ true → first_refused ts ≡ none
+pub ends : (ts : List Test) (t : Test) → first_refused ts ≡ first_refused (t ∷ []) → t.passes tt ≡ true → first_refused ts ≡ None
 unfolding first_refused
 ends ts t e p = goes_on ts t [] e p
 
 -- two lists of tests, one behind the other: the first decides, or leaves it to the second
 unfoldable pub first_one_of : Option ℕ → Option ℕ → Option ℕ
-first_one_of none later = later
-first_one_of (some number) later = some number
+first_one_of None later = later
+first_one_of (Some number) later = Some number
 
 pub first_refused_append : (ts us : List Test) → first_refused (ts ++ us) ≡ first_one_of (first_refused ts) (first_refused us)
 unfolding first_refused first_one_of
@@ -62,7 +62,7 @@ first_refused_append [] us = refl
 first_refused_append (t ∷ ts) us = go (t.passes tt) (first_refused_append ts us)
   where
     go : (b : Bool) → first_refused (ts ++ us) ≡ first_one_of (first_refused ts) (first_refused us)
-        → cond b (first_refused (ts ++ us)) (some t.number) ≡ first_one_of (cond b (first_refused ts) (some t.number)) (first_refused us)
+        → cond b (first_refused (ts ++ us)) (Some t.number) ≡ first_one_of (cond b (first_refused ts) (Some t.number)) (first_refused us)
     go true e = e
     go false e = refl
 
@@ -88,15 +88,15 @@ passed number (t ∷ ts) h =
     go true here later = here
     go false here later = later
 
-some_is_not_none : {number : ℕ} → some number ≡ none → ⊥
+some_is_not_none : {number : ℕ} → Some number ≡ None → ⊥
 some_is_not_none e = let z : ◌≡◌ {A = ℕ} 0 1 = cc in absurd (omega arith)
 
-pub none_refused : (ts : List Test) → first_refused ts ≡ none → AllPassed ts
+pub none_refused : (ts : List Test) → first_refused ts ≡ None → AllPassed ts
 unfolding first_refused all_of
 none_refused [] e = tt
 none_refused (t ∷ ts) e = go (t.passes tt) e (none_refused ts)
   where
-    go : (b : Bool) → cond b (first_refused ts) (some t.number) ≡ none → (first_refused ts ≡ none → AllPassed ts) → T (b && all_of (λ (u : Test). u.passes tt) ts)
+    go : (b : Bool) → cond b (first_refused ts) (Some t.number) ≡ None → (first_refused ts ≡ None → AllPassed ts) → T (b && all_of (λ (u : Test). u.passes tt) ts)
     go true q rest = rest q
     go false q rest = absurd (some_is_not_none q)
 

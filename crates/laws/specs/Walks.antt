@@ -8,7 +8,7 @@ use Rattle.std.proofs.Common.{◌∙◌, arith, ltb→lt}
 use Rattle.std.proofs.Math.Bool.{true, false, cond, not}
 use mathlib.Core.List.Permᴰ
 use mathlib.Core.List.{List, [], ◌∷◌, ◌++◌, map, Memᴰ, Permᴰ}
-use Rattle.std.proofs.Math.Option.{Option, some, none}
+use Rattle.std.specs.Prelude.{Option, Some, None}
 use Prim.Native.Nat.{ℕ, suc, ◌+◌, ◌<◌, Ordering}
 use Rattle.std.proofs.Math.Dec.{ltb, compare_is_eq}
 use Rattle.std.proofs.Math.ListN.{length, length-map}
@@ -23,17 +23,17 @@ use Rattle.laws.specs.Ascending.{tested_equal}
 -- ---- what the walk leaves
 
 module _ {A : Type 0} (c : A → A → Ordering) where
-  cons_some : (x : A) (o : Option (List A)) (rest : List A) → cons_in x o ≡ some rest → (r : List A) × (o ≡ some r) × (x ∷ r ≡ rest)
+  cons_some : (x : A) (o : Option (List A)) (rest : List A) → cons_in x o ≡ Some rest → (r : List A) × (o ≡ Some r) × (x ∷ r ≡ rest)
   unfolding cons_in
-  cons_some x none rest e = absurd (none_is_not_some rest e)
-  cons_some x (some r) rest e = (r, refl, some_equal (x ∷ r) rest e)
+  cons_some x None rest e = absurd (none_is_not_some rest e)
+  cons_some x (Some r) rest e = (r, refl, some_equal (x ∷ r) rest e)
 
   -- one turn of the walk, by how the two items compare
   abbrev turn : A → List A → A → List A → Ordering → Option (List A)
-  turn x xs y ys o = elim o [ Ordering.lt ↦ cons_in x (walk c xs (y ∷ ys)) | Ordering.eq ↦ walk c xs ys | Ordering.gt ↦ none ]
+  turn x xs y ys o = elim o [ Ordering.lt ↦ cons_in x (walk c xs (y ∷ ys)) | Ordering.eq ↦ walk c xs ys | Ordering.gt ↦ None ]
 
   -- the rest are items of the list
-  pub walk_members : (a b rest : List A) → walk c a b ≡ some rest → (x : A) → Mem x rest → Mem x a
+  pub walk_members : (a b rest : List A) → walk c a b ≡ Some rest → (x : A) → Mem x rest → Mem x a
   unfolding walk
   walk_members [] [] rest e x m = subst (Mem x) (some_equal rest [] (sym e)) m
   walk_members [] (y ∷ b) rest e x m = absurd (none_is_not_some rest e)
@@ -44,27 +44,27 @@ module _ {A : Type 0} (c : A → A → Ordering) where
       first_or r (Memᴰ.head q) f = here q
       first_or r (Memᴰ.tail i) f = there (f i)
 
-      go : (o : Ordering) → turn z a y b o ≡ some rest
-          → ((r : List A) → walk c a (y ∷ b) ≡ some r → (x : A) → Mem x r → Mem x a)
-          → ((r : List A) → walk c a b ≡ some r → (x : A) → Mem x r → Mem x a) → Mem x (z ∷ a)
+      go : (o : Ordering) → turn z a y b o ≡ Some rest
+          → ((r : List A) → walk c a (y ∷ b) ≡ Some r → (x : A) → Mem x r → Mem x a)
+          → ((r : List A) → walk c a b ≡ Some r → (x : A) → Mem x r → Mem x a) → Mem x (z ∷ a)
       go Ordering.lt q over on =
           let s = cons_some z (walk c a (y ∷ b)) rest q in
           first_or s.0 (subst (Mem x) (sym s.2) m) (over s.0 s.1 x)
       go Ordering.eq q over on = there (on rest q x m)
       go Ordering.gt q over on = absurd (none_is_not_some rest q)
 
-  pub inside_walk : (a b rest : List A) → found_inside c a b ≡ some rest → (length b < length a) × (walk c a b ≡ some rest)
+  pub inside_walk : (a b rest : List A) → found_inside c a b ≡ Some rest → (length b < length a) × (walk c a b ≡ Some rest)
   unfolding found_inside
   inside_walk a b rest e = go (ltb (length b) (length a) && not (first_above c b a)) refl e
     where
-      go : (t : Bool) → ltb (length b) (length a) && not (first_above c b a) ≡ t → cond t (walk c a b) none ≡ some rest
-          → (length b < length a) × (walk c a b ≡ some rest)
+      go : (t : Bool) → ltb (length b) (length a) && not (first_above c b a) ≡ t → cond t (walk c a b) None ≡ Some rest
+          → (length b < length a) × (walk c a b ≡ Some rest)
       go true q w =
           (ltb→lt (length b) (length a) (first (ltb (length b) (length a)) (not (first_above c b a)) (true→holds q)), w)
       go false q w = absurd (none_is_not_some rest w)
 
   -- what is found inside, and what is passed over or left, make up the list
-  pub walk_items : Linear c → (a b rest : List A) → walk c a b ≡ some rest → Permᴰ a (b ++ rest)
+  pub walk_items : Linear c → (a b rest : List A) → walk c a b ≡ Some rest → Permᴰ a (b ++ rest)
   unfolding walk
   walk_items order [] [] rest e = subst (Permᴰ []) (some_equal [] rest e) Permᴰ.nil
   walk_items order [] (y ∷ ys) rest e = absurd (none_is_not_some rest e)
@@ -72,9 +72,9 @@ module _ {A : Type 0} (c : A → A → Ordering) where
   walk_items order (x ∷ xs) (y ∷ ys) rest e =
       go (c x y) refl e (λ r q. walk_items order xs (y ∷ ys) r q) (λ r q. walk_items order xs ys r q)
     where
-      go : (o : Ordering) → c x y ≡ o → turn x xs y ys o ≡ some rest
-          → ((r : List A) → walk c xs (y ∷ ys) ≡ some r → Permᴰ xs ((y ∷ ys) ++ r))
-          → ((r : List A) → walk c xs ys ≡ some r → Permᴰ xs (ys ++ r)) → Permᴰ (x ∷ xs) ((y ∷ ys) ++ rest)
+      go : (o : Ordering) → c x y ≡ o → turn x xs y ys o ≡ Some rest
+          → ((r : List A) → walk c xs (y ∷ ys) ≡ Some r → Permᴰ xs ((y ∷ ys) ++ r))
+          → ((r : List A) → walk c xs ys ≡ Some r → Permᴰ xs (ys ++ r)) → Permᴰ (x ∷ xs) ((y ∷ ys) ++ rest)
       go Ordering.lt e q over on =
           let s = cons_some x (walk c xs (y ∷ ys)) rest q in
           subst (λ (r : List A). Permᴰ (x ∷ xs) ((y ∷ ys) ++ r)) s.2
@@ -85,7 +85,7 @@ module _ {A : Type 0} (c : A → A → Ordering) where
 -- ---- what a label names
 
 module _ {A : Type 0} (c : A → A → Ordering) (order : Linear c) where
-  pub found_items : (a b rest : List A) → found_inside c a b ≡ some rest → Permᴰ a (b ++ rest) × (length b < length a)
+  pub found_items : (a b rest : List A) → found_inside c a b ≡ Some rest → Permᴰ a (b ++ rest) × (length b < length a)
   found_items a b rest e = let f = inside_walk c a b rest e in (walk_items c order a b rest f.1, f.0)
 
   -- the place of a list that was sought
@@ -95,13 +95,13 @@ module _ {A : Type 0} (c : A → A → Ordering) (order : Linear c) where
     pub is : k ≡ from + place
     pub equal : get_or ls place [] ≡ items
 
-  seek_found : (items : List A) (ls : List (List A)) (from k : ℕ) → seek c items ls from ≡ some k → Sought items ls from k
+  seek_found : (items : List A) (ls : List (List A)) (from k : ℕ) → seek c items ls from ≡ Some k → Sought items ls from k
   unfolding seek
   seek_found items [] from k e = absurd (none_is_not_some k e)
   seek_found items (l ∷ ls) from k e = go (compare_is_eq (compare_list c items l)) refl e (seek_found items ls (suc from) k)
     where
-      go : (t : Bool) → compare_is_eq (compare_list c items l) ≡ t → cond t (some from) (seek c items ls (suc from)) ≡ some k
-          → (seek c items ls (suc from) ≡ some k → Sought items ls (suc from) k) → Sought items (l ∷ ls) from k
+      go : (t : Bool) → compare_is_eq (compare_list c items l) ≡ t → cond t (Some from) (seek c items ls (suc from)) ≡ Some k
+          → (seek c items ls (suc from) ≡ Some k → Sought items ls (suc from) k) → Sought items (l ∷ ls) from k
       go true q s ih =
           let here_is = some_equal from k s in
           record { place = 0; below = omega arith; is = omega arith; equal = sym (tested_equal (compare_list c) (lists c order) items l (true→holds q)) }
@@ -120,9 +120,9 @@ module _ {A : Type 0} (c : A → A → Ordering) (order : Linear c) where
     pub below : other < length ls
     pub first_is : label.0 ≡ from + one
     pub second_is : label.1 ≡ from + other
-    pub found : found_inside c items (get_or ls one []) ≡ some (get_or ls other [])
+    pub found : found_inside c items (get_or ls one []) ≡ Some (get_or ls other [])
 
-  pub labelled : (items : List A) (ls : List (List A)) (from : ℕ) (label : Pair) → label_from c items ls from ≡ some label → Labelled items ls from label
+  pub labelled : (items : List A) (ls : List (List A)) (from : ℕ) (label : Pair) → label_from c items ls from ≡ Some label → Labelled items ls from label
   unfolding label_from with_second
   labelled items [] from label e = absurd (none_is_not_some label e)
   labelled items (l ∷ ls) from label e = go (found_inside c items l) refl e (labelled items ls (suc from) label)
@@ -143,10 +143,10 @@ module _ {A : Type 0} (c : A → A → Ordering) (order : Linear c) where
             found = r.found;
           }
 
-      made : (rest : List A) → found_inside c items l ≡ some rest → (o : Option ℕ) → seek c rest ls (suc from) ≡ o → with_second from o ≡ some label
+      made : (rest : List A) → found_inside c items l ≡ Some rest → (o : Option ℕ) → seek c rest ls (suc from) ≡ o → with_second from o ≡ Some label
           → Labelled items (l ∷ ls) from label
-      made rest f none q k = absurd (none_is_not_some label k)
-      made rest f (some second) q k =
+      made rest f None q k = absurd (none_is_not_some label k)
+      made rest f (Some second) q k =
           let s = seek_found rest ls (suc from) second q in
           let b = s.below in
           let i = s.is in
@@ -160,14 +160,14 @@ module _ {A : Type 0} (c : A → A → Ordering) (order : Linear c) where
             below = omega arith;
             first_is = omega arith;
             second_is = omega arith;
-            found = f ∙ ap (λ (r : List A). some r) (sym s.equal);
+            found = f ∙ ap (λ (r : List A). Some r) (sym s.equal);
           }
 
       go : (o : Option (List A)) → found_inside c items l ≡ o
-          → elim o [ none ↦ label_from c items ls (suc from) | some rest ↦ with_second from (seek c rest ls (suc from)) ] ≡ some label
-          → (label_from c items ls (suc from) ≡ some label → Labelled items ls (suc from) label) → Labelled items (l ∷ ls) from label
-      go none q k ih = later (ih k)
-      go (some rest) q k ih = made rest q (seek c rest ls (suc from)) refl k
+          → elim o [ None ↦ label_from c items ls (suc from) | Some rest ↦ with_second from (seek c rest ls (suc from)) ] ≡ Some label
+          → (label_from c items ls (suc from) ≡ Some label → Labelled items ls (suc from) label) → Labelled items (l ∷ ls) from label
+      go None q k ih = later (ih k)
+      go (Some rest) q k ih = made rest q (seek c rest ls (suc from)) refl k
 
 -- ---- a numbering that keeps the order
 
@@ -182,13 +182,13 @@ module _ {A B : Type 0} (c : A → A → Ordering) (d : B → B → Ordering) (t
 
   -- the items of a rest, where there is one
   unfoldable pub map_rest : Option (List A) → Option (List B)
-  map_rest none = none
-  map_rest (some l) = some (map to l)
+  map_rest None = None
+  map_rest (Some l) = Some (map to l)
 
   cons_numbered : (x : A) (o : Option (List A)) → cons_in (to x) (map_rest o) ≡ map_rest (cons_in x o)
   unfolding cons_in map_rest
-  cons_numbered x none = refl
-  cons_numbered x (some l) = refl
+  cons_numbered x None = refl
+  cons_numbered x (Some l) = refl
 
   pub walk_numbered : (a b : List A) → AllGood a → AllGood b → walk d (map to a) (map to b) ≡ map_rest (walk c a b)
   unfolding walk map_rest
@@ -217,7 +217,7 @@ module _ {A B : Type 0} (c : A → A → Ordering) (d : B → B → Ordering) (t
       rw (length-map a to, length-map b to, first_numbered b a g h, walk_numbered a b g h)
       (go (ltb (length b) (length a) && not (first_above c b a)))
     where
-      go : (t : Bool) → cond t (map_rest (walk c a b)) none ≡ map_rest (cond t (walk c a b) none)
+      go : (t : Bool) → cond t (map_rest (walk c a b)) None ≡ map_rest (cond t (walk c a b) None)
       go true = refl
       go false = refl
 
@@ -234,8 +234,8 @@ module _ {A B : Type 0} (c : A → A → Ordering) (d : B → B → Ordering) (t
   unfolding seek
   seek_numbered items [] k g h = refl
   seek_numbered items (l ∷ ls) k g h =
-      ap (λ (o : Ordering). cond (compare_is_eq o) (some k) (seek d (map to items) (map (map to) ls) (suc k))) (compare_numbered items l g (h l (here refl)))
-      ∙ ap (cond (compare_is_eq (compare_list c items l)) (some k)) (seek_numbered items ls (suc k) g (λ m i. h m (there i)))
+      ap (λ (o : Ordering). cond (compare_is_eq o) (Some k) (seek d (map to items) (map (map to) ls) (suc k))) (compare_numbered items l g (h l (here refl)))
+      ∙ ap (cond (compare_is_eq (compare_list c items l)) (Some k)) (seek_numbered items ls (suc k) g (λ m i. h m (there i)))
 
   label_numbered : (items : List A) (ls : List (List A)) (b : ℕ) → AllGood items → EachGood ls → label_from d (map to items) (map (map to) ls) b ≡ label_from c items ls b
   unfolding label_from map_rest
@@ -248,14 +248,14 @@ module _ {A B : Type 0} (c : A → A → Ordering) (d : B → B → Ordering) (t
 
       step : Option (List B) → Option Pair
       step o = elim o [
-        | none ↦ label_from d (map to items) (map (map to) ls) (suc b)
-        | some rest ↦ with_second b (seek d rest (map (map to) ls) (suc b))
+        | None ↦ label_from d (map to items) (map (map to) ls) (suc b)
+        | Some rest ↦ with_second b (seek d rest (map (map to) ls) (suc b))
       ]
 
       go : (o : Option (List A)) → found_inside c items l ≡ o → label_from d (map to items) (map (map to) ls) (suc b) ≡ label_from c items ls (suc b)
-          → step (map_rest o) ≡ elim o [ none ↦ label_from c items ls (suc b) | some rest ↦ with_second b (seek c rest ls (suc b)) ]
-      go none e ih = ih
-      go (some rest) e ih =
+          → step (map_rest o) ≡ elim o [ None ↦ label_from c items ls (suc b) | Some rest ↦ with_second b (seek c rest ls (suc b)) ]
+      go None e ih = ih
+      go (Some rest) e ih =
           let good : AllGood rest = λ x m. g x (walk_members c items l rest (inside_walk c items l rest e).1 x m) in
           ap (with_second b) (seek_numbered rest ls (suc b) good later)
 

@@ -4,7 +4,7 @@
 use Rattle.std.specs.Prelude.{◌≡◌, refl, Bool, true, false, not, ℕ, zero, suc, ◌+◌, ◌-◌, ◌*◌, ◌/◌, ◌%◌, ◌^◌, ◌≤◌, ◌<◌, T, leb, ℤ, Float}
 use Rattle.std.proofs.Math.Path.{sym, ap}
 use Rattle.std.proofs.Common.{◌∙◌, subst, mul-pos, mul-le-mul, mul-le-mul_right, mul-lt-mul_of_pos_right, lt_of_lt_of_le, le_of_lt, lt_of_mul-lt-mul_right, leb→le, lit≤, pow-add, pow_pos, shl_lt, pow_mono}
-use Rattle.std.proofs.Math.Option.{some, none}
+use Rattle.std.specs.Prelude.{Some, None}
 use native.Mathlib.Omega.{arith}
 use Rattle.std.proofs.Math.Dec.{nleb→lt}
 use Rattle.std.specs.Float.Ieee.{nan, fits, units}
@@ -218,7 +218,7 @@ module _ (x : Float) (q w : ℕ) (holds : T (fits binary64 x)) (by : ScaledBy x 
     even_at_tie = λ y d p n e. absurd (no_tie y d n e);
   }
 
-  pub with_root : (v : Float) × (square_root x ≡ some v) × NearestRoot x v
+  pub with_root : (v : Float) × (square_root x ≡ Some v) × NearestRoot x v
   with_root = (root', root_of_scaled x q w r' holds by is_root, nearest)
 
 -- ---- a zero is its own root
@@ -251,7 +251,7 @@ module _ (s : Bool) (e : ℤ) (double : T (is_double (fin s zero e))) where
 true_false : {A : Type 0} → true ≡ false → A
 true_false e = absurd (subst T e tt)
 
-rooted : (x : Float) → T (is_double x) → has_root x ≡ true → (r : Float) × (square_root x ≡ some r) × NearestRoot x r
+rooted : (x : Float) → T (is_double x) → has_root x ≡ true → (r : Float) × (square_root x ≡ Some r) × NearestRoot x r
 unfolding has_root is_double square_root
 rooted nan d h = absurd d
 rooted (inf s) d h = absurd d
@@ -259,7 +259,7 @@ rooted (fin s zero e) d h = (fin s zero e, refl, zero_nearest s e d)
 rooted (fin true (suc m) e) d h = true_false (sym h)
 rooted (fin false (suc m) e) d h = let c = scaling m e d in with_root (fin false (suc m) e) c.q c.w d c.by c.units
 
-refused : (x : Float) → has_root x ≡ false → square_root x ≡ none
+refused : (x : Float) → has_root x ≡ false → square_root x ≡ None
 unfolding has_root square_root
 refused nan h = refl
 refused (inf s) h = refl

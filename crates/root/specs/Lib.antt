@@ -1,5 +1,4 @@
 -- What the square root's contracts cite, the laws that its proofs cite, and the theorem that the square root [3.2] is IEEE 754's.
-pub mod Answer
 pub mod Scaled
 pub mod Powers
 pub mod Start

@@ -4,7 +4,7 @@
 use Rattle.std.specs.Prelude.{◌≡◌, refl, Bool, not, T, leb, eqb, ℤ, pos, negsuc, Float}
 use Rattle.std.proofs.Common.{sym, ap, ◌∙◌, subst, pow-suc, mul-pos, mul-le-mul_right, le_of_mul-le-mul_right, lt_of_mul-lt-mul_right, lt_of_lt_of_le, mul-one, zero-mul, add_assoc, leb→le, eqb→eq, lit≤, lit<, pow-add, pow_pos}
 use Rattle.std.proofs.Math.Bool.{true, false, cond}
-use Rattle.std.proofs.Math.Option.{some}
+use Rattle.std.specs.Prelude.{Some}
 use Prim.Native.Nat.{ℕ, zero, suc, ◌+◌, ◌-◌, ◌*◌, ◌/◌, ◌%◌, ◌^◌, ◌≤◌, ◌<◌}
 use Rattle.std.proofs.Math.Nat.{mul-lt-mul_of_pos_right}
 use native.Mathlib.Omega.{arith}
@@ -207,7 +207,7 @@ module _ (m q w r : ℕ) (mpos : 0 < m) (small : m < 2 ^ 53) (lo : 2 ^ 52 ≤ q)
       ∙ ap (λ (y : ℕ). units binary64 false (suc r / 2) y) (omega arith)
 
 -- ---- the definition's root of q 2^w / 2^1126
-pub root_of_scaled : (x : Float) (q w r : ℕ) → T (fits binary64 x) → ScaledBy x q w → WholeRoot (q * (1 + w % 2) * 2 ^ 54) r → square_root x ≡ some (units binary64 false (suc r / 2) (w / 2 + 485))
+pub root_of_scaled : (x : Float) (q w r : ℕ) → T (fits binary64 x) → ScaledBy x q w → WholeRoot (q * (1 + w % 2) * 2 ^ 54) r → square_root x ≡ Some (units binary64 false (suc r / 2) (w / 2 + 485))
 unfolding square_root
 root_of_scaled nan q w r f s root = absurd s.value
 root_of_scaled (inf t) q w r f s root = absurd s.value
@@ -223,11 +223,11 @@ root_of_scaled (fin true (suc m) e) q w r f s root = let z : ◌≡◌ {A = Bool
     true_false : true ≡ false → ⊥
     true_false z = subst T z tt
 root_of_scaled (fin false (suc m) (pos k)) q w r f s root =
-    ap some
+    ap Some
     (up_case (suc m) q w r (omega arith) (fitting false m (pos k) f).few s.low s.high root k
     (sym (join (suc m) k 1126) ∙ s.value.1 ∙ mul-one (q * 2 ^ w)))
 root_of_scaled (fin false (suc m) (negsuc k)) q w r f s root =
-    ap some
+    ap Some
     (down_case (suc m) q w r (omega arith) (fitting false m (negsuc k) f).few s.low s.high root (suc k)
     (ap (λ (x : ℕ). x * 2 ^ 1126) (sym (mul-one (suc m))) ∙ s.value.1 ∙ join q w (suc k)))
 
@@ -239,9 +239,9 @@ module _ (bits q w r : ℕ) (s : ScaledBy (of_bits binary64 bits) q w) (root : W
   pub root_bits_small : suc r / 2 + (w / 2 + 485) * 2 ^ 52 < 2047 * 2 ^ 52
   root_bits_small = let b = half_range in omega (arith, s.reach)
 
-  pub root_of_bits : (b : ℕ) → b ≡ suc r / 2 + (w / 2 + 485) * 2 ^ 52 → square_root (of_bits binary64 bits) ≡ some (of_bits binary64 b)
+  pub root_of_bits : (b : ℕ) → b ≡ suc r / 2 + (w / 2 + 485) * 2 ^ 52 → square_root (of_bits binary64 bits) ≡ Some (of_bits binary64 b)
   root_of_bits b e =
       let h = half_range in
       root_of_scaled (of_bits binary64 bits) q w r (of_bits-fits binary64 bits) s root
-      ∙ ap some (sym (of_units (suc r / 2) (w / 2 + 485) h.0 h.1 (omega (arith, s.reach))))
-      ∙ ap (λ (x : ℕ). some (of_bits binary64 x)) (sym e)
+      ∙ ap Some (sym (of_units (suc r / 2) (w / 2 + 485) h.0 h.1 (omega (arith, s.reach))))
+      ∙ ap (λ (x : ℕ). Some (of_bits binary64 x)) (sym e)

@@ -5,19 +5,14 @@
 #![tactic(auto)]
 
 ghost use Rattle.std.specs.Prelude.{◌≡◌, ◌+◌, ◌*◌, ◌/◌, ◌%◌, ◌^◌, ◌≤◌, ◌<◌};
-ghost use Rattle.std.proofs.Math.Option.{some};
+ghost use Rattle.std.specs.Prelude.{Some};
 ghost use Rattle.std.specs.Float.{binary64};
 ghost use Rattle.std.specs.Float.Ieee.{of_bits, lt};
 ghost use Rattle.definitions.specs.Vectors.{square_root, value_of};
 ghost use Rattle.laws.specs.Squares.{WholeRoot};
-ghost use Rattle.root.specs.Answer.{root_meaning};
 ghost use Rattle.root.specs.Scaled.{ScaledBy};
 ghost use Rattle.root.specs.Start.{Start};
 ghost use Rattle.root.specs.Newton.{Close};
-
-pub mod answer;
-
-use answer::Root;
 
 // In a bit pattern: what the exponent's field counts, 2^52; the sign, 2^63; and the infinity, from which on no pattern has a root.
 const FIELD: u64 = 0x0010_0000_0000_0000;
@@ -112,7 +107,7 @@ fn whole_root(n: u64) -> u64
 // The bits of the root of a double above zero. Its significand is half the whole root, rounded up: an odd whole root lies below √, never on it.
 fn root_bits(bits: u64) -> u64
     requires { (0 < bits) × (bits < 2047 * 2 ^ 52) }
-    ensures { (square_root (of_bits binary64 bits) ≡ some (of_bits binary64 result)) × (result < 2047 * 2 ^ 52) }
+    ensures { (square_root (of_bits binary64 bits) ≡ Some (of_bits binary64 result)) × (result < 2047 * 2 ^ 52) }
 {
     let s = scale(bits);
     let r = whole_root(s.q * (1 + s.w % 2));
@@ -120,30 +115,27 @@ fn root_bits(bits: u64) -> u64
 }
 
 // The square root [3.2].
-pub fn root(x: f64) -> Root
-    ensures { root_meaning result ≡ square_root x }
+pub fn root(x: f64) -> Option<f64>
+    ensures { result ≡ square_root x }
 {
     if x != x {
-        return Root::Refused;
+        return None;
     }
     let bits = f64::to_bits(x);
     if bits % SIGN == 0 {
-        return Root::Value(x);
+        return Some(x);
     }
     if INFINITY <= bits {
-        return Root::Refused;
+        return None;
     }
-    Root::Value(f64::from_bits(root_bits(bits)))
+    Some(f64::from_bits(root_bits(bits)))
 }
 
 // The same for callers with no place for a refusal: the value, or a NaN where there is none. The crate `root_c` exports it to C.
 pub fn root_or_nan(x: f64) -> f64
     ensures { result ≡ value_of (square_root x) }
 {
-    match root(x) {
-        Root::Value(r) => r,
-        Root::Refused => 0.0 / 0.0,
-    }
+    root(x).unwrap_or(0.0 / 0.0)
 }
 
 // Whether the root lies below a tolerance. Mostly the square alone tells, and no root is worked out: the root of what exceeds a tolerance of at most 1 does not lie below it,
@@ -151,17 +143,11 @@ pub fn root_or_nan(x: f64) -> f64
 pub fn root_below(x: f64, tolerance: f64) -> bool
     ensures { result ≡ lt (value_of (square_root x)) tolerance }
 {
-    if tolerance <= 1.0 {
-        if tolerance < x {
-            return false;
-        }
+    if tolerance <= 1.0 && tolerance < x {
+        return false;
     }
-    if LEAST <= tolerance {
-        if 0.0 <= x {
-            if x < TINY {
-                return true;
-            }
-        }
+    if LEAST <= tolerance && 0.0 <= x && x < TINY {
+        return true;
     }
     root_or_nan(x) < tolerance
 }

@@ -2,7 +2,7 @@
 use Rattle.std.specs.Prelude.{◌≡◌, ◌⊎◌, Bool, true, false, cond, ℕ, ◌≤◌, ◌<◌, T}
 use Rattle.std.proofs.Math.Path.{refl, subst}
 use Rattle.std.proofs.Common.{sym, ap, ◌∙◌, inl, inr, length-append}
-use Rattle.std.proofs.Math.Option.{Option, some, none}
+use Rattle.std.specs.Prelude.{Option, Some, None}
 use mathlib.Core.List.{List, [], ◌∷◌, ◌++◌, map, Memᴰ}
 use native.Mathlib.Omega.{arith}
 use Rattle.std.proofs.Math.Dec.{compare_is_eq}
@@ -47,22 +47,22 @@ identity_moves n rank f s =
 
 -- ---- what is held
 
-held_number : (ridge : Figure) (hs : List Held) (number : ℕ) → held_by ridge hs ≡ some number → (h : Held) × Mem h hs × (number ≡ h.orbit)
+held_number : (ridge : Figure) (hs : List Held) (number : ℕ) → held_by ridge hs ≡ Some number → (h : Held) × Mem h hs × (number ≡ h.orbit)
 unfolding held_by
 held_number ridge [] number e = absurd (none_is_not_some number e)
 held_number ridge (h ∷ hs) number e = go (compare_is_eq (compare_figures ridge h.ridge)) e (held_number ridge hs number)
   where
-    go : (b : Bool) → cond b (some h.orbit) (held_by ridge hs) ≡ some number → (held_by ridge hs ≡ some number → (k : Held) × Mem k hs × (number ≡ k.orbit)) → (k : Held) × Mem k (h ∷ hs) × (number ≡ k.orbit)
+    go : (b : Bool) → cond b (Some h.orbit) (held_by ridge hs) ≡ Some number → (held_by ridge hs ≡ Some number → (k : Held) × Mem k hs × (number ≡ k.orbit)) → (k : Held) × Mem k (h ∷ hs) × (number ≡ k.orbit)
     go true q ih = (h, here refl, sym (some_equal h.orbit number q))
     go false q ih = let r = ih q in (r.0, there r.1, r.2)
 
-not_held : (ridge : Figure) (hs : List Held) → held_by ridge hs ≡ none → Mem ridge (map (λ (h : Held). h.ridge) hs) → ⊥
+not_held : (ridge : Figure) (hs : List Held) → held_by ridge hs ≡ None → Mem ridge (map (λ (h : Held). h.ridge) hs) → ⊥
 unfolding held_by
 not_held ridge [] e m = elim m [ ]
 not_held ridge (h ∷ hs) e m = go (compare_is_eq (compare_figures ridge h.ridge)) refl e m (not_held ridge hs)
   where
-    go : (b : Bool) → compare_is_eq (compare_figures ridge h.ridge) ≡ b → cond b (some h.orbit) (held_by ridge hs) ≡ none → Mem ridge (h.ridge ∷ map (λ (k : Held). k.ridge) hs)
-        → (held_by ridge hs ≡ none → Mem ridge (map (λ (k : Held). k.ridge) hs) → ⊥) → ⊥
+    go : (b : Bool) → compare_is_eq (compare_figures ridge h.ridge) ≡ b → cond b (Some h.orbit) (held_by ridge hs) ≡ None → Mem ridge (h.ridge ∷ map (λ (k : Held). k.ridge) hs)
+        → (held_by ridge hs ≡ None → Mem ridge (map (λ (k : Held). k.ridge) hs) → ⊥) → ⊥
     go true q s m ih = none_is_not_some h.orbit (sym s)
     go false q s (Memᴰ.head r) ih = subst T q (equal_tested compare_figures figures ridge h.ridge r)
     go false q s (Memᴰ.tail i) ih = ih s i
@@ -74,7 +74,7 @@ module _ (n : ℕ) (rows : List Row) (identity : Mem (count_from 0 n) rows) wher
   abbrev Stays : Figure → Type 0
   Stays ridge = move_sorted (image (count_from 0 n)) ridge ≡ ridge
 
-  open_sound : (known : RidgeOrbits) (ridge : Figure) → Sound n rows identity known → Stays ridge → held_by ridge known.held ≡ none → Sound n rows identity (open_ridge_orbit rows known ridge)
+  open_sound : (known : RidgeOrbits) (ridge : Figure) → Sound n rows identity known → Stays ridge → held_by ridge known.held ≡ None → Sound n rows identity (open_ridge_orbit rows known ridge)
   unfolding open_ridge_orbit
   open_sound known ridge h stays new =
       let seen = map (λ (k : Held). k.ridge) known.held in
@@ -121,12 +121,12 @@ module _ (n : ℕ) (rows : List Row) (identity : Mem (count_from 0 n) rows) wher
       ridge = move_sorted (λ (v : ℕ). get_or vertices v 0) inner
 
       go : (o : Option ℕ) → held_by ridge known.held ≡ o → Step (λ k x. x < k) known (number_or_open rows known ridge o)
-      go (some number) e =
+      go (Some number) e =
           let r = held_number ridge known.held number e in
           let b = h.numbered r.0 r.1 in
           let q = r.2 in
           (h, omega arith, omega arith)
-      go none e = let l = length-append known.counts (length (joining_of ridge) ∷ []) in (open_sound known ridge h stays e, omega arith, omega arith)
+      go None e = let l = length-append known.counts (length (joining_of ridge) ∷ []) in (open_sound known ridge h stays e, omega arith, omega arith)
         where
           joining_of : Figure → List Figure
           joining_of r = fresh compare_figures (map (λ (k : Held). k.ridge) known.held) (map (λ (row : Row). move_sorted (image row) r) rows)

@@ -2,7 +2,7 @@
 use Rattle.std.specs.Prelude.{◌≡◌, ◌⊎◌, ℕ, zero, suc, ◌<◌}
 use Rattle.std.proofs.Common.{sym, ◌∙◌, inl, inr}
 use Rattle.std.proofs.Math.Path.{ap, subst}
-use Rattle.std.proofs.Math.Option.{none}
+use Rattle.std.specs.Prelude.{None}
 use mathlib.Core.List.{List, [], ◌∷◌, map, Memᴰ}
 use native.Mathlib.Omega.{arith}
 use Rattle.std.proofs.Math.ListN.{length, get_or, length-map}
@@ -76,7 +76,7 @@ module _ (i : Inner) (h : SplitAnswer i.answer) (f : Facet) (is-facet : f.1 < fa
       (parts_distinct lists i.answer.compounds h.compounds h.some_items f.1 (in_lists i h f is-facet) (h.distinct (get_or lists f.1 []) (member_at lists f.1 [] (in_lists i h f is-facet))))
 
   -- none of them is compound
-  pub split_in_done : (g : Facet) → Mem g (split_in i f) → components_of i.answer.compounds g.1 ≡ none
+  pub split_in_done : (g : Facet) → Mem g (split_in i f) → components_of i.answer.compounds g.1 ≡ None
   unfolding split_in
   split_in_done g m =
       let r = of_map (λ (part : ℕ). (f.0, part)) g parts m in
@@ -107,7 +107,7 @@ module _ (p : Prepared) (h : (i : Inner) → Mem i p.inner → SplitAnswer i.ans
   split_in_call l k g m = let r = of_flat_map parts_at g l m in (part_in_call r.0 (k r.0 r.1) g r.2).1
 
   -- and no compound: each facet's orbit has no components for it
-  pub split_final : (l : List Facet) → ((f : Facet) → Mem f l → InCall p f) → (g : Facet) → Mem g (split p l) → components_of (inner_at p.inner g.0).answer.compounds g.1 ≡ none
+  pub split_final : (l : List Facet) → ((f : Facet) → Mem f l → InCall p f) → (g : Facet) → Mem g (split p l) → components_of (inner_at p.inner g.0).answer.compounds g.1 ≡ None
   unfolding split
   split_final l k g m =
       let r = of_flat_map parts_at g l m in

@@ -2,7 +2,7 @@
 use Rattle.std.specs.Prelude.{◌≡◌, refl, ℕ, zero, suc, ◌-◌, ◌<◌, length}
 use Rattle.std.proofs.Math.Path.{sym, ap}
 use Rattle.std.proofs.Common.{◌∙◌, subst}
-use Rattle.std.proofs.Math.Option.{Option, some, none}
+use Rattle.std.specs.Prelude.{Option, Some, None}
 use mathlib.Core.List.{List, [], ◌∷◌, map}
 use Rattle.definitions.specs.Outcome.{answered}
 use Rattle.definitions.specs.Vectors.{Vec}
@@ -25,7 +25,7 @@ use Rattle.shapes.proofs.SplitCalls.{split_answer, split_in_call, split_final}
 use Rattle.shapes.specs.SplitEnded.{components_in, compounds_of}
 
 -- a facet that is not compound is its own one part, however many steps are made
-parts_alone : (compounds : List Compound) (steps a : ℕ) → components_of compounds a ≡ none → split_queue steps compounds (a ∷ []) ≡ a ∷ []
+parts_alone : (compounds : List Compound) (steps a : ℕ) → components_of compounds a ≡ None → split_queue steps compounds (a ∷ []) ≡ a ∷ []
 unfolding split_queue
 parts_alone compounds zero a e = refl
 parts_alone compounds (suc steps) a e = go (components_of compounds a) e
@@ -34,9 +34,9 @@ parts_alone compounds (suc steps) a e = go (components_of compounds a) e
     ends zero = refl
     ends (suc n) = refl
 
-    go : (o : Option (ℕ × ℕ)) → o ≡ none → elim o [ none ↦ a ∷ split_queue steps compounds [] | some parts ↦ split_queue steps compounds (parts.0 ∷ parts.1 ∷ []) ] ≡ a ∷ []
-    go none q = ap (λ (l : List ℕ). a ∷ l) (ends steps)
-    go (some parts) q = absurd (none_is_not_some parts (sym q))
+    go : (o : Option (ℕ × ℕ)) → o ≡ None → elim o [ None ↦ a ∷ split_queue steps compounds [] | Some parts ↦ split_queue steps compounds (parts.0 ∷ parts.1 ∷ []) ] ≡ a ∷ []
+    go None q = ap (λ (l : List ℕ). a ∷ l) (ends steps)
+    go (Some parts) q = absurd (none_is_not_some parts (sym q))
 
 module _ (more : ℕ) (rules : Rules) (plane : Subspace) (points : List Vec) (rows : List Row) (budget : ℕ) (p : Prepared)
     (is_before : prepare more rules (faceting more rules) plane points rows budget ≡ answered p) (found : Found) (is_found_holds : search_from rules p ≡ answered found) where
@@ -60,7 +60,7 @@ module _ (more : ℕ) (rules : Rules) (plane : Subspace) (points : List Vec) (ro
       (facet_orbit p.inner g (split_in_call p inner_split r.0 (found_facet rules p found is_found_holds r.0 r.1) g (subst (λ (l : List Facet). Mem g l) r.2 m))).0
 
   -- and none of them is compound
-  pub none_compound : (x : Entry) → Mem x (entries_of p found.lists) → (g : Facet) → Mem g x.list → components_in p g ≡ none
+  pub none_compound : (x : Entry) → Mem x (entries_of p found.lists) → (g : Facet) → Mem g x.list → components_in p g ≡ None
   unfolding components_in
   none_compound x i g m =
       let r = split_of x i in
@@ -77,13 +77,13 @@ module _ (more : ℕ) (rules : Rules) (plane : Subspace) (points : List Vec) (ro
       alone f m =
           let here_is = item_orbit x i f m in
           let own = inner_at p.inner f.0 in
-          let none_of : components_of (compounds_of own) f.1 ≡ none = sym (ap (λ (cs : List Compound). components_of cs f.1) (at_orbit_holds compounds_of p.inner f.0 here_is)) ∙ none_compound x i f m in
+          let none_of : components_of (compounds_of own) f.1 ≡ None = sym (ap (λ (cs : List Compound). components_of cs f.1) (at_orbit_holds compounds_of p.inner f.0 here_is)) ∙ none_compound x i f m in
           at_orbit_holds (λ (j : Inner). split_in j f) p.inner f.0 here_is ∙ ap (map (λ (part : ℕ). (f.0, part))) (parts_alone (compounds_of own) _ f.1 none_of)
 
 -- ---- of a job
 
 -- the entries that demand 3 speaks of name no compound facet
-pub job_none_compound : (job : Job) (entries : List Entry) (done : CallComplete job entries) → (x : Entry) → Mem x entries → (g : Facet) → Mem g x.list → components_in done.before g ≡ none
+pub job_none_compound : (job : Job) (entries : List Entry) (done : CallComplete job entries) → (x : Entry) → Mem x entries → (g : Facet) → Mem g x.list → components_in done.before g ≡ None
 unfolding prepared_of
 job_none_compound job entries done x i =
     none_compound (job.rank - 3) (rules_of bounds1 job) (plane_of job) job.points job.rows job.budget done.before done.is_before done.found done.is_found_holds x

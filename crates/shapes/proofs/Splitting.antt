@@ -2,7 +2,7 @@
 use Rattle.std.proofs.Math.Path.{◌≡◌, refl, ap, subst}
 use Rattle.std.proofs.Common.{◌∙◌, inl, inr}
 use Rattle.std.specs.Prelude.{◌⊎◌, get_or}
-use Rattle.std.proofs.Math.Option.{Option, some, none}
+use Rattle.std.specs.Prelude.{Option, Some, None}
 use mathlib.Core.List.Permᴰ
 use mathlib.Core.List.{List, [], ◌∷◌, ◌++◌, Memᴰ}
 use Prim.Native.Nat.{ℕ, zero, suc, ◌+◌, ◌*◌, ◌≤◌, ◌<◌}
@@ -34,7 +34,7 @@ module _ (lists : List (List Pair)) (cs : List Compound) (good : (c : Compound) 
   abbrev compound : ℕ → Pair → Compound
   compound a parts = record { whole = a; first = parts.0; second = parts.1 }
 
-  step_range : (queue : List ℕ) (a : ℕ) (parts : Pair) → components_of cs a ≡ some parts → InRange (a ∷ queue) → InRange (queue ++ (parts.0 ∷ parts.1 ∷ []))
+  step_range : (queue : List ℕ) (a : ℕ) (parts : Pair) → components_of cs a ≡ Some parts → InRange (a ∷ queue) → InRange (queue ++ (parts.0 ∷ parts.1 ∷ []))
   step_range queue a parts e h b m = go (in_append b queue (parts.0 ∷ parts.1 ∷ []) m)
     where
       go : Mem b queue ⊎ Mem b (parts.0 ∷ parts.1 ∷ []) → b < length lists
@@ -52,11 +52,11 @@ module _ (lists : List (List Pair)) (cs : List Compound) (good : (c : Compound) 
   split_range (suc steps) (a ∷ queue) h = go (components_of cs a) refl (split_range steps queue (λ b m. h b (there m))) (λ parts e. split_range steps (queue ++ (parts.0 ∷ parts.1 ∷ [])) (step_range queue a parts e h))
     where
       go : (o : Option Pair) → components_of cs a ≡ o → InRange (split_queue steps cs queue)
-          → ((parts : Pair) → components_of cs a ≡ some parts → InRange (split_queue steps cs (queue ++ (parts.0 ∷ parts.1 ∷ []))))
-          → InRange (elim o [ none ↦ a ∷ split_queue steps cs queue | some parts ↦ split_queue steps cs (queue ++ (parts.0 ∷ parts.1 ∷ [])) ])
-      go none e ih ih' b (Memᴰ.head q) = h b (here q)
-      go none e ih ih' b (Memᴰ.tail m) = ih b m
-      go (some parts) e ih ih' b m = ih' parts e b m
+          → ((parts : Pair) → components_of cs a ≡ Some parts → InRange (split_queue steps cs (queue ++ (parts.0 ∷ parts.1 ∷ []))))
+          → InRange (elim o [ None ↦ a ∷ split_queue steps cs queue | Some parts ↦ split_queue steps cs (queue ++ (parts.0 ∷ parts.1 ∷ [])) ])
+      go None e ih ih' b (Memᴰ.head q) = h b (here q)
+      go None e ih ih' b (Memᴰ.tail m) = ih b m
+      go (Some parts) e ih ih' b m = ih' parts e b m
 
   -- ---- how many steps there are
 
@@ -65,7 +65,7 @@ module _ (lists : List (List Pair)) (cs : List Compound) (good : (c : Compound) 
   work_append [] m = omega arith
   work_append (a ∷ l) m = let e = work_append l m in omega arith
 
-  step_work : (queue : List ℕ) (a : ℕ) (parts : Pair) → components_of cs a ≡ some parts → suc (work lists cs good some_items (queue ++ (parts.0 ∷ parts.1 ∷ []))) ≤ work lists cs good some_items (a ∷ queue)
+  step_work : (queue : List ℕ) (a : ℕ) (parts : Pair) → components_of cs a ≡ Some parts → suc (work lists cs good some_items (queue ++ (parts.0 ∷ parts.1 ∷ []))) ≤ work lists cs good some_items (a ∷ queue)
   unfolding work
   step_work queue a parts e =
       let s = parts_shorter lists (compound a parts) (step_composed lists cs good some_items a parts e) some_items in
@@ -80,7 +80,7 @@ module _ (lists : List (List Pair)) (cs : List Compound) (good : (c : Compound) 
   some_work a queue h = let s = some_size lists cs good some_items a (h a (here refl)) in omega arith
 
   -- enough steps leave no compound
-  pub split_done : (steps : ℕ) (queue : List ℕ) → InRange queue → work lists cs good some_items queue ≤ steps → (b : ℕ) → Mem b (split_queue steps cs queue) → components_of cs b ≡ none
+  pub split_done : (steps : ℕ) (queue : List ℕ) → InRange queue → work lists cs good some_items queue ≤ steps → (b : ℕ) → Mem b (split_queue steps cs queue) → components_of cs b ≡ None
   unfolding split_queue
   split_done zero [] h w b m = elim m [ ]
   split_done zero (a ∷ queue) h w b m = let s = some_work a queue h in absurd (omega arith)
@@ -89,12 +89,12 @@ module _ (lists : List (List Pair)) (cs : List Compound) (good : (c : Compound) 
       go (components_of cs a) refl m (λ i. split_done steps queue (λ c k. h c (there k)) (let s = some_work a queue h in omega arith) b i)
       (λ parts e i. split_done steps (queue ++ (parts.0 ∷ parts.1 ∷ [])) (step_range queue a parts e h) (let s = step_work queue a parts e in omega arith) b i)
     where
-      go : (o : Option Pair) → components_of cs a ≡ o → Mem b (elim o [ none ↦ a ∷ split_queue steps cs queue | some parts ↦ split_queue steps cs (queue ++ (parts.0 ∷ parts.1 ∷ [])) ])
-          → (Mem b (split_queue steps cs queue) → components_of cs b ≡ none)
-          → ((parts : Pair) → components_of cs a ≡ some parts → Mem b (split_queue steps cs (queue ++ (parts.0 ∷ parts.1 ∷ []))) → components_of cs b ≡ none) → components_of cs b ≡ none
-      go none e (Memᴰ.head q) ih ih' = ap (components_of cs) q ∙ e
-      go none e (Memᴰ.tail i) ih ih' = ih i
-      go (some parts) e i ih ih' = ih' parts e i
+      go : (o : Option Pair) → components_of cs a ≡ o → Mem b (elim o [ None ↦ a ∷ split_queue steps cs queue | Some parts ↦ split_queue steps cs (queue ++ (parts.0 ∷ parts.1 ∷ [])) ])
+          → (Mem b (split_queue steps cs queue) → components_of cs b ≡ None)
+          → ((parts : Pair) → components_of cs a ≡ Some parts → Mem b (split_queue steps cs (queue ++ (parts.0 ∷ parts.1 ∷ []))) → components_of cs b ≡ None) → components_of cs b ≡ None
+      go None e (Memᴰ.head q) ih ih' = ap (components_of cs) q ∙ e
+      go None e (Memᴰ.tail i) ih ih' = ih i
+      go (Some parts) e i ih ih' = ih' parts e i
 
   -- and more steps change nothing
   pub split_stable : (steps more : ℕ) (queue : List ℕ) → InRange queue → work lists cs good some_items queue ≤ steps → work lists cs good some_items queue ≤ more → split_queue steps cs queue ≡ split_queue more cs queue
@@ -110,11 +110,11 @@ module _ (lists : List (List Pair)) (cs : List Compound) (good : (c : Compound) 
       (λ parts e. let s = step_work queue a parts e in split_stable steps more (queue ++ (parts.0 ∷ parts.1 ∷ [])) (step_range queue a parts e h) (omega arith) (omega arith))
     where
       go : (o : Option Pair) → components_of cs a ≡ o → split_queue steps cs queue ≡ split_queue more cs queue
-          → ((parts : Pair) → components_of cs a ≡ some parts → split_queue steps cs (queue ++ (parts.0 ∷ parts.1 ∷ [])) ≡ split_queue more cs (queue ++ (parts.0 ∷ parts.1 ∷ [])))
-          → ◌≡◌ {A = List ℕ} (elim o [ none ↦ a ∷ split_queue steps cs queue | some parts ↦ split_queue steps cs (queue ++ (parts.0 ∷ parts.1 ∷ [])) ])
-          (elim o [ none ↦ a ∷ split_queue more cs queue | some parts ↦ split_queue more cs (queue ++ (parts.0 ∷ parts.1 ∷ [])) ])
-      go none e ih ih' = ap (λ (q : List ℕ). a ∷ q) ih
-      go (some parts) e ih ih' = ih' parts e
+          → ((parts : Pair) → components_of cs a ≡ Some parts → split_queue steps cs (queue ++ (parts.0 ∷ parts.1 ∷ [])) ≡ split_queue more cs (queue ++ (parts.0 ∷ parts.1 ∷ [])))
+          → ◌≡◌ {A = List ℕ} (elim o [ None ↦ a ∷ split_queue steps cs queue | Some parts ↦ split_queue steps cs (queue ++ (parts.0 ∷ parts.1 ∷ [])) ])
+          (elim o [ None ↦ a ∷ split_queue more cs queue | Some parts ↦ split_queue more cs (queue ++ (parts.0 ∷ parts.1 ∷ [])) ])
+      go None e ih ih' = ap (λ (q : List ℕ). a ∷ q) ih
+      go (Some parts) e ih ih' = ih' parts e
 
   -- ---- the parts of one facet
 
@@ -134,7 +134,7 @@ module _ (lists : List (List Pair)) (cs : List Compound) (good : (c : Compound) 
     unfolding parts_of
     parts_range = split_range (2 * size a) (a ∷ []) alone
 
-    pub parts_done : (b : ℕ) → Mem b parts → components_of cs b ≡ none
+    pub parts_done : (b : ℕ) → Mem b parts → components_of cs b ≡ None
     unfolding parts_of
     parts_done = split_done (2 * size a) (a ∷ []) alone enough
 

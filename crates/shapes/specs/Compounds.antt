@@ -2,7 +2,7 @@
 -- Leans on the definitions and laws.
 use Rattle.std.specs.Prelude.{◌≡◌, refl, Bool, true, false, cond, ℕ, suc, ◌+◌, ◌<◌, eqb, length, get_or}
 use Rattle.std.proofs.Common.{sym, ap, ◌∙◌, subst, arith, eqb→eq, length-append}
-use Rattle.std.proofs.Math.Option.{Option, some, none}
+use Rattle.std.specs.Prelude.{Option, Some, None}
 use mathlib.Core.List.{List, [], ◌∷◌, ◌++◌, map, Memᴰ, Permᴰ}
 use Rattle.std.proofs.lemmas.List.{length-map}
 use Rattle.definitions.specs.Lists.{Pair, compare_pair}
@@ -21,21 +21,21 @@ pub record Entered (a : ℕ) (labels : List (Option Pair)) (c : Compound) : Type
   pub place : ℕ
   pub below : place < length labels
   pub whole : c.whole ≡ a + place
-  pub is : get_or labels place none ≡ some (c.first, c.second)
+  pub is : get_or labels place None ≡ Some (c.first, c.second)
 
 pub entered : (a : ℕ) (labels : List (Option Pair)) (c : Compound) → Mem c (compounds_from a labels) → Entered a labels c
 unfolding compounds_from compound_at
 entered a [] c m = elim m [ ]
-entered a (none ∷ labels) c m = later (entered (suc a) labels c m)
+entered a (None ∷ labels) c m = later (entered (suc a) labels c m)
   where
-    later : Entered (suc a) labels c → Entered a (none ∷ labels) c
+    later : Entered (suc a) labels c → Entered a (None ∷ labels) c
     later r = let b = r.below in let w = r.whole in record { place = suc r.place; below = omega arith; whole = omega arith; is = r.is }
-entered a (some p ∷ labels) c (Memᴰ.head e) =
+entered a (Some p ∷ labels) c (Memᴰ.head e) =
     let w = ap (λ (d : Compound). d.whole) e in
-    record { place = 0; below = omega arith; whole = omega arith; is = λ t. some ((sym e t).first, (sym e t).second) }
-entered a (some p ∷ labels) c (Memᴰ.tail m) = later (entered (suc a) labels c m)
+    record { place = 0; below = omega arith; whole = omega arith; is = λ t. Some ((sym e t).first, (sym e t).second) }
+entered a (Some p ∷ labels) c (Memᴰ.tail m) = later (entered (suc a) labels c m)
   where
-    later : Entered (suc a) labels c → Entered a (some p ∷ labels) c
+    later : Entered (suc a) labels c → Entered a (Some p ∷ labels) c
     later r = let b = r.below in let w = r.whole in record { place = suc r.place; below = omega arith; whole = omega arith; is = r.is }
 
 -- ---- all compounds
@@ -56,7 +56,7 @@ composed lists c m =
     let n = length-map lists label in
     let k : q.place < length lists = omega (arith, q.below) in
     let items = get_or lists q.place [] in
-    let l = labelled compare_pair pairs items lists 0 (c.first, c.second) (sym (map_at_holds label lists q.place none [] k) ∙ q.is) in
+    let l = labelled compare_pair pairs items lists 0 (c.first, c.second) (sym (map_at_holds label lists q.place None [] k) ∙ q.is) in
     let w : q.place ≡ c.whole = omega (arith, q.whole) in
     let f : l.one ≡ c.first = let e = l.first_is in omega arith in
     let s : l.other ≡ c.second = let e = l.second_is in omega arith in
@@ -83,13 +83,13 @@ parts_shorter lists c h some_items =
     (omega arith, some_items (get_or lists c.first []) (member_at lists c.first [] (omega arith)), some_items (get_or lists c.second []) (member_at lists c.second [] (omega arith)))
 
 -- the components of an entry are those of a compound
-pub components_of_holds : (cs : List Compound) (a : ℕ) (parts : Pair) → components_of cs a ≡ some parts → Mem (record { whole = a; first = parts.0; second = parts.1 }) cs
+pub components_of_holds : (cs : List Compound) (a : ℕ) (parts : Pair) → components_of cs a ≡ Some parts → Mem (record { whole = a; first = parts.0; second = parts.1 }) cs
 unfolding components_of
 components_of_holds [] a parts e = absurd (none_is_not_some parts e)
 components_of_holds (c ∷ cs) a parts e = go (eqb a c.whole) refl e (components_of_holds cs a parts)
   where
-    go : (t : Bool) → eqb a c.whole ≡ t → cond t (some (c.first, c.second)) (components_of cs a) ≡ some parts
-        → (components_of cs a ≡ some parts → Mem (record { whole = a; first = parts.0; second = parts.1 }) cs) → Mem (record { whole = a; first = parts.0; second = parts.1 }) (c ∷ cs)
+    go : (t : Bool) → eqb a c.whole ≡ t → cond t (Some (c.first, c.second)) (components_of cs a) ≡ Some parts
+        → (components_of cs a ≡ Some parts → Mem (record { whole = a; first = parts.0; second = parts.1 }) cs) → Mem (record { whole = a; first = parts.0; second = parts.1 }) (c ∷ cs)
     go true q s ih =
         let w : a ≡ c.whole = eqb→eq a c.whole (true→holds q) in
         let p : (c.first, c.second) ≡ parts = some_equal (c.first, c.second) parts s in
@@ -105,5 +105,5 @@ compounds_ascend lists = go 0 (labels_of compare_pair lists)
   where
     go : (a : ℕ) (labels : List (Option Pair)) → Pairs (λ (c d : Compound). c.whole < d.whole) (compounds_from a labels)
     go a [] = tt
-    go a (none ∷ labels) = go (suc a) labels
-    go a (some p ∷ labels) = ((λ d j. let w = (entered (suc a) labels d j).whole in omega arith), go (suc a) labels)
+    go a (None ∷ labels) = go (suc a) labels
+    go a (Some p ∷ labels) = ((λ d j. let w = (entered (suc a) labels d j).whole in omega arith), go (suc a) labels)

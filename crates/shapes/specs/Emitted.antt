@@ -1,7 +1,7 @@
 -- What the lists that a call emits hold: facets that the call has, at most one from an orbit. And the call's entries, which are those lists split. Leans on Answered.
 use Rattle.std.specs.Prelude.{◌≡◌, refl, ℕ, zero, suc, ◌-◌, ◌≤◌, ◌<◌, max, ltb, length, get_or}
 use Rattle.std.proofs.Common.{ap, ◌∙◌, subst, arith, ltb→lt}
-use Rattle.std.proofs.Math.Option.{Option, some, none}
+use Rattle.std.specs.Prelude.{Option, Some, None}
 use mathlib.Core.List.{List, [], ◌∷◌, map, zip_with}
 use Rattle.std.proofs.Math.ListN.{length-map}
 use Rattle.definitions.specs.Lists.{map_with}
@@ -56,8 +56,8 @@ module _ (rules : Rules) (p : Prepared) (found : Found) (is_found_holds : search
   found_in_tree l m = go rules.entry_limit (subst (λ (s : List (List Facet)). Mem l s) (search_emits (table_for p) (entry_limits rules p.extended) p.left found is_found_holds) m)
     where
       go : (limit : Option ℕ) → Mem l (cut limit 0 (closed_lists p.extended (table_for p))) → Mem l (closed_lists p.extended (table_for p))
-      go none k = k
-      go (some many) k = in_take (max (many - 0) 1) l (closed_lists p.extended (table_for p)) k
+      go None k = k
+      go (Some many) k = in_take (max (many - 0) 1) l (closed_lists p.extended (table_for p)) k
 
   found_choice : (l : List Facet) → Mem l found.lists → ClosedChoice (table_for p) (choice_of l)
   found_choice l m = closed_choice_of (table_for p) (choice_of l) (emitted_order p.extended (table_for p) l (found_in_tree l m)).1

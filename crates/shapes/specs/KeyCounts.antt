@@ -3,7 +3,7 @@
 use Rattle.std.specs.Prelude.{◌≡◌, ◌⊎◌, get_or}
 use Rattle.std.proofs.Math.Path.{refl, ap, subst}
 use Rattle.std.proofs.Common.{sym, ◌∙◌, inl, inr}
-use Rattle.std.proofs.Math.Option.{Option, some, none}
+use Rattle.std.specs.Prelude.{Option, Some, None}
 use mathlib.Core.List.{List, [], ◌∷◌, ◌++◌, map, map-map, map-append}
 use Prim.Native.Nat.{ℕ, zero, suc, ◌≤◌, Ordering}
 use native.Mathlib.Omega.{arith}
@@ -49,7 +49,7 @@ module _ {K : Type 0} (c : K → K → Ordering) (order : Linear c) (send : (ℕ
   -- rows send such keys to such keys, and one of them leaves each as it is
   module _ (closed : (row : Row) → Mem row rows → (k : K) → Mem k all → Mem (send (image row) k) all) (identity : Row) (is_row : Mem identity rows)
       (stays : (k : K) → Mem k all → send (image identity) k ≡ k) where
-    open_good : (known : KnownKeys K) (k : K) → KeysGood known → Mem k all → key_held_by c send k known.held ≡ none → KeysGood (open_key_orbit c send rows known k)
+    open_good : (known : KnownKeys K) (k : K) → KeysGood known → Mem k all → key_held_by c send k known.held ≡ None → KeysGood (open_key_orbit c send rows known k)
     unfolding open_key_orbit
     open_good known k good is_key new =
         let seen = keys_in known in
@@ -89,8 +89,8 @@ module _ {K : Type 0} (c : K → K → Ordering) (order : Linear c) (send : (ℕ
     number_good known k good is_key = go (key_held_by c send k known.held) refl
       where
         go : (o : Option ℕ) → key_held_by c send k known.held ≡ o → KeysGood (number_or_open_key c send rows known k o).1
-        go (some number) e = good
-        go none e = open_good known k good is_key e
+        go (Some number) e = good
+        go None e = open_good known k good is_key e
 
 -- ---- the ridges of a call
 

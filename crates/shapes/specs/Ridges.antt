@@ -5,7 +5,7 @@ use Rattle.std.specs.Prelude.{◌≡◌, ◌⊎◌, Bool}
 use Rattle.std.proofs.Math.Path.{refl, sym, ap}
 use Rattle.std.proofs.Common.{◌∙◌, subst, inl, inr, arith}
 use Rattle.std.proofs.Math.Bool.{cond}
-use Rattle.std.proofs.Math.Option.{Option, some, none}
+use Rattle.std.specs.Prelude.{Option, Some, None}
 use mathlib.Core.List.{List, [], ◌∷◌, ◌++◌, map, zip_with, map-map, map-append}
 use Prim.Native.Nat.{ℕ, min, max, compare, Ordering}
 use Rattle.std.proofs.Math.Dec.{compare_is_eq}
@@ -35,8 +35,8 @@ no_keys K = record { held = []; counts = [] }
 -- a key compares by c, and a map of points sends it
 module _ {K : Type 0} (c : K → K → Ordering) (send : (ℕ → ℕ) → K → K) where
   unfoldable pub key_held_by : K → List (K × ℕ) → Option ℕ
-  key_held_by k [] = none
-  key_held_by k (h ∷ hs) = let later = key_held_by k hs in cond (compare_is_eq (c k h.0)) (some h.1) later
+  key_held_by k [] = None
+  key_held_by k (h ∷ hs) = let later = key_held_by k hs in cond (compare_is_eq (c k h.0)) (Some h.1) later
 
   unfoldable pub open_key_orbit : List Row → KnownKeys K → K → KnownKeys K
   open_key_orbit rows known k =
@@ -45,8 +45,8 @@ module _ {K : Type 0} (c : K → K → Ordering) (send : (ℕ → ℕ) → K →
       record { held = map (λ (x : K). (x, number)) joining ++ known.held; counts = known.counts ++ (length joining ∷ []) }
 
   unfoldable pub number_or_open_key : List Row → KnownKeys K → K → Option ℕ → ℕ × KnownKeys K
-  number_or_open_key rows known k (some number) = (number, known)
-  number_or_open_key rows known k none = (length known.counts, open_key_orbit rows known k)
+  number_or_open_key rows known k (Some number) = (number, known)
+  number_or_open_key rows known k None = (length known.counts, open_key_orbit rows known k)
 
   unfoldable pub number_key : List Row → List ℕ → KnownKeys K → K → ℕ × KnownKeys K
   number_key rows vertices known inner =
@@ -169,9 +169,9 @@ module _ {K L : Type 0} (c : K → K → Ordering) (send : (ℕ → ℕ) → K �
     unfolding key_held_by
     held_carried k is_key [] good = refl
     held_carried k is_key (h ∷ hs) good =
-        ap (λ (b : Bool). cond b (some h.1) (key_held_by d move (write k) (map carry_held hs)))
+        ap (λ (b : Bool). cond b (Some h.1) (key_held_by d move (write k) (map carry_held hs)))
         (same_equal_test c carried.order d carried.target write k h.0 (carried.apart n k h.0 is_key (good h (here refl))))
-        ∙ ap (λ (o : Option ℕ). cond (compare_is_eq (c k h.0)) (some h.1) o) (held_carried k is_key hs (λ x m. good x (there m)))
+        ∙ ap (λ (o : Option ℕ). cond (compare_is_eq (c k h.0)) (Some h.1) o) (held_carried k is_key hs (λ x m. good x (there m)))
 
     images_on : (k : K) → Key n k → (x : K) → Mem x (map (λ (row : Row). send (image row) k) rows) → Key n x
     images_on k is_key x m = let r = of_map (λ (row : Row). send (image row) k) x rows m in subst (Key n) (sym r.2) (carried.sent n n (image r.0) (rows_move r.0 r.1) k is_key)
@@ -226,8 +226,8 @@ module _ {K L : Type 0} (c : K → K → Ordering) (send : (ℕ → ℕ) → K �
     number_held known k good is_key = go (key_held_by c send k known.held)
       where
         go : (o : Option ℕ) → HeldOn (number_or_open_key c send rows known k o).1
-        go (some number) = good
-        go none = open_held known good k is_key
+        go (Some number) = good
+        go None = open_held known good k is_key
 
     pub number_carried : (known : KnownKeys K) (k : K) → HeldOn known → Key n k
         → number_or_open_key d move rows (carry_known known) (write k) (key_held_by d move (write k) (carry_known known).held)
@@ -237,8 +237,8 @@ module _ {K L : Type 0} (c : K → K → Ordering) (send : (ℕ → ℕ) → K �
         ap (number_or_open_key d move rows (carry_known known) (write k)) (held_carried k is_key known.held good) ∙ either (key_held_by c send k known.held)
       where
         either : (o : Option ℕ) → number_or_open_key d move rows (carry_known known) (write k) o ≡ ((number_or_open_key c send rows known k o).0, carry_known (number_or_open_key c send rows known k o).1)
-        either (some number) = refl
-        either none = ap (λ (r : KnownKeys L). (length known.counts, r)) (open_carried known good k is_key)
+        either (Some number) = refl
+        either None = ap (λ (r : KnownKeys L). (length known.counts, r)) (open_carried known good k is_key)
 
     -- and one in a set's positions
     key_held : (vertices : List ℕ) (known : KnownKeys K) (k : K) → HeldOn known → InSet vertices k → HeldOn (number_key c send rows vertices known k).1
@@ -281,7 +281,7 @@ held_ridges known = record { held = map held_ridge known.held; counts = known.co
 held_ridge_holds : (f : Figure) (hs : List (Figure × ℕ)) → held_by f (map held_ridge hs) ≡ key_held_by compare_figures move_sorted f hs
 unfolding held_by key_held_by
 held_ridge_holds f [] = refl
-held_ridge_holds f (h ∷ hs) = ap (λ (o : Option ℕ). cond (compare_is_eq (compare_figures f h.0)) (some h.1) o) (held_ridge_holds f hs)
+held_ridge_holds f (h ∷ hs) = ap (λ (o : Option ℕ). cond (compare_is_eq (compare_figures f h.0)) (Some h.1) o) (held_ridge_holds f hs)
 
 open_ridge : (rows : List Row) (known : KnownKeys Figure) (f : Figure) → open_ridge_orbit rows (held_ridges known) f ≡ held_ridges (open_key_orbit compare_figures move_sorted rows known f)
 unfolding open_ridge_orbit open_key_orbit held_ridges
@@ -305,8 +305,8 @@ ridge_key rows vertices known inner =
   where
     either : (o : Option ℕ) (f : Figure)
         → number_or_open rows (held_ridges known) f o ≡ ((number_or_open_key compare_figures move_sorted rows known f o).0, held_ridges (number_or_open_key compare_figures move_sorted rows known f o).1)
-    either (some number) f = refl
-    either none f = ap (λ (r : RidgeOrbits). (length known.counts, r)) (open_ridge rows known f)
+    either (Some number) f = refl
+    either None f = ap (λ (r : RidgeOrbits). (length known.counts, r)) (open_ridge rows known f)
 
 -- a call's ridges are numbered as figures that are keys
 pub ridges_are_keys : (rows : List Row) (inner : List Inner) → ridge_numbers rows inner ≡ key_numbers compare_figures move_sorted rows (λ (i : Inner). i.answer.possible) inner

@@ -3,7 +3,7 @@
 use Rattle.std.proofs.Math.Path.{◌≡◌, refl, ap, subst}
 use Rattle.std.proofs.Common.{sym, ◌∙◌}
 use Rattle.std.specs.Prelude.{get_or}
-use Rattle.std.proofs.Math.Option.{Option, some, none}
+use Rattle.std.specs.Prelude.{Option, Some, None}
 use mathlib.Core.List.Permᴰ
 use mathlib.Core.List.{List, [], ◌∷◌, ◌++◌, flat_map, append-nil, Memᴰ, Permᴰ}
 use Prim.Native.Nat.{ℕ, zero, suc, ◌+◌, ◌-◌, ◌*◌, ◌<◌}
@@ -48,12 +48,12 @@ module _ (lists : List (List Pair)) (cs : List Compound) (good : (c : Compound) 
   abbrev compound : ℕ → Pair → Compound
   compound a parts = record { whole = a; first = parts.0; second = parts.1 }
 
-  pub step_composed : (a : ℕ) (parts : Pair) → components_of cs a ≡ some parts → Composed lists (compound a parts)
+  pub step_composed : (a : ℕ) (parts : Pair) → components_of cs a ≡ Some parts → Composed lists (compound a parts)
   step_composed a parts e = good (compound a parts) (components_of_holds cs a parts e)
 
   -- ---- what is left in the queue has numbers of entries, and the same items
 
-  step_items : (queue : List ℕ) (a : ℕ) (parts : Pair) → components_of cs a ≡ some parts → Permᴰ (flat_map at (queue ++ (parts.0 ∷ parts.1 ∷ []))) (at a ++ flat_map at queue)
+  step_items : (queue : List ℕ) (a : ℕ) (parts : Pair) → components_of cs a ≡ Some parts → Permᴰ (flat_map at (queue ++ (parts.0 ∷ parts.1 ∷ []))) (at a ++ flat_map at queue)
   unfolding flat_map
   step_items queue a parts e =
       let both = at parts.0 ++ at parts.1 in
@@ -70,9 +70,9 @@ module _ (lists : List (List Pair)) (cs : List Compound) (good : (c : Compound) 
     where
       go : (o : Option Pair) → components_of cs a ≡ o → Permᴰ (flat_map at (split_queue steps cs queue)) (flat_map at queue)
           → ((parts : Pair) → Permᴰ (flat_map at (split_queue steps cs (queue ++ (parts.0 ∷ parts.1 ∷ [])))) (flat_map at (queue ++ (parts.0 ∷ parts.1 ∷ []))))
-          → Permᴰ (flat_map at (elim o [ none ↦ a ∷ split_queue steps cs queue | some parts ↦ split_queue steps cs (queue ++ (parts.0 ∷ parts.1 ∷ [])) ])) (at a ++ flat_map at queue)
-      go none e ih ih' = Permᴰ.append_left (at a) ih
-      go (some parts) e ih ih' = Permᴰ.trans (ih' parts) (step_items queue a parts e)
+          → Permᴰ (flat_map at (elim o [ None ↦ a ∷ split_queue steps cs queue | Some parts ↦ split_queue steps cs (queue ++ (parts.0 ∷ parts.1 ∷ [])) ])) (at a ++ flat_map at queue)
+      go None e ih ih' = Permᴰ.append_left (at a) ih
+      go (Some parts) e ih ih' = Permᴰ.trans (ih' parts) (step_items queue a parts e)
 
   -- ---- how many steps there are
 

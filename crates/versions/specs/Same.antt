@@ -3,7 +3,7 @@
 use Rattle.std.specs.Prelude.{◌≡◌, refl, Bool, true, false, cond, ◌&&◌, List, [], ◌∷◌, ◌++◌, map, ℕ, ◌+◌, ◌-◌, ◌*◌, ◌≤◌, T, leb, ltb, get_or, Float}
 use Rattle.std.proofs.Math.Path.{sym, ap}
 use Rattle.std.proofs.Common.{subst, ◌∙◌, true≢false, le-leb, eq-eqb, ne_eqb, drop-drop, drop-cons}
-use Rattle.std.proofs.Math.Option.{Option, some}
+use Rattle.std.specs.Prelude.{Option, Some}
 use native.Mathlib.Omega.{arith}
 use Rattle.std.proofs.Math.Dec.{eqb, eqb→eq}
 use Rattle.std.proofs.Math.ListN.{length, take, drop}
@@ -101,7 +101,7 @@ one_outcome old new version size h again bounds workspace room =
 
 present_same : {A : Type 0} (set : Bool) (x y : A) → (set ≡ true → x ≡ y) → present set x ≡ present set y
 unfolding present
-present_same true x y h = ap some (h refl)
+present_same true x y h = ap Some (h refl)
 present_same false x y h = refl
 
 both_more : (s a b : ℕ) → eqb (a + s) (b + s) ≡ eqb a b

@@ -4,23 +4,19 @@ use native.Mathlib.Omega.{arith}
 use lib.Dec.{T}
 use lib.Ieee.Compare.{differs_from_itself}
 use Rattle.definitions.specs.Vectors.{square_root}
-use Rattle.root.specs.Answer.{root_meaning}
 use Rattle.root.specs.Special.{of_nan, no_nan, no_nan_bits, is_zero, is_refused_holds, is_value}
 use Rattle.root.proofs.root.Goals as goal
 
 pub returns-then-x : goal.returns-then-x
-unfolding root_meaning
 returns-then-x c = sym (ap square_root (differs_from_itself c.args.x (subst T (sym c.if-x.true) tt)) ∙ of_nan)
 
 pub float_to_bits-bits : goal.float_to_bits-bits
 float_to_bits-bits c = no_nan c.args.x c.if-x.false
 
 pub returns-then-bits-eq0 : goal.returns-then-bits-eq0
-unfolding root_meaning
 returns-then-bits-eq0 c = is_zero c.args.x c.well_formed.0.1 c.if-bits-eq0.true
 
 pub returns-then-bits-ge-INFINITY : goal.returns-then-bits-ge-INFINITY
-unfolding root_meaning
 returns-then-bits-ge-INFINITY c = is_refused_holds c.args.x c.well_formed.0.1 c.if-bits-eq0.false (omega arith)
 
 pub root_bits-requires : goal.root_bits-requires
@@ -30,5 +26,4 @@ pub float_from_bits-result : goal.float_from_bits-result
 float_from_bits-result c = no_nan_bits c.root_bits.result c.root_bits.ensures.1
 
 pub returns : goal.returns
-unfolding root_meaning
 returns c = is_value c.args.x c.well_formed.0.1 c.root_bits.result c.root_bits.ensures.0

@@ -1,14 +1,16 @@
--- `root::root_or_nan` meets its contract: what `root` means, read off case by case. Assumes nothing.
-use mathlib.Core.Path.{ap, ◌∙◌}
+-- `root::root_or_nan` meets its contract: the value, or zero by zero, which is the NaN, where there is none. Assumes nothing.
+use mathlib.Core.Path.{◌≡◌, refl, ap, ◌∙◌}
+use Rattle.std.specs.Prelude.{Option, Some, None, Float}
+use Rattle.std.specs.Option.{unwrap_or}
 use Rattle.definitions.specs.Vectors.{value_of}
-use Rattle.root.specs.Answer.{root_meaning}
 use Rattle.root.specs.Special.{zero_by_zero}
+use lib.Ieee.{binary64, div, of_bits}
 use Rattle.root.proofs.root_or_nan.Goals as goal
 
-pub returns-in-Value : goal.returns-in-Value
-unfolding root_meaning value_of
-returns-in-Value c = ap value_of c.in-Value.ensures
+value_or_nan : (o : Option Float) → unwrap_or o (div binary64 (of_bits binary64 0) (of_bits binary64 0)) ≡ value_of o
+unfolding value_of
+value_or_nan None = zero_by_zero
+value_or_nan (Some x) = refl
 
-pub returns-in-Refused : goal.returns-in-Refused
-unfolding root_meaning value_of
-returns-in-Refused c = zero_by_zero ∙ ap value_of c.in-Refused.ensures
+pub returns : goal.returns
+returns c = c.unwrap_or.ensures ∙ (value_or_nan c.root.result ∙ ap value_of c.root.ensures)
