@@ -14,6 +14,7 @@ ghost use Rattle.filter.specs.Found.{Begun, Filters};
 ghost use Rattle.filter.specs.Noted.{Noted};
 
 use order::Area;
+use words::Word;
 
 // So many lists at most.
 const LISTS: usize = 1024;
@@ -29,14 +30,12 @@ fn shared_items(s: &[u8], area: Area, k: usize) -> usize
 {
     let m = order::length_at(s, area, k);
     let n = order::length_at(s, area, k + 1);
-    let mut i = 0;
-    while i < m {
+    for i in 0..m {
         if order::item_at(s, area, k, i) as u32 != labels::next_at(s, area, k + 1, n, i) {
             return i;
         }
-        i += 1;
     }
-    i
+    m
 }
 
 // For each list but the first what it has in common with the one before it, as u32 at its place.
@@ -45,11 +44,9 @@ fn note_shared(s: &[u8], area: Area, notes: &mut [u8])
     ensures { Noted (lists_of area s.now) area.count notes.new }
 {
     let lists = area.count;
-    let mut k = 1;
-    while k < lists {
+    for k in 1..lists {
         let items = shared_items(s, area, k - 1);
-        words::put_u32(notes, 4 * k, items as u32);
-        k += 1;
+        u32::put(notes, 4 * k, items as u32);
     }
 }
 
@@ -65,17 +62,15 @@ fn finds_other(s: &[u8], notes: &[u8], area: Area, a: usize, start: usize) -> bo
     let lists = area.count;
     let mut found = NO_WALK;
     for b in start..lists {
-        if found < words::get_u32(notes, 4 * b) as usize {
+        if found < u32::get(notes, 4 * b) as usize {
             continue;
         }
         if labels::starts_above(s, area, b, a) {
             return false;
         }
         found = labels::items_found(s, area, a, b);
-        if found == order::length_at(s, area, b) {
-            if a != b {
-                return true;
-            }
+        if found == order::length_at(s, area, b) && a != b {
+            return true;
         }
     }
     false
@@ -94,7 +89,7 @@ fn filter_noted(ws: &mut [u8], notes: &[u8], area: Area, at: usize) -> usize
     for a in 0..lists {
         start = labels::search_start(ws, area, a, start);
         if !finds_other(ws, notes, area, a, start) {
-            words::put_u32(ws, at + 4 * many, a as u32);
+            u32::put(ws, at + 4 * many, a as u32);
             many += 1;
         }
     }

@@ -3,7 +3,7 @@
 use Rattle.std.specs.Prelude.{◌≡◌, refl, Bool, false, cond, eqb, length, drop}
 use Rattle.std.proofs.Common.{sym, ap, ◌∙◌, arith, ne_eqb}
 use mathlib.Core.List.{List, [], ◌∷◌, ◌++◌, map, flat_map}
-use Rattle.std.proofs.Math.Option.{Option, some, none}
+use Rattle.std.specs.Prelude.{Option, Some, None}
 use Prim.Native.Nat.{ℕ, suc, ◌+◌, ◌*◌, ◌/◌, ◌%◌, ◌^◌, ◌≤◌, ◌<◌, compare}
 use Rattle.std.proofs.Math.Dec.{compare_is_eq}
 use Rattle.std.proofs.lemmas.List.{length-map}
@@ -19,8 +19,8 @@ use Rattle.words.specs.Runs.{run, words_sets}
 -- whether the walk of b through a passes over or leaves just these items
 unfoldable pub leaves : List ℕ → List ℕ → List ℕ → Bool
 leaves a b items = elim (walk compare a b) [
-  | none ↦ false
-  | some rest ↦ compare_is_eq (compare_nats rest items)
+  | None ↦ false
+  | Some rest ↦ compare_is_eq (compare_nats rest items)
 ]
 
 -- the place of the first list that does not begin below these items, the lists being those from place b on
@@ -29,11 +29,11 @@ search_from a [] b = b
 search_from a (l ∷ ls) b = let later = search_from a ls (suc b) in cond (first_above compare a l) later b
 
 unfoldable pub label_code : Option Pair → ℕ
-label_code none = 0
-label_code (some p) = p.0 + 65536 * p.1
+label_code None = 0
+label_code (Some p) = p.0 + 65536 * p.1
 
 unfoldable pub label_of : ℕ → Option Pair
-label_of n = cond (eqb (n / 65536) 0) none (some (n % 65536, n / 65536))
+label_of n = cond (eqb (n / 65536) 0) None (Some (n % 65536, n / 65536))
 
 unfoldable pub label_bytes : List (Option Pair) → List ℕ
 label_bytes = flat_map (λ (o : Option Pair). bytes_of 4 (label_code o))
@@ -44,10 +44,10 @@ labels_in at n s = map label_of (words 4 (drop at s) n)
 
 -- ---- what is written is read
 
-pub label_code_holds : (o : Option Pair) → ((p : Pair) → o ≡ some p → (p.0 < p.1) × (p.1 < 65536)) → (label_of (label_code o) ≡ o) × (label_code o < 4294967296)
+pub label_code_holds : (o : Option Pair) → ((p : Pair) → o ≡ Some p → (p.0 < p.1) × (p.1 < 65536)) → (label_of (label_code o) ≡ o) × (label_code o < 4294967296)
 unfolding label_of label_code
-label_code_holds none f = (refl, omega arith)
-label_code_holds (some p) f =
+label_code_holds None f = (refl, omega arith)
+label_code_holds (Some p) f =
     let r = f p refl in
     let l = r.0 in
     let u = r.1 in
@@ -65,7 +65,7 @@ codes_read [] f = refl
 codes_read (o ∷ os) f = rw (f o (here refl), codes_read os (λ q i. f q (there i))) refl
 
 -- c is behind b, and both are places of the lists
-pub label_range : (items : List ℕ) (ls : List (List ℕ)) (b : ℕ) (p : Pair) → label_from compare items ls b ≡ some p → (p.0 < p.1) × (p.1 < b + length ls)
+pub label_range : (items : List ℕ) (ls : List (List ℕ)) (b : ℕ) (p : Pair) → label_from compare items ls b ≡ Some p → (p.0 < p.1) × (p.1 < b + length ls)
 label_range items ls b p e =
     let l = labelled compare nats items ls b p e in
     (omega (arith, l.behind, l.first_is, l.second_is), omega (arith, l.below, l.second_is))
@@ -84,7 +84,7 @@ labels_read s at ls h few =
     labels_many : length (labels_of compare ls) ≡ length ls
     labels_many = length-map ls (λ (items : List ℕ). label_from compare items ls 0)
 
-    fits : (o : Option Pair) → Mem o (labels_of compare ls) → (p : Pair) → o ≡ some p → (p.0 < p.1) × (p.1 < 65536)
+    fits : (o : Option Pair) → Mem o (labels_of compare ls) → (p : Pair) → o ≡ Some p → (p.0 < p.1) × (p.1 < 65536)
     fits o i p e =
         let r = of_map (λ (items : List ℕ). label_from compare items ls 0) o ls i in
         let q = label_range r.0 ls 0 p (sym r.2 ∙ e) in

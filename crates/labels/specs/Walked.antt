@@ -2,7 +2,7 @@
 -- alike beyond the first item that is not found, it finds the same items (`found_alike`). Leans on the walk of the definitions. Assumes nothing.
 use Rattle.std.specs.Prelude.{◌≡◌, refl, Bool, true, false, List, [], ◌∷◌, eqb, length}
 use Rattle.std.proofs.Common.{sym, ap, ◌∙◌, subst, arith, eq-eqb, ne_eqb, eqb→eq}
-use Rattle.std.proofs.Math.Option.{Option, some, none}
+use Rattle.std.specs.Prelude.{Option, Some, None}
 use Prim.Native.Nat.{ℕ, suc, ◌≤◌, ◌<◌, compare, Ordering}
 use Rattle.definitions.specs.Figures.{cons_in, walk}
 use Rattle.definitions.specs.Plain.{is_found}
@@ -75,11 +75,11 @@ found_all (x ∷ a) [] = refl
 found_all (x ∷ a) (y ∷ b) = go (compare x y) (found_all a (y ∷ b)) (found_all a b)
   where
     passed : (o : Option (List ℕ)) → is_found (cons_in x o) ≡ is_found o
-    passed none = refl
-    passed (some rest) = refl
+    passed None = refl
+    passed (Some rest) = refl
 
     go : (o : Ordering) → is_found (walk compare a (y ∷ b)) ≡ eqb (items_found a (y ∷ b)) (suc (length b)) → is_found (walk compare a b) ≡ eqb (items_found a b) (length b)
-        → is_found {A = ℕ} (elim o [ Ordering.lt ↦ cons_in x (walk compare a (y ∷ b)) | Ordering.eq ↦ walk compare a b | Ordering.gt ↦ none ])
+        → is_found {A = ℕ} (elim o [ Ordering.lt ↦ cons_in x (walk compare a (y ∷ b)) | Ordering.eq ↦ walk compare a b | Ordering.gt ↦ None ])
         ≡ eqb (elim o [ Ordering.lt ↦ items_found a (y ∷ b) | Ordering.eq ↦ suc (items_found a b) | Ordering.gt ↦ 0 ]) (suc (length b))
     go Ordering.lt h k = passed (walk compare a (y ∷ b)) ∙ h
     go Ordering.eq h k = k ∙ next_alike (items_found a b) (length b)

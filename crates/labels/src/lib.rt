@@ -13,6 +13,7 @@ ghost use Rattle.labels.specs.Labels.{leaves, search_from, label_bytes};
 ghost use Rattle.labels.specs.Walked.{items_found};
 
 use order::Area;
+use words::Word;
 
 // The item at place i of the list at place k, which has n items; behind its last item a number above every item.
 pub fn next_at(s: &[u8], area: Area, k: usize, n: usize, i: usize) -> u32
@@ -42,7 +43,7 @@ pub fn starts_above(s: &[u8], area: Area, b: usize, a: usize) -> bool
 }
 
 // How many items of list b the walk through list a finds, one after another: all of them where it comes to the end of b [8.7]. `label_irc` has this walk inside its labelled loops, by the
-// same laws.
+// same laws. No `for`: the place in list a rises each turn, but the walk ends with list b.
 pub fn items_found(s: &[u8], area: Area, a: usize, b: usize) -> usize
     requires { Holding area s.now × (a < area.count) × (b < area.count) }
     ensures { result ≡ items_found (list_of area s.now a) (list_of area s.now b) }
@@ -72,15 +73,12 @@ pub fn search_start(s: &[u8], area: Area, a: usize, from: usize) -> usize
     requires { Holding area s.now × (a < area.count) × (from ≤ area.count) }
     ensures { result ≡ search_from (list_of area s.now a) (drop from (lists_of area s.now)) from }
 {
-    let lists = area.count;
-    let mut b = from;
-    while b < lists {
+    for b in from..area.count {
         if !starts_above(s, area, a, b) {
             return b;
         }
-        b += 1;
     }
-    b
+    area.count
 }
 
 // Whether the list at place c is what the walk of list b through list a passes over or leaves.
@@ -94,9 +92,8 @@ fn is_left(s: &[u8], area: Area, a: usize, b: usize, c: usize) -> bool
     if n + l != m {
         return false;
     }
-    let mut i = 0;
     let mut j = 0;
-    while i < m {
+    for i in 0..m {
         let x = order::item_at(s, area, a, i) as u32;
         let y = next_at(s, area, b, n, j);
         if y < x {
@@ -109,7 +106,6 @@ fn is_left(s: &[u8], area: Area, a: usize, b: usize, c: usize) -> bool
         } else {
             j += 1;
         }
-        i += 1;
     }
     true
 }
@@ -125,7 +121,7 @@ pub fn label_irc(ws: &mut [u8], area: Area, at: usize)
     let lists = area.count;
     let mut start = 0;
     'a: for a in 0..lists {
-        words::put_u32(ws, at + 4 * a, 0);
+        u32::put(ws, at + 4 * a, 0);
         let m = order::length_at(ws, area, a);
         start = search_start(ws, area, a, start);
         'subset: for b in start..lists {
@@ -151,7 +147,7 @@ pub fn label_irc(ws: &mut [u8], area: Area, at: usize)
             }
             for c in b + 1..lists {
                 if is_left(ws, area, a, b, c) {
-                    words::put_u32(ws, at + 4 * a, b as u32 + 65536 * c as u32);
+                    u32::put(ws, at + 4 * a, b as u32 + 65536 * c as u32);
                     continue 'a;
                 }
             }

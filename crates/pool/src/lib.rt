@@ -7,33 +7,26 @@ ghost use Rattle.std.specs.Prelude.{◌≡◌, ◌+◌, ◌*◌, ◌≤◌, ◌<
 ghost use Rattle.definitions.specs.Job.{number_at};
 ghost use Rattle.pool.specs.Pool.{count, used, start, base, emptied, pushed, ended, length_at, place_at};
 
+use words::Word;
+
 // No list, and an empty one open.
 pub fn clear(s: &mut [u8])
     requires { 12 ≤ length s.old }
     ensures { s.new ≡ emptied s.old }
 {
-    words::put_u32(s, 0, 0);
-    words::put_u32(s, 4, 0);
-    words::put_u32(s, 8, 0);
+    u32::put(s, 0, 0);
+    u32::put(s, 4, 0);
+    u32::put(s, 8, 0);
 }
 
 // One item more in the open list.
-pub fn push_u16(s: &mut [u8], most: usize, v: u16)
-    requires { (base most + 2 * (used s.old + 1) ≤ length s.old) × (used s.old + 1 < 4294967296) }
-    ensures { s.new ≡ pushed 2 most s.old v }
+pub fn push<T: Word>(s: &mut [u8], most: usize, v: T)
+    requires { (base most + T.BYTES * (used s.old + 1) ≤ length s.old) × (used s.old + 1 < 4294967296) }
+    ensures { s.new ≡ pushed T.BYTES most s.old (T.number v) }
 {
-    let used = words::get_u32(s, 4);
-    words::put_u16(s, 12 + 4 * most + 2 * used as usize, v);
-    words::put_u32(s, 4, used + 1);
-}
-
-pub fn push_u32(s: &mut [u8], most: usize, v: u32)
-    requires { (base most + 4 * (used s.old + 1) ≤ length s.old) × (used s.old + 1 < 4294967296) }
-    ensures { s.new ≡ pushed 4 most s.old v }
-{
-    let used = words::get_u32(s, 4);
-    words::put_u32(s, 12 + 4 * most + 4 * used as usize, v);
-    words::put_u32(s, 4, used + 1);
+    let used = u32::get(s, 4);
+    T::put(s, 12 + 4 * most + T::BYTES * used as usize, v);
+    u32::put(s, 4, used + 1);
 }
 
 // The open list is closed, and an empty one is open behind it.
@@ -41,10 +34,10 @@ pub fn end_list(s: &mut [u8])
     requires { (16 + 4 * count s.old ≤ length s.old) × (count s.old + 1 < 4294967296) }
     ensures { s.new ≡ ended s.old }
 {
-    let n = words::get_u32(s, 0);
-    let used = words::get_u32(s, 4);
-    words::put_u32(s, 12 + 4 * n as usize, used);
-    words::put_u32(s, 0, n + 1);
+    let n = u32::get(s, 0);
+    let used = u32::get(s, 4);
+    u32::put(s, 12 + 4 * n as usize, used);
+    u32::put(s, 0, n + 1);
 }
 
 // How many lists are closed.
@@ -52,7 +45,7 @@ pub fn lists(s: &[u8]) -> u32
     requires { 4 ≤ length s.now }
     ensures { result ≡ count s.now }
 {
-    words::get_u32(s, 0)
+    u32::get(s, 0)
 }
 
 // The length of list k.
@@ -60,8 +53,8 @@ pub fn list_length(s: &[u8], k: usize) -> u32
     requires { 16 + 4 * k ≤ length s.now }
     ensures { result ≡ length_at s.now k }
 {
-    let a = words::get_u32(s, 8 + 4 * k);
-    let b = words::get_u32(s, 12 + 4 * k);
+    let a = u32::get(s, 8 + 4 * k);
+    let b = u32::get(s, 12 + 4 * k);
     if b < a {
         return 0;
     }
@@ -69,18 +62,10 @@ pub fn list_length(s: &[u8], k: usize) -> u32
 }
 
 // Item i of list k.
-pub fn item_u16(s: &[u8], most: usize, k: usize, i: usize) -> u16
-    requires { (12 + 4 * k ≤ length s.now) × (place_at 2 most s.now k i + 2 ≤ length s.now) }
-    ensures { result ≡ number_at s.now (place_at 2 most s.now k i) 2 }
+pub fn item<T: Word>(s: &[u8], most: usize, k: usize, i: usize) -> T
+    requires { (12 + 4 * k ≤ length s.now) × (place_at T.BYTES most s.now k i + T.BYTES ≤ length s.now) }
+    ensures { T.number result ≡ number_at s.now (place_at T.BYTES most s.now k i) T.BYTES }
 {
-    let a = words::get_u32(s, 8 + 4 * k) as usize;
-    words::get_u16(s, 12 + 4 * most + 2 * (a + i))
-}
-
-pub fn item_u32(s: &[u8], most: usize, k: usize, i: usize) -> u32
-    requires { (12 + 4 * k ≤ length s.now) × (place_at 4 most s.now k i + 4 ≤ length s.now) }
-    ensures { result ≡ number_at s.now (place_at 4 most s.now k i) 4 }
-{
-    let a = words::get_u32(s, 8 + 4 * k) as usize;
-    words::get_u32(s, 12 + 4 * most + 4 * (a + i))
+    let a = u32::get(s, 8 + 4 * k) as usize;
+    T::get(s, 12 + 4 * most + T::BYTES * (a + i))
 }

@@ -4,7 +4,7 @@ use Rattle.std.specs.Prelude.{◌≡◌, ◌⊎◌, get_or}
 use Rattle.std.proofs.Math.Path.{refl, sym}
 use Rattle.std.proofs.Common.{ap, ◌∙◌, subst, inl, inr}
 use mathlib.Core.List.{List, [], ◌∷◌, ◌++◌, map, flat_map, map-append, Memᴰ}
-use Rattle.std.proofs.Math.Option.{Option, some, none}
+use Rattle.std.specs.Prelude.{Option, Some, None}
 use Prim.Native.Nat.{ℕ, zero, suc, ◌<◌}
 use Rattle.definitions.specs.Lists.{Pair}
 use Rattle.definitions.specs.Figures.{Compound, components_of, split_queue}
@@ -16,8 +16,8 @@ use Rattle.splitting.specs.Splitting.{split_nats, split_list}
 
 -- a pair of numbers as a pair of facets of their orbit
 abbrev pub within : (ℕ → Pair) → Option Pair → Option Pair
-within to none = none
-within to (some p) = some ((to p.0).1, (to p.1).1)
+within to None = None
+within to (Some p) = Some ((to p.0).1, (to p.1).1)
 
 -- a number that names a facet of the orbit: `to` names the facet of each number below the bound
 abbrev pub Of : (ℕ → Pair) → ℕ → ℕ → ℕ → Type 0
@@ -25,8 +25,8 @@ Of to bound orbit a = (a < bound) × ((to a).0 ≡ orbit)
 
 -- Of every number of the orbit the table says what the orbit's compounds say, and components stay in the orbit.
 pub record Matches (to : ℕ → Pair) (bound : ℕ) (table : List (Option Pair)) (orbit : ℕ) (compounds : List Compound) : Type 0 where
-  pub same : (a : ℕ) → Of to bound orbit a → components_of compounds (to a).1 ≡ within to (get_or table a none)
-  pub stays : (a : ℕ) → Of to bound orbit a → (p : Pair) → get_or table a none ≡ some p → Of to bound orbit p.0 × Of to bound orbit p.1
+  pub same : (a : ℕ) → Of to bound orbit a → components_of compounds (to a).1 ≡ within to (get_or table a None)
+  pub stays : (a : ℕ) → Of to bound orbit a → (p : Pair) → get_or table a None ≡ Some p → Of to bound orbit p.0 × Of to bound orbit p.1
 
 module _ (to : ℕ → Pair) (bound : ℕ) (table : List (Option Pair)) (orbit : ℕ) (compounds : List Compound) (m : Matches to bound table orbit compounds) where
   abbrev All : List ℕ → Type 0
@@ -54,21 +54,21 @@ module _ (to : ℕ → Pair) (bound : ℕ) (table : List (Option Pair)) (orbit :
   queue_numbered zero q f = each q f
   queue_numbered (suc steps) [] f = refl
   queue_numbered (suc steps) (a ∷ q) f =
-      go (get_or table a none) refl (queue_numbered steps q (λ b i. f b (there i))) (λ r g. queue_numbered steps r g)
+      go (get_or table a None) refl (queue_numbered steps q (λ b i. f b (there i))) (λ r g. queue_numbered steps r g)
       ∙ sym (ap (λ (o : Option Pair). map (λ (part : ℕ). (orbit, part)) (step o)) (m.same a (f a (here refl))))
     where
       step : Option Pair → List ℕ
       step o = elim o [
-        | none ↦ number a ∷ split_queue steps compounds (map number q)
-        | some parts ↦ split_queue steps compounds (map number q ++ (parts.0 ∷ parts.1 ∷ []))
+        | None ↦ number a ∷ split_queue steps compounds (map number q)
+        | Some parts ↦ split_queue steps compounds (map number q ++ (parts.0 ∷ parts.1 ∷ []))
       ]
 
-      go : (o : Option Pair) → get_or table a none ≡ o → map to (split_nats steps table q) ≡ map (λ (part : ℕ). (orbit, part)) (split_queue steps compounds (map number q))
+      go : (o : Option Pair) → get_or table a None ≡ o → map to (split_nats steps table q) ≡ map (λ (part : ℕ). (orbit, part)) (split_queue steps compounds (map number q))
           → ((r : List ℕ) → All r → map to (split_nats steps table r) ≡ map (λ (part : ℕ). (orbit, part)) (split_queue steps compounds (map number r)))
-          → map to (elim o [ none ↦ a ∷ split_nats steps table q | some parts ↦ split_nats steps table (q ++ (parts.0 ∷ parts.1 ∷ [])) ])
+          → map to (elim o [ None ↦ a ∷ split_nats steps table q | Some parts ↦ split_nats steps table (q ++ (parts.0 ∷ parts.1 ∷ [])) ])
           ≡ map (λ (part : ℕ). (orbit, part)) (step (within to o))
-      go none e ih rec = rw (named a (f a (here refl)).1, ih) refl
-      go (some p) e ih rec =
+      go None e ih rec = rw (named a (f a (here refl)).1, ih) refl
+      go (Some p) e ih rec =
           let s = m.stays a (f a (here refl)) p e in
           rec (q ++ (p.0 ∷ p.1 ∷ [])) (two_more q p.0 p.1 (λ b i. f b (there i)) s.0 s.1)
           ∙ ap (λ (r : List ℕ). map (λ (part : ℕ). (orbit, part)) (split_queue steps compounds r)) (map-append number q (p.0 ∷ p.1 ∷ []))
@@ -86,12 +86,12 @@ lists_numbered to table steps parts (a ∷ l) f =
 
 -- ---- what is below a bound stays below it
 
-pub split_nats_below : (bound : ℕ) (table : List (Option Pair)) → ((a : ℕ) (p : Pair) → get_or table a none ≡ some p → (p.0 < bound) × (p.1 < bound))
+pub split_nats_below : (bound : ℕ) (table : List (Option Pair)) → ((a : ℕ) (p : Pair) → get_or table a None ≡ Some p → (p.0 < bound) × (p.1 < bound))
     → (steps : ℕ) (q : List ℕ) → ItemsBelow bound q → ItemsBelow bound (split_nats steps table q)
 unfolding split_nats
 split_nats_below bound table g zero q f = f
 split_nats_below bound table g (suc steps) [] f = f
-split_nats_below bound table g (suc steps) (a ∷ q) f = go (get_or table a none) refl (λ r h. split_nats_below bound table g steps r h)
+split_nats_below bound table g (suc steps) (a ∷ q) f = go (get_or table a None) refl (λ r h. split_nats_below bound table g steps r h)
   where
     later : ItemsBelow bound q
     later x i = f x (there i)
@@ -106,7 +106,7 @@ split_nats_below bound table g (suc steps) (a ∷ q) f = go (get_or table a none
     first_or r h x (Memᴰ.head e) = f x (here e)
     first_or r h x (Memᴰ.tail i) = h x i
 
-    go : (o : Option Pair) → get_or table a none ≡ o → ((r : List ℕ) → ItemsBelow bound r → ItemsBelow bound (split_nats steps table r))
-        → ItemsBelow bound (elim o [ none ↦ a ∷ split_nats steps table q | some parts ↦ split_nats steps table (q ++ (parts.0 ∷ parts.1 ∷ [])) ])
-    go none e rec = first_or (split_nats steps table q) (rec q later)
-    go (some p) e rec = rec (q ++ (p.0 ∷ p.1 ∷ [])) (λ x i. both p (g a p e) x (in_append x q (p.0 ∷ p.1 ∷ []) i))
+    go : (o : Option Pair) → get_or table a None ≡ o → ((r : List ℕ) → ItemsBelow bound r → ItemsBelow bound (split_nats steps table r))
+        → ItemsBelow bound (elim o [ None ↦ a ∷ split_nats steps table q | Some parts ↦ split_nats steps table (q ++ (parts.0 ∷ parts.1 ∷ [])) ])
+    go None e rec = first_or (split_nats steps table q) (rec q later)
+    go (Some p) e rec = rec (q ++ (p.0 ∷ p.1 ∷ [])) (λ x i. both p (g a p e) x (in_append x q (p.0 ∷ p.1 ∷ []) i))

@@ -4,7 +4,7 @@ use Rattle.std.specs.Prelude.{◌≡◌, ℕ, zero, suc, ◌+◌, ◌-◌, ◌*�
 use Rattle.std.proofs.Math.Path.{refl, sym, ap}
 use Rattle.std.proofs.Common.{◌∙◌, arith}
 use mathlib.Core.List.{List, [], ◌∷◌, ◌++◌, flat_map, append_assoc, append-nil}
-use Rattle.std.proofs.Math.Option.{Option, some, none}
+use Rattle.std.specs.Prelude.{Option, Some, None}
 use Rattle.std.proofs.Math.ListN.{length-append}
 use Rattle.definitions.specs.Lists.{Pair}
 use Rattle.laws.specs.Lists.{Mem, here, there}
@@ -16,9 +16,9 @@ use Rattle.labels.specs.Labels.{labels_in}
 unfoldable pub split_nats : ℕ → List (Option Pair) → List ℕ → List ℕ
 split_nats zero table queue = queue
 split_nats (suc steps) table [] = []
-split_nats (suc steps) table (a ∷ queue) = elim (get_or table a none) [
-  | none ↦ a ∷ split_nats steps table queue
-  | some parts ↦ split_nats steps table (queue ++ (parts.0 ∷ parts.1 ∷ []))
+split_nats (suc steps) table (a ∷ queue) = elim (get_or table a None) [
+  | None ↦ a ∷ split_nats steps table queue
+  | Some parts ↦ split_nats steps table (queue ++ (parts.0 ∷ parts.1 ∷ []))
 ]
 
 -- each facet of a list at its own place

@@ -4,11 +4,13 @@
 
 ghost use Rattle.std.specs.Prelude.{◌≡◌, ◌+◌, ◌*◌, ◌≤◌, ◌<◌, length, get_or, take};
 ghost use mathlib.Core.List.{[], ◌∷◌, ◌++◌, map, flat_map};
-ghost use Rattle.std.proofs.Math.Option.{none};
+ghost use Rattle.std.specs.Prelude.{None};
 ghost use Rattle.pool.specs.Pool.{count, base, closed_lists, emptied, ended};
 ghost use Rattle.order.specs.Areas.{list_at};
 ghost use Rattle.labels.specs.Labels.{label_of, labels_in};
 ghost use Rattle.splitting.specs.Splitting.{split_nats, push_all, fill_all, PoolRoom, PoolGrown, SplittingRoom, facet_labels, pool_of, rest_of, parts_in};
+
+use words::Word;
 
 // ---- splitting
 
@@ -26,22 +28,21 @@ pub struct Layout {
 // The number that stands for facet a's components: 0 for none, and for a facet that the table does not have.
 fn components(s: &[u8], facets: usize, a: usize) -> u32
     requires { 4 * facets ≤ length s.now }
-    ensures { label_of result ≡ get_or (labels_in 0 facets s.now) a none }
+    ensures { label_of result ≡ get_or (labels_in 0 facets s.now) a None }
 {
     if facets <= a {
         return 0;
     }
-    words::get_u32(s, 4 * a)
+    u32::get(s, 4 * a)
 }
 
-// The parts of one facet join the open list. Its queue holds the facet, and two more for each step.
+// The parts of one facet join the open list. Its queue holds the facet, and two more for each step. No `for`: the queue grows while it is gone through.
 fn split_facet(ws: &mut [u8], layout: Layout, facet: u16)
     requires { (4 * layout.facets ≤ layout.to) × (layout.to ≤ length ws.old) × (layout.steps < 512) × PoolRoom layout.most (rest_of layout ws.old) (length (split_nats layout.steps (facet_labels layout ws.old) (facet ∷ []))) }
     ensures ws_after { ws.new ≡ take layout.to ws.old ++ push_all layout.most (rest_of layout ws.old) (split_nats layout.steps (facet_labels layout ws.old) (facet ∷ [])) }
     ensures pool_grown { PoolGrown layout.most (rest_of layout ws.old) (rest_of layout ws.new) (length (split_nats layout.steps (facet_labels layout ws.old) (facet ∷ []))) 0 }
 {
-    let to = layout.to;
-    let mut queue: [u16; 1024] = [0; 1024];
+    let mut queue = [0u16; 1024];
     queue[0] = facet;
     let mut head = 0;
     let mut tail = 1;
@@ -55,7 +56,7 @@ fn split_facet(ws: &mut [u8], layout: Layout, facet: u16)
             parts = components(ws, layout.facets, a as usize);
         }
         if parts < 65536 {
-            pool::push_u16(&mut ws[to..], layout.most, a);
+            pool::push(&mut ws[layout.to..], layout.most, a);
         } else {
             queue[tail] = (parts % 65536) as u16;
             queue[tail + 1] = (parts / 65536) as u16;
@@ -70,16 +71,12 @@ fn split_list(ws: &mut [u8], layout: Layout, k: usize)
     ensures ws_after { ws.new ≡ take layout.to ws.old ++ ended (push_all layout.most (rest_of layout ws.old) (parts_in layout ws.old (list_at layout.most (pool_of layout ws.old) k))) }
     ensures pool_grown { PoolGrown layout.most (rest_of layout ws.old) (rest_of layout ws.new) (length (parts_in layout ws.old (list_at layout.most (pool_of layout ws.old) k))) 1 }
 {
-    let from = layout.from;
-    let to = layout.to;
-    let n = order::length_of(&ws[from..to], layout.most, k);
-    let mut i = 0;
-    while i < n {
-        let facet = order::item_of(&ws[from..to], layout.most, k, i);
+    let n = order::length_of(&ws[layout.from..layout.to], layout.most, k);
+    for i in 0..n {
+        let facet = order::item_of(&ws[layout.from..layout.to], layout.most, k, i);
         split_facet(ws, layout, facet);
-        i += 1;
     }
-    pool::end_list(&mut ws[to..]);
+    pool::end_list(&mut ws[layout.to..]);
 }
 
 // Every list split: the pool of split lists is emptied and takes them in order.
@@ -91,9 +88,7 @@ pub fn split_lists(ws: &mut [u8], layout: Layout)
     let to = layout.to;
     let lists = pool::lists(&ws[from..to]) as usize;
     pool::clear(&mut ws[to..]);
-    let mut k = 0;
-    while k < lists {
+    for k in 0..lists {
         split_list(ws, layout, k);
-        k += 1;
     }
 }

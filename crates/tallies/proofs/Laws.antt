@@ -2,7 +2,7 @@
 -- one orbit counted. Leans on Marks and Counts, on the sorted sets and on numbers in bytes.
 use mathlib.Core.Path.{◌≡◌, refl, sym, ap, subst, ◌∙◌}
 use mathlib.Core.List.{List, [], ◌∷◌, ◌++◌, map}
-use mathlib.Core.Option.{Option, some, none}
+use Rattle.std.specs.Prelude.{Option, Some, None}
 use Prim.Native.Nat.{ℕ, zero, suc, ◌+◌, ◌*◌, ◌-◌, ◌/◌, ◌%◌, ◌^◌, ◌≤◌, ◌<◌}
 use native.Mathlib.Nat.{pow-le-pow_right}
 use native.Mathlib.Omega.{arith}
@@ -25,53 +25,10 @@ use Rattle.sorted.specs.Merging.{New, Merged}
 use Rattle.openers.specs.Rows.{rows_in, row_at, image_at_holds}
 use Rattle.stabilizers.specs.Permutations.{Permutation}
 use Rattle.orbits.specs.Numbers.{image_numbers}
-use Rattle.tallies.specs.Marks.{mark_number, latest, marked_as, latest_is, none_before, last_marks, last_other, mark_more, marks_ascend, new_marks}
+use Rattle.tallies.specs.Marks.{mark_number, latest, latest_is, none_before, last_marks, last_other, mark_more, marks_ascend, new_marks}
 use Rattle.tallies.specs.Counts.{Counted, count_by, count_one, sum_by, most_weight, added_few, images_few, found_opened}
 use Rattle.tallies.specs.Meaning.{counted_in, TallyFits}
-use Rattle.tallies.specs.declared.Marked.TheVariants.{Unmarked, With}
-
--- ---- the place of the first number that is not below x, by halving
-
-pub record Narrowed (s : List ℕ) (n x low high : ℕ) : Type 0 where
-  pub order : low ≤ high
-  pub within : high ≤ n
-  pub left : (k : ℕ) → k < low → get_or (words 4 s n) k 0 < x
-  pub right : (k : ℕ) → high ≤ k → k < n → x ≤ get_or (words 4 s n) k 0
-
-pub narrowed_start : (s : List ℕ) (n x : ℕ) → Narrowed s n x 0 n
-narrowed_start s n x = record {
-  order = omega arith;
-  within = omega arith;
-  left = λ k h. absurd (omega arith);
-  right = λ k h g. absurd (omega arith);
-}
-
-module _ {s : List ℕ} {n x low high : ℕ} (r : Narrowed s n x low high) (a : Ascending (words 4 s n)) (m y : ℕ) (e : y ≡ number_at s (4 * m) 4) (within : m < high) where
-  at_middle : get_or (words 4 s n) m 0 ≡ y
-  at_middle = get_d_words 4 s n m (omega (arith, r.within)) ∙ sym e
-
-  pub narrowed_up : y < x → Narrowed s n x (m + 1) high
-  narrowed_up q = record {
-    order = omega arith;
-    within = r.within;
-    left = λ k h. omega (arith, at_middle, up_to (words 4 s n) k m a (omega arith) (omega (arith, r.within, words_length 4 s n)));
-    right = r.right;
-  }
-
-  pub narrowed_down : low ≤ m → x ≤ y → Narrowed s n x low m
-  narrowed_down l p = record {
-    order = l;
-    within = omega (arith, r.within);
-    left = r.left;
-    right = λ k h g. omega (arith, at_middle, up_to (words 4 s n) m k a h (omega (arith, words_length 4 s n)));
-  }
-
-pub narrowed_end : {s : List ℕ} {n x low high : ℕ} → Narrowed s n x low high → high ≤ low → low ≡ place_of (leb x) (words 4 s n)
-narrowed_end {s} {n} {x} {low} {high} r h =
-    let l = words_length 4 s n in
-    place_is (leb x) 0 (words 4 s n) low (omega (arith, r.order, r.within))
-    (λ i g. false→fails (lt-leb x (get_or (words 4 s n) i 0) (r.left i g)))
-    (λ g. le→leb x (get_or (words 4 s n) low 0) (r.right low h (omega arith)))
+use Rattle.std.specs.Prelude.{Some, None}
 
 -- ---- the latest mark
 
@@ -79,9 +36,8 @@ module _ (s : List ℕ) (known key end : ℕ) (a : Ascending (words 4 s known)) 
   pub end_within : end ≤ known
   end_within = omega (arith, place_le (leb (256 * (key + 1))) (words 4 s known), words_length 4 s known)
 
-  pub unmarked_none : end ≡ 0 → Unmarked ≡ marked_as (latest 256 (words 4 s known) key)
-  unfolding marked_as
-  unmarked_none z = ap marked_as (sym (none_before (words 4 s known) key a (sym e ∙ z)))
+  pub unmarked_none : end ≡ 0 → None ≡ latest 256 (words 4 s known) key
+  unmarked_none z = sym (none_before (words 4 s known) key a (sym e ∙ z))
 
   module _ (last : ℕ) (is_some : end ≡ 0 → ⊥) (is_last : last ≡ number_at s (4 * (end - 1)) 4) where
     some_before : 0 < place_of (leb (256 * (key + 1))) (words 4 s known)
@@ -97,24 +53,11 @@ module _ (s : List ℕ) (known key end : ℕ) (a : Ascending (words 4 s known)) 
         ∙ get_d_words 4 s known (end - 1) (omega (arith, end_within, some_before))
         ∙ sym is_last
 
-    pub marked_last : last / 256 ≡ key → With (last % 256) ≡ marked_as (latest 256 (words 4 s known) key)
-    unfolding marked_as
-    marked_last q = ap marked_as (sym (last_marks (words 4 s known) key a last some_before at_last q))
+    pub marked_last : last / 256 ≡ key → Some (last % 256) ≡ latest 256 (words 4 s known) key
+    marked_last q = sym (last_marks (words 4 s known) key a last some_before at_last q)
 
-    pub unmarked_other : (last / 256 ≡ key → ⊥) → Unmarked ≡ marked_as (latest 256 (words 4 s known) key)
-    unfolding marked_as
-    unmarked_other n = ap marked_as (sym (last_other (words 4 s known) key a last some_before at_last n))
-
--- what an answer tells
-pub marked_means : (o : Option ℕ) (k : ℕ) → With k ≡ marked_as o → o ≡ some k
-unfolding marked_as
-marked_means none k e = cc
-marked_means (some j) k e = cc
-
-pub unmarked_means : (o : Option ℕ) → Unmarked ≡ marked_as o → o ≡ none
-unfolding marked_as
-unmarked_means none e = refl
-unmarked_means (some j) e = cc
+    pub unmarked_other : (last / 256 ≡ key → ⊥) → None ≡ latest 256 (words 4 s known) key
+    unmarked_other n = sym (last_other (words 4 s known) key a last some_before at_last n)
 
 -- ---- marks gathered
 
@@ -186,7 +129,7 @@ module _ (known tally : ℕ) (marks images sums : List ℕ) (f : TallyFits known
   unfolding counted_in
   arrays_long = (omega (arith, f.ready.fits.long_images, tally_small), omega (arith, f.ready.fits.long_sums, tally_small))
 
-  pub found_fits : (key k weight : ℕ) → latest 256 (words 4 marks known) key ≡ some k → weight ≤ most_weight
+  pub found_fits : (key k weight : ℕ) → latest 256 (words 4 marks known) key ≡ Some k → weight ≤ most_weight
       → (k < length images) × (k < length sums) × (0 < get_or images k 0) × (get_or sums k 0 + weight ≤ 18446744073709551615)
   unfolding counted_in
   found_fits key k weight e light =
@@ -196,14 +139,14 @@ module _ (known tally : ℕ) (marks images sums : List ℕ) (f : TallyFits known
 
 -- ---- what a tally has added up to
 
-pub latest_small : (l : List ℕ) (key k : ℕ) → latest 256 l key ≡ some k → k < 256
+pub latest_small : (l : List ℕ) (key k : ℕ) → latest 256 l key ≡ Some k → k < 256
 latest_small l key k e = (latest_is 256 l key k e).below
 
-pub sum_found : (l sums : List ℕ) (key k : ℕ) → latest 256 l key ≡ some k → get_or sums k 0 ≡ sum_by (latest 256 l key) sums
+pub sum_found : (l sums : List ℕ) (key k : ℕ) → latest 256 l key ≡ Some k → get_or sums k 0 ≡ sum_by (latest 256 l key) sums
 unfolding sum_by
 sum_found l sums key k e = rw e refl
 
-pub sum_none : (l sums : List ℕ) (key : ℕ) → latest 256 l key ≡ none → 0 ≡ sum_by (latest 256 l key) sums
+pub sum_none : (l sums : List ℕ) (key : ℕ) → latest 256 l key ≡ None → 0 ≡ sum_by (latest 256 l key) sums
 unfolding sum_by
 sum_none l sums key e = rw e refl
 
@@ -234,7 +177,7 @@ module _ (g m key : ℕ) (full : List ℕ) (known tally : ℕ) (marks images sum
   })
 
   pub tally_opened : (weight : ℕ) (after : List ℕ) → Merged marks known (take k new) after
-      → counted_in (known + k) (tally + 1) after (set images tally k) (set sums tally (weight / k)) ≡ count_by none g (rows_in g m full) (counted_in known tally marks images sums) key weight
+      → counted_in (known + k) (tally + 1) after (set images tally k) (set sums tally (weight / k)) ≡ count_by None g (rows_in g m full) (counted_in known tally marks images sums) key weight
   unfolding counted_in count_by
   tally_opened weight after merged =
       let n : length (take k new) ≡ k = ap length held ∙ length-map (images_to g key full m) (mark_number tally) ∙ sym count in
@@ -249,12 +192,12 @@ module _ (g m key : ℕ) (full : List ℕ) (known tally : ℕ) (marks images sum
 -- ---- one orbit counted
 
 module _ (g key weight : ℕ) (rows : List Row) (known tally : ℕ) (marks images sums : List ℕ) where
-  pub count_opened : (c : Counted) → latest 256 (words 4 marks known) key ≡ none → c ≡ count_by none g rows (counted_in known tally marks images sums) key weight
+  pub count_opened : (c : Counted) → latest 256 (words 4 marks known) key ≡ None → c ≡ count_by None g rows (counted_in known tally marks images sums) key weight
       → c ≡ count_one g rows (counted_in known tally marks images sums) key weight
   unfolding count_one counted_in
   count_opened c e q = q ∙ ap (λ (o : Option ℕ). count_by o g rows (counted_in known tally marks images sums) key weight) (sym e)
 
-  pub count_added : (k : ℕ) (after : List ℕ) → latest 256 (words 4 marks known) key ≡ some k → after ≡ set sums k (get_or sums k 0 + weight / get_or images k 0)
+  pub count_added : (k : ℕ) (after : List ℕ) → latest 256 (words 4 marks known) key ≡ Some k → after ≡ set sums k (get_or sums k 0 + weight / get_or images k 0)
       → counted_in known tally marks images after ≡ count_one g rows (counted_in known tally marks images sums) key weight
   unfolding count_one counted_in count_by
   count_added k after e q = rw (e, q) refl

@@ -5,7 +5,7 @@ use Rattle.std.proofs.Math.Path.{refl, sym, ap, subst}
 use Rattle.std.proofs.Common.{◌∙◌, arith, eq-eqb, ne_eqb, get_or-set_same, get_or-set_other}
 use Rattle.std.proofs.Math.Bool.{cond}
 use mathlib.Core.List.{List, [], ◌∷◌, ◌++◌, map, append-nil}
-use Rattle.std.proofs.Math.Option.{Option, some, none}
+use Rattle.std.specs.Prelude.{Option, Some, None}
 use Prim.Native.Nat.{ℕ, zero, suc, ◌+◌, ◌*◌, ◌/◌, ◌≤◌, ◌<◌}
 use Rattle.std.proofs.Math.Decide.{ℕ_discrete}
 use Rattle.std.proofs.Math.ListN.{length, length-append, get_or-append}
@@ -72,12 +72,12 @@ keep_map {A} {B} P Q f (x ∷ l) h = rw (h x) (go (Q x) (keep_map P Q f l h))
 
 -- the latest mark, where some keys are marked anew
 mark_anew : (key : List ℕ) (number : ℕ) (keys : List (List ℕ)) (marks : List Mark)
-    → mark_of key (map (λ (k : List ℕ). record { key = k; tally = number }) keys ++ marks) ≡ cond (any_of (same_nats key) keys) (some number) (mark_of key marks)
+    → mark_of key (map (λ (k : List ℕ). record { key = k; tally = number }) keys ++ marks) ≡ cond (any_of (same_nats key) keys) (Some number) (mark_of key marks)
 unfolding mark_of any_of
 mark_anew key number [] marks = refl
 mark_anew key number (k ∷ keys) marks = go (same_nats key k) (mark_anew key number keys marks)
   where
-    go : (b : Bool) {earlier : Option ℕ} → earlier ≡ cond (any_of (same_nats key) keys) (some number) (mark_of key marks) → cond b (some number) earlier ≡ cond (b || any_of (same_nats key) keys) (some number) (mark_of key marks)
+    go : (b : Bool) {earlier : Option ℕ} → earlier ≡ cond (any_of (same_nats key) keys) (Some number) (mark_of key marks) → cond b (Some number) earlier ≡ cond (b || any_of (same_nats key) keys) (Some number) (mark_of key marks)
     go true e = refl
     go false e = e
 
@@ -150,7 +150,7 @@ module _ (p : Package) (permute : (row : Row) → Mem row p.rows → Permutes p.
     at_new : get_or (t.tallies ++ (opened ∷ [])) c.tallies no_tally ≡ opened
     at_new = get_or_at t.tallies opened [] no_tally c.tallies (sym a.number)
 
-    agrees_opened : Agrees p (count_by none p.size p.rows c (set_number key) weight) (open_tally p orbit t)
+    agrees_opened : Agrees p (count_by None p.size p.rows c (set_number key) weight) (open_tally p orbit t)
     unfolding count_by open_tally portion
     agrees_opened = record {
       number = ap suc a.number ∙ (let e = length-append t.tallies (opened ∷ []) in omega arith);
@@ -180,7 +180,7 @@ module _ (p : Package) (permute : (row : Row) → Mem row p.rows → Permutes p.
         sum_at_holds i h (no n) =
             get_or-set_other c.sums c.tallies i (weight / length (new key s)) 0 n ∙ a.sums i (omega arith) ∙ ap (λ (x : Tally). x.sum) (sym (at_old i (omega arith)))
 
-    agrees_added : (k : ℕ) → k < c.tallies → Agrees p (count_by (some k) p.size p.rows c (set_number key) weight) (add_to_tally p orbit k t)
+    agrees_added : (k : ℕ) → k < c.tallies → Agrees p (count_by (Some k) p.size p.rows c (set_number key) weight) (add_to_tally p orbit k t)
     unfolding count_by add_to_tally add_portion portion
     agrees_added k h = record {
       number = a.number ∙ sym (map_at_length add 0 t.tallies);
@@ -212,8 +212,8 @@ module _ (p : Package) (permute : (row : Row) → Mem row p.rows → Permutes p.
       where
         go : (o : Option ℕ) → latest 256 c.marks (set_number key) ≡ o → latest 256 c.marks (set_number key) ≡ mark_of key t.marks
             → Agrees p (count_by o p.size p.rows c (set_number key) weight) (tally_by (mark_of key t.marks) p orbit t)
-        go none e m = rw (← m) (rw e agrees_opened)
-        go (some k) e m = rw (← m) (rw e (agrees_added k (found_opened done c (set_number key) k f e).0))
+        go None e m = rw (← m) (rw e agrees_opened)
+        go (Some k) e m = rw (← m) (rw e (agrees_added k (found_opened done c (set_number key) k f e).0))
 
 -- ---- an orbit as it is stored
 
@@ -234,8 +234,8 @@ module _ (p : Package) (n : ℕ) where
       key = set_image (vertices_of n q.0) p.globals
 
       go : (o : Option ℕ) → latest 256 c.marks (set_number key) ≡ o → latest 256 c.marks (set_number key) ≡ mark_of key t.marks → sum_at (mark_of key t.marks) t.tallies ≡ sum_by o c.sums
-      go none e m = rw (← m) (rw e refl)
-      go (some k) e m = rw (← m) (rw e (sym (a.sums k (found_opened done c (set_number key) k f e).0)))
+      go None e m = rw (← m) (rw e refl)
+      go (Some k) e m = rw (← m) (rw e (sym (a.sums k (found_opened done c (set_number key) k f e).0)))
 
 -- ---- all orbits
 

@@ -5,7 +5,7 @@ use Rattle.std.proofs.Math.Path.{refl}
 use Rattle.std.proofs.Common.{ap, subst, ◌∙◌, div-le_self, arith, get_or-set_same, get_or-set_other}
 use Rattle.std.proofs.Math.Bool.{or-true}
 use mathlib.Core.List.{List, [], ◌∷◌, ◌++◌, map}
-use Rattle.std.proofs.Math.Option.{Option, some, none}
+use Rattle.std.specs.Prelude.{Option, Some, None}
 use Rattle.std.proofs.Math.Decide.{ℕ_discrete}
 use Rattle.std.proofs.Math.ListN.{length, get_or, length-set, length-map}
 use Rattle.std.proofs.lemmas.List.{length-replicate, get_or-replicate}
@@ -41,7 +41,7 @@ pub record Counted : Type 0 where
 
 -- what a key was marked with opens a tally or adds to one; `weight` is count × orbit size
 unfoldable pub count_by : Option ℕ → ℕ → List Row → Counted → ℕ → ℕ → Counted
-count_by none g rows c key weight =
+count_by None g rows c key weight =
     let new = added [] (image_numbers g key rows) in
     record {
       marks = union c.marks (map (mark_number c.tallies) new);
@@ -49,7 +49,7 @@ count_by none g rows c key weight =
       images = set c.images c.tallies (length new);
       sums = set c.sums c.tallies (weight / length new);
     }
-count_by (some k) g rows c key weight = record {
+count_by (Some k) g rows c key weight = record {
   marks = c.marks;
   tallies = c.tallies;
   images = c.images;
@@ -80,8 +80,8 @@ none_counted = record { marks = []; tallies = 0; images = replicate 256 0; sums 
 
 -- what the tally of a key has added up to
 unfoldable pub sum_by : Option ℕ → List ℕ → ℕ
-sum_by none sums = 0
-sum_by (some k) sums = get_or sums k 0
+sum_by None sums = 0
+sum_by (Some k) sums = get_or sums k 0
 
 -- the stored orbits whose key's tally is 2 or more
 unfoldable pub keeps_pair : ℕ → Row → List ℕ → List ℕ → Pair → Bool
@@ -172,7 +172,7 @@ module _ (done g : ℕ) (rows : List Row) (c : Counted) (key weight : ℕ) (f : 
       go (yes e) = let q = get_or-set_same c.sums k x 0 (omega (arith, f.long_sums)) in let r = ap (λ (j : ℕ). get_or (set c.sums k x) j 0) e in omega arith
       go (no n) = let q = get_or-set_other c.sums k i x 0 n in let r = f.small_sums i g in omega arith
 
-  opened_fits : CountFits (suc done) (count_by none g rows c key weight)
+  opened_fits : CountFits (suc done) (count_by None g rows c key weight)
   unfolding count_by
   opened_fits =
       let small : c.tallies < 256 = omega (arith, f.few_tallies) in
@@ -191,7 +191,7 @@ module _ (done g : ℕ) (rows : List Row) (c : Counted) (key weight : ℕ) (f : 
         long_sums = length-set c.sums c.tallies (weight / length new) ∙ f.long_sums;
       }
 
-  added_fits : (k : ℕ) → k < 256 → CountFits (suc done) (count_by (some k) g rows c key weight)
+  added_fits : (k : ℕ) → k < 256 → CountFits (suc done) (count_by (Some k) g rows c key weight)
   unfolding count_by
   added_fits k h =
       let x = get_or c.sums k 0 + weight / get_or c.images k 0 in
@@ -211,11 +211,11 @@ module _ (done g : ℕ) (rows : List Row) (c : Counted) (key weight : ℕ) (f : 
   one_fits = go (latest 256 c.marks key) refl
     where
       go : (o : Option ℕ) → latest 256 c.marks key ≡ o → CountFits (suc done) (count_by o g rows c key weight)
-      go none e = opened_fits
-      go (some k) e = added_fits k (latest_is 256 c.marks key k e).below
+      go None e = opened_fits
+      go (Some k) e = added_fits k (latest_is 256 c.marks key k e).below
 
 -- a tally that is found is one of those that were opened
-pub found_opened : (done : ℕ) (c : Counted) (key k : ℕ) → CountFits done c → latest 256 c.marks key ≡ some k → (k < c.tallies) × (k < 256)
+pub found_opened : (done : ℕ) (c : Counted) (key k : ℕ) → CountFits done c → latest 256 c.marks key ≡ Some k → (k < c.tallies) × (k < 256)
 found_opened done c key k f e =
     let r = latest_is 256 c.marks key k e in
     let h = r.below in

@@ -4,7 +4,7 @@ use Rattle.std.specs.Prelude.{◌≡◌, Bool, true, false, ◌||◌, List, [], 
 use Rattle.std.proofs.Math.Path.{refl}
 use Rattle.std.proofs.Common.{sym, ap, ◌∙◌, inl, inr, arith, lt-ltb, le-ltb, eq-eqb, ne_eqb, leb→le}
 use Rattle.std.proofs.Math.Bool.{cond}
-use Rattle.std.proofs.Math.Option.{Option, some, none}
+use Rattle.std.specs.Prelude.{Option, Some, None}
 use Prim.Native.Nat.{ℕ, zero, suc, ◌+◌, ◌*◌, ◌-◌, ◌/◌, ◌%◌, ◌≤◌, ◌<◌}
 use Rattle.std.proofs.Math.Decide.{ℕ_discrete}
 use Rattle.std.proofs.Math.Dec.{nleb→lt}
@@ -16,8 +16,6 @@ use Rattle.sorted.specs.Ascending.{Ascending, insert_new, union, Order, less, sa
 use Rattle.laws.specs.Merging.{place_le}
 use Rattle.sorted.specs.Found.{member_at, member_none}
 use Rattle.sorted.specs.Gathering.{added, added_more}
-use Rattle.tallies.specs.declared.Marked.{Marked}
-use Rattle.tallies.specs.declared.Marked.TheVariants.{Unmarked, With}
 
 -- the number of a mark
 unfoldable pub mark_number : ℕ → ℕ → ℕ
@@ -25,27 +23,23 @@ mark_number tally key = 256 * key + tally
 
 -- the largest tally below a bound with which a key is marked
 unfoldable pub latest : ℕ → List ℕ → ℕ → Option ℕ
-latest zero l key = none
-latest (suc k) l key = let earlier = latest k l key in cond (member_nat (256 * key + k) l) (some k) earlier
-
-unfoldable pub marked_as : Option ℕ → Marked
-marked_as none = Unmarked
-marked_as (some k) = With k
+latest zero l key = None
+latest (suc k) l key = let earlier = latest k l key in cond (member_nat (256 * key + k) l) (Some k) earlier
 
 -- ---- where the latest mark is
 
-pub latest_none : (n : ℕ) (l : List ℕ) (key : ℕ) → ((k : ℕ) → k < n → member_nat (256 * key + k) l ≡ false) → latest n l key ≡ none
+pub latest_none : (n : ℕ) (l : List ℕ) (key : ℕ) → ((k : ℕ) → k < n → member_nat (256 * key + k) l ≡ false) → latest n l key ≡ None
 unfolding latest
 latest_none zero l key h = refl
 latest_none (suc n) l key h = rw (h n (omega arith)) (latest_none n l key (λ k q. h k (omega arith)))
 
 pub latest_some : (n : ℕ) (l : List ℕ) (key k : ℕ) → k < n → member_nat (256 * key + k) l ≡ true
-    → ((j : ℕ) → k < j → j < n → member_nat (256 * key + j) l ≡ false) → latest n l key ≡ some k
+    → ((j : ℕ) → k < j → j < n → member_nat (256 * key + j) l ≡ false) → latest n l key ≡ Some k
 unfolding latest
 latest_some zero l key k h m f = absurd (omega arith)
 latest_some (suc n) l key k h m f = go (ℕ_discrete k n) (λ q. latest_some n l key k q m (λ j a b. f j a (omega arith)))
   where
-    go : Dec (k ≡ n) → (k < n → latest n l key ≡ some k) → cond (member_nat (256 * key + n) l) (some n) (latest n l key) ≡ some k
+    go : Dec (k ≡ n) → (k < n → latest n l key ≡ Some k) → cond (member_nat (256 * key + n) l) (Some n) (latest n l key) ≡ Some k
     go (yes e) ih = rw (← e) (rw m refl)
     go (no e) ih = rw (f n (omega arith) (omega arith)) (ih (omega arith))
 
@@ -54,12 +48,12 @@ pub record LatestIs (n : ℕ) (l : List ℕ) (key k : ℕ) : Type 0 where
   pub below : k < n
   pub there : member_nat (256 * key + k) l ≡ true
 
-pub latest_is : (n : ℕ) (l : List ℕ) (key k : ℕ) → latest n l key ≡ some k → LatestIs n l key k
+pub latest_is : (n : ℕ) (l : List ℕ) (key k : ℕ) → latest n l key ≡ Some k → LatestIs n l key k
 unfolding latest
 latest_is zero l key k e = let z : ◌≡◌ {A = ℕ} 0 1 = cc in absurd (omega arith)
 latest_is (suc n) l key k e = go (member_nat (256 * key + n) l) refl e (latest_is n l key k)
   where
-    go : (b : Bool) → member_nat (256 * key + n) l ≡ b → cond b (some n) (latest n l key) ≡ some k → (latest n l key ≡ some k → LatestIs n l key k) → LatestIs (suc n) l key k
+    go : (b : Bool) → member_nat (256 * key + n) l ≡ b → cond b (Some n) (latest n l key) ≡ Some k → (latest n l key ≡ Some k → LatestIs n l key k) → LatestIs (suc n) l key k
     go true m q ih = let z : n ≡ k = cc in record { below = omega arith; there = ap (λ (j : ℕ). member_nat (256 * key + j) l) (sym z) ∙ m }
     go false m q ih = let r = ih q in record { below = omega (arith, r.below); there = r.there }
 
@@ -90,7 +84,7 @@ module _ (l : List ℕ) (key : ℕ) (a : Ascending l) where
           go (inl h) = let q = from_end i h g in omega arith
           go (inr h) = let q = above i h in omega arith
 
-  pub none_before : end ≡ 0 → latest 256 l key ≡ none
+  pub none_before : end ≡ 0 → latest 256 l key ≡ None
   none_before e = latest_none 256 l key (λ k h. not_there (256 * key + k) (omega arith) (λ i g. absurd (omega arith)))
 
   module _ (last : ℕ) (some_before : 0 < end) (is_last : get_or l (end - 1) 0 ≡ last) where
@@ -100,14 +94,14 @@ module _ (l : List ℕ) (key : ℕ) (a : Ascending l) where
     last_below : last < 256 * (key + 1)
     last_below = let q = place_le (leb (256 * (key + 1))) l in let r = before_end (end - 1) (omega arith) (omega arith) in omega arith
 
-    pub last_marks : last / 256 ≡ key → latest 256 l key ≡ some (last % 256)
+    pub last_marks : last / 256 ≡ key → latest 256 l key ≡ Some (last % 256)
     last_marks e =
         let q = place_le (leb (256 * (key + 1))) l in
         let w : 256 * key + last % 256 ≡ last = omega arith in
         latest_some 256 l key (last % 256) (omega arith) (member_at (256 * key + last % 256) l (end - 1) (omega arith) (is_last ∙ sym w))
         (λ j b c. not_there (256 * key + j) (omega arith) (λ i h. let u = up_to_last i h in omega arith))
 
-    pub last_other : (last / 256 ≡ key → ⊥) → latest 256 l key ≡ none
+    pub last_other : (last / 256 ≡ key → ⊥) → latest 256 l key ≡ None
     last_other n =
         let b = last_below in
         let w : last < 256 * key = small in
@@ -213,19 +207,19 @@ module _ (tally : ℕ) (l keys : List ℕ) (small : tally < 256) (below : Tallie
   latest_under zero key h = refl
   latest_under (suc n) key h = rw (member_other key n (omega arith) (λ e. omega arith), latest_under n key (omega arith)) refl
 
-  latest_over : (n key : ℕ) → tally < n → n ≤ 256 → latest n with_new key ≡ cond (member_nat key keys) (some tally) (latest n l key)
+  latest_over : (n key : ℕ) → tally < n → n ≤ 256 → latest n with_new key ≡ cond (member_nat key keys) (Some tally) (latest n l key)
   unfolding latest
   latest_over zero key h g = absurd (omega arith)
   latest_over (suc n) key h g = go (ℕ_discrete n tally) (λ q. latest_over n key q (omega arith))
     where
-      go : Dec (n ≡ tally) → (tally < n → latest n with_new key ≡ cond (member_nat key keys) (some tally) (latest n l key)) → cond (member_nat (256 * key + n) with_new) (some n) (latest n with_new key) ≡ cond (member_nat key keys) (some tally) (cond (member_nat (256 * key + n) l) (some n) (latest n l key))
+      go : Dec (n ≡ tally) → (tally < n → latest n with_new key ≡ cond (member_nat key keys) (Some tally) (latest n l key)) → cond (member_nat (256 * key + n) with_new) (Some n) (latest n with_new key) ≡ cond (member_nat key keys) (Some tally) (cond (member_nat (256 * key + n) l) (Some n) (latest n l key))
       go (yes e) ih =
           rw (e, member_own key, not_yet key tally (omega arith) small, latest_under tally key (omega arith)) refl
       go (no e) ih =
           rw (member_other key n (omega arith) e, not_yet key n (omega arith) (omega arith)) (ih (omega arith))
 
   -- the new tally where the key is among the new ones, and else what it was
-  pub latest_new : (key : ℕ) → latest 256 with_new key ≡ cond (member_nat key keys) (some tally) (latest 256 l key)
+  pub latest_new : (key : ℕ) → latest 256 with_new key ≡ cond (member_nat key keys) (Some tally) (latest 256 l key)
   latest_new key = latest_over 256 key small (omega arith)
 
   pub tallies_new : TalliesBelow (suc tally) with_new

@@ -6,7 +6,7 @@
 #![tactic(auto)]
 
 ghost use Rattle.std.specs.Prelude.{◌≡◌, ◌∷◌, [], map, ℕ, ◌+◌, ◌*◌, ◌/◌, ◌≤◌, ◌<◌, leb, length, get_or, take, drop, set, replicate};
-ghost use Rattle.std.proofs.Math.Option.{none};
+ghost use Rattle.std.specs.Prelude.{None};
 ghost use Rattle.definitions.specs.Lists.{place_of};
 ghost use Rattle.definitions.specs.Job.{number_at};
 ghost use Rattle.definitions.specs.Orbits.{set_image};
@@ -19,52 +19,29 @@ ghost use Rattle.openers.specs.Rows.{rows_in, row_at};
 ghost use Rattle.stabilizers.specs.Permutations.{Permutations};
 ghost use Rattle.orbits.specs.Numbers.{image_numbers, orbit_of};
 ghost use Rattle.orbits.specs.Workspace.{orbits_in};
-ghost use Rattle.tallies.specs.Marks.{latest, mark_number, marked_as};
+ghost use Rattle.tallies.specs.Marks.{latest, mark_number};
 ghost use Rattle.tallies.specs.Counts.{count_by, count_one, count_all, sum_by, none_counted, pair_key, keep_pairs, most_weight};
 ghost use Rattle.tallies.specs.Meaning.{GlobalsFit, PackageFits, package_in, counted_in, TallyFits, WeightsFit};
 
 use sets::set_image;
+use words::Word;
 
 // ---- marks
 
-#[derive(Clone, Copy)]
-pub enum Marked {
-    Unmarked,
-    With(usize),
-}
-
-// The place of the first of n ascending numbers that is not below x.
-fn first_from(s: &[u8], n: usize, x: u32) -> usize
-    requires { (4 * n ≤ length s.now) × Ascending (words 4 s.now n) }
-    ensures { result ≡ place_of (leb x) (words 4 s.now n) }
-{
-    let mut low = 0;
-    let mut high = n;
-    while low < high {
-        let middle = low + (high - low) / 2;
-        if words::get_u32(s, 4 * middle) < x {
-            low = middle + 1;
-        } else {
-            high = middle;
-        }
-    }
-    low
-}
-
 // The tally of a key's latest mark: the last number below the next key's, if it is one of this key's.
-fn mark_of(s: &[u8], known: usize, key: u32) -> Marked
+fn mark_of(s: &[u8], known: usize, key: u32) -> Option<usize>
     requires { (4 * known ≤ length s.now) × Ascending (words 4 s.now known) × (key < 1048576) }
-    ensures { result ≡ marked_as (latest 256 (words 4 s.now known) key) }
+    ensures { result ≡ latest 256 (words 4 s.now known) key }
 {
-    let end = first_from(s, known, 256 * (key + 1));
+    let end = sorted::first_from(s, known, 256 * (key + 1));
     if end == 0 {
-        return Marked::Unmarked;
+        return None;
     }
-    let last = words::get_u32(s, 4 * (end - 1));
+    let last = u32::get(s, 4 * (end - 1));
     if last / 256 == key {
-        return Marked::With((last % 256) as usize);
+        return Some((last % 256) as usize);
     }
-    Marked::Unmarked
+    None
 }
 
 // The marks of all images of a key with a tally, ascending; returns how many different ones there are.
@@ -74,10 +51,8 @@ fn gather_marks(full: &[u8], m: usize, g: usize, key: u32, tally: u32, new: &mut
     ensures marks { take result new.new ≡ map (mark_number tally) (added [] (image_numbers g key (rows_in g m full.now))) }
 {
     let mut k = 0;
-    let mut i = 0;
-    while i < m {
+    for i in 0..m {
         k = sorted::insert(new, k, 256 * set_image(full, i, g, key) + tally);
-        i += 1;
     }
     k
 }
@@ -113,7 +88,7 @@ fn open_tally(
     sums: &mut [u64],
 ) -> usize
     requires { Permutations whole.size whole.rows full.now × (0 < whole.rows) × (whole.rows ≤ 120) × TallyFits known tally marks.old images.old sums.old }
-    ensures { counted_in result (tally + 1) marks.new images.new sums.new ≡ count_by none whole.size (rows_in whole.size whole.rows full.now) (counted_in known tally marks.old images.old sums.old) key weight }
+    ensures { counted_in result (tally + 1) marks.new images.new sums.new ≡ count_by None whole.size (rows_in whole.size whole.rows full.now) (counted_in known tally marks.old images.old sums.old) key weight }
 {
     let mut new = [0; 120];
     let k = gather_marks(full, whole.rows, whole.size, key, tally as u32, &mut new);
@@ -146,11 +121,11 @@ fn add_orbit(
     ensures { counted_in result.known result.tallies marks.new images.new sums.new ≡ count_one whole.size (rows_in whole.size whole.rows full.now) (counted_in state.known state.tallies marks.old images.old sums.old) key weight }
 {
     match mark_of(marks, state.known, key) {
-        Marked::With(k) => {
+        Some(k) => {
             add_portion(k, weight, images, sums);
             state
         }
-        Marked::Unmarked => {
+        None => {
             let known = open_tally(
                 full,
                 whole,
@@ -162,10 +137,8 @@ fn add_orbit(
                 images,
                 sums,
             );
-            Progress {
-                known: known,
-                tallies: state.tallies + 1,
-            }
+            let tallies = state.tallies + 1;
+            Progress { known, tallies }
         }
     }
 }
@@ -198,11 +171,10 @@ fn tally_orbits(
         known: 0,
         tallies: 0,
     };
-    let mut i = 0;
-    while i < orbits {
-        let key = key_of(globals, n, whole, words::get_u32(ws, 8 * i));
-        let weight = whole.count as u64 * words::get_u32(ws, 8 * i + 4) as u64;
-        let next = add_orbit(
+    for i in 0..orbits {
+        let key = key_of(globals, n, whole, u32::get(ws, 8 * i));
+        let weight = whole.count as u64 * u32::get(ws, 8 * i + 4) as u64;
+        state = add_orbit(
             full,
             whole,
             key,
@@ -212,8 +184,6 @@ fn tally_orbits(
             images,
             sums,
         );
-        state = next;
-        i += 1;
     }
     state
 }
@@ -226,8 +196,8 @@ fn sum_of(marks: &[u8], known: usize, key: u32, sums: &[u64]) -> u64
     ensures { result ≡ sum_by (latest 256 (words 4 marks.now known) key) sums.now }
 {
     match mark_of(marks, known, key) {
-        Marked::With(k) => sums[k],
-        Marked::Unmarked => 0,
+        Some(k) => sums[k],
+        None => 0,
     }
 }
 
@@ -237,10 +207,10 @@ fn move_orbit(ws: &mut [u8], from: usize, to: usize)
     ensures small { (number_at ws.old (8 * from) 4 < 4294967296) × (number_at ws.old (8 * from + 4) 4 < 4294967296) }
     ensures moved { ws.new ≡ put 4 (put 4 ws.old (8 * to) (number_at ws.old (8 * from) 4)) (8 * to + 4) (number_at ws.old (8 * from + 4) 4) }
 {
-    let set = words::get_u32(ws, 8 * from);
-    let size = words::get_u32(ws, 8 * from + 4);
-    words::put_u32(ws, 8 * to, set);
-    words::put_u32(ws, 8 * to + 4, size);
+    let set = u32::get(ws, 8 * from);
+    let size = u32::get(ws, 8 * from + 4);
+    u32::put(ws, 8 * to, set);
+    u32::put(ws, 8 * to + 4, size);
 }
 
 // The orbits whose key's tally is 2 or more, moved together; returns how many there are.
@@ -258,14 +228,12 @@ fn move_together(
     ensures kept { orbits_in ws.new result ≡ keep_pairs n (row_at n 0 globals.now) (words 4 (drop 2048 ws.old) known) sums.now (orbits_in ws.old orbits) }
 {
     let mut kept = 0;
-    let mut i = 0;
-    while i < orbits {
-        let key = key_of(globals, n, whole, words::get_u32(ws, 8 * i));
+    for i in 0..orbits {
+        let key = key_of(globals, n, whole, u32::get(ws, 8 * i));
         if 2 <= sum_of(&ws[2048..], known, key, sums) {
             move_orbit(ws, i, kept);
             kept += 1;
         }
-        i += 1;
     }
     kept
 }

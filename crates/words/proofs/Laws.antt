@@ -5,8 +5,9 @@ use mathlib.Core.List.{List}
 use Prim.Native.Nat.{ℕ, ◌+◌, ◌*◌, ◌/◌, ◌%◌, ◌^◌, ◌≤◌, ◌<◌}
 use native.Mathlib.Numerals.{add-one}
 use native.Mathlib.Omega.{arith}
-use borrow.Author.Tests.{lt-ltb, le-ltb}
+use borrow.Author.Tests.{lt-ltb, le-ltb, le-leb, lt-leb}
 use lib.Dec.{T}
+use Rattle.std.specs.Prelude.{Some, None}
 use lib.ListN.{length, get_or, set}
 use lib.Ieee.{Float, nan, inf, fin, binary64, of_bits, to_bits, ne, is_nan, nan_bits}
 use lib.Ieee.Compare.{differs_from_itself, nan_differs}
@@ -14,7 +15,7 @@ use lib.Ieee.Bits.{nan_bits_is, nan_bits_above}
 use Rattle.definitions.specs.Job.{number_at, float_at}
 use Rattle.words.specs.Words.{bytes_of, put, number_at_byte, number_at_add, put_add}
 use Rattle.words.specs.Floats.{read_of}
-use Rattle.words.specs.declared.Read.TheVariants.{Number, NotANumber}
+use Rattle.words.specs.Writer.{full, with_word, behind_word}
 
 -- two bytes, and two halves
 pub read_two : (s : List ℕ) (at : ℕ) → at + 2 ≤ length s → get_or s at 0 + get_or s (at + 1) 0 * 256 ≡ number_at s at 2
@@ -43,24 +44,24 @@ nan_pattern n h = nan_bits_above binary64 n ∙ lt-ltb 9218868437227405312 (n % 
 pub no_nan_pattern : (n : ℕ) → n % 9223372036854775808 ≤ 9218868437227405312 → nan_bits binary64 n ≡ false
 no_nan_pattern n h = nan_bits_above binary64 n ∙ le-ltb 9218868437227405312 (n % 9223372036854775808) h
 
-read_nan : (x : Float) → is_nan x ≡ true → NotANumber ≡ read_of x
+read_nan : (x : Float) → is_nan x ≡ true → None ≡ read_of x
 unfolding read_of is_nan
 read_nan nan h = refl
 read_nan (inf s) h = absurd (subst T (sym h) tt)
 read_nan (fin s m e) h = absurd (subst T (sym h) tt)
 
-read_number : (x : Float) → is_nan x ≡ false → Number x ≡ read_of x
+read_number : (x : Float) → is_nan x ≡ false → Some x ≡ read_of x
 unfolding read_of is_nan
 read_number nan h = absurd (subst T h tt)
 read_number (inf s) h = refl
 read_number (fin s m e) h = refl
 
-pub read_as_nan : (s : List ℕ) (at n : ℕ) → n ≡ number_at s at 8 → 9218868437227405312 < n % 9223372036854775808 → NotANumber ≡ read_of (float_at s at)
+pub read_as_nan : (s : List ℕ) (at n : ℕ) → n ≡ number_at s at 8 → 9218868437227405312 < n % 9223372036854775808 → None ≡ read_of (float_at s at)
 unfolding float_at
 read_as_nan s at n e h =
     read_nan (of_bits binary64 n) (sym (nan_bits_is binary64 n) ∙ nan_pattern n h) ∙ ap (λ (k : ℕ). read_of (of_bits binary64 k)) e
 
-pub read_as_number : (s : List ℕ) (at n : ℕ) → n ≡ number_at s at 8 → n % 9223372036854775808 ≤ 9218868437227405312 → Number (of_bits binary64 n) ≡ read_of (float_at s at)
+pub read_as_number : (s : List ℕ) (at n : ℕ) → n ≡ number_at s at 8 → n % 9223372036854775808 ≤ 9218868437227405312 → Some (of_bits binary64 n) ≡ read_of (float_at s at)
 unfolding float_at
 read_as_number s at n e h =
     read_number (of_bits binary64 n) (sym (nan_bits_is binary64 n) ∙ no_nan_pattern n h) ∙ ap (λ (k : ℕ). read_of (of_bits binary64 k)) e
@@ -75,3 +76,13 @@ unfolding is_nan
 same_no_nan nan h = absurd (subst T (sym nan_differs ∙ h) tt)
 same_no_nan (inf s) h = tt
 same_no_nan (fin s m e) h = tt
+
+-- ---- a word at the cursor
+
+pub no_word : (s : List ℕ) (at v : ℕ) → length s < at + 4 → (full ≡ behind_word (length s) at) × (s ≡ with_word s at v)
+unfolding behind_word with_word
+no_word s at v h = rw (lt-leb (at + 4) (length s) h) (refl, refl)
+
+pub a_word : (s t : List ℕ) (at v : ℕ) → at + 4 ≤ length s → t ≡ put 4 s at v → (at + 4 ≡ behind_word (length s) at) × (t ≡ with_word s at v)
+unfolding behind_word with_word
+a_word s t at v h e = rw (le-leb (at + 4) (length s) h) (refl, e)

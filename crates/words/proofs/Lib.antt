@@ -1,3 +1,2 @@
--- What several proofs of this crate cite.
+-- What the proofs of this crate cite.
 mod Laws
-mod Ranges

@@ -1,5 +1,5 @@
 -- Numbers, floats and an answer's words worked out by evaluation. Leans on Words, Floats and Writer.
-use Rattle.std.specs.Prelude.{◌≡◌, refl, true}
+use Rattle.std.specs.Prelude.{◌≡◌, refl, true, Some, None}
 use mathlib.Core.List.{[], ◌∷◌, flat_map}
 use Rattle.std.specs.Float.{inf}
 use Rattle.std.specs.Float.Ieee.{of_bits, of_fields}
@@ -7,7 +7,6 @@ use Rattle.definitions.specs.Job.{little, number_at, float_at, word_bytes}
 use Rattle.words.specs.Words.{bytes_of, put, words}
 use Rattle.words.specs.Floats.{read_of}
 use Rattle.words.specs.Writer.{encoded, padded, full, written, cursor_of, behind_word}
-use Rattle.words.specs.declared.Read.TheVariants.{Number, NotANumber}
 
 -- the lowest byte first
 lowest_first : put 4 (9 ∷ 9 ∷ 9 ∷ 9 ∷ 9 ∷ 9 ∷ []) 1 67305985 ≡ 9 ∷ 1 ∷ 2 ∷ 3 ∷ 4 ∷ 9 ∷ []
@@ -19,11 +18,11 @@ unfolding words little
 pairs = refl
 
 -- minus infinity is a number, and one bit more is not
-minus_infinity : read_of (float_at (0 ∷ 0 ∷ 0 ∷ 0 ∷ 0 ∷ 0 ∷ 240 ∷ 255 ∷ []) 0) ≡ Number (inf true)
+minus_infinity : read_of (float_at (0 ∷ 0 ∷ 0 ∷ 0 ∷ 0 ∷ 0 ∷ 240 ∷ 255 ∷ []) 0) ≡ Some (inf true)
 unfolding read_of float_at number_at little of_bits of_fields
 minus_infinity = refl
 
-not_a_number : read_of (float_at (1 ∷ 0 ∷ 0 ∷ 0 ∷ 0 ∷ 0 ∷ 240 ∷ 255 ∷ []) 0) ≡ NotANumber
+not_a_number : read_of (float_at (1 ∷ 0 ∷ 0 ∷ 0 ∷ 0 ∷ 0 ∷ 240 ∷ 255 ∷ []) 0) ≡ None
 unfolding read_of float_at number_at little of_bits of_fields
 not_a_number = refl
 

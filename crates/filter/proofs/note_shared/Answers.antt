@@ -5,15 +5,6 @@ use Rattle.order.specs.Areas.{lists_of}
 use Rattle.filter.specs.Noted.{noting_starts, noting_more, noting_ends, note_fits}
 use Rattle.filter.proofs.note_shared.Goals as goal
 
-pub loop-k-init : goal.loop-k-init
-loop-k-init c = noting_starts _ _ _
-
-pub overflow_sub-k : goal.overflow_sub-k
-overflow_sub-k c = let l = c.loop-k in omega (arith, l.invariant.from)
-
-pub shared_items-items-requires : goal.shared_items-items-requires
-shared_items-items-requires c = let l = c.loop-k in (search rules, omega (arith, l.invariant.from))
-
 pub overflow_cast-items : goal.overflow_cast-items
 overflow_cast-items c =
     let g = c.shared_items-items in
@@ -27,7 +18,4 @@ loop-k-preserved c =
     let l = c.loop-k in
     let g = c.shared_items-items in
     let small : g.result < 4294967296 = note_fits area s c.requires.0 _ (omega arith) g.result g.ensures in
-    noting_more (lists_of area s) _ _ l.notes l.k g.result _ l.invariant (omega arith) g.ensures small c.put_u32.ensures
-
-pub returns : goal.returns
-returns c = let l = c.loop-k in noting_ends _ _ _ _ l.k l.invariant c.loop-k-test.false
+    noting_more (lists_of area s) _ _ l.notes l.k g.result _ l.invariant (omega arith) g.ensures small c.put.ensures

@@ -7,6 +7,3 @@ use Rattle.filter.proofs.note_shared.Given as goal
 
 abbrev pub invariant-loop-k : goal.invariant-loop-k
 invariant-loop-k l = Noting (lists_of l.area l.s) l.lists (length l.initial.notes) l.notes l.k
-
-abbrev pub decreases-loop-k : goal.decreases-loop-k
-decreases-loop-k l = l.lists - l.k

@@ -15,7 +15,7 @@ returns-then-item_at-next_at c =
     let l = c.loop-i in
     let inside : l.i < length x = omega arith in
     let is_x = c.item_at.ensures ∙ read_inside x l.i 0 65536 inside in
-    shared_differ x y l.i l.invariant.1 inside (omega arith) (λ e. c.if-item_at-next_at.true (is_x ∙ (e ∙ sym c.next_at.ensures)))
+    shared_differ x y l.i l.invariant inside (omega arith) (λ e. c.if-item_at-next_at.true (is_x ∙ (e ∙ sym c.next_at.ensures)))
 
 pub loop-i-preserved : goal.loop-i-preserved
 loop-i-preserved c =
@@ -26,9 +26,10 @@ loop-i-preserved c =
     let inside : l.i < length x = omega arith in
     let is_x = c.item_at.ensures ∙ read_inside x l.i 0 65536 inside in
     let same : get_or x l.i 65536 ≡ get_or y l.i 65536 = sym is_x ∙ (c.if-item_at-next_at.false ∙ c.next_at.ensures) in
-    (omega arith, shared_more x y l.i l.invariant.1 inside (omega arith) same (before_end y l.i (omega arith)))
+    shared_more x y l.i l.invariant inside (omega arith) same (before_end y l.i (omega arith))
 
 pub returns : goal.returns
 returns c =
     let s = c.args.s.now in
-    shared_end (list_of c.args.area s c.args.k) (list_of c.args.area s (c.args.k + 1)) c.loop-i.i c.loop-i.invariant.1 (omega arith)
+    let e : c.length_at-m.result ≡ c.loop-i.i = omega arith in
+    e ∙ shared_end (list_of c.args.area s c.args.k) (list_of c.args.area s (c.args.k + 1)) c.loop-i.i c.loop-i.invariant (omega arith)

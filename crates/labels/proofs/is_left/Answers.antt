@@ -1,7 +1,7 @@
 use mathlib.Core.Path.{sym}
 use native.Mathlib.Omega.{arith}
 use Rattle.order.specs.Areas.{list_of, place_short}
-use Rattle.labels.proofs.Walking.{left_starts, left_over, left_wrong, left_passed, left_taken, left_ended, leaves_length}
+use Rattle.labels.proofs.Walking.{left_over, left_wrong, left_passed, left_taken, left_ended, leaves_length}
 use Rattle.labels.proofs.is_left.Goals as goal
 use Rattle.labels.proofs.is_left.Goals.{then-x-y+else-next_at-x, else-x-y}
 
@@ -10,13 +10,6 @@ overflow_add-n c = omega (arith, place_short _ _ _ _ _ c.requires.2 c.requires.0
 
 pub returns-then-n-l : goal.returns-then-n-l
 returns-then-n-l c = sym (leaves_length (list_of c.args.area c.args.s.now c.args.a) (list_of c.args.area c.args.s.now c.args.b) (list_of c.args.area c.args.s.now c.args.c) (λ e. c.if-n-l.true (omega arith)))
-
-pub loop-i-init : goal.loop-i-init
-loop-i-init c = left_starts _ _ _
-
-pub item_at-x-requires : goal.item_at-x-requires
-item_at-x-requires c =
-    (c.requires.0, c.requires.1, omega arith)
 
 pub returns-then-y-x : goal.returns-then-y-x
 returns-then-y-x c = let l = c.loop-i in

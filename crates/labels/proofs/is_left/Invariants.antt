@@ -6,6 +6,3 @@ use Rattle.labels.proofs.is_left.Given as goal
 
 abbrev pub invariant-loop-i : goal.invariant-loop-i
 invariant-loop-i l = Left (list_of l.area l.s l.a) (list_of l.area l.s l.b) (list_of l.area l.s l.c) l.i l.j
-
-abbrev pub decreases-loop-i : goal.decreases-loop-i
-decreases-loop-i l = l.m - l.i

@@ -18,18 +18,6 @@ returns-then-sought-item c =
     let inside : l.j < length y = omega arith in
     items_above x y l.i l.j l.invariant.2 g.result inside (g.ensures ∙ read_inside y l.j 0 65536 inside) (omega arith) (omega arith)
 
-pub overflow_add-i : goal.overflow_add-i
-overflow_add-i c =
-    let x = list_of c.args.area c.args.s.now c.args.a in
-    let inside : c.loop-j.i < length x = before_end x c.loop-j.i (omega arith) in
-    omega arith
-
-pub loop-j-smaller : goal.loop-j-smaller
-loop-j-smaller c =
-    let x = list_of c.args.area c.args.s.now c.args.a in
-    let inside : c.loop-j.i < length x = before_end x c.loop-j.i (omega arith) in
-    omega arith
-
 pub loop-j-preserved : goal.loop-j-preserved
 loop-j-preserved c =
     let s = c.args.s.now in

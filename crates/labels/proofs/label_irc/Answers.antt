@@ -16,19 +16,19 @@ a-init c =
 pub length_at-m-requires : goal.length_at-m-requires
 length_at-m-requires c =
     let o = c.a in
-    let w = cleared c.args.area c.args.at c.args.ws.now c.requires.3 c.requires.4 c.requires.0 o.ws o.a o.invariant.0 c.a-test.true _ c.put_u32.ensures in
+    let w = cleared c.args.area c.args.at c.args.ws.now c.requires.3 c.requires.4 c.requires.0 o.ws o.a o.invariant.0 c.a-test.true _ c.put.ensures in
     (w.holds, w.few)
 
 pub search_start-start-requires : goal.search_start-start-requires
 search_start-start-requires c =
     let o = c.a in
-    let w = cleared c.args.area c.args.at c.args.ws.now c.requires.3 c.requires.4 c.requires.0 o.ws o.a o.invariant.0 c.a-test.true _ c.put_u32.ensures in
+    let w = cleared c.args.area c.args.at c.args.ws.now c.requires.3 c.requires.4 c.requires.0 o.ws o.a o.invariant.0 c.a-test.true _ c.put.ensures in
     (w.holds, w.few, omega (arith, o.invariant.1.few, lists_length c.args.area.most c.args.area.bytes c.args.area.count c.args.ws.now))
 
 pub subset-init : goal.subset-init
 subset-init c =
     let o = c.a in
-    let w = cleared c.args.area c.args.at c.args.ws.now c.requires.3 c.requires.4 c.requires.0 o.ws o.a o.invariant.0 c.a-test.true _ c.put_u32.ensures in
+    let w = cleared c.args.area c.args.at c.args.ws.now c.requires.3 c.requires.4 c.requires.0 o.ws o.a o.invariant.0 c.a-test.true _ c.put.ensures in
     let many = lists_length c.args.area.most c.args.area.bytes c.args.area.count c.args.ws.now in
     let r = started_search (lists_of c.args.area c.args.ws.now) _ o.a o.start c.search_start-start.result w.same c.requires.1 o.invariant.1 (omega (arith, w.few)) c.search_start-start.ensures in
     record {
@@ -47,12 +47,6 @@ subset-preserved-then-m-n c =
     let k = c.subset in
     searching_on _ _ _ _ k.ws c.a.a k.b k.invariant c.subset-test.true (not_shorter _ _ (omega arith))
 
-pub item_at-y-requires : goal.item_at-y-requires
-item_at-y-requires c =
-    let k = c.subset in
-    let l = c.loop-j in
-    (k.invariant.holds, omega (arith, l.invariant.0, c.subset-test.true), rw l.invariant.0 (omega (arith, c.length_at-n.ensures)))
-
 pub subset-preserved : goal.subset-preserved
 subset-preserved c =
     let k = c.subset in
@@ -64,22 +58,6 @@ subset-preserved c =
     let v = rw l.invariant.0 at g.ensures in
     rw l.invariant.0 (searching_on _ _ _ _ k.ws c.a.a k.b k.invariant c.subset-test.true
     (not_found x y (found_above x y l.i l.j l.invariant.3 g.result i (v ∙ read_inside y l.j 0 65536 i) (omega arith) (omega (arith, c.next_at-x.ensures)))))
-
-pub overflow_add-i : goal.overflow_add-i
-overflow_add-i c =
-    let k = c.subset in
-    let l = c.loop-j in
-    let x = list_of c.args.area k.ws c.a.a in
-    let b : l.i < length x = before_end x l.i (omega (arith, c.next_at-x.ensures)) in
-    omega (arith, k.invariant.long)
-
-pub loop-j-smaller : goal.loop-j-smaller
-loop-j-smaller c =
-    let k = c.subset in
-    let l = c.loop-j in
-    let x = list_of c.args.area k.ws c.a.a in
-    let b : l.i < length x = before_end x l.i (omega (arith, c.next_at-x.ensures)) in
-    omega (arith, k.invariant.long)
 
 pub loop-j-preserved : goal.loop-j-preserved
 loop-j-preserved c =
@@ -115,31 +93,10 @@ loop-c-init c =
           (found_end x y l.i l.j l.invariant.3 (omega (arith, c.length_at-n.ensures)));
     })
 
-pub is_left-requires : goal.is_left-requires
-is_left-requires c =
-    let k = c.subset in
-    let l = c.loop-j in
-    let q = c.loop-c in
-    (q.invariant.holds, omega (arith, k.invariant.inside, q.invariant.base), omega (arith, l.invariant.0), omega arith)
-
-pub put_u32-requires-then-is_left : goal.put_u32-requires-then-is_left
-put_u32-requires-then-is_left c =
-    let o = c.a in
-    let w = cleared c.args.area c.args.at c.args.ws.now c.requires.3 c.requires.4 c.requires.0 o.ws o.a o.invariant.0 c.a-test.true _ c.put_u32.ensures in
-    let k = c.subset in
-    let q = c.loop-c in
-    omega (arith, ap length q.invariant.same, ap length k.invariant.same, w.long, q.invariant.base, k.invariant.base, w.few, c.requires.4)
-
-pub overflow_step-a : goal.overflow_step-a
-overflow_step-a c =
-    let k = c.subset in
-    let q = c.loop-c in
-    omega (arith, q.invariant.base, k.invariant.base, c.a-test.true, c.requires.2)
-
 pub a-preserved-then-is_left : goal.a-preserved-then-is_left
 a-preserved-then-is_left c =
     let o = c.a in
-    let w = cleared c.args.area c.args.at c.args.ws.now c.requires.3 c.requires.4 c.requires.0 o.ws o.a o.invariant.0 c.a-test.true _ c.put_u32.ensures in
+    let w = cleared c.args.area c.args.at c.args.ws.now c.requires.3 c.requires.4 c.requires.0 o.ws o.a o.invariant.0 c.a-test.true _ c.put.ensures in
     let many = lists_length c.args.area.most c.args.area.bytes c.args.area.count c.args.ws.now in
     let r = started_search (lists_of c.args.area c.args.ws.now) _ o.a o.start c.search_start-start.result w.same c.requires.1 o.invariant.1 (omega (arith, w.few)) c.search_start-start.ensures in
     let k = c.subset in
@@ -148,7 +105,7 @@ a-preserved-then-is_left c =
     let n = lists_length c.args.area.most c.args.area.bytes c.args.area.count q.ws in
     let l = c.loop-j in
     let at_c = seek_hit (list_of c.args.area q.ws c.a.a) (list_of c.args.area q.ws k.b) (lists_of c.args.area q.ws) k.b q.c _ q.invariant.label (omega (arith, c.loop-c-test.true)) (sym c.if-is_left.true ∙ c.is_left.ensures) in
-    (with_label c.args.area c.args.at c.args.ws.now c.requires.3 c.requires.4 c.requires.0 q.ws c.a.a v k.b q.c at_c _ c.put_u32-then-is_left.ensures, started_next _ o.a c.a.a _ r (q.invariant.base ∙ k.invariant.base))
+    (with_label c.args.area c.args.at c.args.ws.now c.requires.3 c.requires.4 c.requires.0 q.ws c.a.a v k.b q.c at_c _ c.put-then-is_left.ensures, started_next _ o.a c.a.a _ r (q.invariant.base ∙ k.invariant.base))
 
 pub loop-c-preserved : goal.loop-c-preserved
 loop-c-preserved c =
@@ -167,7 +124,7 @@ loop-c-preserved c =
 pub a-preserved-in-subset : goal.a-preserved-in-subset
 a-preserved-in-subset c =
     let o = c.a in
-    let w = cleared c.args.area c.args.at c.args.ws.now c.requires.3 c.requires.4 c.requires.0 o.ws o.a o.invariant.0 c.a-test.true _ c.put_u32.ensures in
+    let w = cleared c.args.area c.args.at c.args.ws.now c.requires.3 c.requires.4 c.requires.0 o.ws o.a o.invariant.0 c.a-test.true _ c.put.ensures in
     let many = lists_length c.args.area.most c.args.area.bytes c.args.area.count c.args.ws.now in
     let r = started_search (lists_of c.args.area c.args.ws.now) _ o.a o.start c.search_start-start.result w.same c.requires.1 o.invariant.1 (omega (arith, w.few)) c.search_start-start.ensures in
     let k = c.subset in
@@ -181,7 +138,7 @@ a-preserved-in-subset c =
 pub a-preserved : goal.a-preserved
 a-preserved c =
     let o = c.a in
-    let w = cleared c.args.area c.args.at c.args.ws.now c.requires.3 c.requires.4 c.requires.0 o.ws o.a o.invariant.0 c.a-test.true _ c.put_u32.ensures in
+    let w = cleared c.args.area c.args.at c.args.ws.now c.requires.3 c.requires.4 c.requires.0 o.ws o.a o.invariant.0 c.a-test.true _ c.put.ensures in
     let many = lists_length c.args.area.most c.args.area.bytes c.args.area.count c.args.ws.now in
     let r = started_search (lists_of c.args.area c.args.ws.now) _ o.a o.start c.search_start-start.result w.same c.requires.1 o.invariant.1 (omega (arith, w.few)) c.search_start-start.ensures in
     let k = c.subset in

@@ -1,4 +1,4 @@
-use mathlib.Core.Path.{sym, ◌∙◌}
+use mathlib.Core.Path.{◌≡◌, sym, ◌∙◌}
 use native.Mathlib.Omega.{arith}
 use Rattle.order.specs.Areas.{list_of, lists_of, lists_length}
 use Rattle.labels.proofs.Labelling.{search_ends, search_stops, search_goes}
@@ -8,16 +8,17 @@ pub returns-then-not-starts_above : goal.returns-then-not-starts_above
 returns-then-not-starts_above c =
     let l = c.loop-b in
     let n = lists_length c.args.area.most c.args.area.bytes c.args.area.count c.args.s.now in
-    search_stops (list_of c.args.area c.args.s.now c.args.a) (lists_of c.args.area c.args.s.now) l.b c.args.from l.invariant.1 (omega arith) (sym c.if-not-starts_above.true ∙ c.starts_above.ensures)
+    search_stops (list_of c.args.area c.args.s.now c.args.a) (lists_of c.args.area c.args.s.now) l.b c.args.from l.invariant (omega arith) (sym c.if-not-starts_above.true ∙ c.starts_above.ensures)
 
 pub loop-b-preserved : goal.loop-b-preserved
 loop-b-preserved c =
     let l = c.loop-b in
     let n = lists_length c.args.area.most c.args.area.bytes c.args.area.count c.args.s.now in
-    (omega arith, search_goes (list_of c.args.area c.args.s.now c.args.a) (lists_of c.args.area c.args.s.now) l.b c.args.from l.invariant.1 (omega arith) (sym c.if-not-starts_above.false ∙ c.starts_above.ensures))
+    search_goes (list_of c.args.area c.args.s.now c.args.a) (lists_of c.args.area c.args.s.now) l.b c.args.from l.invariant (omega arith) (sym c.if-not-starts_above.false ∙ c.starts_above.ensures)
 
 pub returns : goal.returns
 returns c =
     let l = c.loop-b in
     let n = lists_length c.args.area.most c.args.area.bytes c.args.area.count c.args.s.now in
-    search_ends (list_of c.args.area c.args.s.now c.args.a) (lists_of c.args.area c.args.s.now) l.b c.args.from l.invariant.1 (omega arith)
+    let e : c.args.area.count ≡ l.b = omega arith in
+    e ∙ search_ends (list_of c.args.area c.args.s.now c.args.a) (lists_of c.args.area c.args.s.now) l.b c.args.from l.invariant (omega arith)

@@ -1,5 +1,5 @@
 -- `labels::search_start` meets its contract. The loop's invariant: the search from place b on ends where the whole search
--- does. The measure is what it has still to go through. Assumes nothing.
+-- does. Assumes nothing.
 use mathlib.Core.Path.{◌≡◌}
 use Prim.Native.Nat.{◌-◌, ◌≤◌}
 use lib.ListN.{drop}
@@ -8,7 +8,4 @@ use Rattle.labels.specs.Labels.{search_from}
 use Rattle.labels.proofs.search_start.Given as goal
 
 abbrev pub invariant-loop-b : goal.invariant-loop-b
-invariant-loop-b l = (l.b ≤ l.lists) × (search_from (list_of l.area l.s l.a) (drop l.b (lists_of l.area l.s)) l.b ≡ search_from (list_of l.area l.s l.a) (drop l.from (lists_of l.area l.s)) l.from)
-
-abbrev pub decreases-loop-b : goal.decreases-loop-b
-decreases-loop-b l = l.lists - l.b
+invariant-loop-b l = search_from (list_of l.area l.s l.a) (drop l.b (lists_of l.area l.s)) l.b ≡ search_from (list_of l.area l.s l.a) (drop l.from (lists_of l.area l.s)) l.from

@@ -3,9 +3,9 @@ use borrow.Author.Rules.{rules}
 use Rattle.pool.specs.Pool.{count, used, ended}
 use Rattle.pool.proofs.end_list.Goals as goal
 
-pub put_u32-requires : goal.put_u32-requires
+pub put-requires : goal.put-requires
 unfolding count
-put_u32-requires c = search rules
+put-requires c = search rules
 
 pub overflow_add-n-2 : goal.overflow_add-n-2
 unfolding count

@@ -7,4 +7,4 @@ pub returns-then-facets-a : goal.returns-then-facets-a
 returns-then-facets-a c = outside_table c.args.s.now c.args.facets c.args.a c.if-facets-a.true
 
 pub returns : goal.returns
-returns c = inside_table c.args.s.now c.args.facets c.args.a c.get_u32.result (omega arith) c.get_u32.ensures
+returns c = inside_table c.args.s.now c.args.facets c.args.a c.get.result (omega arith) c.get.ensures

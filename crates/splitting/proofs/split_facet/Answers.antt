@@ -1,4 +1,4 @@
-use mathlib.Core.Option.{none}
+use Rattle.std.specs.Prelude.{None}
 use mathlib.Core.Path.{ap, ◌∙◌}
 use Prim.Native.Nat.{◌≤◌}
 use native.Mathlib.Omega.{arith}
@@ -17,11 +17,11 @@ loop-head-init c = splits_start c.args.layout.facets c.args.layout.to c.args.lay
 pub overflow_cast-a : goal.overflow_cast-a
 overflow_cast-a c = let l = c.loop-head in record { fits = omega (arith, l.invariant.small l.head) }
 
-pub push_u16-requires : goal.push_u16-requires
-push_u16-requires c = let l = c.loop-head in let i = c.if-left-gt0 in
+pub push-requires : goal.push-requires
+push-requires c = let l = c.loop-head in let i = c.if-left-gt0 in
     let a = get_or l.queue l.head 0 in
     let t : Turn (labels_in 0 c.args.layout.facets c.args.ws.now) a l.left i.left i.parts = elim i.branch [
-      | then-left-gt0 w ↦ turn_taken _ a l.left i.left i.parts w.if-left-gt0.true w.left-is (ap label_of w.parts-is ∙ (w.components-parts.ensures ∙ ap (λ r. get_or r a none) (table_kept c.args.ws.now l.ws c.args.layout.facets c.args.layout.to c.requires.0 l.invariant.kept)))
+      | then-left-gt0 w ↦ turn_taken _ a l.left i.left i.parts w.if-left-gt0.true w.left-is (ap label_of w.parts-is ∙ (w.components-parts.ensures ∙ ap (λ r. get_or r a None) (table_kept c.args.ws.now l.ws c.args.layout.facets c.args.layout.to c.requires.0 l.invariant.kept)))
       | else-left-gt0 w ↦ turn_over _ a l.left i.left i.parts w.if-left-gt0.false w.left-is w.parts-is
     ] in
     rw (lent_tail c.args.layout.to l.ws) (splits_room c.args.layout.facets c.args.layout.to c.args.layout.most c.args.layout.steps c.args.facet c.args.ws.now l.ws l.queue l.head l.tail l.left l.invariant c.loop-head-test.true i.left i.parts t c.if-parts-lt65536.true)
@@ -30,7 +30,7 @@ pub loop-head-smaller-then-parts-lt65536 : goal.loop-head-smaller-then-parts-lt6
 loop-head-smaller-then-parts-lt65536 c = let l = c.loop-head in let i = c.if-left-gt0 in
     let a = get_or l.queue l.head 0 in
     let t : Turn (labels_in 0 c.args.layout.facets c.args.ws.now) a l.left i.left i.parts = elim i.branch [
-      | then-left-gt0 w ↦ turn_taken _ a l.left i.left i.parts w.if-left-gt0.true w.left-is (ap label_of w.parts-is ∙ (w.components-parts.ensures ∙ ap (λ r. get_or r a none) (table_kept c.args.ws.now l.ws c.args.layout.facets c.args.layout.to c.requires.0 l.invariant.kept)))
+      | then-left-gt0 w ↦ turn_taken _ a l.left i.left i.parts w.if-left-gt0.true w.left-is (ap label_of w.parts-is ∙ (w.components-parts.ensures ∙ ap (λ r. get_or r a None) (table_kept c.args.ws.now l.ws c.args.layout.facets c.args.layout.to c.requires.0 l.invariant.kept)))
       | else-left-gt0 w ↦ turn_over _ a l.left i.left i.parts w.if-left-gt0.false w.left-is w.parts-is
     ] in
     omega (arith, t.fewer)
@@ -39,10 +39,10 @@ pub loop-head-preserved-then-parts-lt65536 : goal.loop-head-preserved-then-parts
 loop-head-preserved-then-parts-lt65536 c = let l = c.loop-head in let i = c.if-left-gt0 in
     let a = get_or l.queue l.head 0 in
     let t : Turn (labels_in 0 c.args.layout.facets c.args.ws.now) a l.left i.left i.parts = elim i.branch [
-      | then-left-gt0 w ↦ turn_taken _ a l.left i.left i.parts w.if-left-gt0.true w.left-is (ap label_of w.parts-is ∙ (w.components-parts.ensures ∙ ap (λ r. get_or r a none) (table_kept c.args.ws.now l.ws c.args.layout.facets c.args.layout.to c.requires.0 l.invariant.kept)))
+      | then-left-gt0 w ↦ turn_taken _ a l.left i.left i.parts w.if-left-gt0.true w.left-is (ap label_of w.parts-is ∙ (w.components-parts.ensures ∙ ap (λ r. get_or r a None) (table_kept c.args.ws.now l.ws c.args.layout.facets c.args.layout.to c.requires.0 l.invariant.kept)))
       | else-left-gt0 w ↦ turn_over _ a l.left i.left i.parts w.if-left-gt0.false w.left-is w.parts-is
     ] in
-    let g = c.push_u16 in
+    let g = c.push in
     let e = rw (lent_tail c.args.layout.to l.ws) at g.ensures in
     let h : c.args.layout.to ≤ length l.ws = omega (arith, l.invariant.long, c.requires.1) in
     let r = splits_room c.args.layout.facets c.args.layout.to c.args.layout.most c.args.layout.steps c.args.facet c.args.ws.now l.ws l.queue l.head l.tail l.left l.invariant c.loop-head-test.true i.left i.parts t c.if-parts-lt65536.true in
@@ -53,7 +53,7 @@ pub bounds-queue-tail-else-parts-lt65536 : goal.bounds-queue-tail-else-parts-lt6
 bounds-queue-tail-else-parts-lt65536 c = let l = c.loop-head in let i = c.if-left-gt0 in
     let a = get_or l.queue l.head 0 in
     let t : Turn (labels_in 0 c.args.layout.facets c.args.ws.now) a l.left i.left i.parts = elim i.branch [
-      | then-left-gt0 w ↦ turn_taken _ a l.left i.left i.parts w.if-left-gt0.true w.left-is (ap label_of w.parts-is ∙ (w.components-parts.ensures ∙ ap (λ r. get_or r a none) (table_kept c.args.ws.now l.ws c.args.layout.facets c.args.layout.to c.requires.0 l.invariant.kept)))
+      | then-left-gt0 w ↦ turn_taken _ a l.left i.left i.parts w.if-left-gt0.true w.left-is (ap label_of w.parts-is ∙ (w.components-parts.ensures ∙ ap (λ r. get_or r a None) (table_kept c.args.ws.now l.ws c.args.layout.facets c.args.layout.to c.requires.0 l.invariant.kept)))
       | else-left-gt0 w ↦ turn_over _ a l.left i.left i.parts w.if-left-gt0.false w.left-is w.parts-is
     ] in
     omega (arith, l.invariant.short, t.spent c.if-parts-lt65536.false)
@@ -62,7 +62,7 @@ pub loop-head-smaller : goal.loop-head-smaller
 loop-head-smaller c = let l = c.loop-head in let i = c.if-left-gt0 in
     let a = get_or l.queue l.head 0 in
     let t : Turn (labels_in 0 c.args.layout.facets c.args.ws.now) a l.left i.left i.parts = elim i.branch [
-      | then-left-gt0 w ↦ turn_taken _ a l.left i.left i.parts w.if-left-gt0.true w.left-is (ap label_of w.parts-is ∙ (w.components-parts.ensures ∙ ap (λ r. get_or r a none) (table_kept c.args.ws.now l.ws c.args.layout.facets c.args.layout.to c.requires.0 l.invariant.kept)))
+      | then-left-gt0 w ↦ turn_taken _ a l.left i.left i.parts w.if-left-gt0.true w.left-is (ap label_of w.parts-is ∙ (w.components-parts.ensures ∙ ap (λ r. get_or r a None) (table_kept c.args.ws.now l.ws c.args.layout.facets c.args.layout.to c.requires.0 l.invariant.kept)))
       | else-left-gt0 w ↦ turn_over _ a l.left i.left i.parts w.if-left-gt0.false w.left-is w.parts-is
     ] in
     omega (arith, t.spent c.if-parts-lt65536.false)
@@ -71,7 +71,7 @@ pub loop-head-preserved : goal.loop-head-preserved
 loop-head-preserved c = let l = c.loop-head in let i = c.if-left-gt0 in
     let a = get_or l.queue l.head 0 in
     let t : Turn (labels_in 0 c.args.layout.facets c.args.ws.now) a l.left i.left i.parts = elim i.branch [
-      | then-left-gt0 w ↦ turn_taken _ a l.left i.left i.parts w.if-left-gt0.true w.left-is (ap label_of w.parts-is ∙ (w.components-parts.ensures ∙ ap (λ r. get_or r a none) (table_kept c.args.ws.now l.ws c.args.layout.facets c.args.layout.to c.requires.0 l.invariant.kept)))
+      | then-left-gt0 w ↦ turn_taken _ a l.left i.left i.parts w.if-left-gt0.true w.left-is (ap label_of w.parts-is ∙ (w.components-parts.ensures ∙ ap (λ r. get_or r a None) (table_kept c.args.ws.now l.ws c.args.layout.facets c.args.layout.to c.requires.0 l.invariant.kept)))
       | else-left-gt0 w ↦ turn_over _ a l.left i.left i.parts w.if-left-gt0.false w.left-is w.parts-is
     ] in
     splits_queue c.args.layout.facets c.args.layout.to c.args.layout.most c.args.layout.steps c.args.facet c.args.ws.now l.ws l.queue l.head l.tail l.left l.invariant c.loop-head-test.true i.left i.parts t c.if-parts-lt65536.false (omega arith)

@@ -5,6 +5,3 @@ use Rattle.splitting.proofs.split_list.Given as goal
 
 abbrev pub invariant-loop-i : goal.invariant-loop-i
 invariant-loop-i l = Splits1 l.layout l.k l.initial.ws l.ws l.i
-
-abbrev pub decreases-loop-i : goal.decreases-loop-i
-decreases-loop-i l = l.n - l.i

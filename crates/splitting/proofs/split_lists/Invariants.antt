@@ -8,6 +8,3 @@ use Rattle.splitting.proofs.split_lists.Given as goal
 
 abbrev pub invariant-loop-k : goal.invariant-loop-k
 invariant-loop-k l = (l.lists ≡ count (pool_of l.layout l.initial.ws)) × SplitsAll l.layout l.initial.ws l.ws l.k
-
-abbrev pub decreases-loop-k : goal.decreases-loop-k
-decreases-loop-k l = l.lists - l.k

@@ -24,7 +24,3 @@ loop-i-preserved c = let l = c.loop-i in
     let r = gathered_more c.args.g c.args.key c.args.full.now c.args.tally l.i l.k _ _ l.new _ c.set_image.ensures
     (omega (arith, l.invariant.1, l.invariant.2, c.requires.1, images_to_most c.args.g c.args.key c.args.full.now l.i)) l.invariant.3 c.insert-k.ensures.count c.insert-k.ensures.buffer in
     (omega arith, c.new-1.given ∙ l.invariant.1, r.0, r.1)
-
-pub returns : goal.returns
-returns c = of_two (λ x0 x1. record { few = x0; marks = x1 })
-    (let l = c.loop-i in let e : l.i ≡ c.args.m = omega (arith, c.loop-i-test.false, l.invariant.0) in (rw (← e) l.invariant.2, rw (← e) l.invariant.3))

@@ -9,6 +9,3 @@ use Rattle.tallies.proofs.gather_marks.Given as goal
 
 abbrev pub invariant-loop-i : goal.invariant-loop-i
 invariant-loop-i l = (l.i ≤ l.m) × (length l.new ≡ length l.initial.new) × (l.k ≡ length (images_to l.g l.key l.full l.i)) × (take l.k l.new ≡ map (mark_number l.tally) (images_to l.g l.key l.full l.i))
-
-abbrev pub decreases-loop-i : goal.decreases-loop-i
-decreases-loop-i l = l.m - l.i

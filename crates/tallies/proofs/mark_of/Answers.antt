@@ -9,11 +9,11 @@ returns-then-end-eq0 c = unmarked_none c.args.s.now c.args.known c.args.key c.fi
 pub overflow_mul-end : goal.overflow_mul-end
 overflow_mul-end c = omega (arith, end_within c.args.s.now c.args.known c.args.key c.first_from-end.result c.requires.1 c.first_from-end.ensures)
 
-pub get_u32-last-requires : goal.get_u32-last-requires
-get_u32-last-requires c = omega (arith, end_within c.args.s.now c.args.known c.args.key c.first_from-end.result c.requires.1 c.first_from-end.ensures, c.if-end-eq0.false)
+pub get-last-requires : goal.get-last-requires
+get-last-requires c = omega (arith, end_within c.args.s.now c.args.known c.args.key c.first_from-end.result c.requires.1 c.first_from-end.ensures, c.if-end-eq0.false)
 
 pub returns-then-last-key : goal.returns-then-last-key
-returns-then-last-key c = marked_last c.args.s.now c.args.known c.args.key c.first_from-end.result c.requires.1 c.first_from-end.ensures c.get_u32-last.result c.if-end-eq0.false c.get_u32-last.ensures c.if-last-key.true
+returns-then-last-key c = marked_last c.args.s.now c.args.known c.args.key c.first_from-end.result c.requires.1 c.first_from-end.ensures c.get-last.result c.if-end-eq0.false c.get-last.ensures c.if-last-key.true
 
 pub returns : goal.returns
-returns c = unmarked_other c.args.s.now c.args.known c.args.key c.first_from-end.result c.requires.1 c.first_from-end.ensures c.get_u32-last.result c.if-end-eq0.false c.get_u32-last.ensures c.if-last-key.false
+returns c = unmarked_other c.args.s.now c.args.known c.args.key c.first_from-end.result c.requires.1 c.first_from-end.ensures c.get-last.result c.if-end-eq0.false c.get-last.ensures c.if-last-key.false

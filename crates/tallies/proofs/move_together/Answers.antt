@@ -14,27 +14,12 @@ use Rattle.tallies.proofs.move_together.Goals.{then-sum_of-ge2, else-sum_of-ge2}
 pub loop-i-init : goal.loop-i-init
 loop-i-init c = (omega arith, moved_start c.args.n (row_at c.args.n 0 c.args.globals.now) (words 4 (drop 2048 c.args.ws.now) c.args.known) c.args.sums.now c.args.ws.now c.args.orbits c.requires.1 (omega (arith, c.requires.2)))
 
-pub get_u32-requires : goal.get_u32-requires
-get_u32-requires c = let l = c.loop-i in omega (arith, l.invariant.1.long, c.requires.2, c.requires.1)
-
-pub slice_bounds-sum_of-count : goal.slice_bounds-sum_of-count
-slice_bounds-sum_of-count c = let l = c.loop-i in omega (arith, l.invariant.1.long, c.requires.2)
-
-pub slice_bounds-sum_of-start : goal.slice_bounds-sum_of-start
-slice_bounds-sum_of-start c = let l = c.loop-i in omega (arith, l.invariant.1.long, c.requires.2)
-
 pub sum_of-requires : goal.sum_of-requires
 sum_of-requires c = let l = c.loop-i in let r = marks_asked l.ws c.args.ws.now c.args.known l.invariant.1.long l.invariant.1.behind c.requires.2 c.requires.3 in (r.0, r.1, c.key_of-key.ensures.1, c.requires.4)
 
-pub move_orbit-requires : goal.move_orbit-requires
-move_orbit-requires c = let l = c.loop-i in (omega (arith, l.invariant.1.long, c.requires.2, c.requires.1), l.invariant.1.fewer)
-
-pub overflow_add-kept : goal.overflow_add-kept
-overflow_add-kept c = let l = c.loop-i in omega (arith, l.invariant.1.fewer)
-
 pub loop-i-preserved : goal.loop-i-preserved
 loop-i-preserved c = let l = c.loop-i in
-    let key = c.key_of-key.ensures.0 ∙ ap (λ (x : ℕ). set_number (set_image (vertices_of c.args.n x) (row_at c.args.n 0 c.args.globals.now))) c.get_u32.ensures in
+    let key = c.key_of-key.ensures.0 ∙ ap (λ (x : ℕ). set_number (set_image (vertices_of c.args.n x) (row_at c.args.n 0 c.args.globals.now))) c.get.ensures in
     let sum = sum_here l.ws c.args.ws.now c.args.known _ c.args.sums.now _ (omega (arith, l.invariant.1.long, c.requires.2)) l.invariant.1.behind c.sum_of.ensures in (
       omega arith,
       elim c.if-sum_of-ge2.branch [
@@ -42,10 +27,3 @@ loop-i-preserved c = let l = c.loop-i in
         | else-sum_of-ge2 w ↦ rw (w.kept-is, w.ws-is) (moved_past c.args.n (row_at c.args.n 0 c.args.globals.now) (words 4 (drop 2048 c.args.ws.now) c.args.known) c.args.sums.now c.args.ws.now c.args.orbits c.requires.1 (omega (arith, c.requires.2)) l.i l.kept l.ws l.invariant.1 (omega arith) _ key _ sum (omega (arith, w.if-sum_of-ge2.false)))
       ],
     )
-
-pub shape_of-ws : goal.shape_of-ws
-shape_of-ws c = c.loop-i.invariant.1.long
-
-pub returns : goal.returns
-returns c = of_two (λ x0 x1. record { few = x0; kept = x1 })
-    (let l = c.loop-i in let e : l.i ≡ c.args.orbits = omega (arith, c.loop-i-test.false, l.invariant.0) in (omega (arith, l.invariant.1.fewer), rw (← e) l.invariant.1.front))

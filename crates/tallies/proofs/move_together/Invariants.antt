@@ -8,6 +8,3 @@ use Rattle.tallies.proofs.move_together.Given as goal
 
 abbrev pub invariant-loop-i : goal.invariant-loop-i
 invariant-loop-i l = (l.i ≤ l.orbits) × MovedTo l.n (row_at l.n 0 l.globals) (words 4 (drop 2048 l.initial.ws) l.known) l.sums l.initial.ws l.orbits l.i l.kept l.ws
-
-abbrev pub decreases-loop-i : goal.decreases-loop-i
-decreases-loop-i l = l.orbits - l.i

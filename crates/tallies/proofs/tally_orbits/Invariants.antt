@@ -6,6 +6,3 @@ use Rattle.tallies.proofs.tally_orbits.Given as goal
 
 abbrev pub invariant-loop-i : goal.invariant-loop-i
 invariant-loop-i l = (l.i ≤ l.orbits) × TalliedTo l.n l.whole.count (row_at l.n 0 l.globals) l.whole.size (rows_in l.whole.size l.whole.rows l.full) l.initial.ws l.i l.state.known l.state.tallies l.ws l.images l.sums
-
-abbrev pub decreases-loop-i : goal.decreases-loop-i
-decreases-loop-i l = l.orbits - l.i

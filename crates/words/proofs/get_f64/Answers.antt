@@ -3,10 +3,10 @@ use Rattle.words.proofs.Laws.{read_as_nan, read_as_number, no_nan_pattern}
 use Rattle.words.proofs.get_f64.Goals as goal
 
 pub returns-then-size-gt9218868437227405312 : goal.returns-then-size-gt9218868437227405312
-returns-then-size-gt9218868437227405312 c = read_as_nan _ _ _ c.get_u64-bits.ensures c.if-size-gt9218868437227405312.true
+returns-then-size-gt9218868437227405312 c = read_as_nan _ _ _ c.get-bits.ensures c.if-size-gt9218868437227405312.true
 
 pub float_from_bits-result : goal.float_from_bits-result
-float_from_bits-result c = rw (no_nan_pattern c.get_u64-bits.result c.if-size-gt9218868437227405312.false) tt
+float_from_bits-result c = rw (no_nan_pattern c.get-bits.result c.if-size-gt9218868437227405312.false) tt
 
 pub returns : goal.returns
-returns c = read_as_number _ _ _ c.get_u64-bits.ensures c.if-size-gt9218868437227405312.false
+returns c = read_as_number _ _ _ c.get-bits.ensures c.if-size-gt9218868437227405312.false

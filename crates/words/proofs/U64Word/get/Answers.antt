@@ -1,0 +1,8 @@
+-- `u64::get` meets its contract. Assumes nothing.
+use native.Mathlib.Omega.{arith}
+use Rattle.words.proofs.Laws.{read_halves}
+use mathlib.Core.Path.{◌∙◌}
+use Rattle.words.proofs.U64Word.get.Goals as goal
+
+pub returns : goal.returns
+returns c = read_halves c.args.s.now c.args.at 4 _ _ (omega arith) (c.from.ensures ∙ c.get.ensures) (c.from-2.ensures ∙ c.get-2.ensures)
