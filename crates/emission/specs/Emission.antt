@@ -1,5 +1,5 @@
 -- The emitted lists: one more, and none at the start. Leans on Steps and Pool.
-use Rattle.std.specs.Prelude.{◌≡◌, take, replicate}
+use Rattle.std.specs.Prelude.{◌≡◌, None, take, replicate}
 use Rattle.std.proofs.Math.Path.{refl, sym, ap}
 use Rattle.std.proofs.Common.{◌∙◌, inl, mul-le-mul_right, add-one}
 use Rattle.std.proofs.Math.Logic.{⊎_elim}
@@ -16,7 +16,7 @@ use Rattle.pool.specs.Pool.{Sound, count, used, base, closed_lists, opened, empt
 use Rattle.facets.specs.declared.Areas.{Areas}
 use Rattle.facets.specs.Kept.{map_last}
 use Rattle.facets.specs.Frames.{root}
-use Rattle.facets.specs.Layout.{Inputs, AreasFit, holds_kept, facet_of, numbers, ridge_of, totals_part, used_part, frames_part, lists_part, Totals, Uses, flag}
+use Rattle.facets.specs.Layout.{Inputs, AreasFit, holds_kept, facet_of, numbers, code_of, totals_part, used_part, frames_part, lists_part, Totals, Uses, flag}
 use Rattle.frames.specs.Paths.{kind_at, place_at, path, list_to, frames_to, taken_at, Path, PathStands, Numbered, Emitted, emitted_in, pushed_all, with_frame}
 use Rattle.totals.specs.Change.{placed_placed}
 use Rattle.facets.specs.Sums.{sum_at}
@@ -281,6 +281,14 @@ module _ (t : Table) (a : Areas) (s : List ℕ) (d : ℕ) (st : PathStands t a s
       (ap (map (map (facet_of t))) (ended_closed 2 a.bound (pushed_all a.bound l (path p d)) q.sound more bounded ∙ e)
       ∙ map_last (map (facet_of t)) (closed_lists 2 a.bound l) (path p d))
 
+-- while the path is pushed the sizes and the frames are as they were
+module _ {t : Table} {a : Areas} {s : List ℕ} {d : ℕ} (st : PathStands t a s d d) (em : Emitted a (lists_part a s)) (h : count (lists_part a s) < a.bound) {k : ℕ} (w : List ℕ) (i : k ≤ d) (e : w ≡ after_pushes a s k) where
+  pub pushing_fits : AreasFit a (length w)
+  pushing_fits = rw (e, pushes_length t a s d st em h k i) st.inputs.fits
+
+  pub pushing_frames : frames_part a w ≡ frames_part a s
+  pushing_frames = ap (frames_part a) e ∙ pushes_frames t a s d st em h k i
+
 -- as many as the area says
 pub emitted_count : (t : Table) (a : Areas) (l : List ℕ) → length (emitted_in t a l) ≡ count l
 unfolding emitted_in
@@ -319,7 +327,7 @@ module _ (t : Table) (a : Areas) (s r1 r2 r3 r4 : List ℕ) (h : Inputs t a s) w
   abbrev s4 : List ℕ
   s4 = placed a.frames (a.totals - a.frames) s3 r4
 
-  module _ (e1 : r1 ≡ replicate (length (totals_part a s)) 0) (e2 : r2 ≡ replicate (length (used_part a s1)) 0) (e3 : r3 ≡ emptied (lists_part a s2)) (e4 : r4 ≡ with_frame (frames_part a s3) 0 a.facets 0 0 0) where
+  module _ (e1 : r1 ≡ replicate (length (totals_part a s)) 0) (e2 : r2 ≡ replicate (length (used_part a s1)) 0) (e3 : r3 ≡ emptied (lists_part a s2)) (e4 : r4 ≡ with_frame (frames_part a s3) 0 a.facets 0 0 None) where
     long_1 : length r1 ≡ a.used - a.totals
     long_1 = let f = h.fits in ap length e1 ∙ (length-replicate (length (totals_part a s)) 0 ∙ part_length a.totals (a.used - a.totals) s (omega arith))
 
@@ -376,22 +384,26 @@ module _ (t : Table) (a : Areas) (s r1 r2 r3 r4 : List ℕ) (h : Inputs t a s) w
     zero_mark : 0 < 65536
     zero_mark = omega arith
 
-    long_4 : length r4 ≡ a.totals - a.frames
-    long_4 = ap length e4 ∙ (frame_length (frames_part a s3) 0 a.facets 0 0 0 first_room few_facets_holds zero_small zero_mark zero_mark ∙ frames_long)
+    no_code : code_of None < 65536
+    unfolding code_of
+    no_code = omega arith
 
-    kind_0 : kind_at r4 0 ≡ 0
-    kind_0 = ap (λ (r : List ℕ). kind_at r 0) e4 ∙ frame_kind (frames_part a s3) 0 a.facets 0 0 0 first_room few_facets_holds zero_small zero_mark zero_mark
+    long_4 : length r4 ≡ a.totals - a.frames
+    long_4 = ap length e4 ∙ (frame_length (frames_part a s3) 0 a.facets 0 0 None first_room few_facets_holds zero_small zero_mark no_code ∙ frames_long)
+
+    kind_0 : kind_at r4 0 ≡ None
+    kind_0 = ap (λ (r : List ℕ). kind_at r 0) e4 ∙ frame_kind (frames_part a s3) 0 a.facets 0 0 None first_room few_facets_holds zero_small zero_mark no_code
 
     place_0 : place_at r4 0 ≡ a.facets
-    place_0 = ap (λ (r : List ℕ). place_at r 0) e4 ∙ frame_place (frames_part a s3) 0 a.facets 0 0 0 first_room few_facets_holds zero_small zero_mark zero_mark
+    place_0 = ap (λ (r : List ℕ). place_at r 0) e4 ∙ frame_place (frames_part a s3) 0 a.facets 0 0 None first_room few_facets_holds zero_small zero_mark no_code
 
-    all_facets_holds : a.facets ≡ length (numbers t 0)
+    all_facets_holds : a.facets ≡ length (numbers t None)
     all_facets_holds = h.holds.facets ∙ sym (numbers_all_length t)
 
     first_path : Path t a r4 1 0
     unfolding sum_at list_to path
     first_path = record {
-      kinds = λ k l. let z : k ≡ 0 = omega arith in rw (z, kind_0) (omega arith);
+      kinds = λ k l. let z : k ≡ 0 = omega arith in rw (z, kind_0) tt;
       places = λ k l. let z : k ≡ 0 = omega arith in rw (z, kind_0, place_0) (omega (arith, all_facets_holds));
       taken = λ k l. absurd (omega arith);
       fresh = λ k l. absurd (omega arith);
@@ -408,9 +420,9 @@ module _ (t : Table) (a : Areas) (s r1 r2 r3 r4 : List ℕ) (h : Inputs t a s) w
     unfolding uses_orbit any_of flag
     no_uses orbit o = let f = h.fits in ap (λ (l : List ℕ). get_or l orbit 0) e2 ∙ get_or-replicate (length (used_part a s1)) orbit 0 0 (let n = part_length a.used (a.lists - a.used) s1 (omega (arith, size_1)) in omega arith)
 
-    first_is : record { list = list_to t (frames_part a s3) 0; mark = 0; ridge = ridge_of 0; low = 0; place = a.facets } ∷ frames_to t (frames_part a s3) 0 ≡ root t ∷ []
-    unfolding root list_to path frames_to ridge_of
-    first_is = rw (all_facets_holds ∙ sym (numbers_length t 0)) refl
+    first_is : record { list = list_to t (frames_part a s3) 0; mark = 0; ridge = None; low = 0; place = a.facets } ∷ frames_to t (frames_part a s3) 0 ≡ root t ∷ []
+    unfolding root list_to path frames_to
+    first_is = rw (all_facets_holds ∙ sym (numbers_length t None)) refl
 
     none_emitted : lists_part a s4 ≡ emptied (lists_part a s2) → base a.bound ≤ length (lists_part a s2) → emitted_in t a (lists_part a s4) ≡ []
     unfolding emitted_in
@@ -431,7 +443,7 @@ module _ (t : Table) (a : Areas) (s r1 r2 r3 r4 : List ℕ) (h : Inputs t a s) w
           };
           frames =
               rw (put_frames a s3 r4 f3 long_4, e4)
-              (frame_frames (frames_part a s3) 0 a.facets 0 0 0 first_room few_facets_holds zero_small zero_mark zero_mark t ∙ first_is);
+              (frame_frames (frames_part a s3) 0 a.facets 0 0 None first_room few_facets_holds zero_small zero_mark no_code t ∙ first_is);
           emitted = rw lists-4 (record {
             sound = emptied_sound 2 a.bound (lists_part a s2) b;
             none = emptied_opened 2 a.bound (lists_part a s2) b;

@@ -18,33 +18,21 @@ pub fn emit(ws: &mut [u8], a: Areas, depth: usize)
     requires { (t : Table) × PathStands t a ws.old depth depth × Emitted a (lists_part a ws.old) × (count (lists_part a ws.old) < a.bound) }
     ensures { ws.new ≡ placed a.lists (a.end - a.lists) ws.old (ended (pushed_all a.bound (lists_part a ws.old) (path (frames_part a ws.old) depth))) }
 {
-    let frames = a.frames;
-    let totals = a.totals;
-    let lists = a.lists;
-    let end = a.end;
-    let mut k = 0;
-    while k < depth {
-        let bound = a.bound;
-        let x = words::get_u16(&ws[frames..totals], 16 * k + 12);
-        pool::push_u16(&mut ws[lists..end], bound, x);
-        k += 1;
+    for k in 0..depth {
+        let x = frames::taken(a.frames(ws), k);
+        pool::push(&mut ws[a.lists..a.end], a.bound, x);
     }
-    pool::end_list(&mut ws[lists..end]);
+    pool::end_list(&mut ws[a.lists..a.end]);
 }
 
 // Nothing is counted, nothing is emitted, and every facet alone is due.
+#[tactic(auto, unfolding(facets::specs::Layout::code_of))]
 pub fn start(ws: &mut [u8], a: Areas)
     requires { (t : Table) × Inputs t a ws.old }
     ensures { (t : Table) → Inputs t a ws.old → Started t a ws.old ws.new }
 {
-    let facets = a.facets;
-    let frames = a.frames;
-    let totals = a.totals;
-    let used = a.used;
-    let lists = a.lists;
-    let end = a.end;
-    words::clear(&mut ws[totals..used]);
-    words::clear(&mut ws[used..lists]);
-    pool::clear(&mut ws[lists..end]);
-    frames::put_frame(&mut ws[frames..totals], 0, facets as u32, 0, 0, 0);
+    ws[a.totals..a.used].fill(0);
+    ws[a.used..a.lists].fill(0);
+    pool::clear(&mut ws[a.lists..a.end]);
+    frames::put_frame(&mut ws[a.frames..a.totals], 0, a.facets as u32, 0, 0, None);
 }

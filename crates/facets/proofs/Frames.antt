@@ -4,7 +4,7 @@ use Rattle.std.proofs.Math.Path.{ap}
 use Rattle.std.proofs.Common.{◌∙◌}
 use Rattle.std.proofs.Math.Bool.{true, false}
 use mathlib.Core.List.{List, [], ◌∷◌, ◌++◌, reverse_aux}
-use Rattle.std.proofs.Math.Option.{some, none}
+use Rattle.std.specs.Prelude.{Some, None}
 use Prim.Native.Nat.{ℕ, suc, ◌<◌}
 use Rattle.std.proofs.Math.ListN.{length}
 use Rattle.definitions.specs.Search.{Table, Facet, Item, closed, open_at, totals, judge, put_in, EntryLimits, limit_reached, emit_if, examine, search}
@@ -18,7 +18,7 @@ module _ (t : Table) (limits : EntryLimits) where
   search_starts budget = ap (λ (l : List Item). examine t limits budget (reverse_aux l []) []) (enter_root t)
 
   pub examine_open : (left : ℕ) (item : Item) (ridge : ℕ) (frames : List Frame) (emitted : List (List Facet)) → judge (totals t item.list) ≡ open_at ridge
-      → examine t limits (suc left) (item ∷ pending t frames) emitted ≡ examine t limits left (pending t (entered t item.list item.mark (some ridge) ∷ frames)) emitted
+      → examine t limits (suc left) (item ∷ pending t frames) emitted ≡ examine t limits left (pending t (entered t item.list item.mark (Some ridge) ∷ frames)) emitted
   unfolding emit_if put_in pending
   examine_open left item ridge frames emitted e =
       judged t limits left item (pending t frames) emitted (open_at ridge) e
@@ -28,7 +28,7 @@ module _ (t : Table) (limits : EntryLimits) where
   pub examine_closed : (left : ℕ) (item : Item) (frames : List Frame) (emitted : List (List Facet)) → judge (totals t item.list) ≡ closed → length emitted < limits.bound
       → limit_reached limits.limit (suc (length emitted)) ≡ false → limits.extended ≡ true
       → examine t limits (suc left) (item ∷ pending t frames) emitted
-      ≡ examine t limits left (pending t (entered t item.list item.mark none ∷ frames)) (emitted ++ (item.list ∷ []))
+      ≡ examine t limits left (pending t (entered t item.list item.mark None ∷ frames)) (emitted ++ (item.list ∷ []))
   unfolding emit_if put_in pending
   examine_closed left item frames emitted e h r x =
       judged t limits left item (pending t frames) emitted closed e

@@ -5,7 +5,7 @@ use Rattle.std.proofs.Math.Path.{refl, ap}
 use Rattle.std.proofs.Common.{sym, ◌∙◌, subst, arith, le→leb, leb→le}
 use Rattle.std.proofs.Math.Bool.{true, false}
 use mathlib.Core.List.{List, [], ◌∷◌, ◌++◌, map, flat_map, reverse_aux, append-nil}
-use Rattle.std.proofs.Math.Option.{Option, some, none}
+use Rattle.std.specs.Prelude.{Option, Some, None}
 use Prim.Native.Nat.{ℕ, zero, suc, ◌+◌, ◌≤◌, ◌<◌}
 use Rattle.std.proofs.Math.ListN.{length, length-append}
 use Rattle.std.proofs.Math.Seq.{take-length}
@@ -19,8 +19,8 @@ use Rattle.facets.specs.Kept.{reverse_last, keep_one, keep_none, keep_and, keep_
 
 -- the facets that a list may be joined by, whatever its mark and its orbits: those with a share 1 at a ridge orbit, once per such share, or all
 unfoldable pub candidates : Table → Option ℕ → List Facet
-candidates t none = all_facets t
-candidates t (some ridge) = flat_map (λ (f : Facet). replicate (ones_at t ridge f) f) (all_facets t)
+candidates t None = all_facets t
+candidates t (Some ridge) = flat_map (λ (f : Facet). replicate (ones_at t ridge f) f) (all_facets t)
 
 unfoldable pub above : ℕ → Facet → Bool
 above mark f = ltb mark f.0
@@ -38,8 +38,8 @@ pub record Frame : Type 0 where
 
 -- at an open list the mark stays, at a closed one it moves
 unfoldable pub mark_of : Option ℕ → ℕ → Facet → ℕ
-mark_of none mark f = f.0
-mark_of (some ridge) mark f = mark
+mark_of None mark f = f.0
+mark_of (Some ridge) mark f = mark
 
 unfoldable pub child : List Facet → ℕ → Option ℕ → Facet → Item
 child list mark ridge f = record { list = list ++ (f ∷ []); mark = mark_of ridge mark f }
@@ -65,7 +65,7 @@ entered t list mark ridge = record { list = list; mark = mark; ridge = ridge; lo
 
 -- the frame of the starts: an empty list, which any facet may join
 unfoldable pub root : Table → Frame
-root t = record { list = []; mark = 0; ridge = none; low = 0; place = length (candidates t none) }
+root t = record { list = []; mark = 0; ridge = None; low = 0; place = length (candidates t None) }
 
 -- the frame with another place
 unfoldable pub moved : Frame → ℕ → Frame
@@ -115,8 +115,8 @@ facets_ascend t =
 
 pub candidates_ascend : (t : Table) (ridge : Option ℕ) → Ascends (candidates t ridge)
 unfolding candidates
-candidates_ascend t none = facets_ascend t
-candidates_ascend t (some ridge) =
+candidates_ascend t None = facets_ascend t
+candidates_ascend t (Some ridge) =
     pairs_flat_map (λ (f g : Facet). f.0 ≤ g.0) (λ (f g : Facet). f.0 ≤ g.0) (λ (f : Facet). replicate (ones_at t ridge f) f) (all_facets t)
     (λ f m. pairs_replicate (λ (x y : Facet). x.0 ≤ y.0) (ones_at t ridge f) f (λ h. omega arith))
     (λ f i g j less u m v n. let a = ap (λ (x : Facet). x.0) (in_replicate (ones_at t ridge f) u f m) in let b = ap (λ (x : Facet). x.0) (in_replicate (ones_at t ridge g) v g n) in omega arith)
@@ -130,20 +130,20 @@ may_join_holds item l h =
     keep_and (λ (f : Facet). ltb item.mark f.0) (λ (f : Facet). not (uses_orbit f.0 item.list)) l
     ∙ ap (keep (λ (f : Facet). not (uses_orbit f.0 item.list))) (keep_above (λ (f : Facet). f.0) item.mark l h)
 
-pub enter_open : (t : Table) (item : Item) (ridge : ℕ) → open_next t item ridge ≡ put_by t (entered t item.list item.mark (some ridge))
+pub enter_open : (t : Table) (item : Item) (ridge : ℕ) → open_next t item ridge ≡ put_by t (entered t item.list item.mark (Some ridge))
 unfolding open_next put_by entered waiting child mark_of candidates low_of joined
 enter_open t item ridge =
     ap (map (joined item item.mark))
     (keep_repeated (may_join item) (ones_at t ridge) (all_facets t)
-    ∙ (may_join_holds item (candidates t (some ridge)) (candidates_ascend t (some ridge))
-    ∙ ap (λ (l : List Facet). keep (unused item.list) (drop (low_of t item.mark (some ridge)) l)) (sym (take-length (candidates t (some ridge))))))
+    ∙ (may_join_holds item (candidates t (Some ridge)) (candidates_ascend t (Some ridge))
+    ∙ ap (λ (l : List Facet). keep (unused item.list) (drop (low_of t item.mark (Some ridge)) l)) (sym (take-length (candidates t (Some ridge))))))
 
-pub enter_closed : (t : Table) (item : Item) → closed_next t item ≡ put_by t (entered t item.list item.mark none)
+pub enter_closed : (t : Table) (item : Item) → closed_next t item ≡ put_by t (entered t item.list item.mark None)
 unfolding closed_next put_by entered waiting child mark_of candidates low_of joined
 enter_closed t item =
     ap (map (λ (f : Facet). joined item f.0 f))
-    (may_join_holds item (candidates t none) (candidates_ascend t none)
-    ∙ ap (λ (l : List Facet). keep (unused item.list) (drop (low_of t item.mark none) l)) (sym (take-length (candidates t none))))
+    (may_join_holds item (candidates t None) (candidates_ascend t None)
+    ∙ ap (λ (l : List Facet). keep (unused item.list) (drop (low_of t item.mark None) l)) (sym (take-length (candidates t None))))
 
 -- an empty list uses no orbit, so that every facet waits
 all_wait : (l : List Facet) → keep (unused []) l ≡ l
@@ -154,7 +154,7 @@ all_wait (f ∷ l) = ap (λ (r : List Facet). f ∷ r) (all_wait l)
 pub enter_root : (t : Table) → starts t ≡ put_by t (root t)
 unfolding starts put_by root waiting child mark_of candidates
 enter_root t =
-    ap (map (λ (f : Facet). child [] 0 none f)) (sym (all_wait (all_facets t)) ∙ ap (keep (unused [])) (sym (take-length (all_facets t))))
+    ap (map (λ (f : Facet). child [] 0 None f)) (sym (all_wait (all_facets t)) ∙ ap (keep (unused [])) (sym (take-length (all_facets t))))
 
 -- ---- the next candidate
 

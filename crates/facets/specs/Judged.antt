@@ -1,45 +1,48 @@
 -- The verdict on totals: the scan from the first total on for one of which none is above 2, and what a verdict says of the totals. Leans on the definition of the search.
-use Rattle.std.specs.Prelude.{◌≡◌, Bool, true, false, cond, not, List, ℕ, suc, ◌+◌, ◌≤◌, ◌<◌, T, ltb, eqb, length, get_or}
+use Rattle.std.specs.Prelude.{◌≡◌, Bool, true, false, cond, not, List, [], ◌∷◌, ℕ, suc, ◌+◌, ◌≤◌, ◌<◌, T, ltb, eqb, ◌==◌, length, get_or, Option, Some, None, MatchOption, position}
+use Rattle.std.specs.List.{position_or_len}
+use Rattle.std.proofs.lemmas.Bool.Decides.{nat_tests}
 use Rattle.std.proofs.Math.Path.{refl}
-use Rattle.std.proofs.Common.{sym, ⊎_elim, arith, T_not, nltb→le, lt→ltb, ltb→lt, eqb→eq}
+use Rattle.std.proofs.Common.{sym, arith, T_not, nltb→le, ltb→lt}
 use Rattle.std.proofs.Math.Dec.{not_T}
 use Rattle.definitions.specs.Lists.{any_of, place_of}
 use Rattle.definitions.specs.Search.{Verdict, over, closed, open_at, judge}
-use Rattle.laws.specs.Merging.{place_is}
-use Rattle.laws.specs.Bools.{holds→true, true→holds, false→fails, fails→false}
+use Rattle.laws.specs.Bools.{true→holds, false→fails, fails→false}
 use Rattle.laws.specs.Lists.{any_of_holds, any_witness, member_at, at_member}
-use Rattle.laws.specs.Segments.{le_or_lt}
 
 -- ---- the scan for the lowest total of 1
-
--- none before a place
-abbrev pub NoneOpen : List ℕ → ℕ → Type 0
-NoneOpen l i = (j : ℕ) → j < i → T (not (eqb 1 (get_or l j 0)))
-
-pub none_next : (l : List ℕ) (i : ℕ) → NoneOpen l i → (get_or l i 0 ≡ 1 → ⊥) → NoneOpen l (i + 1)
-none_next l i before n j h =
-    ⊎_elim (λ k. before j k)
-    (λ k. let e : j ≡ i = omega arith in rw e (not_T (eqb 1 (get_or l i 0)) (λ z. n (sym (eqb→eq 1 (get_or l i 0) z)))))
-    (le_or_lt (suc j) i)
 
 pub judge_over : (l : List ℕ) → true ≡ any_of (ltb 2) l → over ≡ judge l
 unfolding judge
 judge_over l e = rw (sym e) refl
 
+same_one : (x : ℕ) → eqb 1 x ≡ (x == 1)
+same_one x = grind (arith, nat_tests)
+
+-- where the library finds it
+lowest_is : (l : List ℕ) → place_of (eqb 1) l ≡ position_or_len (λ (total : ℕ). total == 1) l
+unfolding place_of
+lowest_is [] = refl
+lowest_is (x ∷ l) = rw (same_one x, lowest_is l) (go (x == 1) (position_or_len (λ (total : ℕ). total == 1) l))
+  where
+    go : (b : Bool) (n : ℕ) → cond b 0 (suc n) ≡ cond (not b) (1 + n) 0
+    go true n = refl
+    go false n = omega arith
+
 module _ (l : List ℕ) (light : false ≡ any_of (ltb 2) l) where
-  judge_lowest : (i : ℕ) → place_of (eqb 1) l ≡ i → (b : Bool) → ltb i (length l) ≡ b → cond b (open_at i) closed ≡ judge l
+  judge_lowest : (r : Option ℕ) → r ≡ position (λ (total : ℕ). total == 1) l → MatchOption r (closed ≡ judge l) (λ (ridge : ℕ). open_at ridge ≡ judge l)
   unfolding judge
-  judge_lowest i e b q = rw (sym light, e, q) refl
+  judge_lowest r e = rw (e, sym light, lowest_is l) (go (ltb (position_or_len (λ (total : ℕ). total == 1) l) (length l)) (position_or_len (λ (total : ℕ). total == 1) l))
+    where
+      go : (b : Bool) (n : ℕ) → MatchOption (cond b (Some n) None) (closed ≡ cond b (open_at n) closed) (λ (ridge : ℕ). open_at ridge ≡ cond b (open_at n) closed)
+      go true n = refl
+      go false n = refl
 
-  pub judge_open : (i : ℕ) → i < length l → NoneOpen l i → get_or l i 0 ≡ 1 → open_at i ≡ judge l
-  judge_open i h before e =
-      judge_lowest i (sym (place_is (eqb 1) 0 l i (omega arith) before (λ k. rw e tt))) true (holds→true (ltb i (length l)) (lt→ltb i (length l) h))
+  pub judge_open : (ridge : ℕ) → Some ridge ≡ position (λ (total : ℕ). total == 1) l → open_at ridge ≡ judge l
+  judge_open ridge e = judge_lowest (Some ridge) e
 
-  pub judge_closed : (i : ℕ) → length l ≤ i → NoneOpen l i → closed ≡ judge l
-  judge_closed i h before =
-      let n = length l in
-      judge_lowest n (sym (place_is (eqb 1) 0 l n (omega arith) (λ j k. before j (omega arith)) (λ k. absurd (omega arith)))) false
-      (fails→false (ltb n n) (not_T (ltb n n) (λ z. let k = ltb→lt n n z in omega arith)))
+  pub judge_closed : None ≡ position (λ (total : ℕ). total == 1) l → closed ≡ judge l
+  judge_closed e = judge_lowest None e
 
 -- ---- what a verdict says of the totals
 

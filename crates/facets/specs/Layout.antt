@@ -1,9 +1,9 @@
 -- The workspace of a search: what its areas hold. The tables come first (each facet's orbit; what it adds, as one list for each facet; the facets with shares of 1, as one list for
 -- each ridge orbit), then the frames, the totals, the orbits in use, and the emitted lists. Facets are counted from 0 in the order of `all_facets`. Leans on Sums, Words and Pool.
 use Rattle.std.specs.Prelude.{◌≡◌, Bool, true, false, cond, ◌||◌, ℕ, zero, suc, ◌+◌, ◌-◌, ◌*◌, ◌/◌, ◌%◌, ◌≤◌, ◌<◌, ltb, eqb, length, get_or, set, take, replicate}
-use Rattle.std.proofs.Common.{sym, ap, ◌∙◌, arith}
+use Rattle.std.proofs.Common.{refl, sym, ap, ◌∙◌, arith}
 use mathlib.Core.List.{List, [], ◌∷◌, map, flat_map}
-use Rattle.std.proofs.Math.Option.{Option, some, none}
+use Rattle.std.specs.Prelude.{Option, Some, None, IfSome, SomeIff}
 use Rattle.definitions.specs.Lists.{count_from}
 use Rattle.definitions.specs.Job.{number_at}
 use Rattle.definitions.specs.Search as def
@@ -31,14 +31,41 @@ facet_of t x = get_or (all_facets t) x (0, 0)
 unfoldable pub ones_of : Table → ℕ → List ℕ
 ones_of t ridge = flat_map (λ (x : ℕ). replicate (ones_at t ridge (facet_of t x)) x) (count_from 0 (length (all_facets t)))
 
--- the candidates of a list: of a closedLists one all facets, of one that is open those with shares of 1. The kind is 0, or one more than the ridge orbit
-unfoldable pub numbers : Table → ℕ → List ℕ
-numbers t zero = count_from 0 (length (all_facets t))
-numbers t (suc ridge) = ones_of t ridge
+-- the candidates of a list: of a closed one all facets, of one that is open those with shares of 1. The kind is the ridge orbit at which it is open, if any
+unfoldable pub numbers : Table → Option ℕ → List ℕ
+numbers t None = count_from 0 (length (all_facets t))
+numbers t (Some ridge) = ones_of t ridge
 
+-- that ridge orbit is one of the table
+abbrev pub KindIn : Areas → Option ℕ → Type 0
+KindIn a kind = IfSome kind (λ (ridge : ℕ). ridge < a.ridges)
+
+-- a kind in bytes: 0, or one more than the ridge orbit
 unfoldable pub ridge_of : ℕ → Option ℕ
-ridge_of zero = none
-ridge_of (suc ridge) = some ridge
+ridge_of zero = None
+ridge_of (suc ridge) = Some ridge
+
+unfoldable pub code_of : Option ℕ → ℕ
+code_of None = 0
+code_of (Some ridge) = suc ridge
+
+-- one is taken from the number, where it is not 0
+pub ridge_below : (r : Option ℕ) (code : ℕ) → SomeIff r (1 ≤ code) (code - 1) → r ≡ ridge_of code
+unfolding ridge_of
+ridge_below None zero h = refl
+ridge_below None (suc ridge) h = absurd (h (omega arith))
+ridge_below (Some x) zero h = absurd (let k = h.0 in omega arith)
+ridge_below (Some x) (suc ridge) h = ap Some (let e = h.1 in omega arith)
+
+pub ridge_of_code : (kind : Option ℕ) → ridge_of (code_of kind) ≡ kind
+unfolding ridge_of code_of
+ridge_of_code None = refl
+ridge_of_code (Some ridge) = refl
+
+pub code_small : (a : Areas) (kind : Option ℕ) → KindIn a kind → code_of kind ≤ a.ridges
+unfolding code_of
+code_small a None h = omega arith
+code_small a (Some ridge) h = omega arith
 
 -- ---- the tables
 

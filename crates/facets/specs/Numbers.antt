@@ -1,9 +1,9 @@
 -- Facets by their numbers: the candidates of a list, read from the tables. Leans on Layout and on the laws of words and pools.
-use Rattle.std.specs.Prelude.{◌≡◌, length}
+use Rattle.std.specs.Prelude.{◌≡◌, length, Option, Some, None}
 use Rattle.std.proofs.Math.Path.{refl, sym, ap}
 use Rattle.std.proofs.Common.{◌∙◌, ext_get_or}
 use mathlib.Core.List.{List, [], ◌∷◌, ◌++◌, map, flat_map, map-append}
-use Prim.Native.Nat.{ℕ, zero, suc, ◌+◌, ◌-◌, ◌*◌, ◌≤◌, ◌<◌}
+use Prim.Native.Nat.{ℕ, zero, suc, ◌+◌, ◌*◌, ◌≤◌, ◌<◌}
 use native.Mathlib.Omega.{arith}
 use Rattle.std.proofs.Math.ListN.{get_or, replicate}
 use Rattle.std.proofs.lemmas.List.{length-map}
@@ -16,7 +16,7 @@ use Rattle.words.specs.Words.{get_d_words}
 use Rattle.pool.specs.Pool.{count, closed_lists, length_at, place_at, closed_length, list_length, list_item, item_inside}
 use Rattle.facets.specs.declared.Areas.{Areas}
 use Rattle.facets.specs.Frames.{candidates}
-use Rattle.facets.specs.Layout.{Inputs, numbers, ridge_of, facet_of, ones_of, ones_part}
+use Rattle.facets.specs.Layout.{Inputs, KindIn, numbers, facet_of, ones_of, ones_part}
 
 -- ---- the candidates and their numbers
 
@@ -42,18 +42,18 @@ module _ {A B : Type 0} where
       ∙ (ap (λ (r : List B). r ++ map f (flat_map (λ (y : A). replicate (n (f y)) y) l)) (map_replicate f (n (f x)) x)
       ∙ ap (λ (r : List B). replicate (n (f x)) (f x) ++ r) (map_repeated f n l))
 
-pub numbers_are : (t : Table) (kind : ℕ) → map (facet_of t) (numbers t kind) ≡ candidates t (ridge_of kind)
-unfolding numbers candidates ridge_of ones_of
-numbers_are t zero = all_numbers t
-numbers_are t (suc ridge) =
+pub numbers_are : (t : Table) (kind : Option ℕ) → map (facet_of t) (numbers t kind) ≡ candidates t kind
+unfolding numbers candidates ones_of
+numbers_are t None = all_numbers t
+numbers_are t (Some ridge) =
     map_repeated (facet_of t) (ones_at t ridge) (count_from 0 (length (all_facets t))) ∙ ap (flat_map (λ (f : Facet). replicate (ones_at t ridge f) f)) (all_numbers t)
 
 -- of all facets the one at a place has that number
-pub numbers_all : (t : Table) (i : ℕ) → i < length (numbers t 0) → get_or (numbers t 0) i 0 ≡ i
+pub numbers_all : (t : Table) (i : ℕ) → i < length (numbers t None) → get_or (numbers t None) i 0 ≡ i
 unfolding numbers
 numbers_all t i h = let c = count_length 0 (length (all_facets t)) in count_at 0 (length (all_facets t)) i 0 (omega arith) ∙ omega arith
 
-pub numbers_all_length : (t : Table) → length (numbers t 0) ≡ length (all_facets t)
+pub numbers_all_length : (t : Table) → length (numbers t None) ≡ length (all_facets t)
 unfolding numbers
 numbers_all_length t = count_length 0 (length (all_facets t))
 
@@ -75,31 +75,27 @@ module _ (t : Table) (a : Areas) (s : List ℕ) (h : Inputs t a s) where
   ones_length : (ridge : ℕ) → ridge < a.ridges → length_at (ones_part a s) ridge ≡ length (ones_of t ridge)
   ones_length ridge k = sym (list_length 2 a.ridges (ones_part a s) h.holds.ones_sound ridge (omega (arith, ones_count))) ∙ ap length (ones_list ridge k)
 
-  pub kind_length : (kind : ℕ) → 0 < kind → kind ≤ a.ridges → length_at (ones_part a s) (kind - 1) ≡ length (numbers t kind)
+  pub kind_length : (ridge : ℕ) → ridge < a.ridges → length_at (ones_part a s) ridge ≡ length (numbers t (Some ridge))
   unfolding numbers
-  kind_length zero z k = absurd (omega arith)
-  kind_length (suc ridge) z k = let e : suc ridge - 1 ≡ ridge = omega arith in rw e (ones_length ridge k)
+  kind_length ridge k = ones_length ridge k
 
   -- where the item at a place lies
-  pub kind_room : (kind i : ℕ) → 0 < kind → kind ≤ a.ridges → i < length (numbers t kind)
-      → (12 + 4 * (kind - 1) ≤ length (ones_part a s)) × (place_at 2 a.ridges (ones_part a s) (kind - 1) i + 2 ≤ length (ones_part a s))
+  pub kind_room : (ridge i : ℕ) → ridge < a.ridges → i < length (numbers t (Some ridge))
+      → (12 + 4 * ridge ≤ length (ones_part a s)) × (place_at 2 a.ridges (ones_part a s) ridge i + 2 ≤ length (ones_part a s))
   unfolding place_at
-  kind_room kind i z k l =
-      let e = kind_length kind z k in
-      let n = item_inside 2 a.ridges (ones_part a s) h.holds.ones_sound (kind - 1) (omega (arith, ones_count)) i (omega arith) in
+  kind_room ridge i k l =
+      let e = kind_length ridge k in
+      let n = item_inside 2 a.ridges (ones_part a s) h.holds.ones_sound ridge (omega (arith, ones_count)) i (omega arith) in
       let f = h.holds.ones_sound.fits in
       (omega arith, omega arith)
 
-  pub kind_item : (kind i : ℕ) → 0 < kind → kind ≤ a.ridges → i < length (numbers t kind)
-      → number_at (ones_part a s) (place_at 2 a.ridges (ones_part a s) (kind - 1) i) 2 ≡ get_or (numbers t kind) i 0
+  pub kind_item : (ridge i : ℕ) → ridge < a.ridges → i < length (numbers t (Some ridge))
+      → number_at (ones_part a s) (place_at 2 a.ridges (ones_part a s) ridge i) 2 ≡ get_or (numbers t (Some ridge)) i 0
   unfolding numbers
-  kind_item zero i z k l = absurd (omega arith)
-  kind_item (suc ridge) i z k l =
-      let e : suc ridge - 1 ≡ ridge = omega arith in
+  kind_item ridge i k l =
       let n = ones_length ridge k in
-      rw e
-      (sym (list_item 2 a.ridges (ones_part a s) h.holds.ones_sound ridge (omega (arith, ones_count)) i (omega arith))
-      ∙ ap (λ (r : List ℕ). get_or r i 0) (ones_list ridge k))
+      sym (list_item 2 a.ridges (ones_part a s) h.holds.ones_sound ridge (omega (arith, ones_count)) i (omega arith))
+      ∙ ap (λ (r : List ℕ). get_or r i 0) (ones_list ridge k)
 
   pub orbit_is : (x : ℕ) → x < a.facets → number_at s (2 * x) 2 ≡ (facet_of t x).0
   unfolding facet_of
@@ -118,17 +114,16 @@ facet_small t a s x h k =
     omega arith
 
 -- the bytes say how many candidates there are, whichever table they hold
-pub same_length : (t u : Table) (a : Areas) (s : List ℕ) → Inputs t a s → Inputs u a s → (kind : ℕ) → kind ≤ a.ridges → length (numbers t kind) ≡ length (numbers u kind)
-same_length t u a s h k zero l = numbers_all_length t ∙ (sym h.holds.facets ∙ (k.holds.facets ∙ sym (numbers_all_length u)))
-same_length t u a s h k (suc ridge) l = sym (kind_length t a s h (suc ridge) (omega arith) l) ∙ kind_length u a s k (suc ridge) (omega arith) l
+pub same_length : (t u : Table) (a : Areas) (s : List ℕ) → Inputs t a s → Inputs u a s → (kind : Option ℕ) → KindIn a kind → length (numbers t kind) ≡ length (numbers u kind)
+same_length t u a s h k None l = numbers_all_length t ∙ (sym h.holds.facets ∙ (k.holds.facets ∙ sym (numbers_all_length u)))
+same_length t u a s h k (Some ridge) l = sym (kind_length t a s h ridge l) ∙ kind_length u a s k ridge l
 
 -- a place fits four bytes
-pub numbers_few : (t : Table) (a : Areas) (s : List ℕ) → Inputs t a s → (kind : ℕ) → kind ≤ a.ridges → length (numbers t kind) < 4294967296
+pub numbers_few : (t : Table) (a : Areas) (s : List ℕ) → Inputs t a s → (kind : Option ℕ) → KindIn a kind → length (numbers t kind) < 4294967296
 unfolding length_at
-numbers_few t a s h zero l = let e = numbers_all_length t in let f = h.holds.facets in let g = h.fits.few_facets in omega arith
-numbers_few t a s h (suc ridge) l =
-    let z : suc ridge - 1 ≡ ridge = omega arith in
-    let e = rw z at (kind_length t a s h (suc ridge) (omega arith) l) in
+numbers_few t a s h None l = let e = numbers_all_length t in let f = h.holds.facets in let g = h.fits.few_facets in omega arith
+numbers_few t a s h (Some ridge) l =
+    let e = kind_length t a s h ridge l in
     let b = h.holds.ones_sound.below (ridge + 1) (omega (arith, ones_count t a s h)) in
     let m = h.holds.ones_sound.small in
     omega arith

@@ -4,10 +4,10 @@
 
 #![tactic(auto)]
 
-ghost use Rattle.std.specs.Prelude.{◌≡◌, ◌<◌, length, ltb};
+ghost use Rattle.std.specs.Prelude.{◌≡◌, ◌<◌, ◌==◌, length, ltb, position};
 ghost use Rattle.definitions.specs.Lists.{any_of};
 ghost use Rattle.definitions.specs.Search.{judge};
-ghost use Rattle.facets.specs.Layout.{verdict};
+ghost use Rattle.facets.specs.Layout.{AreasFit, verdict, touched_part, ones_part, frames_part};
 
 // The verdict on a list, the open case with its ridge orbit.
 #[derive(Clone, Copy)]
@@ -33,6 +33,40 @@ pub struct Areas {
     pub end: usize,
 }
 
+// The areas that are read. An area that is written is a range of the workspace where it is written: for a slice cut out of a `&mut` slice no clause is proved that says what the whole ends as.
+impl Areas {
+    // What each facet adds, one list for each facet.
+    pub fn touched(self, ws: &[u8]) -> &[u8]
+        requires { AreasFit self (length ws.now) }
+        ensures { result.now ≡ touched_part self ws.now }
+    {
+        &ws[self.touched..self.ones]
+    }
+
+    // The facets with shares of 1, one list for each ridge orbit.
+    pub fn ones(self, ws: &[u8]) -> &[u8]
+        requires { AreasFit self (length ws.now) }
+        ensures { result.now ≡ ones_part self ws.now }
+    {
+        &ws[self.ones..self.frames]
+    }
+
+    // The frames of the path.
+    pub fn frames(self, ws: &[u8]) -> &[u8]
+        requires { AreasFit self (length ws.now) }
+        ensures { result.now ≡ frames_part self ws.now }
+    {
+        &ws[self.frames..self.totals]
+    }
+}
+
+// The lowest ridge orbit whose total is 1, if any is.
+fn lowest(totals: &[u8]) -> Option<usize>
+    ensures { result ≡ position (λ total. total == 1) totals.now }
+{
+    totals.iter().position(|total| *total == 1)
+}
+
 // The verdict from the totals and from whether one is above 2: then over, else open at the lowest total of 1, else closed. The scan ends at that total.
 pub fn judge_totals(totals: &[u8], over: bool) -> Verdict
     requires { (length totals.now < 65536) × (over ≡ any_of (ltb 2) totals.now) }
@@ -41,13 +75,8 @@ pub fn judge_totals(totals: &[u8], over: bool) -> Verdict
     if over {
         return Verdict::Over;
     }
-    let n = totals.len();
-    let mut i = 0;
-    while i < n {
-        if totals[i] == 1 {
-            return Verdict::Open(i as u16);
-        }
-        i += 1;
+    match lowest(totals) {
+        Some(ridge) => Verdict::Open(ridge as u16),
+        None => Verdict::Closed,
     }
-    Verdict::Closed
 }

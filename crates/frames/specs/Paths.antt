@@ -1,5 +1,5 @@
 -- The frames of a path in bytes: what they stand for, with the totals and the orbits in use, and the emitted lists. Leans on the tables' layout and on Pool.
-use Rattle.std.specs.Prelude.{◌≡◌, List, [], ◌∷◌, ◌++◌, map, ℕ, zero, suc, ◌+◌, ◌-◌, ◌*◌, ◌≤◌, ◌<◌, T, length, get_or}
+use Rattle.std.specs.Prelude.{◌≡◌, Option, List, [], ◌∷◌, ◌++◌, map, ℕ, zero, suc, ◌+◌, ◌-◌, ◌*◌, ◌≤◌, ◌<◌, T, length, get_or}
 use Rattle.definitions.specs.Job.{number_at}
 use Rattle.definitions.specs.Search.{Table, Facet, Item}
 use Rattle.words.specs.Words.{put}
@@ -7,7 +7,7 @@ use Rattle.pool.specs.Pool.{Sound, count, used, closed_lists, opened, pushed}
 use Rattle.facets.specs.Frames.{Frame, unused, mark_of}
 use Rattle.facets.specs.Sums.{sum_at}
 use Rattle.facets.specs.declared.Areas.{Areas}
-use Rattle.facets.specs.Layout.{Inputs, Totals, Uses, facet_of, frames_part, numbers, ridge_of, totals_part, used_part}
+use Rattle.facets.specs.Layout.{Inputs, Totals, Uses, facet_of, frames_part, KindIn, numbers, ridge_of, code_of, totals_part, used_part}
 
 -- ---- the frames: 16 bytes for each depth. The place (4 bytes), the lowest place (4), the mark (2), the kind (2), the facet taken (2)
 
@@ -20,8 +20,8 @@ low_at p k = number_at p (16 * k + 4) 4
 unfoldable pub mark_at : List ℕ → ℕ → ℕ
 mark_at p k = number_at p (16 * k + 8) 2
 
-unfoldable pub kind_at : List ℕ → ℕ → ℕ
-kind_at p k = number_at p (16 * k + 10) 2
+unfoldable pub kind_at : List ℕ → ℕ → Option ℕ
+kind_at p k = ridge_of (number_at p (16 * k + 10) 2)
 
 unfoldable pub taken_at : List ℕ → ℕ → ℕ
 taken_at p k = number_at p (16 * k + 12) 2
@@ -35,7 +35,7 @@ unfoldable pub list_to : Table → List ℕ → ℕ → List Facet
 list_to t p k = map (facet_of t) (path p k)
 
 unfoldable pub frame_at : Table → List ℕ → ℕ → Frame
-frame_at t p k = record { list = list_to t p k; mark = mark_at p k; ridge = ridge_of (kind_at p k); low = low_at p k; place = place_at p k }
+frame_at t p k = record { list = list_to t p k; mark = mark_at p k; ridge = kind_at p k; low = low_at p k; place = place_at p k }
 
 unfoldable pub frames_to : Table → List ℕ → ℕ → List Frame
 frames_to t p zero = []
@@ -43,7 +43,7 @@ frames_to t p (suc k) = frame_at t p k ∷ frames_to t p k
 
 -- d frames of lists that are not over, of which the first m have taken a facet whose orbit was not in use
 pub record Path (t : Table) (a : Areas) (p : List ℕ) (d m : ℕ) : Type 0 where
-  pub kinds : (k : ℕ) → k < d → kind_at p k ≤ a.ridges
+  pub kinds : (k : ℕ) → k < d → KindIn a (kind_at p k)
   pub places : (k : ℕ) → k < d → place_at p k ≤ length (numbers t (kind_at p k))
   pub taken : (k : ℕ) → k < m → taken_at p k < a.facets
   pub fresh : (k : ℕ) → k < m → T (unused (list_to t p k) (facet_of t (taken_at p k)))
@@ -60,7 +60,7 @@ pub record PathStands (t : Table) (a : Areas) (s : List ℕ) (d m : ℕ) : Type 
 
 -- the mark of the list of k + 1 facets
 unfoldable pub mark_after : Table → List ℕ → ℕ → ℕ
-mark_after t p k = mark_of (ridge_of (kind_at p k)) (mark_at p k) (facet_of t (taken_at p k))
+mark_after t p k = mark_of (kind_at p k) (mark_at p k) (facet_of t (taken_at p k))
 
 -- the list of the first k facets with its mark
 unfoldable pub item_at : Table → List ℕ → ℕ → Item
@@ -70,8 +70,8 @@ item_at t p k = record { list = list_to t p k; mark = mark_after t p (k - 1) }
 unfoldable pub with_place : List ℕ → ℕ → ℕ → ℕ → List ℕ
 with_place p k place x = put 2 (put 4 p (16 * k) place) (16 * k + 12) x
 
-unfoldable pub with_frame : List ℕ → ℕ → ℕ → ℕ → ℕ → ℕ → List ℕ
-with_frame p k place low mark kind = put 2 (put 2 (put 4 (put 4 p (16 * k) place) (16 * k + 4) low) (16 * k + 8) mark) (16 * k + 10) kind
+unfoldable pub with_frame : List ℕ → ℕ → ℕ → ℕ → ℕ → Option ℕ → List ℕ
+with_frame p k place low mark kind = put 2 (put 2 (put 4 (put 4 p (16 * k) place) (16 * k + 4) low) (16 * k + 8) mark) (16 * k + 10) (code_of kind)
 
 -- ---- the emitted lists
 

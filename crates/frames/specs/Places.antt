@@ -1,5 +1,5 @@
 -- The frames' bytes: a place taken or a frame written at one depth, and what the frames below stand for. Leans on Layout and Words.
-use Rattle.std.specs.Prelude.{◌≡◌, ◌⊎◌, List, ◌∷◌, map, length}
+use Rattle.std.specs.Prelude.{◌≡◌, Option, ◌⊎◌, List, ◌∷◌, map, length}
 use Rattle.std.proofs.Math.Path.{refl, ap}
 use Rattle.std.proofs.Common.{sym, ◌∙◌}
 use Rattle.std.proofs.Math.Logic.{inl, inr}
@@ -9,7 +9,7 @@ use Rattle.definitions.specs.Job.{number_at}
 use Rattle.definitions.specs.Search.{Table}
 use Rattle.words.specs.Words.{put, put_length, number_at_put, number_at_put_off}
 use Rattle.facets.specs.Frames.{moved}
-use Rattle.facets.specs.Layout.{facet_of, ridge_of}
+use Rattle.facets.specs.Layout.{facet_of, ridge_of, code_of, ridge_of_code}
 use Rattle.frames.specs.Paths.{path, list_to, frame_at, frames_to, place_at, low_at, mark_at, kind_at, taken_at, with_place, with_frame}
 
 -- the first k frames are the same, byte for byte
@@ -25,7 +25,7 @@ module _ (p q : List ℕ) (k : ℕ) (b : SameFrames p q k) where
 
   pub same_kind : (j : ℕ) → j < k → kind_at q j ≡ kind_at p j
   unfolding kind_at
-  same_kind j h = b j 10 2 h (omega arith)
+  same_kind j h = ap ridge_of (b j 10 2 h (omega arith))
 
   pub same_places : (j : ℕ) → j < k → place_at q j ≡ place_at p j
   same_places j h = same_place j h
@@ -90,7 +90,7 @@ module _ (p : List ℕ) (k place x : ℕ) (room : 16 * k + 16 ≤ length p) (sma
 
   pub place_kind : kind_at q k ≡ kind_at p k
   unfolding kind_at
-  place_kind = beside (16 * k + 10) 2 (inr (omega arith)) (inl (omega arith))
+  place_kind = ap ridge_of (beside (16 * k + 10) 2 (inr (omega arith)) (inl (omega arith)))
 
   pub place_mark : mark_at q k ≡ mark_at p k
   unfolding mark_at
@@ -110,7 +110,7 @@ module _ (p : List ℕ) (k place x : ℕ) (room : 16 * k + 16 ≤ length p) (sma
 
 -- ---- a frame written
 
-module _ (p : List ℕ) (k place low mark kind : ℕ) (room : 16 * k + 16 ≤ length p) (a : place < 4294967296) (b : low < 4294967296) (c : mark < 65536) (d : kind < 65536) where
+module _ (p : List ℕ) (k place low mark : ℕ) (kind : Option ℕ) (room : 16 * k + 16 ≤ length p) (a : place < 4294967296) (b : low < 4294967296) (c : mark < 65536) (d : code_of kind < 65536) where
   abbrev r : List ℕ
   r = with_frame p k place low mark kind
 
@@ -134,36 +134,36 @@ module _ (p : List ℕ) (k place low mark kind : ℕ) (room : 16 * k + 16 ≤ le
 
   pub frame_length : length r ≡ length p
   unfolding with_frame
-  frame_length = put_length 2 r3 (16 * k + 10) kind ∙ long_3
+  frame_length = put_length 2 r3 (16 * k + 10) (code_of kind) ∙ long_3
 
   pub frame_below : SameFrames p r k
   unfolding with_frame
   frame_below j o w h l =
-      number_at_put_off 2 r3 (16 * k + 10) kind (16 * j + o) w (inl (omega arith))
+      number_at_put_off 2 r3 (16 * k + 10) (code_of kind) (16 * j + o) w (inl (omega arith))
       ∙ (number_at_put_off 2 r2 (16 * k + 8) mark (16 * j + o) w (inl (omega arith))
       ∙ (number_at_put_off 4 r1 (16 * k + 4) low (16 * j + o) w (inl (omega arith)) ∙ number_at_put_off 4 p (16 * k) place (16 * j + o) w (inl (omega arith))))
 
   pub frame_place : place_at r k ≡ place
   unfolding with_frame place_at
   frame_place =
-      number_at_put_off 2 r3 (16 * k + 10) kind (16 * k) 4 (inl (omega arith))
+      number_at_put_off 2 r3 (16 * k + 10) (code_of kind) (16 * k) 4 (inl (omega arith))
       ∙ (number_at_put_off 2 r2 (16 * k + 8) mark (16 * k) 4 (inl (omega arith))
       ∙ (number_at_put_off 4 r1 (16 * k + 4) low (16 * k) 4 (inl (omega arith)) ∙ number_at_put 4 p (16 * k) place (omega arith) a))
 
   frame_low : low_at r k ≡ low
   unfolding with_frame low_at
   frame_low =
-      number_at_put_off 2 r3 (16 * k + 10) kind (16 * k + 4) 4 (inl (omega arith))
+      number_at_put_off 2 r3 (16 * k + 10) (code_of kind) (16 * k + 4) 4 (inl (omega arith))
       ∙ (number_at_put_off 2 r2 (16 * k + 8) mark (16 * k + 4) 4 (inl (omega arith)) ∙ number_at_put 4 r1 (16 * k + 4) low (omega (arith, long_1)) b)
 
   frame_mark : mark_at r k ≡ mark
   unfolding with_frame mark_at
-  frame_mark = number_at_put_off 2 r3 (16 * k + 10) kind (16 * k + 8) 2 (inl (omega arith)) ∙ number_at_put 2 r2 (16 * k + 8) mark (omega (arith, long_2)) c
+  frame_mark = number_at_put_off 2 r3 (16 * k + 10) (code_of kind) (16 * k + 8) 2 (inl (omega arith)) ∙ number_at_put 2 r2 (16 * k + 8) mark (omega (arith, long_2)) c
 
   pub frame_kind : kind_at r k ≡ kind
   unfolding with_frame kind_at
-  frame_kind = number_at_put 2 r3 (16 * k + 10) kind (omega (arith, long_3)) d
+  frame_kind = ap ridge_of (number_at_put 2 r3 (16 * k + 10) (code_of kind) (omega (arith, long_3)) d) ∙ ridge_of_code kind
 
-  pub frame_frames : (t : Table) → frames_to t r (suc k) ≡ record { list = list_to t p k; mark = mark; ridge = ridge_of kind; low = low; place = place } ∷ frames_to t p k
+  pub frame_frames : (t : Table) → frames_to t r (suc k) ≡ record { list = list_to t p k; mark = mark; ridge = kind; low = low; place = place } ∷ frames_to t p k
   unfolding frames_to frame_at
   frame_frames t = rw (same_list p r k frame_below t k (omega arith), frame_mark, frame_kind, frame_low, frame_place, same_frames p r k frame_below t k (omega arith)) refl

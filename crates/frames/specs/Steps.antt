@@ -1,16 +1,16 @@
 -- The steps of the search on the workspace: the next candidate, a list examined, the last facet withdrawn, a list entered. Leans on PathStands and Places.
-use Rattle.std.specs.Prelude.{◌≡◌, refl, ◌⊎◌, Bool, true, false, cond, ◌||◌, ltb, length, get_or, take}
-use Rattle.std.proofs.Common.{sym, ◌∙◌, inl, inr, ⊎_elim, add-one, ltb→lt, lt→ltb, nltb→le}
+use Rattle.std.specs.Prelude.{◌≡◌, refl, ◌⊎◌, Bool, ◌||◌, ltb, length, get_or, take}
+use Rattle.std.proofs.Common.{sym, ◌∙◌, inl, inr, ⊎_elim, add-one}
 use Rattle.std.proofs.Math.Path.{ap}
 use Rattle.std.proofs.Math.Bool.{not}
 use mathlib.Core.List.{List, [], ◌∷◌, ◌++◌}
-use Rattle.std.proofs.Math.Option.{Option}
+use Rattle.std.specs.Prelude.{Option, Some, None}
 use Prim.Native.Nat.{ℕ, zero, suc, ◌+◌, ◌-◌, ◌*◌, ◌≤◌, ◌<◌}
 use native.Mathlib.Omega.{arith}
 use Rattle.std.proofs.Math.Dec.{T}
 use Rattle.definitions.specs.Lists.{any_of, keep, count_from}
 use Rattle.definitions.specs.Search.{Table, Facet, uses_orbit, judge}
-use Rattle.laws.specs.Bools.{true→holds, holds→true, false→fails, not_not}
+use Rattle.laws.specs.Bools.{not_not}
 use Rattle.laws.specs.Lists.{keep_less, in_count, count_length, keep_few}
 use Rattle.laws.specs.Segments.{placed, part_length, placed_length, part_placed, take_placed, part_placed_off, le_or_lt}
 use Rattle.completeness.specs.Walk.{unused_before, uses_last}
@@ -18,11 +18,11 @@ use Rattle.facets.specs.declared.Areas.{Areas}
 use Rattle.facets.specs.declared.Verdict.{Verdict}
 use Rattle.facets.specs.Frames.{Frame, candidates, unused, waiting, mark_of, child, moved, entered, low_of}
 use Rattle.facets.specs.Sums.{sum_at}
-use Rattle.facets.specs.Layout.{verdict, Inputs, AreasFit, holds_kept, facet_of, numbers, ridge_of, codes, touched_part, totals_part, used_part, frames_part, lists_part, lifted, with_facet, without_facet}
+use Rattle.facets.specs.Layout.{verdict, Inputs, AreasFit, holds_kept, facet_of, KindIn, numbers, code_of, codes, touched_part, totals_part, used_part, frames_part, lists_part, lifted, with_facet, without_facet}
 use Rattle.frames.specs.Paths.{list_to, frame_at, frames_to, place_at, low_at, mark_at, kind_at, taken_at, mark_after, item_at, with_place, with_frame, Path, PathStands}
 use Rattle.facets.specs.Numbers.{numbers_few, facet_small}
 use Rattle.facets.proofs.Numbers.{numbers_length, numbers_small, candidate_at}
-use Rattle.candidates.specs.Latest.{Latest, latest_none, latest_found, latest_is, last_free, not_below_holds}
+use Rattle.candidates.specs.Latest.{Latest, LatestAt, latest_is, last_free}
 use Rattle.facets.specs.Judged.{none_over}
 use Rattle.totals.specs.Change.{over_after, change_frames, change_tables, change_totals, change_lists}
 use Rattle.frames.specs.Stands.{list_last, last_inside, totals_light, stands_join, stands_leave}
@@ -56,26 +56,25 @@ module _ (t : Table) (a : Areas) (s : List ℕ) (h : Inputs t a s) (p : List ℕ
 
 -- ---- the next candidate
 
--- the candidate below a place of a frame
+-- the candidate at a place of a frame
 unfoldable pub candidate_of : Table → Frame → ℕ → Facet
-candidate_of t fr place = get_or (candidates t fr.ridge) (place - 1) (0, 0)
+candidate_of t fr place = get_or (candidates t fr.ridge) place (0, 0)
 
-pub record Next (t : Table) (fr : Frame) (r : ℕ) : Type 0 where
-  pub none : r ≡ 0 → waiting t fr.list fr.ridge fr.low fr.place ≡ []
-  pub inside : r ≤ fr.place
-  pub free : 0 < r → T (unused fr.list (candidate_of t fr r))
-  pub found : 0 < r → waiting t fr.list fr.ridge fr.low fr.place ≡ waiting t fr.list fr.ridge fr.low (r - 1) ++ (candidate_of t fr r ∷ [])
+-- the candidate at a place is the next one
+pub record NextAt (t : Table) (fr : Frame) (place : ℕ) : Type 0 where
+  pub inside : place < fr.place
+  pub free : T (unused fr.list (candidate_of t fr place))
+  pub found : waiting t fr.list fr.ridge fr.low fr.place ≡ waiting t fr.list fr.ridge fr.low place ++ (candidate_of t fr place ∷ [])
 
--- one more than the place of the next candidate, or 0
-unfoldable pub next_place : Table → Frame → ℕ
-next_place t fr = let r = last_free t fr.list fr.ridge fr.low fr.place in cond (ltb fr.low r) r 0
+-- the place of the next candidate, if any is left
+unfoldable pub next_place : Table → Frame → Option ℕ
+next_place t fr = last_free t fr.list fr.ridge fr.low fr.place
 
 -- a next candidate is there
 pub record CandidateDue (t : Table) (a : Areas) (s : List ℕ) (d place : ℕ) : Type 0 where
   pub stands : PathStands t a s d (d - 1)
   pub deep : 0 < d
-  pub positive : 0 < place
-  pub inside : place ≤ place_at (frames_part a s) (d - 1)
+  pub inside : place < place_at (frames_part a s) (d - 1)
   pub free : T (unused (list_to t (frames_part a s) (d - 1)) (candidate_of t (frame_at t (frames_part a s) (d - 1)) place))
 
 -- no total above 2
@@ -89,8 +88,8 @@ same_light t u a s d at au light ridge below = omega (arith, light ridge below, 
 -- a list was examined
 pub record Visited (t : Table) (a : Areas) (s s' : List ℕ) (d place : ℕ) (v : Verdict) : Type 0 where
   pub stands : PathStands t a s' d d
-  pub frames : frames_to t (frames_part a s') d ≡ moved (frame_at t (frames_part a s) (d - 1)) (place - 1) ∷ frames_to t (frames_part a s) (d - 1)
-  pub item : child (list_to t (frames_part a s) (d - 1)) (mark_at (frames_part a s) (d - 1)) (ridge_of (kind_at (frames_part a s) (d - 1))) (candidate_of t (frame_at t (frames_part a s) (d - 1)) place)
+  pub frames : frames_to t (frames_part a s') d ≡ moved (frame_at t (frames_part a s) (d - 1)) place ∷ frames_to t (frames_part a s) (d - 1)
+  pub item : child (list_to t (frames_part a s) (d - 1)) (mark_at (frames_part a s) (d - 1)) (kind_at (frames_part a s) (d - 1)) (candidate_of t (frame_at t (frames_part a s) (d - 1)) place)
       ≡ item_at t (frames_part a s') d
   pub judged : verdict v ≡ judge (totals_part a s')
   pub lists : lists_part a s' ≡ lists_part a s
@@ -102,9 +101,9 @@ pub record Withdrawn (t : Table) (a : Areas) (s s' : List ℕ) (d : ℕ) : Type 
   pub lists : lists_part a s' ≡ lists_part a s
   pub tables : take a.frames s' ≡ take a.frames s
 
-pub record Entered (t : Table) (a : Areas) (s s' : List ℕ) (d kind : ℕ) : Type 0 where
+pub record Entered (t : Table) (a : Areas) (s s' : List ℕ) (d : ℕ) (kind : Option ℕ) : Type 0 where
   pub stands : PathStands t a s' (d + 1) d
-  pub frames : frames_to t (frames_part a s') (d + 1) ≡ entered t (list_to t (frames_part a s) d) (mark_after t (frames_part a s) (d - 1)) (ridge_of kind) ∷ frames_to t (frames_part a s) d
+  pub frames : frames_to t (frames_part a s') (d + 1) ≡ entered t (list_to t (frames_part a s) d) (mark_after t (frames_part a s) (d - 1)) kind ∷ frames_to t (frames_part a s) d
   pub lists : lists_part a s' ≡ lists_part a s
   pub tables : take a.frames s' ≡ take a.frames s
 
@@ -119,6 +118,10 @@ module _ (t : Table) (a : Areas) (s : List ℕ) (d m : ℕ) (st : PathStands t a
       let f = st.inputs.fits in
       let n = path_short t a s st.inputs (frames_part a s) d m st.frames in
       omega (arith, frames_length)
+
+-- the room of one frame, for tactics that find the rest
+pub frame_room_at : {t : Table} {a : Areas} {s : List ℕ} {d m : ℕ} → PathStands t a s d m → (k : ℕ) → k ≤ m → 16 * k + 16 ≤ length (frames_part a s)
+frame_room_at {t} {a} {s} {d} {m} st k h = frame_room_holds t a s d m st k h
 
 -- ---- the frames replaced
 
@@ -149,63 +152,29 @@ module _ (a : Areas) (s q : List ℕ) (f : AreasFit a (length s)) (l : length q 
 
 -- ---- the next candidate
 
-pub next_found : (t : Table) (fr : Frame) (r : ℕ) → r ≡ last_free t fr.list fr.ridge fr.low fr.place → fr.low < r → r ≡ next_place t fr
-unfolding next_place
-next_found t fr r e h = rw (← e, holds→true (ltb fr.low r) (lt→ltb fr.low r h)) refl
+module _ (t : Table) (a : Areas) (s : List ℕ) (d : ℕ) (st : PathStands t a s d (d - 1)) (deep : 0 < d) where
+  abbrev deepest : Frame
+  deepest = frame_at t (frames_part a s) (d - 1)
 
-pub next_none : (t : Table) (fr : Frame) (r : ℕ) → r ≡ last_free t fr.list fr.ridge fr.low fr.place → r ≤ fr.low → 0 ≡ next_place t fr
-unfolding next_place
-next_none t fr r e h = rw (← e, not_below_holds fr.low r h) refl
+  latest : Latest t deepest.list deepest.ridge deepest.low deepest.place (next_place t deepest)
+  unfolding frame_at next_place
+  latest =
+      let p = frames_part a s in
+      let n = numbers_length t (kind_at p (d - 1)) in
+      let q = st.frames.places (d - 1) (omega arith) in
+      latest_is t (list_to t p (d - 1)) (kind_at p (d - 1)) (low_at p (d - 1)) (place_at p (d - 1)) (omega arith)
 
-pub next_holds : (t : Table) (a : Areas) (s : List ℕ) (d r : ℕ) → PathStands t a s d (d - 1) → 0 < d → r ≡ next_place t (frame_at t (frames_part a s) (d - 1)) → Next t (frame_at t (frames_part a s) (d - 1)) r
-unfolding frame_at next_place candidate_of
-next_holds t a s d r st h e = rw e (go (ltb low last) refl)
-  where
-    p : List ℕ
-    p = frames_part a s
+  pub next_none : (r : Option ℕ) → r ≡ next_place t (frame_at t (frames_part a s) (d - 1)) → r ≡ None → waiting t deepest.list deepest.ridge deepest.low deepest.place ≡ []
+  unfolding Latest
+  next_none r e f = rw (sym e ∙ f) at latest
 
-    list : List Facet
-    list = list_to t p (d - 1)
-
-    ridge : Option ℕ
-    ridge = ridge_of (kind_at p (d - 1))
-
-    low : ℕ
-    low = low_at p (d - 1)
-
-    place : ℕ
-    place = place_at p (d - 1)
-
-    last : ℕ
-    last = last_free t list ridge low place
-
-    inside : place ≤ length (candidates t ridge)
-    inside = let n = numbers_length t (kind_at p (d - 1)) in let q = st.frames.places (d - 1) (omega arith) in omega arith
-
-    latest : Latest t list ridge low place last
-    latest = latest_is t list ridge low place inside
-
-    go : (b : Bool) → ltb low last ≡ b → Next t (frame_at t p (d - 1)) (cond b last 0)
-    go true q =
-        let k = ltb→lt low last (true→holds q) in
-        record {
-          none = λ z. absurd (omega arith);
-          inside = latest.within;
-          free = λ z. latest.free k;
-          found = λ z. latest_found t list ridge low place last latest k inside;
-        }
-    go false q =
-        let k = nltb→le low last (false→fails q) in
-        record {
-          none = λ z. latest_none t list ridge low place last latest k;
-          inside = omega arith;
-          free = λ z. absurd (omega arith);
-          found = λ z. absurd (omega arith);
-        }
+  pub next_found : (r : Option ℕ) (place : ℕ) → r ≡ next_place t (frame_at t (frames_part a s) (d - 1)) → r ≡ Some place → NextAt t (frame_at t (frames_part a s) (d - 1)) place
+  unfolding Latest candidate_of
+  next_found r place e f = let w : LatestAt t deepest.list deepest.ridge deepest.low deepest.place place = rw (sym e ∙ f) at latest in record { inside = w.below; free = w.free; found = w.last }
 
 -- ---- a place taken
 
-module _ (t : Table) (a : Areas) (s : List ℕ) (d place x : ℕ) (ok : CandidateDue t a s d place) (is : x ≡ get_or (numbers t (kind_at (frames_part a s) (d - 1))) (place - 1) 0) where
+module _ (t : Table) (a : Areas) (s : List ℕ) (d place x : ℕ) (ok : CandidateDue t a s d place) (is : x ≡ get_or (numbers t (kind_at (frames_part a s) (d - 1))) place 0) where
   abbrev p : List ℕ
   p = frames_part a s
 
@@ -213,7 +182,7 @@ module _ (t : Table) (a : Areas) (s : List ℕ) (d place x : ℕ) (ok : Candidat
   k = d - 1
 
   abbrev q : List ℕ
-  q = with_place p k (place - 1) x
+  q = with_place p k place x
 
   abbrev s1 : List ℕ
   s1 = placed a.frames (a.totals - a.frames) s q
@@ -221,16 +190,16 @@ module _ (t : Table) (a : Areas) (s : List ℕ) (d place x : ℕ) (ok : Candidat
   again : suc k ≡ d
   again = let h = ok.deep in omega arith
 
-  pub place_inside : place - 1 < length (numbers t (kind_at p k))
-  place_inside = let h = ok.deep in let i = ok.positive in let j = ok.inside in let n = ok.stands.frames.places k (omega arith) in omega arith
+  pub place_inside : place < length (numbers t (kind_at p k))
+  place_inside = let h = ok.deep in let j = ok.inside in let n = ok.stands.frames.places k (omega arith) in omega arith
 
-  pub kind_inside : kind_at p k ≤ a.ridges
+  pub kind_inside : KindIn a (kind_at p k)
   kind_inside = let h = ok.deep in ok.stands.frames.kinds k (omega arith)
 
   pub taken_small : x < a.facets
-  taken_small = let n = numbers_small t (kind_at p k) (place - 1) place_inside in let e = ok.stands.inputs.holds.facets in omega (arith, is)
+  taken_small = let n = numbers_small t (kind_at p k) place place_inside in let e = ok.stands.inputs.holds.facets in omega (arith, is)
 
-  pub place_small : place - 1 < 4294967296
+  pub place_small : place < 4294967296
   place_small = let n = numbers_few t a s ok.stands.inputs (kind_at p k) kind_inside in omega (arith, place_inside)
 
   pub number_small : x < 65536
@@ -241,19 +210,19 @@ module _ (t : Table) (a : Areas) (s : List ℕ) (d place x : ℕ) (ok : Candidat
 
   pub candidate_is : candidate_of t (frame_at t p k) place ≡ facet_of t x
   unfolding candidate_of frame_at
-  candidate_is = candidate_at t (kind_at p k) (place - 1) place_inside ∙ ap (facet_of t) (sym is)
+  candidate_is = candidate_at t (kind_at p k) place place_inside ∙ ap (facet_of t) (sym is)
 
   pub long : length q ≡ a.totals - a.frames
-  long = place_length p k (place - 1) x room place_small number_small ∙ frames_length t a s d k ok.stands
+  long = place_length p k place x room place_small number_small ∙ frames_length t a s d k ok.stands
 
   frames_are : frames_part a s1 ≡ q
   frames_are = put_frames a s q ok.stands.inputs.fits long
 
   below : SameFrames p q k
-  below = place_below p k (place - 1) x room place_small number_small
+  below = place_below p k place x room place_small number_small
 
   taken_is : taken_at q k ≡ x
-  taken_is = place_taken p k (place - 1) x room place_small number_small
+  taken_is = place_taken p k place x room place_small number_small
 
   at_or_below : (j : ℕ) → j < d → (j < k) ⊎ (j ≡ k)
   at_or_below j h = ⊎_elim (λ l. inl l) (λ l. inr (let e = again in omega arith)) (le_or_lt (suc j) k)
@@ -262,10 +231,10 @@ module _ (t : Table) (a : Areas) (s : List ℕ) (d place x : ℕ) (ok : Candidat
   path_placed =
       let fr = ok.stands.frames in
       record {
-        kinds = λ j h. ⊎_elim (λ l. rw (same_kind p q k below j l) (fr.kinds j h)) (λ (e : j ≡ k). rw (e, place_kind p k (place - 1) x room place_small number_small) kind_inside) (at_or_below j h);
+        kinds = λ j h. ⊎_elim (λ l. rw (same_kind p q k below j l) (fr.kinds j h)) (λ (e : j ≡ k). rw (e, place_kind p k place x room place_small number_small) kind_inside) (at_or_below j h);
         places = λ j h. ⊎_elim
             (λ l. rw (same_kind p q k below j l, same_places p q k below j l) (fr.places j h))
-            (λ (e : j ≡ k). rw (e, place_kind p k (place - 1) x room place_small number_small, place_is p k (place - 1) x room place_small number_small) (let n = place_inside in omega arith)) (at_or_below j h);
+            (λ (e : j ≡ k). rw (e, place_kind p k place x room place_small number_small, place_is p k place x room place_small number_small) (let n = place_inside in omega arith)) (at_or_below j h);
         taken = λ j h. rw (same_taken p q k below j h) (fr.taken j h);
         fresh = λ j h. rw (same_taken p q k below j h, same_list p q k below t j (omega arith)) (fr.fresh j h);
         light = λ j h ridge r. rw (same_list p q k below t j (let e = again in omega arith)) (fr.light j h ridge r);
@@ -316,11 +285,11 @@ module _ (t : Table) (a : Areas) (s : List ℕ) (d place x : ℕ) (ok : Candidat
       let z = again in
       record {
         stands = rw again at (stands_join t a s1 d k x stands_placed (omega arith) (rw frames_are taken_is) taken_small free);
-        frames = rw same_frames_2 (ap (frames_to t q) (sym again) ∙ place_frames p k (place - 1) x room place_small number_small t);
+        frames = rw same_frames_2 (ap (frames_to t q) (sym again) ∙ place_frames p k place x room place_small number_small t);
         item =
             rw (same_frames_2, candidate_is)
-            (rw (place_kind p k (place - 1) x room place_small number_small, place_mark p k (place - 1) x room place_small number_small, taken_is)
-            (ap (λ (l : List Facet). record { list = l; mark = mark_of (ridge_of (kind_at p k)) (mark_at p k) (facet_of t x) })
+            (rw (place_kind p k place x room place_small number_small, place_mark p k place x room place_small number_small, taken_is)
+            (ap (λ (l : List Facet). record { list = l; mark = mark_of (kind_at p k) (mark_at p k) (facet_of t x) })
             (sym (ap (list_to t q) (sym again) ∙ (list_last t q k ∙ rw (taken_is, same_list p q k below t k (omega arith)) refl)))));
         judged = e;
         lists = change_lists ◌+◌ a s1 stands_placed.inputs.fits x 1 taken_small ∙ put_lists a s q ok.stands.inputs.fits long;
@@ -343,8 +312,8 @@ withdrawn t a s d x st h e =
 
 -- ---- a list entered
 
-module _ (t : Table) (a : Areas) (s : List ℕ) (d place low mark kind : ℕ) (st : PathStands t a s d d) (light : Light t a (list_to t (frames_part a s) d)) (deep : 0 < d) (inside : kind ≤ a.ridges)
-    (places : place ≡ length (numbers t kind)) (lows : low ≡ low_of t mark (ridge_of kind)) (marks : mark ≡ mark_after t (frames_part a s) (d - 1)) (a1 : place < 4294967296) (a2 : low < 4294967296) (a3 : mark < 65536) (a4 : kind < 65536) where
+module _ (t : Table) (a : Areas) (s : List ℕ) (d place low mark : ℕ) (kind : Option ℕ) (st : PathStands t a s d d) (light : Light t a (list_to t (frames_part a s) d)) (deep : 0 < d) (inside : KindIn a kind)
+    (places : place ≡ length (numbers t kind)) (lows : low ≡ low_of t mark kind) (marks : mark ≡ mark_after t (frames_part a s) (d - 1)) (a1 : place < 4294967296) (a2 : low < 4294967296) (a3 : mark < 65536) (a4 : code_of kind < 65536) where
   abbrev p' : List ℕ
   p' = frames_part a s
 
@@ -405,14 +374,10 @@ module _ (t : Table) (a : Areas) (s : List ℕ) (d place low mark kind : ℕ) (s
 
 -- ---- the mark, by the kind of the frame
 
-pub mark_closed : (t : Table) (p : List ℕ) (k : ℕ) → kind_at p k ≡ 0 → mark_after t p k ≡ (facet_of t (taken_at p k)).0
-unfolding mark_after mark_of ridge_of
+pub mark_closed : (t : Table) (p : List ℕ) (k : ℕ) → kind_at p k ≡ None → mark_after t p k ≡ (facet_of t (taken_at p k)).0
+unfolding mark_after mark_of
 mark_closed t p k e = rw e refl
 
-pub mark_open : (t : Table) (p : List ℕ) (k : ℕ) → (kind_at p k ≡ 0 → ⊥) → mark_after t p k ≡ mark_at p k
-unfolding mark_after mark_of ridge_of
-mark_open t p k n = go (kind_at p k) n
-  where
-    go : (kind : ℕ) → (kind ≡ 0 → ⊥) → mark_of (ridge_of kind) (mark_at p k) (facet_of t (taken_at p k)) ≡ mark_at p k
-    go zero n = absurd (n refl)
-    go (suc ridge) n = refl
+pub mark_open : (t : Table) (p : List ℕ) (k ridge : ℕ) → kind_at p k ≡ Some ridge → mark_after t p k ≡ mark_at p k
+unfolding mark_after mark_of
+mark_open t p k ridge e = rw e refl

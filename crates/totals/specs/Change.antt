@@ -368,3 +368,9 @@ module _ (by : ℕ → ℕ → ℕ) (a : Areas) (s : List ℕ) (f : AreasFit a (
       let l = part_length a.used (a.lists - a.used) s1 (omega (arith, length_1)) in
       sym (set_mid_at a.used (a.lists - a.used) orbit s1 v (omega arith))
       ∙ ap (λ (o : ℕ). placed a.used (a.lists - a.used) s1 (set (used_part a s1) o v)) e
+
+-- ---- the sizes while the codes are counted, and the orbit's place
+
+module _ {t : Table} (by : ℕ → ℕ → ℕ) {a : Areas} {s : List ℕ} (x i : ℕ) (h : Inputs t a s) (k : x < a.facets) (w : List ℕ) (e : w ≡ after_codes by a s x i) where
+  pub codes_fit : AreasFit a (length w)
+  codes_fit = rw (code_length t by a s h x k w i e) h.fits

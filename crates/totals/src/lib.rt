@@ -8,6 +8,7 @@ ghost use Rattle.definitions.specs.Search.{Table};
 ghost use Rattle.facets.specs.Layout.{Inputs, totals_part, touched_part, codes, amount_in, lifted, with_facet, without_facet};
 
 use facets::Areas;
+use words::Word;
 
 // A facet joins the list: what it adds is counted, and its orbit is in use. Says whether it lifts a total above 2.
 pub fn join(ws: &mut [u8], a: Areas, x: usize) -> bool
@@ -15,24 +16,18 @@ pub fn join(ws: &mut [u8], a: Areas, x: usize) -> bool
     ensures counts { ws.new ≡ with_facet a ws.old x }
     ensures lifts { result ≡ lifted (totals_part a ws.old) (codes a (touched_part a ws.old) x) }
 {
-    let facets = a.facets;
-    let touched = a.touched;
-    let ones = a.ones;
-    let totals = a.totals;
-    let n = pool::list_length(&ws[touched..ones], x) as usize;
+    let n = pool::list_length(a.touched(ws), x) as usize;
     let mut over = false;
-    let mut i = 0;
-    while i < n {
-        let code = pool::item_u16(&ws[touched..ones], facets, x, i) as usize;
-        let at = totals + code / 4;
+    for i in 0..n {
+        let codes = a.touched(ws);
+        let code = pool::item::<u16>(codes, a.facets, x, i) as usize;
+        let at = a.totals + code / 4;
         let sum = ws[at] + (code % 4) as u8;
         ws[at] = sum;
         over = over | (2 < sum);
-        i += 1;
     }
-    let used = a.used;
-    let orbit = words::get_u16(ws, 2 * x) as usize;
-    ws[used + orbit] = 1;
+    let orbit = u16::get(ws, 2 * x) as usize;
+    ws[a.used + orbit] = 1;
     over
 }
 
@@ -41,19 +36,13 @@ pub fn leave(ws: &mut [u8], a: Areas, x: usize)
     requires { (t : Table) × Inputs t a ws.old × (x < a.facets) × ((ridge : ℕ) → ridge < a.ridges → amount_in ridge (codes a (touched_part a ws.old) x) ≤ get_or (totals_part a ws.old) ridge 0) }
     ensures { ws.new ≡ without_facet a ws.old x }
 {
-    let facets = a.facets;
-    let touched = a.touched;
-    let ones = a.ones;
-    let totals = a.totals;
-    let n = pool::list_length(&ws[touched..ones], x) as usize;
-    let mut i = 0;
-    while i < n {
-        let code = pool::item_u16(&ws[touched..ones], facets, x, i) as usize;
-        let at = totals + code / 4;
+    let n = pool::list_length(a.touched(ws), x) as usize;
+    for i in 0..n {
+        let codes = a.touched(ws);
+        let code = pool::item::<u16>(codes, a.facets, x, i) as usize;
+        let at = a.totals + code / 4;
         ws[at] = ws[at] - (code % 4) as u8;
-        i += 1;
     }
-    let used = a.used;
-    let orbit = words::get_u16(ws, 2 * x) as usize;
-    ws[used + orbit] = 0;
+    let orbit = u16::get(ws, 2 * x) as usize;
+    ws[a.used + orbit] = 0;
 }

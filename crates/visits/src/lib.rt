@@ -18,22 +18,17 @@ pub struct State {
     pub left: u32,
 }
 
-// One more than the place of the next candidate in the deepest frame, or 0 if none is left.
-pub fn next(ws: &[u8], a: Areas, depth: usize) -> usize
+// The place of the next candidate in the deepest frame, if any is left.
+pub fn next(ws: &[u8], a: Areas, depth: usize) -> Option<usize>
     requires { (t : Table) × PathStands t a ws.now depth (depth - 1) × (0 < depth) }
     ensures { (t : Table) → PathStands t a ws.now depth (depth - 1) → result ≡ next_place t (frame_at t (frames_part a ws.now) (depth - 1)) }
 {
-    let frames = a.frames;
-    let totals = a.totals;
-    let at = 16 * (depth - 1);
-    let place = words::get_u32(&ws[frames..totals], at) as usize;
-    let low = words::get_u32(&ws[frames..totals], at + 4) as usize;
-    let kind = words::get_u16(&ws[frames..totals], at + 10) as usize;
-    let r = candidates::latest(ws, a, kind, low, place);
-    if r <= low {
-        return 0;
-    }
-    r
+    let k = depth - 1;
+    let frames = a.frames(ws);
+    let kind = frames::kind(frames, k);
+    let low = frames::low(frames, k);
+    let place = frames::place(frames, k);
+    candidates::latest(ws, a, kind, low, place)
 }
 
 // The next candidate is taken, and the list that it makes is judged.
@@ -41,24 +36,15 @@ pub fn visit(ws: &mut [u8], a: Areas, s: State, place: usize) -> State
     requires { (t : Table) × CandidateDue t a ws.old s.depth place × (0 < s.left) }
     ensures { (result.depth ≡ s.depth) × (result.left ≡ s.left - 1) × ((t : Table) → CandidateDue t a ws.old s.depth place → Visited t a ws.old ws.new s.depth place result.verdict) }
 {
-    let depth = s.depth;
-    let left = s.left;
-    let frames = a.frames;
-    let totals = a.totals;
-    let used = a.used;
-    let kind = words::get_u16(&ws[frames..totals], 16 * (depth - 1) + 10) as usize;
-    let x = candidates::candidate(ws, a, kind, place - 1);
-    frames::take_place(
-        &mut ws[frames..totals],
-        depth - 1,
-        (place - 1) as u32,
-        x as u16,
-    );
+    let k = s.depth - 1;
+    let kind = frames::kind(a.frames(ws), k);
+    let x = candidates::candidate(ws, a, kind, place);
+    frames::take_place(&mut ws[a.frames..a.totals], k, place as u32, x as u16);
     let over = totals::join(ws, a, x);
-    let v = facets::judge_totals(&ws[totals..used], over);
+    let verdict = facets::judge_totals(&ws[a.totals..a.used], over);
     State {
-        verdict: v,
-        depth: depth,
-        left: left - 1,
+        verdict,
+        left: s.left - 1,
+        ..s
     }
 }

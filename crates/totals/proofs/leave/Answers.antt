@@ -5,72 +5,69 @@ use lib.ListN.{set, length-set}
 use Rattle.definitions.specs.Job.{number_at}
 use Rattle.facets.specs.Layout.{facet_of, with_totals, without_facet}
 use Rattle.facets.specs.Numbers.{orbit_is, facet_small}
-use Rattle.totals.specs.Change.{codes_none, touched_room_holds, touched_length, code_length, code_place, code_is, code_next, code_total, code_end, take_fits, here_is, change_use}
+use Rattle.totals.specs.Change.{codes_none, codes_fit, touched_room_holds, touched_length, code_length, code_place, code_is, code_next, code_total, code_end, take_fits, here_is, change_use}
 use Rattle.totals.proofs.leave.Goals as goal
 
 pub list_length-n-requires : goal.list_length-n-requires
-list_length-n-requires c = touched_room_holds c.requires.0 c.args.a c.args.ws.now c.requires.1 c.args.x c.requires.2
+list_length-n-requires c = rw c.touched.ensures (touched_room_holds c.requires.0 c.args.a c.args.ws.now c.requires.1 c.args.x c.requires.2)
 
 pub loop-i-init : goal.loop-i-init
 loop-i-init c = (omega arith, codes_none ◌-◌ c.args.a c.args.ws.now c.requires.1.fits c.args.x)
 
-pub slice_bounds-item_u16-start : goal.slice_bounds-item_u16-start
-slice_bounds-item_u16-start c = let l = c.loop-i in let n = touched_length c.requires.0 c.args.a c.args.ws.now c.requires.1 c.args.x c.requires.2 in let m = c.list_length-n.ensures in let q = code_length c.requires.0 ◌-◌ c.args.a c.args.ws.now c.requires.1 c.args.x c.requires.2 l.ws l.i l.invariant.1 in let f = c.requires.1.fits in omega arith
+pub touched-codes-requires : goal.touched-codes-requires
+touched-codes-requires c = codes_fit ◌-◌ c.args.x c.loop-i.i c.requires.1 c.requires.2 c.loop-i.ws c.loop-i.invariant.1
 
-pub slice_bounds-item_u16-end : goal.slice_bounds-item_u16-end
-slice_bounds-item_u16-end c = let l = c.loop-i in let n = touched_length c.requires.0 c.args.a c.args.ws.now c.requires.1 c.args.x c.requires.2 in let m = c.list_length-n.ensures in let q = code_length c.requires.0 ◌-◌ c.args.a c.args.ws.now c.requires.1 c.args.x c.requires.2 l.ws l.i l.invariant.1 in let f = c.requires.1.fits in omega arith
-
-pub item_u16-code-requires : goal.item_u16-code-requires
-item_u16-code-requires c = let l = c.loop-i in let n = touched_length c.requires.0 c.args.a c.args.ws.now c.requires.1 c.args.x c.requires.2 in let m = c.list_length-n.ensures in let q = code_length c.requires.0 ◌-◌ c.args.a c.args.ws.now c.requires.1 c.args.x c.requires.2 l.ws l.i l.invariant.1 in let f = c.requires.1.fits in code_place c.requires.0 ◌-◌ c.args.a c.args.ws.now c.requires.1 c.args.x c.requires.2 l.ws l.i l.invariant.1 (omega arith)
+pub item-code-requires : goal.item-code-requires
+item-code-requires c = let l = c.loop-i in let n = touched_length c.requires.0 c.args.a c.args.ws.now c.requires.1 c.args.x c.requires.2 in let m = rw c.touched.ensures at c.list_length-n.ensures in let q = code_length c.requires.0 ◌-◌ c.args.a c.args.ws.now c.requires.1 c.args.x c.requires.2 l.ws l.i l.invariant.1 in let f = c.requires.1.fits in rw c.touched-codes.ensures (code_place c.requires.0 ◌-◌ c.args.a c.args.ws.now c.requires.1 c.args.x c.requires.2 l.ws l.i l.invariant.1 (omega arith))
 
 pub overflow_add-at : goal.overflow_add-at
-overflow_add-at c = let l = c.loop-i in let n = touched_length c.requires.0 c.args.a c.args.ws.now c.requires.1 c.args.x c.requires.2 in let m = c.list_length-n.ensures in let q = code_length c.requires.0 ◌-◌ c.args.a c.args.ws.now c.requires.1 c.args.x c.requires.2 l.ws l.i l.invariant.1 in let f = c.requires.1.fits in
-    let w = code_is c.requires.0 ◌-◌ c.args.a c.args.ws.now c.requires.1 c.args.x c.requires.2 l.ws l.i l.invariant.1 (omega arith) in let e = c.item_u16-code.ensures ∙ w in let z = c.requires.1.holds.within c.args.x c.requires.2 l.i (omega arith) in omega arith
+overflow_add-at c = let l = c.loop-i in let n = touched_length c.requires.0 c.args.a c.args.ws.now c.requires.1 c.args.x c.requires.2 in let m = rw c.touched.ensures at c.list_length-n.ensures in let q = code_length c.requires.0 ◌-◌ c.args.a c.args.ws.now c.requires.1 c.args.x c.requires.2 l.ws l.i l.invariant.1 in let f = c.requires.1.fits in
+    let w = code_is c.requires.0 ◌-◌ c.args.a c.args.ws.now c.requires.1 c.args.x c.requires.2 l.ws l.i l.invariant.1 (omega arith) in let e = rw c.touched-codes.ensures at c.item-code.ensures ∙ w in let z = c.requires.1.holds.within c.args.x c.requires.2 l.i (omega arith) in omega arith
 
 pub bounds-ws-at : goal.bounds-ws-at
-bounds-ws-at c = let l = c.loop-i in let n = touched_length c.requires.0 c.args.a c.args.ws.now c.requires.1 c.args.x c.requires.2 in let m = c.list_length-n.ensures in let q = code_length c.requires.0 ◌-◌ c.args.a c.args.ws.now c.requires.1 c.args.x c.requires.2 l.ws l.i l.invariant.1 in let f = c.requires.1.fits in
-    let w = code_is c.requires.0 ◌-◌ c.args.a c.args.ws.now c.requires.1 c.args.x c.requires.2 l.ws l.i l.invariant.1 (omega arith) in let e = c.item_u16-code.ensures ∙ w in let z = c.requires.1.holds.within c.args.x c.requires.2 l.i (omega arith) in omega arith
+bounds-ws-at c = let l = c.loop-i in let n = touched_length c.requires.0 c.args.a c.args.ws.now c.requires.1 c.args.x c.requires.2 in let m = rw c.touched.ensures at c.list_length-n.ensures in let q = code_length c.requires.0 ◌-◌ c.args.a c.args.ws.now c.requires.1 c.args.x c.requires.2 l.ws l.i l.invariant.1 in let f = c.requires.1.fits in
+    let w = code_is c.requires.0 ◌-◌ c.args.a c.args.ws.now c.requires.1 c.args.x c.requires.2 l.ws l.i l.invariant.1 (omega arith) in let e = rw c.touched-codes.ensures at c.item-code.ensures ∙ w in let z = c.requires.1.holds.within c.args.x c.requires.2 l.i (omega arith) in omega arith
 
 pub overflow_sub-ws : goal.overflow_sub-ws
-overflow_sub-ws c = let l = c.loop-i in let n = touched_length c.requires.0 c.args.a c.args.ws.now c.requires.1 c.args.x c.requires.2 in let m = c.list_length-n.ensures in let q = code_length c.requires.0 ◌-◌ c.args.a c.args.ws.now c.requires.1 c.args.x c.requires.2 l.ws l.i l.invariant.1 in let f = c.requires.1.fits in
-    let w = code_is c.requires.0 ◌-◌ c.args.a c.args.ws.now c.requires.1 c.args.x c.requires.2 l.ws l.i l.invariant.1 (omega arith) in let e = c.item_u16-code.ensures ∙ w in let z = c.requires.1.holds.within c.args.x c.requires.2 l.i (omega arith) in let g = code_total c.requires.0 ◌-◌ c.args.a c.args.ws.now c.requires.1 c.args.x c.requires.2 l.ws l.i l.invariant.1 c.item_u16-code.result (omega arith) e in let y = take_fits c.requires.0 c.args.a c.args.ws.now c.requires.1 c.args.x c.requires.2 l.i (omega arith) (c.requires.3 _ z) in rw (g, e) y
+overflow_sub-ws c = let l = c.loop-i in let n = touched_length c.requires.0 c.args.a c.args.ws.now c.requires.1 c.args.x c.requires.2 in let m = rw c.touched.ensures at c.list_length-n.ensures in let q = code_length c.requires.0 ◌-◌ c.args.a c.args.ws.now c.requires.1 c.args.x c.requires.2 l.ws l.i l.invariant.1 in let f = c.requires.1.fits in
+    let w = code_is c.requires.0 ◌-◌ c.args.a c.args.ws.now c.requires.1 c.args.x c.requires.2 l.ws l.i l.invariant.1 (omega arith) in let e = rw c.touched-codes.ensures at c.item-code.ensures ∙ w in let z = c.requires.1.holds.within c.args.x c.requires.2 l.i (omega arith) in let g = code_total c.requires.0 ◌-◌ c.args.a c.args.ws.now c.requires.1 c.args.x c.requires.2 l.ws l.i l.invariant.1 c.item-code.result (omega arith) e in let y = take_fits c.requires.0 c.args.a c.args.ws.now c.requires.1 c.args.x c.requires.2 l.i (omega arith) (c.requires.3 _ z) in rw (g, e) y
 
 pub bounds-ws-at-in-loop-i : goal.bounds-ws-at-in-loop-i
-bounds-ws-at-in-loop-i c = let l = c.loop-i in let n = touched_length c.requires.0 c.args.a c.args.ws.now c.requires.1 c.args.x c.requires.2 in let m = c.list_length-n.ensures in let q = code_length c.requires.0 ◌-◌ c.args.a c.args.ws.now c.requires.1 c.args.x c.requires.2 l.ws l.i l.invariant.1 in let f = c.requires.1.fits in
-    let w = code_is c.requires.0 ◌-◌ c.args.a c.args.ws.now c.requires.1 c.args.x c.requires.2 l.ws l.i l.invariant.1 (omega arith) in let e = c.item_u16-code.ensures ∙ w in let z = c.requires.1.holds.within c.args.x c.requires.2 l.i (omega arith) in omega arith
+bounds-ws-at-in-loop-i c = let l = c.loop-i in let n = touched_length c.requires.0 c.args.a c.args.ws.now c.requires.1 c.args.x c.requires.2 in let m = rw c.touched.ensures at c.list_length-n.ensures in let q = code_length c.requires.0 ◌-◌ c.args.a c.args.ws.now c.requires.1 c.args.x c.requires.2 l.ws l.i l.invariant.1 in let f = c.requires.1.fits in
+    let w = code_is c.requires.0 ◌-◌ c.args.a c.args.ws.now c.requires.1 c.args.x c.requires.2 l.ws l.i l.invariant.1 (omega arith) in let e = rw c.touched-codes.ensures at c.item-code.ensures ∙ w in let z = c.requires.1.holds.within c.args.x c.requires.2 l.i (omega arith) in omega arith
 
 pub loop-i-preserved : goal.loop-i-preserved
-loop-i-preserved c = let l = c.loop-i in let n = touched_length c.requires.0 c.args.a c.args.ws.now c.requires.1 c.args.x c.requires.2 in let m = c.list_length-n.ensures in let q = code_length c.requires.0 ◌-◌ c.args.a c.args.ws.now c.requires.1 c.args.x c.requires.2 l.ws l.i l.invariant.1 in let f = c.requires.1.fits in
-    let w = code_is c.requires.0 ◌-◌ c.args.a c.args.ws.now c.requires.1 c.args.x c.requires.2 l.ws l.i l.invariant.1 (omega arith) in let e = c.item_u16-code.ensures ∙ w in let z = c.requires.1.holds.within c.args.x c.requires.2 l.i (omega arith) in (omega arith, code_next c.requires.0 ◌-◌ c.args.a c.args.ws.now c.requires.1 c.args.x c.requires.2 l.ws l.i l.invariant.1 c.item_u16-code.result _ (omega arith) e refl)
+loop-i-preserved c = let l = c.loop-i in let n = touched_length c.requires.0 c.args.a c.args.ws.now c.requires.1 c.args.x c.requires.2 in let m = rw c.touched.ensures at c.list_length-n.ensures in let q = code_length c.requires.0 ◌-◌ c.args.a c.args.ws.now c.requires.1 c.args.x c.requires.2 l.ws l.i l.invariant.1 in let f = c.requires.1.fits in
+    let w = code_is c.requires.0 ◌-◌ c.args.a c.args.ws.now c.requires.1 c.args.x c.requires.2 l.ws l.i l.invariant.1 (omega arith) in let e = rw c.touched-codes.ensures at c.item-code.ensures ∙ w in let z = c.requires.1.holds.within c.args.x c.requires.2 l.i (omega arith) in (omega arith, code_next c.requires.0 ◌-◌ c.args.a c.args.ws.now c.requires.1 c.args.x c.requires.2 l.ws l.i l.invariant.1 c.item-code.result _ (omega arith) e refl)
 
 pub overflow_mul-x : goal.overflow_mul-x
-overflow_mul-x c = let l = c.loop-i in let n = touched_length c.requires.0 c.args.a c.args.ws.now c.requires.1 c.args.x c.requires.2 in let m = c.list_length-n.ensures in let q = code_length c.requires.0 ◌-◌ c.args.a c.args.ws.now c.requires.1 c.args.x c.requires.2 l.ws l.i l.invariant.1 in let f = c.requires.1.fits in omega arith
+overflow_mul-x c = let l = c.loop-i in let n = touched_length c.requires.0 c.args.a c.args.ws.now c.requires.1 c.args.x c.requires.2 in let m = rw c.touched.ensures at c.list_length-n.ensures in let q = code_length c.requires.0 ◌-◌ c.args.a c.args.ws.now c.requires.1 c.args.x c.requires.2 l.ws l.i l.invariant.1 in let f = c.requires.1.fits in omega arith
 
-pub get_u16-orbit-requires : goal.get_u16-orbit-requires
-get_u16-orbit-requires c = let l = c.loop-i in let n = touched_length c.requires.0 c.args.a c.args.ws.now c.requires.1 c.args.x c.requires.2 in let m = c.list_length-n.ensures in let q = code_length c.requires.0 ◌-◌ c.args.a c.args.ws.now c.requires.1 c.args.x c.requires.2 l.ws l.i l.invariant.1 in let f = c.requires.1.fits in omega arith
+pub get-orbit-requires : goal.get-orbit-requires
+get-orbit-requires c = let l = c.loop-i in let n = touched_length c.requires.0 c.args.a c.args.ws.now c.requires.1 c.args.x c.requires.2 in let m = rw c.touched.ensures at c.list_length-n.ensures in let q = code_length c.requires.0 ◌-◌ c.args.a c.args.ws.now c.requires.1 c.args.x c.requires.2 l.ws l.i l.invariant.1 in let f = c.requires.1.fits in omega arith
 
 pub overflow_add-ws : goal.overflow_add-ws
-overflow_add-ws c = let l = c.loop-i in let n = touched_length c.requires.0 c.args.a c.args.ws.now c.requires.1 c.args.x c.requires.2 in let m = c.list_length-n.ensures in let q = code_length c.requires.0 ◌-◌ c.args.a c.args.ws.now c.requires.1 c.args.x c.requires.2 l.ws l.i l.invariant.1 in let f = c.requires.1.fits in
+overflow_add-ws c = let l = c.loop-i in let n = touched_length c.requires.0 c.args.a c.args.ws.now c.requires.1 c.args.x c.requires.2 in let m = rw c.touched.ensures at c.list_length-n.ensures in let q = code_length c.requires.0 ◌-◌ c.args.a c.args.ws.now c.requires.1 c.args.x c.requires.2 l.ws l.i l.invariant.1 in let f = c.requires.1.fits in
     let w = code_end c.requires.0 ◌-◌ c.args.a c.args.ws.now c.requires.1 c.args.x c.requires.2 l.ws l.i l.invariant.1 (omega arith) in
-    let o : c.get_u16-orbit.result ≡ number_at (with_totals ◌-◌ c.args.a c.args.ws.now c.args.x) (2 * c.args.x) 2 = c.get_u16-orbit.ensures ∙ ap (λ r. number_at r (2 * c.args.x) 2) w in
-    let b : c.get_u16-orbit.result ≡ (facet_of c.requires.0 c.args.x).0 = o ∙ (here_is ◌-◌ c.args.a c.args.ws.now c.requires.1.fits c.args.x 0 c.requires.2 ∙ orbit_is c.requires.0 c.args.a c.args.ws.now c.requires.1 c.args.x c.requires.2) in
+    let o : c.get-orbit.result ≡ number_at (with_totals ◌-◌ c.args.a c.args.ws.now c.args.x) (2 * c.args.x) 2 = c.get-orbit.ensures ∙ ap (λ r. number_at r (2 * c.args.x) 2) w in
+    let b : c.get-orbit.result ≡ (facet_of c.requires.0 c.args.x).0 = o ∙ (here_is ◌-◌ c.args.a c.args.ws.now c.requires.1.fits c.args.x 0 c.requires.2 ∙ orbit_is c.requires.0 c.args.a c.args.ws.now c.requires.1 c.args.x c.requires.2) in
     let z = facet_small c.requires.0 c.args.a c.args.ws.now c.args.x c.requires.1 c.requires.2 in omega arith
 
-pub bounds-ws-used : goal.bounds-ws-used
-bounds-ws-used c = let l = c.loop-i in let n = touched_length c.requires.0 c.args.a c.args.ws.now c.requires.1 c.args.x c.requires.2 in let m = c.list_length-n.ensures in let q = code_length c.requires.0 ◌-◌ c.args.a c.args.ws.now c.requires.1 c.args.x c.requires.2 l.ws l.i l.invariant.1 in let f = c.requires.1.fits in
+pub bounds-ws-a : goal.bounds-ws-a
+bounds-ws-a c = let l = c.loop-i in let n = touched_length c.requires.0 c.args.a c.args.ws.now c.requires.1 c.args.x c.requires.2 in let m = rw c.touched.ensures at c.list_length-n.ensures in let q = code_length c.requires.0 ◌-◌ c.args.a c.args.ws.now c.requires.1 c.args.x c.requires.2 l.ws l.i l.invariant.1 in let f = c.requires.1.fits in
     let w = code_end c.requires.0 ◌-◌ c.args.a c.args.ws.now c.requires.1 c.args.x c.requires.2 l.ws l.i l.invariant.1 (omega arith) in
-    let o : c.get_u16-orbit.result ≡ number_at (with_totals ◌-◌ c.args.a c.args.ws.now c.args.x) (2 * c.args.x) 2 = c.get_u16-orbit.ensures ∙ ap (λ r. number_at r (2 * c.args.x) 2) w in
-    let b : c.get_u16-orbit.result ≡ (facet_of c.requires.0 c.args.x).0 = o ∙ (here_is ◌-◌ c.args.a c.args.ws.now c.requires.1.fits c.args.x 0 c.requires.2 ∙ orbit_is c.requires.0 c.args.a c.args.ws.now c.requires.1 c.args.x c.requires.2) in
+    let o : c.get-orbit.result ≡ number_at (with_totals ◌-◌ c.args.a c.args.ws.now c.args.x) (2 * c.args.x) 2 = c.get-orbit.ensures ∙ ap (λ r. number_at r (2 * c.args.x) 2) w in
+    let b : c.get-orbit.result ≡ (facet_of c.requires.0 c.args.x).0 = o ∙ (here_is ◌-◌ c.args.a c.args.ws.now c.requires.1.fits c.args.x 0 c.requires.2 ∙ orbit_is c.requires.0 c.args.a c.args.ws.now c.requires.1 c.args.x c.requires.2) in
     let z = facet_small c.requires.0 c.args.a c.args.ws.now c.args.x c.requires.1 c.requires.2 in omega arith
 
 pub shape_of-ws : goal.shape_of-ws
-shape_of-ws c = let l = c.loop-i in let n = touched_length c.requires.0 c.args.a c.args.ws.now c.requires.1 c.args.x c.requires.2 in let m = c.list_length-n.ensures in let q = code_length c.requires.0 ◌-◌ c.args.a c.args.ws.now c.requires.1 c.args.x c.requires.2 l.ws l.i l.invariant.1 in let f = c.requires.1.fits in length-set l.ws _ _ ∙ q
+shape_of-ws c = let l = c.loop-i in let n = touched_length c.requires.0 c.args.a c.args.ws.now c.requires.1 c.args.x c.requires.2 in let m = rw c.touched.ensures at c.list_length-n.ensures in let q = code_length c.requires.0 ◌-◌ c.args.a c.args.ws.now c.requires.1 c.args.x c.requires.2 l.ws l.i l.invariant.1 in let f = c.requires.1.fits in length-set l.ws _ _ ∙ q
 
 pub returns : goal.returns
 unfolding without_facet
-returns c = let l = c.loop-i in let n = touched_length c.requires.0 c.args.a c.args.ws.now c.requires.1 c.args.x c.requires.2 in let m = c.list_length-n.ensures in let q = code_length c.requires.0 ◌-◌ c.args.a c.args.ws.now c.requires.1 c.args.x c.requires.2 l.ws l.i l.invariant.1 in let f = c.requires.1.fits in
+returns c = let l = c.loop-i in let n = touched_length c.requires.0 c.args.a c.args.ws.now c.requires.1 c.args.x c.requires.2 in let m = rw c.touched.ensures at c.list_length-n.ensures in let q = code_length c.requires.0 ◌-◌ c.args.a c.args.ws.now c.requires.1 c.args.x c.requires.2 l.ws l.i l.invariant.1 in let f = c.requires.1.fits in
     let w = code_end c.requires.0 ◌-◌ c.args.a c.args.ws.now c.requires.1 c.args.x c.requires.2 l.ws l.i l.invariant.1 (omega arith) in
-    let o : c.get_u16-orbit.result ≡ number_at (with_totals ◌-◌ c.args.a c.args.ws.now c.args.x) (2 * c.args.x) 2 = c.get_u16-orbit.ensures ∙ ap (λ r. number_at r (2 * c.args.x) 2) w in
-    let b : c.get_u16-orbit.result ≡ (facet_of c.requires.0 c.args.x).0 = o ∙ (here_is ◌-◌ c.args.a c.args.ws.now c.requires.1.fits c.args.x 0 c.requires.2 ∙ orbit_is c.requires.0 c.args.a c.args.ws.now c.requires.1 c.args.x c.requires.2) in
+    let o : c.get-orbit.result ≡ number_at (with_totals ◌-◌ c.args.a c.args.ws.now c.args.x) (2 * c.args.x) 2 = c.get-orbit.ensures ∙ ap (λ r. number_at r (2 * c.args.x) 2) w in
+    let b : c.get-orbit.result ≡ (facet_of c.requires.0 c.args.x).0 = o ∙ (here_is ◌-◌ c.args.a c.args.ws.now c.requires.1.fits c.args.x 0 c.requires.2 ∙ orbit_is c.requires.0 c.args.a c.args.ws.now c.requires.1 c.args.x c.requires.2) in
     let z = facet_small c.requires.0 c.args.a c.args.ws.now c.args.x c.requires.1 c.requires.2 in
-    ap (λ r. set r (c.args.a.used + c.get_u16-orbit.result) 0) w ∙ change_use ◌-◌ c.args.a c.args.ws.now c.requires.1.fits c.args.x 0 c.requires.2 c.get_u16-orbit.result o (omega arith)
+    ap (λ r. set r (c.args.a.used + c.get-orbit.result) 0) w ∙ change_use ◌-◌ c.args.a c.args.ws.now c.requires.1.fits c.args.x 0 c.requires.2 c.get-orbit.result o (omega arith)

@@ -6,6 +6,3 @@ use Rattle.totals.proofs.leave.Given as goal
 
 abbrev pub invariant-loop-i : goal.invariant-loop-i
 invariant-loop-i l = (l.i ≤ l.n) × (l.ws ≡ after_codes ◌-◌ l.a l.initial.ws l.x l.i)
-
-abbrev pub decreases-loop-i : goal.decreases-loop-i
-decreases-loop-i l = l.n - l.i
