@@ -7,21 +7,20 @@ use native.Mathlib.Omega.{arith}
 use borrow.Author.Tests.{eq-eqb, ne_eqb, le-leb, lt-leb}
 use lib.Dec.{leb}
 use lib.ListN.{length, get_or, take, drop, length-drop, length-map}
+use Rattle.std.proofs.lemmas.List.{drop-drop}
+use mathlib.Core.List.{append_assoc}
 use lib.Seq.{paste, length-paste, length-take-le, take_all, sets, sets-eq}
 use lib.Ieee.{Float, nan, inf, fin, binary64, of_bits, div}
 use Rattle.definitions.specs.Job.{Bytes, tolerance1, flag_set, present, float_at, floats_at, vectors_at, number_at, read_job, plane_of}
 use Rattle.words.specs.Floats.{read_of}
-use Rattle.words.specs.declared.Read.TheVariants.{Number, NotANumber}
-use Rattle.space.specs.declared.Limit.{Limit}
-use Rattle.space.specs.declared.Limit.TheVariants.{Absent, Length}
+use Rattle.std.specs.Prelude.{Option, Some, None}
+use Rattle.std.specs.Option.{unwrap_or}
 use Rattle.load.specs.declared.Header.{Header}
 use Rattle.load.specs.declared.Places.{Places}
-use Rattle.load.specs.declared.EntryLimit.{EntryLimit}
-use Rattle.load.specs.declared.EntryLimit.TheVariants.{Unlimited, Number as AtMost}
 use Rattle.load.specs.Places.{header_of, places_of, Counted, Exact}
 use Rattle.load.specs.declared.Fields.{Fields}
 use Rattle.openers.specs.Rows.{rows_in, written_rows, written_more}
-use Rattle.load.specs.Meaning.{length_limit, entry_limit_of, fields_of, rows_at, Loadable}
+use Rattle.load.specs.Meaning.{fields_of, rows_at, Loadable}
 use Rattle.definitions.specs.Lists.{count_from}
 use Rattle.definitions.specs.Vectors.{Vec}
 use Rattle.definitions.specs.Subspace.{Subspace}
@@ -59,35 +58,29 @@ module _ (flags weight : ℕ) where
   pub room_clear : (bytes : ℕ) → (1 ≡ flags / weight % 2 → ⊥) → 0 ≡ cond (flag_set flags weight) bytes 0
   room_clear bytes e = rw (flag_clear e) refl
 
-  pub limit_set : (x y : Float) → 1 ≡ flags / weight % 2 → x ≡ y → Length x ≡ length_limit (present (flag_set flags weight) y)
-  unfolding length_limit present
+  pub limit_set : (x y : Float) → 1 ≡ flags / weight % 2 → x ≡ y → Some x ≡ (present (flag_set flags weight) y)
+  unfolding present
   limit_set x y e p = rw (flag_set_holds e, p) refl
 
-  pub limit_clear : (y : Float) → (1 ≡ flags / weight % 2 → ⊥) → Absent ≡ length_limit (present (flag_set flags weight) y)
-  unfolding length_limit present
+  pub limit_clear : (y : Float) → (1 ≡ flags / weight % 2 → ⊥) → None ≡ (present (flag_set flags weight) y)
+  unfolding present
   limit_clear y e = rw (flag_clear e) refl
 
-  pub entries_set : (x y : ℕ) → 1 ≡ flags / weight % 2 → x ≡ y → AtMost x ≡ entry_limit_of (present (flag_set flags weight) y)
-  unfolding entry_limit_of present
+  pub entries_set : (x y : ℕ) → 1 ≡ flags / weight % 2 → x ≡ y → Some x ≡ (present (flag_set flags weight) y)
+  unfolding present
   entries_set x y e p = rw (flag_set_holds e, p) refl
 
-  pub entries_clear : (y : ℕ) → (1 ≡ flags / weight % 2 → ⊥) → Unlimited ≡ entry_limit_of (present (flag_set flags weight) y)
-  unfolding entry_limit_of present
+  pub entries_clear : (y : ℕ) → (1 ≡ flags / weight % 2 → ⊥) → None ≡ (present (flag_set flags weight) y)
+  unfolding present
   entries_clear y e = rw (flag_clear e) refl
 
 -- ---- floats
 
-pub number_read : (x y : Float) → Number x ≡ read_of y → x ≡ y
-unfolding read_of
-number_read x nan e = cc
-number_read x (inf s) e = cc
-number_read x (fin s m d) e = cc
-
-pub nan_read : (y : Float) → NotANumber ≡ read_of y → div binary64 (of_bits binary64 0) (of_bits binary64 0) ≡ y
+pub value_read : (y : Float) → unwrap_or (read_of y) (div binary64 (of_bits binary64 0) (of_bits binary64 0)) ≡ y
 unfolding read_of div of_bits
-nan_read nan e = refl
-nan_read (inf s) e = cc
-nan_read (fin s m d) e = cc
+value_read nan = refl
+value_read (inf s) = refl
+value_read (fin s m d) = refl
 
 -- ---- room
 
@@ -124,11 +117,11 @@ fitting_own bytes k =
 pub fitting : (bytes : Bytes) (h : Header) (p : Places) → Exact bytes → h ≡ header_of bytes → p ≡ places_of h → Fitting bytes h p
 fitting bytes h p k e q = rw (q, e) (fitting_own bytes k)
 
-pub fields_are : (bytes : Bytes) (h : Header) (p : Places) (min max : Limit) (entries : EntryLimit) (tolerance : Float) (rule budget : ℕ)
+pub fields_are : (bytes : Bytes) (h : Header) (p : Places) (min max : Option Float) (entries : Option ℕ) (tolerance : Float) (rule budget : ℕ)
     → h ≡ header_of bytes → p ≡ places_of h
-    → min ≡ length_limit (present (flag_set h.flags 1) (float_at bytes 11))
-    → max ≡ length_limit (present (flag_set h.flags 2) (float_at bytes p.max))
-    → entries ≡ entry_limit_of (present (flag_set h.flags 4) (number_at bytes p.limit 4))
+    → min ≡ (present (flag_set h.flags 1) (float_at bytes 11))
+    → max ≡ (present (flag_set h.flags 2) (float_at bytes p.max))
+    → entries ≡ (present (flag_set h.flags 4) (number_at bytes p.limit 4))
     → tolerance ≡ cond (leb 2 h.version) (float_at bytes p.tolerance) tolerance1
     → rule ≡ cond (leb 3 h.version) (get_or bytes p.rule 0) 1
     → budget ≡ number_at bytes p.budget 4
@@ -138,8 +131,7 @@ pub fields_are : (bytes : Bytes) (h : Header) (p : Places) (min max : Limit) (en
       d = h.d;
       n = h.n;
       count = h.count;
-      min = min;
-      max = max;
+      limits = record { shortest = min; longest = max };
       entries = entries;
       tolerance = tolerance;
       rule = rule;
@@ -209,7 +201,7 @@ lent bytes from n = take (from + n - from) (drop from bytes)
 lent_is : (bytes : Bytes) (from n : ℕ) → lent bytes from n ≡ take n (drop from bytes)
 lent_is bytes from n = let e : from + n - from ≡ n = omega arith in ap (λ (k : ℕ). take k (drop from bytes)) e
 
-lent_length : (bytes : Bytes) (from n : ℕ) → from + n ≤ length bytes → length (lent bytes from n) ≡ n
+pub lent_length : (bytes : Bytes) (from n : ℕ) → from + n ≤ length bytes → length (lent bytes from n) ≡ n
 lent_length bytes from n h = ap length (lent_is bytes from n) ∙ length-take-le n (drop from bytes) (rw length-drop (omega arith))
 
 pub copy_fits : (region bytes : Bytes) (from n i count : ℕ) → n ≤ 32 → from + n ≤ length bytes → i < count → 32 * count ≤ length region → 32 * i + length (lent bytes from n) ≤ length region
@@ -218,6 +210,13 @@ copy_fits region bytes from n i count h k below fits = let e = lent_length bytes
 -- what is copied is written number by number
 copied_sets : (l row : Bytes) (at n : ℕ) → length row ≡ n → at + n ≤ length l → paste l at row n ≡ sets l at row
 copied_sets l row at n long fits = rw (← long, take_all (length row) row (omega arith)) (sym (sets-eq row l at (omega arith)))
+
+-- a run of places that was lent, and holds a row now
+pub row_lent : (l row src : Bytes) (at n : ℕ) → row ≡ src → length src ≡ n → at + n ≤ length l → take at l ++ (row ++ drop (at + n - at) (drop at l)) ≡ paste l at src (length src)
+row_lent l row src at n e long h =
+    let gap : at + n - at ≡ length src = omega arith in
+    let fits : at + length src ≤ length l = omega arith in
+    rw (e, gap, drop-drop (length src) at l) (sym (copied_sets l src at (length src) refl fits ∙ (sets-eq src l at fits ∙ append_assoc (take at l) src (drop (at + length src) l))))
 
 pub row_copied : (region bytes : Bytes) (at n i : ℕ) (after : Bytes) → n ≤ 32 → 32 * i + 32 ≤ length region → at + n * i + n ≤ length bytes
     → after ≡ paste region (32 * i) (lent bytes (at + n * i) n) (length (lent bytes (at + n * i) n)) → rows_in n i region ≡ rows_at bytes at n i → (before : Bytes)

@@ -4,7 +4,7 @@ use Rattle.std.proofs.Common.{sym, subst, arith}
 use Rattle.definitions.specs.Job.{Bytes, read_job}
 use Rattle.load.specs.declared.Fields.{Fields}
 use Rattle.load.specs.Places.{header_of, places_of, Exact}
-use Rattle.load.specs.Meaning.{Loadable, fields_of, length_of_limit, number_of_limit, rows_at}
+use Rattle.load.specs.Meaning.{Loadable, fields_of, rows_at}
 
 -- ---- what fields say of a job of its exact length
 
@@ -18,9 +18,9 @@ own bytes k =
       d_is = refl;
       n_is = refl;
       count_is = refl;
-      min_is = length_of_limit (read_job bytes).shortest;
-      max_is = length_of_limit (read_job bytes).longest;
-      entries_is = number_of_limit (read_job bytes).entry_limit;
+      shortest_is = refl;
+      longest_is = refl;
+      entries_is = refl;
       tolerance_is = refl;
       rule_is = refl;
       budget_is = refl;

@@ -1,42 +1,10 @@
 -- The fields of a job as the code hands them on, and what they mean: the definition's `Job`, its plane, its points and its rows. Leans on Places and on what the crate of spaces says.
 use Rattle.std.specs.Prelude.{◌≡◌, refl, List, map, ℕ, ◌+◌, ◌-◌, ◌*◌, ◌≤◌, length, take, drop, Float}
-use Rattle.std.proofs.Math.Option.{Option, some, none}
 use Rattle.definitions.specs.Lists.{count_from}
 use Rattle.definitions.specs.Orbits.{Row}
 use Rattle.definitions.specs.Job.{Bytes, read_job, floats_at, vectors_at}
-use Rattle.space.specs.declared.Limit.{Limit}
-use Rattle.space.specs.declared.Limit.TheVariants.{Absent, Length}
-use Rattle.space.specs.Meaning.{length_of}
-use Rattle.load.specs.declared.EntryLimit.{EntryLimit}
-use Rattle.load.specs.declared.EntryLimit.TheVariants.{Unlimited, Number}
 use Rattle.load.specs.declared.Fields.{Fields}
 use Rattle.load.specs.Places.{header_of, places_of}
-
--- ---- limits
-
--- a limit on lengths as the code holds it
-unfoldable pub length_limit : Option Float → Limit
-length_limit none = Absent
-length_limit (some length) = Length length
-
-pub length_of_limit : (o : Option Float) → length_of (length_limit o) ≡ o
-unfolding length_limit length_of
-length_of_limit none = refl
-length_of_limit (some x) = refl
-
--- the entry limit as the code holds it, and back
-unfoldable pub entry_limit_of : Option ℕ → EntryLimit
-entry_limit_of none = Unlimited
-entry_limit_of (some m) = Number m
-
-unfoldable pub limit_number : EntryLimit → Option ℕ
-limit_number Unlimited = none
-limit_number (Number m) = some m
-
-pub number_of_limit : (o : Option ℕ) → limit_number (entry_limit_of o) ≡ o
-unfolding entry_limit_of limit_number
-number_of_limit none = refl
-number_of_limit (some m) = refl
 
 -- ---- the fields
 
@@ -50,9 +18,8 @@ fields_of bytes =
       d = job.d;
       n = job.n;
       count = job.row_count;
-      min = length_limit job.shortest;
-      max = length_limit job.longest;
-      entries = entry_limit_of job.entry_limit;
+      limits = record { shortest = job.shortest; longest = job.longest };
+      entries = job.entry_limit;
       tolerance = job.tolerance;
       rule = job.rule;
       budget = job.budget;
@@ -76,9 +43,9 @@ pub record Loadable (bytes : Bytes) (f : Fields) : Type 0 where
   pub d_is : f.d ≡ (read_job bytes).d
   pub n_is : f.n ≡ (read_job bytes).n
   pub count_is : f.count ≡ (read_job bytes).row_count
-  pub min_is : length_of f.min ≡ (read_job bytes).shortest
-  pub max_is : length_of f.max ≡ (read_job bytes).longest
-  pub entries_is : limit_number f.entries ≡ (read_job bytes).entry_limit
+  pub shortest_is : f.limits.shortest ≡ (read_job bytes).shortest
+  pub longest_is : f.limits.longest ≡ (read_job bytes).longest
+  pub entries_is : f.entries ≡ (read_job bytes).entry_limit
   pub tolerance_is : f.tolerance ≡ (read_job bytes).tolerance
   pub rule_is : f.rule ≡ (read_job bytes).rule
   pub budget_is : f.budget ≡ (read_job bytes).budget

@@ -9,10 +9,10 @@ ghost use Rattle.vectors.specs.Meaning.{five};
 ghost use Rattle.space.specs.Meaning.{HoldsSubspace, HoldsPoints};
 ghost use Rattle.load.specs.Places.{header_of, places_of, Counted, Exact};
 ghost use Rattle.openers.specs.Rows.{rows_in, written_rows};
-ghost use Rattle.load.specs.Meaning.{length_limit, entry_limit_of, fields_of, rows_at};
+ghost use Rattle.load.specs.Meaning.{fields_of, rows_at};
 
-use space::{Limit, Points, Subspace};
-use words::Read;
+use space::{Limits, Points, Subspace};
+use words::Word;
 
 // ---- the header
 
@@ -32,12 +32,12 @@ pub fn header_of(job: &[u8]) -> Header
     ensures { result ≡ header_of job.now }
 {
     Header {
-        version: words::get_u16(job, 3) as usize,
-        rank: words::wide(job[5]),
-        d: words::wide(job[6]),
-        n: words::wide(job[7]),
-        count: words::get_u16(job, 8) as usize,
-        flags: words::wide(job[10]),
+        version: u16::get(job, 3) as usize,
+        rank: usize::from(job[5]),
+        d: usize::from(job[6]),
+        n: usize::from(job[7]),
+        count: u16::get(job, 8) as usize,
+        flags: usize::from(job[10]),
     }
 }
 
@@ -89,15 +89,15 @@ pub fn places_of(h: Header) -> Places
     let points = basis + vector * (h.rank - 1);
     let rows = points + vector * h.n;
     Places {
-        max: max,
-        limit: limit,
-        tolerance: tolerance,
-        rule: rule,
-        budget: budget,
-        offset: offset,
-        basis: basis,
-        points: points,
-        rows: rows,
+        max,
+        limit,
+        tolerance,
+        rule,
+        budget,
+        offset,
+        basis,
+        points,
+        rows,
         size: rows + h.n * h.count,
     }
 }
@@ -109,39 +109,30 @@ pub fn float_at(job: &[u8], at: usize) -> f64
     requires { at + 8 ≤ length job.now }
     ensures { result ≡ float_at job.now at }
 {
-    match words::get_f64(job, at) {
-        Read::Number(x) => x,
-        Read::NotANumber => 0.0 / 0.0,
-    }
+    words::get_f64(job, at).unwrap_or(0.0 / 0.0)
 }
 
 // A limit on lengths that is there only where its flag is set.
-fn limit_at(job: &[u8], flags: usize, weight: usize, at: usize) -> Limit
+fn limit_at(job: &[u8], flags: usize, weight: usize, at: usize) -> Option<f64>
     requires { (0 < weight) × (at + 8 ≤ length job.now) }
-    ensures { result ≡ length_limit (present (flag_set flags weight) (float_at job.now at)) }
+    ensures { result ≡ present (flag_set flags weight) (float_at job.now at) }
 {
     if 1 == flags / weight % 2 {
-        Limit::Length(float_at(job, at))
+        Some(float_at(job, at))
     } else {
-        Limit::Absent
+        None
     }
 }
 
 // The entry limit is absent or a number.
-#[derive(Clone, Copy)]
-pub enum EntryLimit {
-    Unlimited,
-    Number(u32),
-}
-
-fn entry_limit_at(job: &[u8], flags: usize, at: usize) -> EntryLimit
+fn entry_limit_at(job: &[u8], flags: usize, at: usize) -> Option<u32>
     requires { at + 4 ≤ length job.now }
-    ensures { result ≡ entry_limit_of (present (flag_set flags 4) (number_at job.now at 4)) }
+    ensures { result ≡ present (flag_set flags 4) (number_at job.now at 4) }
 {
     if 1 == flags / 4 % 2 {
-        EntryLimit::Number(words::get_u32(job, at))
+        Some(u32::get(job, at))
     } else {
-        EntryLimit::Unlimited
+        None
     }
 }
 
@@ -163,7 +154,7 @@ fn rule_at(job: &[u8], version: usize, at: usize) -> usize
     ensures { result ≡ cond (leb 3 version) (get_or job.now at 0) 1 }
 {
     if 3 <= version {
-        words::wide(job[at])
+        usize::from(job[at])
     } else {
         1
     }
@@ -178,9 +169,8 @@ pub struct Fields {
     pub d: usize,
     pub n: usize,
     pub count: usize,
-    pub min: Limit,
-    pub max: Limit,
-    pub entries: EntryLimit,
+    pub limits: Limits,
+    pub entries: Option<u32>,
     pub tolerance: f64,
     pub rule: usize,
     pub budget: u32,
@@ -202,12 +192,14 @@ pub fn fields_of(job: &[u8]) -> Fields
         d: h.d,
         n: h.n,
         count: h.count,
-        min: limit_at(job, flags, 1, 11),
-        max: limit_at(job, flags, 2, p.max),
+        limits: Limits {
+            shortest: limit_at(job, flags, 1, 11),
+            longest: limit_at(job, flags, 2, p.max),
+        },
         entries: entry_limit_at(job, flags, p.limit),
         tolerance: tolerance_at(job, h.version, p.tolerance),
         rule: rule_at(job, h.version, p.rule),
-        budget: words::get_u32(job, p.budget),
+        budget: u32::get(job, p.budget),
         offset: p.offset,
         basis: p.basis,
         points: p.points,
@@ -223,10 +215,8 @@ fn vector_at(job: &[u8], at: usize, d: usize) -> [f64; 5]
     ensures { result ≡ five (floats_at job.now at d) }
 {
     let mut v = [0.0; 5];
-    let mut i = 0;
-    while i < d {
+    for i in 0..d {
         v[i] = float_at(job, at + 8 * i);
-        i += 1;
     }
     v
 }
@@ -236,14 +226,10 @@ pub fn plane_of(job: &[u8], fields: Fields) -> Subspace
     ensures { HoldsSubspace result (plane_of (read_job job.now)) × (result.d ≡ fields.d) × (result.rank ≡ fields.rank - 1) }
 {
     let d = fields.d;
-    let rank = fields.rank;
     let at = fields.basis;
     let mut plane = Subspace::new(vector_at(job, fields.offset, d), d);
-    let mut j = 0;
-    while j < rank - 1 {
-        let wider = plane.with_vector(vector_at(job, at + 8 * d * j, d));
-        plane = wider;
-        j += 1;
+    for j in 0..fields.rank - 1 {
+        plane.push(vector_at(job, at + 8 * d * j, d));
     }
     plane
 }
@@ -253,14 +239,10 @@ pub fn points_of(job: &[u8], fields: Fields) -> Points
     ensures { HoldsPoints result fields.d (read_job job.now).points × (result.n ≡ fields.n) }
 {
     let d = fields.d;
-    let n = fields.n;
     let at = fields.points;
     let mut points = Points::new(d);
-    let mut i = 0;
-    while i < n {
-        let more = points.with_point(vector_at(job, at + 8 * d * i, d));
-        points = more;
-        i += 1;
+    for i in 0..fields.n {
+        points.push(vector_at(job, at + 8 * d * i, d));
     }
     points
 }
@@ -271,12 +253,10 @@ pub fn copy_rows(bytes: &[u8], at: usize, n: usize, count: usize, region: &mut [
     ensures rows { (rows_in n count region.new ≡ rows_at bytes.now at n count) × (length region.new ≡ length region.old) }
     ensures region { region.new ≡ written_rows (rows_at bytes.now at n count) 0 region.old }
 {
-    let mut i = 0;
-    while i < count {
+    for i in 0..count {
         let from = at + n * i;
         let to = from + n;
-        words::copy(region, 32 * i, &bytes[from..to]);
-        i += 1;
+        region[32 * i..32 * i + n].copy_from_slice(&bytes[from..to]);
     }
 }
 

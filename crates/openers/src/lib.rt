@@ -6,12 +6,12 @@
 ghost use Rattle.std.specs.Prelude.{◌≡◌, ◌∷◌, [], ◌++◌, map, ℕ, ◌+◌, ◌*◌, ◌-◌, ◌≤◌, ◌<◌, min, max, length, get_or, take};
 ghost use Rattle.definitions.specs.Lists.{count_from};
 ghost use Rattle.definitions.specs.Orbits.{vertex_openers, pair_openers, pairs_from, above};
-ghost use Rattle.space.specs.Meaning.{borrowed, PointsFit, points_of, limits_of};
+ghost use Rattle.space.specs.Meaning.{points_of, limits_of};
 ghost use Rattle.openers.specs.Rows.{rows_in, RowsFit, ImagesBelow};
 ghost use Rattle.openers.specs.Marks.{marked, walked, marks_after};
 ghost use Rattle.openers.specs.Meaning.{vertices_in, HoldsVertices, vertex_images, none_skipped, pairs_in, listed, HoldsPairs, HoldsCodes, pair_code, pair_codes, breaks, pairs_above};
 
-use space::{Limit, Points};
+use space::{Limits, Points};
 
 // ---- rows
 
@@ -20,7 +20,7 @@ pub fn image(rows: &[u8], i: usize, v: usize) -> usize
     requires { 32 * i + v < length rows.now }
     ensures { result ≡ get_or rows.now (32 * i + v) 0 }
 {
-    words::wide(rows[32 * i + v])
+    usize::from(rows[32 * i + v])
 }
 
 // ---- vertices
@@ -43,15 +43,12 @@ impl Vertices {
     }
 
     // One vertex more, at the end.
-    pub fn with_vertex(self, v: usize) -> Vertices
-        requires { self.count < 20 }
-        ensures { HoldsVertices result (vertices_in self ++ (v ∷ [])) }
+    pub fn push(&mut self, v: usize)
+        requires { self.old.count < 20 }
+        ensures { HoldsVertices self.new (vertices_in self.old ++ (v ∷ [])) }
     {
-        let mut more = self;
-        let count = more.count;
-        more.at[count] = v;
-        more.count = count + 1;
-        more
+        self.at[self.count] = v;
+        self.count += 1;
     }
 }
 
@@ -60,25 +57,22 @@ fn mark_images(rows: &[u8], m: usize, v: usize, marks: &mut [bool; 20])
     requires { (32 * m ≤ length rows.now) × (v < 20) × ImagesBelow 20 v m rows.now }
     ensures { marks.new ≡ marked marks.old (vertex_images (rows_in 32 m rows.now) v) }
 {
-    let mut i = 0;
-    while i < m {
+    for i in 0..m {
         let u = image(rows, i, v);
         marks[u] = true;
-        i += 1;
     }
 }
 
 // A vertex that is not marked joins the openers, and its images are marked.
-fn try_vertex(rows: &[u8], m: usize, v: usize, marks: &mut [bool; 20], found: Vertices) -> Vertices
-    requires { (32 * m ≤ length rows.now) × (v < 20) × ImagesBelow 20 v m rows.now × (found.count < 20) }
-    ensures joins { HoldsVertices result (vertices_in found ++ walked (λ u. u) (vertex_images (rows_in 32 m rows.now)) none_skipped marks.old (v ∷ [])) }
+fn try_vertex(rows: &[u8], m: usize, v: usize, marks: &mut [bool; 20], found: &mut Vertices)
+    requires { (32 * m ≤ length rows.now) × (v < 20) × ImagesBelow 20 v m rows.now × (found.old.count < 20) }
+    ensures joins { HoldsVertices found.new (vertices_in found.old ++ walked (λ u. u) (vertex_images (rows_in 32 m rows.now)) none_skipped marks.old (v ∷ [])) }
     ensures marks { marks.new ≡ marks_after (λ u. u) (vertex_images (rows_in 32 m rows.now)) none_skipped marks.old (v ∷ []) }
 {
-    if marks[v] {
-        return found;
+    if !marks[v] {
+        mark_images(rows, m, v, marks);
+        found.push(v);
     }
-    mark_images(rows, m, v, marks);
-    found.with_vertex(v)
 }
 
 // [5.2] the vertices that open an orbit, upward; what the rows carry one to is marked
@@ -88,11 +82,8 @@ fn vertex_openers(rows: &[u8], m: usize, n: usize) -> Vertices
 {
     let mut marks = [false; 20];
     let mut found = Vertices::new();
-    let mut v = 0;
-    while v < n {
-        let more = try_vertex(rows, m, v, &mut marks, found);
-        found = more;
-        v += 1;
+    for v in 0..n {
+        try_vertex(rows, m, v, &mut marks, &mut found);
     }
     found
 }
@@ -119,38 +110,33 @@ pub fn mark_pair_images(rows: &[u8], m: usize, v: usize, w: usize, marks: &mut [
     requires { (32 * m ≤ length rows.now) × (v < 32) × (w < 32) × ImagesBelow 20 v m rows.now × ImagesBelow 20 w m rows.now }
     ensures { marks.new ≡ marked marks.old (pair_codes (rows_in 32 m rows.now) (v, w)) }
 {
-    let mut i = 0;
-    while i < m {
+    for i in 0..m {
         let at = code(image(rows, i, v), image(rows, i, w));
         marks[at] = true;
-        i += 1;
     }
 }
 
 // A pair that is marked or whose length breaks a limit opens nothing and marks nothing; any other opens an orbit. The length is taken on the points as passed. Returns how many pairs there are.
 fn try_pair(
-    points: &[f64],
-    n: usize,
-    d: usize,
+    points: &Points,
     rows: &[u8],
     m: usize,
     v: usize,
     w: usize,
-    min: Limit,
-    max: Limit,
+    limits: Limits,
     tolerance: f64,
     marks: &mut [bool; 400],
     codes: &mut [usize; 190],
     count: usize,
 ) -> usize
-    requires { PointsFit (borrowed points.now n d) × (v < n) × (w < n) × RowsFit n m rows.now × (count < 190) × (length codes.old ≡ 190) }
-    ensures joins { HoldsCodes codes.new result (pairs_in (listed codes.old count) ++ walked pair_code (pair_codes (rows_in 32 m rows.now)) (breaks tolerance (limits_of min max) (points_of (borrowed points.now n d))) marks.old ((v, w) ∷ [])) }
-    ensures marks { marks.new ≡ marks_after pair_code (pair_codes (rows_in 32 m rows.now)) (breaks tolerance (limits_of min max) (points_of (borrowed points.now n d))) marks.old ((v, w) ∷ []) }
+    requires { (v < points.now.n) × (w < points.now.n) × RowsFit points.now.n m rows.now × (count < 190) × (length codes.old ≡ 190) }
+    ensures joins { HoldsCodes codes.new result (pairs_in (listed codes.old count) ++ walked pair_code (pair_codes (rows_in 32 m rows.now)) (breaks tolerance (limits_of limits) (points_of points.now)) marks.old ((v, w) ∷ [])) }
+    ensures marks { marks.new ≡ marks_after pair_code (pair_codes (rows_in 32 m rows.now)) (breaks tolerance (limits_of limits) (points_of points.now)) marks.old ((v, w) ∷ []) }
 {
     if marks[20 * v + w] {
         return count;
     }
-    if space::breaks_limit_at(points, d, v, w, min, max, tolerance) {
+    if points.breaks_limit(v, w, limits, tolerance) {
         return count;
     }
     mark_pair_images(rows, m, v, w, marks);
@@ -160,63 +146,43 @@ fn try_pair(
 
 // The pairs (v, w) for each w > v, in order. Returns how many pairs there are.
 fn pairs_above(
-    points: &[f64],
-    n: usize,
-    d: usize,
+    points: &Points,
     rows: &[u8],
     m: usize,
     v: usize,
-    min: Limit,
-    max: Limit,
+    limits: Limits,
     tolerance: f64,
     marks: &mut [bool; 400],
     codes: &mut [usize; 190],
     count: usize,
 ) -> usize
-    requires { PointsFit (borrowed points.now n d) × (v < n) × RowsFit n m rows.now × (count + (n - (v + 1)) ≤ 190) × (length codes.old ≡ 190) }
-    ensures joins { HoldsCodes codes.new result (pairs_in (listed codes.old count) ++ walked pair_code (pair_codes (rows_in 32 m rows.now)) (breaks tolerance (limits_of min max) (points_of (borrowed points.now n d))) marks.old (pairs_above n v)) }
-    ensures marks { marks.new ≡ marks_after pair_code (pair_codes (rows_in 32 m rows.now)) (breaks tolerance (limits_of min max) (points_of (borrowed points.now n d))) marks.old (pairs_above n v) }
+    requires { (v < points.now.n) × RowsFit points.now.n m rows.now × (count + (points.now.n - (v + 1)) ≤ 190) × (length codes.old ≡ 190) }
+    ensures joins { HoldsCodes codes.new result (pairs_in (listed codes.old count) ++ walked pair_code (pair_codes (rows_in 32 m rows.now)) (breaks tolerance (limits_of limits) (points_of points.now)) marks.old (pairs_above points.now.n v)) }
+    ensures marks { marks.new ≡ marks_after pair_code (pair_codes (rows_in 32 m rows.now)) (breaks tolerance (limits_of limits) (points_of points.now)) marks.old (pairs_above points.now.n v) }
 {
     let mut pairs = count;
-    let mut w = v + 1;
-    while w < n {
+    for w in v + 1..points.n {
         pairs = try_pair(
-            points, n, d, rows, m, v, w, min, max, tolerance, marks, codes, pairs,
+            points, rows, m, v, w, limits, tolerance, marks, codes, pairs,
         );
-        w += 1;
     }
     pairs
 }
 
 // [5.4] the pairs that open an orbit, for each opener and each vertex above it
-pub fn pair_openers(
-    points: Points,
-    rows: &[u8],
-    m: usize,
-    min: Limit,
-    max: Limit,
-    tolerance: f64,
-) -> Pairs
-    requires { PointsFit points × RowsFit points.n m rows.now }
-    ensures { HoldsPairs result (pair_openers (breaks tolerance (limits_of min max) (points_of points)) (rows_in points.n m rows.now) [] (pairs_from points.n (vertex_openers (rows_in points.n m rows.now) [] (count_from 0 points.n)))) }
+pub fn pair_openers(points: &Points, rows: &[u8], m: usize, limits: Limits, tolerance: f64) -> Pairs
+    requires { RowsFit points.now.n m rows.now }
+    ensures { HoldsPairs result (pair_openers (breaks tolerance (limits_of limits) (points_of points.now)) (rows_in points.now.n m rows.now) [] (pairs_from points.now.n (vertex_openers (rows_in points.now.n m rows.now) [] (count_from 0 points.now.n)))) }
 {
-    let n = points.n;
-    let d = points.d;
-    let openers = vertex_openers(rows, m, n);
-    let many = openers.count;
+    let openers = vertex_openers(rows, m, points.n);
     let mut marks = [false; 400];
     let mut codes = [0; 190];
     let mut count = 0;
-    let mut k = 0;
-    while k < many {
+    for k in 0..openers.count {
         let v = openers.at[k];
         count = pairs_above(
-            &points.at, n, d, rows, m, v, min, max, tolerance, &mut marks, &mut codes, count,
+            points, rows, m, v, limits, tolerance, &mut marks, &mut codes, count,
         );
-        k += 1;
     }
-    Pairs {
-        codes: codes,
-        count: count,
-    }
+    Pairs { codes, count }
 }

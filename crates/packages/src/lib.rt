@@ -9,6 +9,7 @@ ghost use Rattle.tallies.specs.Meaning.{PackageFits, package_in};
 ghost use Rattle.packages.specs.Once.{once_below};
 
 use tallies::FullSet;
+use words::Word;
 
 // ---- the test
 
@@ -17,12 +18,10 @@ fn stands_among(pack: &[u8], at: usize, many: usize, v: usize) -> bool
     requires { at + many ≤ length pack.now }
     ensures { result ≡ member_nat v (take many (drop at pack.now)) }
 {
-    let mut i = 0;
-    while i < many {
-        if words::wide(pack[at + i]) == v {
+    for i in 0..many {
+        if usize::from(pack[at + i]) == v {
             return true;
         }
-        i += 1;
     }
     false
 }
@@ -32,16 +31,14 @@ fn globals_good(pack: &[u8], at: usize, n: usize, g: usize) -> bool
     requires { at + n ≤ length pack.now }
     ensures { result ≡ once_below g (take n (drop at pack.now)) }
 {
-    let mut i = 0;
-    while i < n {
-        let v = words::wide(pack[at + i]);
+    for i in 0..n {
+        let v = usize::from(pack[at + i]);
         if g <= v {
             return false;
         }
         if stands_among(pack, at + (i + 1), n - (i + 1), v) {
             return false;
         }
-        i += 1;
     }
     true
 }
@@ -54,9 +51,9 @@ fn counts_good(pack: &[u8], n: usize) -> bool
     if pack.len() < 5 {
         return false;
     }
-    let rows = words::get_u16(pack, 0) as usize;
-    let size = words::wide(pack[2]);
-    let count = words::get_u16(pack, 3) as usize;
+    let rows = u16::get(pack, 0) as usize;
+    let size = usize::from(pack[2]);
+    let count = u16::get(pack, 3) as usize;
     if !job::between(1, 120, rows) {
         return false;
     }
@@ -77,8 +74,8 @@ pub fn package_good(pack: &[u8], n: usize) -> bool
     if !counts_good(pack, n) {
         return false;
     }
-    let rows = words::get_u16(pack, 0) as usize;
-    let size = words::wide(pack[2]);
+    let rows = u16::get(pack, 0) as usize;
+    let size = usize::from(pack[2]);
     if !globals_good(pack, 5, n, size) {
         return false;
     }
@@ -96,9 +93,9 @@ pub fn load_package(pack: &[u8], n: usize, globals: &mut [u8], full: &mut [u8]) 
     ensures fits { PackageFits n result globals.new full.new }
     ensures is { package_in n result globals.new full.new ≡ read_package n pack.now }
 {
-    let rows = words::get_u16(pack, 0) as usize;
-    let size = words::wide(pack[2]);
-    let count = words::get_u16(pack, 3) as u32;
+    let rows = u16::get(pack, 0) as usize;
+    let size = usize::from(pack[2]);
+    let count = u16::get(pack, 3) as u32;
     load::copy_rows(pack, 5, n, 1, globals);
     load::copy_rows(pack, 5 + n, size, rows, full);
     FullSet {

@@ -7,20 +7,20 @@ use native.Mathlib.Omega.{arith}
 use native.Mathlib.Numerals.{add-one}
 use borrow.Author.Tests.{leb-false}
 use lib.ListN.{length, get_or, drop, drop_of_length-le}
-use lib.Seq.{drop-cons}
+use lib.Seq.{drop-cons, length-take-le}
 use lib.Ieee.{Float, lt}
-use Rattle.definitions.specs.Vectors.{Vec, dot, plus_times, norm, normalised}
+use Rattle.definitions.specs.Vectors.{Vec, dot, minus, plus_times, norm, normalised}
 use Rattle.definitions.specs.Subspace.{Subspace, gains, project, residual, add_point, add_points, from_points}
 use Rattle.definitions.specs.Orbits.{point_at, too_short, too_long, breaks_limit}
 use Rattle.laws.specs.Parts.{rows}
 use Rattle.space.specs.declared.Subspace.{Subspace as StoredSubspace}
 use Rattle.space.specs.declared.Points.{Points}
-use Rattle.space.specs.declared.Limit.{Limit}
-use Rattle.space.specs.declared.Limit.TheVariants.{Absent, Length}
+use Rattle.space.specs.declared.Limits.{Limits}
+use Rattle.std.specs.Prelude.{Option, Some, None, is_none, ◌&&◌, ◌||◌}
 use Rattle.vectors.specs.Meaning.{vector_of, five}
 use Rattle.vectors.specs.Wholes.{five_means}
-use Rattle.space.specs.Meaning.{subspace_of, SubspaceFits, HoldsSubspace, with_vector, is_full_rank, point_alone, points_of, length_of, limits_of, no_limits}
-use Rattle.space.specs.Counts.{project_length, residual_length}
+use Rattle.space.specs.Meaning.{subspace_of, with_vector, is_full_rank, point_alone, points_of, limits_of, no_limits}
+use Rattle.space.specs.Counts.{offset_length, basis_length, project_length, residual_length}
 
 -- Project: one basis vector more.
 pub gains_snoc : (away : Vec) (bs : List Vec) (b q : Vec) → gains away (bs ++ (b ∷ [])) q ≡ plus_times (gains away bs q) b (dot away b)
@@ -68,23 +68,31 @@ from_points_first tolerance [] h = absurd (omega arith)
 from_points_first tolerance (p ∷ ps) h = refl
 
 -- Where the basis has fewer than d vectors there is room for one more.
-pub has_room : (s : StoredSubspace) → HoldsSubspace s (subspace_of s) → is_full_rank (subspace_of s) ≡ false → s.rank < s.d
+pub has_room : (s : StoredSubspace) → is_full_rank (subspace_of s) ≡ false → s.rank < s.d
 unfolding is_full_rank
-has_room s h e = let more : length (subspace_of s).basis < length (subspace_of s).offset = leb-false _ _ e in omega arith
+has_room s e = let more : length (subspace_of s).basis < length (subspace_of s).offset = leb-false _ _ e in omega (arith, offset_length s, basis_length s)
 
 -- ---- a residual that is read
 
-module _ (s : StoredSubspace) (fits : SubspaceFits s) (offset_long : length s.offset ≡ 5) (basis_long : length s.basis ≡ 25) (p : Vec) (p-long : length p ≡ s.d) where
+module _ (s : StoredSubspace) (p : Vec) where
   pub read_projection : (r : List Float) → r ≡ five (project (subspace_of s) p) → vector_of s.d r ≡ project (subspace_of s) p
-  read_projection r is = five_means r (project (subspace_of s) p) s.d is (project_length s fits offset_long basis_long p)
+  read_projection r is = five_means r (project (subspace_of s) p) s.d is (project_length s p)
 
-  pub read_residual : (r : List Float) → r ≡ five (residual (subspace_of s) p) → vector_of s.d r ≡ residual (subspace_of s) p
-  read_residual r is = five_means r (residual (subspace_of s) p) s.d is (residual_length s fits offset_long basis_long p p-long)
+  pub read_residual : length p ≡ s.d → (r : List Float) → r ≡ five (residual (subspace_of s) p) → vector_of s.d r ≡ residual (subspace_of s) p
+  read_residual long r is = five_means r (residual (subspace_of s) p) s.d is (residual_length s p long)
+
+-- the numbers that a subspace reads of five
+pub five_read : (s : StoredSubspace) (p : List Float) → length p ≡ 5 → length (vector_of s.d p) ≡ s.d
+five_read s p long = length-take-le s.d p (omega (arith, s.fits.d_fits))
 
 -- ---- limits: where none is given no length breaks one
 
-pub nothing_breaks : (tolerance : Float) (min max : Limit) (ps : List Vec) (v w : ℕ) → no_limits min max ≡ true → breaks_limit tolerance (limits_of min max) ps v w ≡ false
-unfolding breaks_limit limits_of no_limits length_of too_short too_long
-nothing_breaks tolerance Absent Absent ps v w e = refl
-nothing_breaks tolerance Absent (Length longest) ps v w e = absurd (true≢false (sym e))
-nothing_breaks tolerance (Length shortest) max ps v w e = absurd (true≢false (sym e))
+neither_breaks : (tolerance : Float) (shortest longest : Option Float) (size : Float) → is_none shortest && is_none longest ≡ true → too_short tolerance shortest size || too_long tolerance longest size ≡ false
+unfolding too_short too_long
+neither_breaks tolerance None None size e = refl
+neither_breaks tolerance None (Some longest) size e = absurd (true≢false (sym e))
+neither_breaks tolerance (Some shortest) longest size e = absurd (true≢false (sym e))
+
+pub nothing_breaks : (tolerance : Float) (l : Limits) (ps : List Vec) (v w : ℕ) → no_limits l ≡ true → breaks_limit tolerance (limits_of l) ps v w ≡ false
+unfolding breaks_limit limits_of
+nothing_breaks tolerance l ps v w e = neither_breaks tolerance l.shortest l.longest _ e

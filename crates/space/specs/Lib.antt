@@ -1,4 +1,5 @@
--- What the structs and the enum of the code mean, and what follows at once.
+-- What the structs of the code mean, and what follows at once.
+pub mod Fits
 pub mod Meaning
 pub mod Rows
 pub mod Counts

@@ -7,7 +7,7 @@ use Rattle.laws.specs.Parts.{rows}
 use Rattle.laws.specs.Segments.{onto, take_onto, drop_onto, onto_length}
 use Rattle.vectors.specs.Meaning.{zeros, five}
 use Rattle.vectors.specs.Wholes.{five_length, zeros_length}
-use Rattle.space.specs.Meaning.{joined, in_rows}
+use Rattle.space.specs.Fits.{joined, in_rows}
 
 joined_more : (vs : List Vec) (v : Vec) → joined (vs ++ (v ∷ [])) ≡ joined vs ++ five v
 unfolding joined

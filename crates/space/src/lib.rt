@@ -1,9 +1,8 @@
-// Subspaces, points and limits. Each function equals a definition of Subspace or Orbits, chapter 4 and [5.3], at every d up to five and at any tolerance. Structs go by value and are
-// handed back. Numbers lie in flat arrays, five places to a vector; only the first d of them mean something, and zeros stand behind all that mean something.
+// Subspaces, points and limits. Each function equals a definition of Subspace or Orbits, chapter 4 and [5.3], at every d up to five and at any tolerance. Numbers lie in flat arrays, five places to a vector; only the first d of them mean something, and zeros stand behind all that mean something.
 
 #![tactic(auto)]
 
-ghost use Rattle.std.specs.Prelude.{◌≡◌, ◌∷◌, [], ◌++◌, map, ◌+◌, ◌*◌, ◌≤◌, ◌<◌, length, take, drop};
+ghost use Rattle.std.specs.Prelude.{◌≡◌, ◌∷◌, [], ◌++◌, map, ◌+◌, ◌*◌, ◌≤◌, ◌<◌, length, take, drop, ◌||◌};
 ghost use Rattle.std.specs.Float.Ieee.{lt};
 ghost use Rattle.std.specs.Float.{nan};
 ghost use Rattle.definitions.specs.Vectors.{minus, norm};
@@ -11,187 +10,161 @@ ghost use Rattle.definitions.specs.Subspace.{project, residual, distance, add_po
 ghost use Rattle.definitions.specs.Orbits.{point_at, too_short, too_long, breaks_limit};
 ghost use Rattle.laws.specs.Parts.{set_five};
 ghost use Rattle.vectors.specs.Meaning.{vector_of, five};
-ghost use Rattle.space.specs.Meaning.{subspace_of, SubspaceFits, HoldsSubspace, point_alone, with_vector, is_full_rank, points_of, PointsFit, HoldsPoints, length_of, limits_of, no_limits};
+ghost use Rattle.space.specs.Fits.{SubspaceFits, PointsFit};
 
 // ---- subspaces
 
-// [4.1] d numbers of offset, and `rank` basis vectors
+// [4.1] d numbers of offset, and `rank` basis vectors. The counts fit the arrays, and zeros stand behind what they reach.
 #[derive(Clone, Copy)]
 pub struct Subspace {
     pub offset: [f64; 5],
     pub basis: [f64; 25],
     pub d: usize,
     pub rank: usize,
+    pub ghost fits: { SubspaceFits offset basis d rank },
 }
 
 impl Subspace {
+    ghost use Rattle.space.specs.Meaning.{subspace_of, HoldsSubspace, point_alone, with_vector, is_full_rank, points_of};
+
     // A point alone: its basis has no vector yet.
     pub fn new(offset: [f64; 5], d: usize) -> Subspace
         requires { (d ≤ 5) × (offset ≡ five (vector_of d offset)) }
         ensures { HoldsSubspace result (point_alone (vector_of d offset)) × (result.d ≡ d) × (result.rank ≡ 0) }
     {
         Subspace {
-            offset: offset,
+            offset,
             basis: [0.0; 25],
-            d: d,
+            d,
             rank: 0,
         }
     }
 
     // A vector joins the basis as it is.
-    pub fn with_vector(self, v: [f64; 5]) -> Subspace
-        requires { SubspaceFits self × (self.rank < 5) × (v ≡ five (vector_of self.d v)) }
-        ensures { HoldsSubspace result (with_vector (subspace_of self) (vector_of self.d v)) × (result.d ≡ self.d) × (result.rank ≡ self.rank + 1) }
+    pub fn push(&mut self, v: [f64; 5])
+        requires { (self.old.rank < 5) × (v ≡ five (vector_of self.old.d v)) }
+        ensures { HoldsSubspace self.new (with_vector (subspace_of self.old) (vector_of self.old.d v)) × (self.new.d ≡ self.old.d) × (self.new.rank ≡ self.old.rank + 1) }
     {
-        let mut wider = self;
-        let rank = wider.rank;
-        let at = 5 * rank;
-        wider.basis[at] = v[0];
-        wider.basis[at + 1] = v[1];
-        wider.basis[at + 2] = v[2];
-        wider.basis[at + 3] = v[3];
-        wider.basis[at + 4] = v[4];
-        wider.rank = rank + 1;
-        wider
+        let at = 5 * self.rank;
+        self.basis[at] = v[0];
+        self.basis[at + 1] = v[1];
+        self.basis[at + 2] = v[2];
+        self.basis[at + 3] = v[3];
+        self.basis[at + 4] = v[4];
+        self.rank += 1;
     }
 
     // p − offset
-    fn away(self, p: [f64; 5]) -> [f64; 5]
-        requires { SubspaceFits self }
-        ensures { vector_of self.d result ≡ minus (vector_of self.d p) (subspace_of self).offset }
+    fn away(&self, p: [f64; 5]) -> [f64; 5]
+        ensures { vector_of self.now.d result ≡ minus (vector_of self.now.d p) (subspace_of self.now).offset }
+    {
+        vectors::minus(p, self.offset, self.d)
+    }
+
+    // [4.2] the projection of the point that begins at a place
+    fn project_at(&self, points: &[f64], at: usize) -> [f64; 5]
+        requires { at + self.now.d ≤ length points.now }
+        ensures { result ≡ five (project (subspace_of self.now) (vector_of self.now.d (drop at points.now))) }
     {
         let d = self.d;
-        let offset = self.offset;
-        vectors::minus(p, offset, d)
+        let mut away = [0.0; 5];
+        vectors::take_from(points, at, &self.offset, d, &mut away);
+        let mut q = self.offset;
+        for j in 0..self.rank {
+            let s = vectors::dot_at(&away, &self.basis, 5 * j, d);
+            vectors::gain(&mut q, &self.basis, 5 * j, s, d);
+        }
+        q
     }
 
     // [4.2] the projection
-    pub fn project(self, p: [f64; 5]) -> [f64; 5]
-        requires { SubspaceFits self }
-        ensures { result ≡ five (project (subspace_of self) (vector_of self.d p)) }
+    pub fn project(&self, p: [f64; 5]) -> [f64; 5]
+        ensures { result ≡ five (project (subspace_of self.now) (vector_of self.now.d p)) }
     {
-        project_at(self, &p, 0)
+        self.project_at(&p, 0)
     }
 
     // [4.2] p less its projection
-    fn residual(self, p: [f64; 5]) -> [f64; 5]
-        requires { SubspaceFits self }
-        ensures { result ≡ five (residual (subspace_of self) (vector_of self.d p)) }
+    fn residual(&self, p: [f64; 5]) -> [f64; 5]
+        ensures { result ≡ five (residual (subspace_of self.now) (vector_of self.now.d p)) }
     {
-        let d = self.d;
-        vectors::minus(p, self.project(p), d)
+        vectors::minus(p, self.project(p), self.d)
     }
 
     // [4.2] the norm of the residual
-    pub fn distance(self, p: [f64; 5]) -> f64
-        requires { SubspaceFits self }
-        ensures { result ≡ distance (subspace_of self) (vector_of self.d p) }
+    pub fn distance(&self, p: [f64; 5]) -> f64
+        ensures { result ≡ distance (subspace_of self.now) (vector_of self.now.d p) }
     {
-        let d = self.d;
-        vectors::norm(self.residual(p), d)
+        vectors::norm(self.residual(p), self.d)
     }
 
-    // [4.3] a basis vector more, where the residual is longer than the tolerance
+    // Whether the point that begins at a place is at a distance below the tolerance.
+    pub fn is_near(&self, points: &[f64], at: usize, tolerance: f64) -> bool
+        requires { at + self.now.d ≤ length points.now }
+        ensures { result ≡ lt (distance (subspace_of self.now) (vector_of self.now.d (drop at points.now))) tolerance }
+    {
+        let q = self.project_at(points, at);
+        let mut r = [0.0; 5];
+        vectors::take_from(points, at, &q, self.d, &mut r);
+        root::root_below(vectors::dot_at(&r, &r, 0, self.d), tolerance)
+    }
+
+    // [4.3] a basis vector more, where the residual is longer than the tolerance. The subspace goes by value and is handed back: a form that was asked for (docs/DECISIONS.md, "Language forms").
     pub fn add(self, p: [f64; 5], tolerance: f64) -> Subspace
-        requires { SubspaceFits self × (self.rank < 5) }
+        requires { self.rank < 5 }
         ensures { HoldsSubspace result (add_point tolerance (subspace_of self) (vector_of self.d p)) × (result.d ≡ self.d) }
     {
-        let d = self.d;
-        let unit = vectors::normalise(self.residual(p), d);
+        let unit = vectors::normalise(self.residual(p), self.d);
         if unit.norm > tolerance {
-            let v = unit.vector;
-            self.with_vector(v)
-        } else {
-            self
+            let mut wider = self;
+            wider.push(unit.vector);
+            return wider;
         }
+        self
     }
 
     // [4.4] Without a point the offset has no numbers; else d is the points' own.
-    pub fn from_points(points: Points, tolerance: f64) -> Subspace
-        requires { PointsFit points }
-        ensures { HoldsSubspace result (from_points tolerance (points_of points)) × (0 < points.n → result.d ≡ points.d) }
+    pub fn from_points(points: &Points, tolerance: f64) -> Subspace
+        ensures { HoldsSubspace result (from_points tolerance (points_of points.now)) × (0 < points.now.n → result.d ≡ points.now.d) }
     {
-        let n = points.n;
-        let d = points.d;
-        if n == 0 {
+        if points.n == 0 {
             return Subspace::new([0.0; 5], 0);
         }
-        let mut s = Subspace::new(point_at(&points.at, 0), d);
-        let mut i = 1;
-        while i < n {
+        let mut s = Subspace::new(point_at(&points.at, 0), points.d);
+        for i in 1..points.n {
             if s.is_full_rank() {
                 return s;
             }
-            let wider = s.add(point_at(&points.at, i), tolerance);
-            s = wider;
-            i += 1;
+            s = s.add(point_at(&points.at, i), tolerance);
         }
         s
     }
 
     // (p − offset) · b for each basis vector b: `rank` numbers.
-    pub fn flatten(self, p: [f64; 5]) -> [f64; 5]
-        requires { SubspaceFits self }
-        ensures { result ≡ five (flatten (subspace_of self) (vector_of self.d p)) }
+    pub fn flatten(&self, p: [f64; 5]) -> [f64; 5]
+        ensures { result ≡ five (flatten (subspace_of self.now) (vector_of self.now.d p)) }
     {
-        let d = self.d;
-        let rank = self.rank;
         let away = self.away(p);
         let mut r = [0.0; 5];
-        let mut j = 0;
-        while j < rank {
-            r[j] = vectors::dot_at(&away, &self.basis, 5 * j, d);
-            j += 1;
+        for j in 0..self.rank {
+            r[j] = vectors::dot_at(&away, &self.basis, 5 * j, self.d);
         }
         r
     }
 
     // A hyperplane has d − 1 basis vectors.
-    pub fn is_hyperplane(self) -> bool
-        requires { SubspaceFits self }
-        ensures { result ≡ is_hyperplane (subspace_of self) }
+    pub fn is_hyperplane(&self) -> bool
+        ensures { result ≡ is_hyperplane (subspace_of self.now) }
     {
         self.d == self.rank + 1
     }
 
     // The basis has d vectors, and no point is added any more.
-    fn is_full_rank(self) -> bool
-        requires { SubspaceFits self }
-        ensures { result ≡ is_full_rank (subspace_of self) }
+    fn is_full_rank(&self) -> bool
+        ensures { result ≡ is_full_rank (subspace_of self.now) }
     {
         self.d <= self.rank
     }
-}
-
-// [4.2] the projection of the point that begins at a place
-fn project_at(plane: Subspace, points: &[f64], at: usize) -> [f64; 5]
-    requires { SubspaceFits plane × (at + plane.d ≤ length points.now) }
-    ensures { result ≡ five (project (subspace_of plane) (vector_of plane.d (drop at points.now))) }
-{
-    let d = plane.d;
-    let rank = plane.rank;
-    let mut away = [0.0; 5];
-    vectors::take_from(points, at, &plane.offset, d, &mut away);
-    let mut q = plane.offset;
-    let mut j = 0;
-    while j < rank {
-        let s = vectors::dot_at(&away, &plane.basis, 5 * j, d);
-        vectors::gain(&mut q, &plane.basis, 5 * j, s, d);
-        j += 1;
-    }
-    q
-}
-
-// Whether the point that begins at a place is at a distance below the tolerance.
-pub fn is_near(plane: Subspace, points: &[f64], at: usize, tolerance: f64) -> bool
-    requires { SubspaceFits plane × (at + plane.d ≤ length points.now) }
-    ensures { result ≡ lt (distance (subspace_of plane) (vector_of plane.d (drop at points.now))) tolerance }
-{
-    let d = plane.d;
-    let q = project_at(plane, points, at);
-    let mut r = [0.0; 5];
-    vectors::take_from(points, at, &q, d, &mut r);
-    root::root_below(vectors::dot_at(&r, &r, 0, d), tolerance)
 }
 
 // ---- points
@@ -202,9 +175,12 @@ pub struct Points {
     pub at: [f64; 100],
     pub n: usize,
     pub d: usize,
+    pub ghost fits: { PointsFit at n d },
 }
 
 impl Points {
+    ghost use Rattle.space.specs.Meaning.{subspace_of, points_of, HoldsPoints, limits_of};
+
     pub fn new(d: usize) -> Points
         requires { d ≤ 5 }
         ensures { HoldsPoints result d [] }
@@ -212,55 +188,52 @@ impl Points {
         Points {
             at: [0.0; 100],
             n: 0,
-            d: d,
+            d,
         }
     }
 
-    pub fn point(self, i: usize) -> [f64; 5]
-        requires { PointsFit self × (i < self.n) }
-        ensures { result ≡ five (point_at (points_of self) i) }
+    pub fn point(&self, i: usize) -> [f64; 5]
+        requires { i < self.now.n }
+        ensures { result ≡ five (point_at (points_of self.now) i) }
     {
         point_at(&self.at, i)
     }
 
     // One point more, at the end.
-    pub fn with_point(self, p: [f64; 5]) -> Points
-        requires { PointsFit self × (self.n < 20) × (p ≡ five (vector_of self.d p)) }
-        ensures { HoldsPoints result self.d (points_of self ++ (vector_of self.d p ∷ [])) × (result.n ≡ self.n + 1) }
+    pub fn push(&mut self, p: [f64; 5])
+        requires { (self.old.n < 20) × (p ≡ five (vector_of self.old.d p)) }
+        ensures { HoldsPoints self.new self.old.d (points_of self.old ++ (vector_of self.old.d p ∷ [])) × (self.new.n ≡ self.old.n + 1) }
     {
-        let mut more = self;
-        let n = more.n;
-        put_point(&mut more.at, n, p);
-        more.n = n + 1;
-        more
+        put_point(&mut self.at, self.n, p);
+        self.n += 1;
     }
 
     // Every point, flattened by a plane that has the points' d.
-    pub fn flatten_all(self, plane: Subspace) -> Points
-        requires { PointsFit self × SubspaceFits plane × (self.d ≡ plane.d) }
-        ensures { HoldsPoints result plane.rank (map (flatten (subspace_of plane)) (points_of self)) × (result.n ≡ self.n) }
+    pub fn flatten_all(&self, plane: &Subspace) -> Points
+        requires { self.now.d ≡ plane.now.d }
+        ensures { HoldsPoints result plane.now.rank (map (flatten (subspace_of plane.now)) (points_of self.now)) × (result.n ≡ self.now.n) }
     {
-        let n = self.n;
-        let rank = plane.rank;
-        let mut flat = [0.0; 100];
-        let mut i = 0;
-        while i < n {
-            put_point(&mut flat, i, plane.flatten(point_at(&self.at, i)));
-            i += 1;
+        let mut flat = Points::new(plane.rank);
+        for i in 0..self.n {
+            flat.push(plane.flatten(self.point(i)));
         }
-        Points {
-            at: flat,
-            n: n,
-            d: rank,
-        }
+        flat
     }
 
-    // Whether the length from point v to point w breaks a limit.
-    pub fn breaks_limit(self, v: usize, w: usize, min: Limit, max: Limit, tolerance: f64) -> bool
-        requires { PointsFit self × (v < self.n) × (w < self.n) }
-        ensures { result ≡ breaks_limit tolerance (limits_of min max) (points_of self) v w }
+    // The length from point v to point w.
+    fn length_between(&self, v: usize, w: usize) -> f64
+        requires { (v < self.now.n) × (w < self.now.n) }
+        ensures { result ≡ norm (minus (point_at (points_of self.now) w) (point_at (points_of self.now) v)) }
     {
-        breaks_limit_at(&self.at, self.d, v, w, min, max, tolerance)
+        vectors::norm(vectors::minus(self.point(w), self.point(v), self.d), self.d)
+    }
+
+    // [5.3] Whether the length from point v to point w breaks a limit. No length is taken where no limit is given.
+    pub fn breaks_limit(&self, v: usize, w: usize, limits: Limits, tolerance: f64) -> bool
+        requires { (v < self.now.n) × (w < self.now.n) }
+        ensures { result ≡ breaks_limit tolerance (limits_of limits) (points_of self.now) v w }
+    {
+        !limits.is_empty() && limits.broken_by(self.length_between(v, w), tolerance)
     }
 }
 
@@ -294,75 +267,49 @@ pub fn put_point(points: &mut [f64; 100], i: usize, p: [f64; 5])
     points[at + 4] = p[4];
 }
 
-// ---- limits
+// ---- limits on lengths
 
-// A limit on lengths is either absent or a length.
+// [5.3] The shortest and the longest length that is allowed, each absent or a length.
 #[derive(Clone, Copy)]
-pub enum Limit {
-    Absent,
-    Length(f64),
+pub struct Limits {
+    pub shortest: Option<f64>,
+    pub longest: Option<f64>,
 }
 
-// Whether neither limit is given.
-fn no_limits(min: Limit, max: Limit) -> bool
-    ensures { result ≡ no_limits min max }
-{
-    match min {
-        Limit::Absent => match max {
-            Limit::Absent => true,
-            Limit::Length(_) => false,
-        },
-        Limit::Length(_) => false,
+impl Limits {
+    ghost use Rattle.space.specs.Meaning.{no_limits};
+
+    // Whether neither limit is given.
+    fn is_empty(self) -> bool
+        ensures { result ≡ no_limits self }
+    {
+        self.shortest.is_none() && self.longest.is_none()
+    }
+
+    // Whether a length breaks a limit.
+    pub fn broken_by(self, length: f64, tolerance: f64) -> bool
+        ensures { result ≡ (too_short tolerance self.shortest length || too_long tolerance self.longest length) }
+    {
+        too_short(length, self.shortest, tolerance) || too_long(length, self.longest, tolerance)
     }
 }
 
-// The length from point v to point w.
-fn length_between(points: &[f64], d: usize, v: usize, w: usize) -> f64
-    requires { (d ≤ 5) × (5 * v + 5 ≤ length points.now) × (5 * w + 5 ≤ length points.now) }
-    ensures { result ≡ norm (minus (vector_of d (drop (5 * w) points.now)) (vector_of d (drop (5 * v) points.now))) }
+// < shortest − tolerance
+fn too_short(length: f64, limit: Option<f64>, tolerance: f64) -> bool
+    ensures { result ≡ too_short tolerance limit length }
 {
-    vectors::norm(
-        vectors::minus(point_at(points, w), point_at(points, v), d),
-        d,
-    )
-}
-
-// [5.3] Whether the length from point v to point w breaks a limit. No length is taken where no limit is given.
-pub fn breaks_limit_at(
-    points: &[f64],
-    d: usize,
-    v: usize,
-    w: usize,
-    min: Limit,
-    max: Limit,
-    tolerance: f64,
-) -> bool
-    requires { (d ≤ 5) × (5 * v + 5 ≤ length points.now) × (5 * w + 5 ≤ length points.now) }
-    ensures { result ≡ breaks_limit tolerance (limits_of min max) (vector_of d (drop (5 * v) points.now) ∷ vector_of d (drop (5 * w) points.now) ∷ []) 0 1 }
-{
-    if no_limits(min, max) {
-        return false;
-    }
-    let length = length_between(points, d, v, w);
-    too_short(length, min, tolerance) || too_long(length, max, tolerance)
-}
-
-// < min − tolerance
-fn too_short(length: f64, min: Limit, tolerance: f64) -> bool
-    ensures { result ≡ too_short tolerance (length_of min) length }
-{
-    match min {
-        Limit::Absent => false,
-        Limit::Length(shortest) => length < shortest - tolerance,
+    match limit {
+        None => false,
+        Some(shortest) => length < shortest - tolerance,
     }
 }
 
-// > max + tolerance
-fn too_long(length: f64, max: Limit, tolerance: f64) -> bool
-    ensures { result ≡ too_long tolerance (length_of max) length }
+// > longest + tolerance
+fn too_long(length: f64, limit: Option<f64>, tolerance: f64) -> bool
+    ensures { result ≡ too_long tolerance limit length }
 {
-    match max {
-        Limit::Absent => false,
-        Limit::Length(longest) => length > longest + tolerance,
+    match limit {
+        None => false,
+        Some(longest) => length > longest + tolerance,
     }
 }

@@ -29,11 +29,9 @@ pub fn place_in(set: u32, u: usize) -> usize
 {
     let mut below: usize = 0;
     let mut rest = set;
-    let mut v = 0;
-    while v < u {
+    for v in 0..u {
         below += (rest % 2) as usize;
         rest = rest / 2;
-        v += 1;
     }
     below
 }
@@ -75,11 +73,9 @@ fn write_row(rows: &[u8], i: usize, n: usize, set: u32, out: &mut [u8], start: u
 {
     let mut next = 0;
     let mut rest = set;
-    let mut v = 0;
-    while v < n {
+    for v in 0..n {
         next = put_place(rows, i, v, rest, set, out, start, next);
         rest = rest / 2;
-        v += 1;
     }
 }
 
@@ -103,10 +99,8 @@ pub fn rows_within(rows: &[u8], m: usize, n: usize, set: u32, out: &mut [u8]) ->
     ensures rows { out.new ≡ written_rows (rows_within (vertices_of n set) (rows_in n m rows.now)) 0 out.old }
 {
     let mut count = 0;
-    let mut i = 0;
-    while i < m {
+    for i in 0..m {
         count = try_row(rows, i, n, set, out, count);
-        i += 1;
     }
     count
 }

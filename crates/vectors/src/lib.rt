@@ -8,6 +8,7 @@ ghost use Rattle.laws.specs.Segments.{onto};
 ghost use Rattle.vectors.specs.Meaning.{vector_of, five};
 
 // The vectors of a call lie in arrays, one behind the other. The loops borrow such an array and are told where a vector begins: to copy it out would cost more than its arithmetic.
+// The loops count an index: it names the same place of two or three arrays that begin at places of their own, and a `zip` of their parts says no more. The library has no sum of floats, and Rust's begins at −0.
 
 // The dot product: from +0, the products are added in index order. The second vector begins at a place.
 pub fn dot_at(a: &[f64], b: &[f64], at: usize, d: usize) -> f64
@@ -15,10 +16,8 @@ pub fn dot_at(a: &[f64], b: &[f64], at: usize, d: usize) -> f64
     ensures { result ≡ dot (vector_of d a.now) (vector_of d (drop at b.now)) }
 {
     let mut sum = 0.0;
-    let mut i = 0;
-    while i < d {
+    for i in 0..d {
         sum = sum + a[i] * b[at + i];
-        i += 1;
     }
     sum
 }
@@ -52,10 +51,8 @@ pub fn normalise(v: [f64; 5], d: usize) -> Normalised
 {
     let length = norm(v, d);
     let mut r = [0.0; 5];
-    let mut i = 0;
-    while i < d {
+    for i in 0..d {
         r[i] = v[i] / length;
-        i += 1;
     }
     Normalised {
         vector: r,
@@ -68,10 +65,8 @@ pub fn take_from(p: &[f64], at: usize, q: &[f64], d: usize, out: &mut [f64])
     requires { (at + d ≤ length p.now) × (d ≤ length q.now) × (d ≤ length out.old) }
     ensures { out.new ≡ onto (minus (vector_of d (drop at p.now)) (vector_of d q.now)) out.old }
 {
-    let mut i = 0;
-    while i < d {
+    for i in 0..d {
         out[i] = p[at + i] - q[i];
-        i += 1;
     }
 }
 
@@ -90,9 +85,7 @@ pub fn gain(q: &mut [f64], b: &[f64], at: usize, s: f64, d: usize)
     requires { (d ≤ length q.old) × (at + d ≤ length b.now) }
     ensures { q.new ≡ onto (plus_times (vector_of d q.old) (vector_of d (drop at b.now)) s) q.old }
 {
-    let mut i = 0;
-    while i < d {
+    for i in 0..d {
         q[i] = q[i] + b[at + i] * s;
-        i += 1;
     }
 }

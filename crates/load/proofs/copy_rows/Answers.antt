@@ -1,11 +1,12 @@
 use mathlib.Core.Path.{◌≡◌, refl, ◌∙◌}
+use Prim.Native.Nat.{◌*◌}
 use native.Mathlib.Omega.{arith}
 use Rattle.definitions.specs.Lists.{count_from}
 use Rattle.laws.specs.Parts.{rows}
 use Rattle.laws.specs.Tests.{next_fits}
 use Rattle.openers.specs.Rows.{rows_in, written_rows}
 use Rattle.load.specs.Meaning.{rows_at}
-use Rattle.load.proofs.Laws.{copy_fits, row_copied}
+use Rattle.load.proofs.Laws.{copy_fits, lent_length, row_lent, row_copied}
 use Rattle.laws.specs.Clauses.{of_two}
 use Rattle.load.proofs.copy_rows.Goals as goal
 
@@ -28,22 +29,11 @@ overflow_add-to c =
     let m = next_fits c.args.n c.loop-i.i c.args.count (omega arith) in
     omega arith
 
-pub slice_bounds-copy-end : goal.slice_bounds-copy-end
-slice_bounds-copy-end c =
-    let m = next_fits c.args.n c.loop-i.i c.args.count (omega arith) in
-    omega arith
-
-pub copy-requires : goal.copy-requires
-copy-requires c =
-    let m = next_fits c.args.n c.loop-i.i c.args.count (omega arith) in
-    let f = c.args in
-    copy_fits c.loop-i.region c.args.bytes.now _ f.n c.loop-i.i f.count (omega arith) (omega arith) (omega arith) (omega arith)
-
 pub loop-i-preserved : goal.loop-i-preserved
 loop-i-preserved c =
     let m = next_fits c.args.n c.loop-i.i c.args.count (omega arith) in
     let l = c.loop-i in
-    let next = row_copied l.region _ c.args.at c.args.n l.i _ (omega arith) (omega arith) (omega arith) c.copy.ensures l.invariant.2 c.args.region.now l.invariant.3 in
+    let next = row_copied l.region _ c.args.at c.args.n l.i _ (omega arith) (omega arith) (omega arith) (row_lent l.region _ _ (32 * l.i) c.args.n c.copy_from_slice.ensures.after (lent_length _ _ _ (omega arith)) (omega arith)) l.invariant.2 c.args.region.now l.invariant.3 in
     (omega arith, next.0 ∙ l.invariant.1, next.1, next.2)
 
 pub returns : goal.returns

@@ -8,6 +8,3 @@ use Rattle.load.proofs.copy_rows.Given as goal
 
 abbrev pub invariant-loop-i : goal.invariant-loop-i
 invariant-loop-i l = (l.i ≤ l.count) × (length l.region ≡ length l.initial.region) × (rows_in l.n l.i l.region ≡ rows_at l.bytes l.at l.n l.i) × (l.region ≡ written_rows (rows_at l.bytes l.at l.n l.i) 0 l.initial.region)
-
-abbrev pub decreases-loop-i : goal.decreases-loop-i
-decreases-loop-i l = l.count - l.i

@@ -25,10 +25,10 @@ tolerance_at-requires c = (fitting _ _ _ c.requires c.header_of-h.ensures c.plac
 pub rule_at-requires : goal.rule_at-requires
 rule_at-requires c = (fitting _ _ _ c.requires c.header_of-h.ensures c.places_of-p.ensures).rule
 
-pub get_u32-requires : goal.get_u32-requires
-get_u32-requires c = (fitting _ _ _ c.requires c.header_of-h.ensures c.places_of-p.ensures).budget
+pub get-requires : goal.get-requires
+get-requires c = (fitting _ _ _ c.requires c.header_of-h.ensures c.places_of-p.ensures).budget
 
 pub returns : goal.returns
 returns c =
     fields_are _ _ _ _ _ _ _ _ _ c.header_of-h.ensures c.places_of-p.ensures
-    c.limit_at.ensures c.limit_at-2.ensures c.entry_limit_at.ensures c.tolerance_at.ensures c.rule_at.ensures c.get_u32.ensures
+    c.limit_at.ensures c.limit_at-2.ensures c.entry_limit_at.ensures c.tolerance_at.ensures c.rule_at.ensures c.get.ensures

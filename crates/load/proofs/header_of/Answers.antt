@@ -5,4 +5,4 @@ use Rattle.load.proofs.header_of.Goals as goal
 
 pub returns : goal.returns
 unfolding header_of
-returns c = rw (c.get_u16.ensures, c.wide.ensures, c.wide-2.ensures, c.wide-3.ensures, c.get_u16-2.ensures, c.wide-4.ensures) refl
+returns c = rw (c.get.ensures, c.from.ensures, c.from-2.ensures, c.from-3.ensures, c.get-2.ensures, c.from-4.ensures) refl

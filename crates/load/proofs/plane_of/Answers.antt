@@ -22,11 +22,6 @@ new-plane-requires c =
 pub loop-j-init : goal.loop-j-init
 loop-j-init c = (omega arith, c.new-plane.ensures.1, c.new-plane.ensures.2, plane_start _ _ _ _ _ c.new-plane.ensures.0)
 
-pub overflow_sub-rank : goal.overflow_sub-rank
-overflow_sub-rank c =
-    let k = loadable _ _ c.requires.0 c.requires.1 in
-    omega arith
-
 pub overflow_mul-d-in-loop-j : goal.overflow_mul-d-in-loop-j
 overflow_mul-d-in-loop-j c =
     let k = loadable _ _ c.requires.0 c.requires.1 in
@@ -45,17 +40,17 @@ vector_at-requires-in-loop-j c =
     let m = next_fits (8 * c.args.fields.d) c.loop-j.j (c.args.fields.rank - 1) (omega arith) in
     (omega arith, omega arith)
 
-pub with_vector-wider-requires : goal.with_vector-wider-requires
-with_vector-wider-requires c =
+pub push-requires : goal.push-requires
+push-requires c =
     let k = loadable _ _ c.requires.0 c.requires.1 in
     let l = c.loop-j in
-    (l.invariant.3.fits, omega arith, five_own _ _ l.plane.d c.vector_at-in-loop-j.ensures (floats_length _ _ _ ∙ sym l.invariant.1))
+    (omega arith, five_own _ _ l.plane.d c.vector_at-in-loop-j.ensures (floats_length _ _ _ ∙ sym l.invariant.1))
 
 pub loop-j-preserved : goal.loop-j-preserved
 loop-j-preserved c =
     let l = c.loop-j in
     let e = l.invariant.1 in
-    (omega arith, c.with_vector-wider.ensures.1 ∙ e, c.with_vector-wider.ensures.2 ∙ ap (λ (x : ℕ). x + 1) l.invariant.2, plane_turn _ _ _ _ _ _ _ _ c.with_vector-wider.ensures.0 l.invariant.3.means (rw e (five_means _ _ _ c.vector_at-in-loop-j.ensures (floats_length _ _ _))))
+    (omega arith, c.push.ensures.1 ∙ e, c.push.ensures.2 ∙ ap (λ (x : ℕ). x + 1) l.invariant.2, plane_turn _ _ _ _ _ _ _ _ c.push.ensures.0 l.invariant.3.means (rw e (five_means _ _ _ c.vector_at-in-loop-j.ensures (floats_length _ _ _))))
 
 pub returns : goal.returns
 returns c =
@@ -64,3 +59,8 @@ returns c =
     let end : l.j ≡ c.args.fields.rank - 1 = omega arith in
     let offset = offset_alone _ _ c.new-plane.ensures.0 ∙ five_means _ _ _ c.vector_at.ensures (floats_length _ _ _) in
     (plane_end _ _ _ _ _ l.invariant.3 offset end k, l.invariant.1, l.invariant.2 ∙ end)
+
+pub overflow_sub-j-end : goal.overflow_sub-j-end
+overflow_sub-j-end c =
+    let k = loadable _ _ c.requires.0 c.requires.1 in
+    omega arith

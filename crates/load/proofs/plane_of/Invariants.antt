@@ -6,7 +6,4 @@ use Rattle.load.proofs.Laws.{plane_to}
 use Rattle.load.proofs.plane_of.Given as goal
 
 abbrev pub invariant-loop-j : goal.invariant-loop-j
-invariant-loop-j l = (l.j ≤ l.rank - 1) × (l.plane.d ≡ l.d) × (l.plane.rank ≡ l.j) × HoldsSubspace l.plane (plane_to l.job (subspace_of l.initial.plane).offset l.at l.d l.j)
-
-abbrev pub decreases-loop-j : goal.decreases-loop-j
-decreases-loop-j l = l.rank - 1 - l.j
+invariant-loop-j l = (l.j ≤ l.fn.fields.rank - 1) × (l.plane.d ≡ l.d) × (l.plane.rank ≡ l.j) × HoldsSubspace l.plane (plane_to l.job (subspace_of l.initial.plane).offset l.at l.d l.j)

@@ -37,17 +37,17 @@ vector_at-requires c =
     let m = next_fits (8 * c.args.fields.d) c.loop-i.i c.args.fields.n (omega arith) in
     (omega arith, omega arith)
 
-pub with_point-more-requires : goal.with_point-more-requires
-with_point-more-requires c =
+pub push-requires : goal.push-requires
+push-requires c =
     let k = loadable _ _ c.requires.0 c.requires.1 in
     let l = c.loop-i in
-    (l.invariant.1.fits, omega arith, five_own _ _ l.points.d c.vector_at.ensures (floats_length _ _ _ ∙ sym l.invariant.1.d_is))
+    (omega arith, five_own _ _ l.points.d c.vector_at.ensures (floats_length _ _ _ ∙ sym l.invariant.1.d_is))
 
 pub loop-i-preserved : goal.loop-i-preserved
 loop-i-preserved c =
     let l = c.loop-i in
     let e = l.invariant.1.d_is in
-    (omega arith, points_turn _ _ _ _ _ _ _ _ c.with_point-more.ensures.0 e l.invariant.1.means (rw e (five_means _ _ _ c.vector_at.ensures (floats_length _ _ _))), c.with_point-more.ensures.1 ∙ ap (λ (x : ℕ). x + 1) l.invariant.2)
+    (omega arith, points_turn _ _ _ _ _ _ _ _ c.push.ensures.0 e l.invariant.1.means (rw e (five_means _ _ _ c.vector_at.ensures (floats_length _ _ _))), c.push.ensures.1 ∙ ap (λ (x : ℕ). x + 1) l.invariant.2)
 
 pub returns : goal.returns
 returns c =

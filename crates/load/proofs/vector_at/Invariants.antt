@@ -8,6 +8,3 @@ use Rattle.load.proofs.vector_at.Given as goal
 
 abbrev pub invariant-loop-i : goal.invariant-loop-i
 invariant-loop-i l = (l.i ≤ l.d) × (length l.v ≡ 5) × (take l.i l.v ≡ floats_at l.job l.at l.i) × (drop l.i l.v ≡ drop l.i (zeros 5))
-
-abbrev pub decreases-loop-i : goal.decreases-loop-i
-decreases-loop-i l = l.d - l.i

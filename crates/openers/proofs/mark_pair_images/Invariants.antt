@@ -9,6 +9,3 @@ use Rattle.openers.proofs.mark_pair_images.Given as goal
 
 abbrev pub invariant-loop-i : goal.invariant-loop-i
 invariant-loop-i l = (l.i ≤ l.m) × (length l.marks ≡ length l.initial.marks) × (l.marks ≡ marked l.initial.marks (pair_codes (rows_in 32 l.i l.rows) (l.v, l.w)))
-
-abbrev pub decreases-loop-i : goal.decreases-loop-i
-decreases-loop-i l = l.m - l.i

@@ -19,7 +19,7 @@ pub loop-k-init : goal.loop-k-init
 unfolding pairs_in
 loop-k-init c =
     let a = c.args in
-    let none = from_none (pair_codes (rows_in 32 a.m a.rows.now)) (breaks a.tolerance (limits_of a.min a.max) (points_of a.points)) (replicate 400 false) a.points.n (vertices_in c.vertex_openers-openers.result) in
+    let none = from_none (pair_codes (rows_in 32 a.m a.rows.now)) (breaks a.tolerance (limits_of a.limits) (points_of a.points.now)) (replicate 400 false) a.points.now.n (vertices_in c.vertex_openers-openers.result) in
     (omega arith, record { long = refl; holds = rw none.0 (holds_pairs (listed (replicate 190 0) 0) [] (omega arith) refl refl) }, sym none.1)
 
 pub offset_bounds-openers-k : goal.offset_bounds-openers-k
@@ -34,13 +34,13 @@ pairs_above-count-requires c =
     let o = c.vertex_openers-openers in
     let a = c.args in
     let images = pair_codes (rows_in 32 a.m a.rows.now) in
-    let skip = breaks a.tolerance (limits_of a.min a.max) (points_of a.points) in
-    let n = a.points.n in
+    let skip = breaks a.tolerance (limits_of a.limits) (points_of a.points.now) in
+    let n = a.points.now.n in
     let rise : Rising n (vertices_in o.result) = rw o.ensures.means (openers_rise (rows_in n a.m a.rows.now) n) in
     let long : length (vertices_in o.result) ≡ o.result.count = ap length o.ensures.means ∙ sym o.ensures.count_is in
     let here : get_or (vertices_in o.result) l.k 0 ≡ get_or o.result.at l.k 0 = opener_at o.result l.k (omega arith) in
     let few : l.count ≤ length (pairs_from n (take l.k (vertices_in o.result))) = omega (arith, l.invariant.1.holds.count_is, walked_fewer pair_code images skip (replicate 400 false) (pairs_from n (take l.k (vertices_in o.result)))) in
-    (c.requires.0, omega (arith, here, rise.below l.k (omega arith)), c.requires.1, omega (arith, here, room n (vertices_in o.result) rise c.requires.0.n_fits l.k l.count (omega arith) few), l.invariant.1.long)
+    (omega (arith, here, rise.below l.k (omega arith)), c.requires, omega (arith, here, room n (vertices_in o.result) rise a.points.now.fits.n_fits l.k l.count (omega arith) few), l.invariant.1.long)
 
 pub loop-k-preserved : goal.loop-k-preserved
 loop-k-preserved c =
@@ -48,8 +48,8 @@ loop-k-preserved c =
     let o = c.vertex_openers-openers in
     let a = c.args in
     let images = pair_codes (rows_in 32 a.m a.rows.now) in
-    let skip = breaks a.tolerance (limits_of a.min a.max) (points_of a.points) in
-    let n = a.points.n in
+    let skip = breaks a.tolerance (limits_of a.limits) (points_of a.points.now) in
+    let n = a.points.now.n in
     let long : length (vertices_in o.result) ≡ o.result.count = ap length o.ensures.means ∙ sym o.ensures.count_is in
     let here : get_or (vertices_in o.result) l.k 0 ≡ get_or o.result.at l.k 0 = opener_at o.result l.k (omega arith) in (
       omega arith,
@@ -62,9 +62,9 @@ returns c =
     let l = c.loop-k in
     let a = c.args in
     let o = c.vertex_openers-openers in
-    let skip = breaks a.tolerance (limits_of a.min a.max) (points_of a.points) in
-    let n = a.points.n in
+    let skip = breaks a.tolerance (limits_of a.limits) (points_of a.points.now) in
+    let n = a.points.now.n in
     let all = vertex_openers (rows_in n a.m a.rows.now) [] (count_from 0 n) in
     let long : length (vertices_in o.result) ≡ o.result.count = ap length o.ensures.means ∙ sym o.ensures.count_is in
     let whole : take l.k (vertices_in o.result) ≡ all = take_all l.k (vertices_in o.result) (omega arith) ∙ o.ensures.means in
-    rw (← (pairs_walked n a.m a.rows.now c.requires.1 skip (replicate 400 false) [] (pairs_from n all) agree_none (from_vertices n all (openers_rise (rows_in n a.m a.rows.now) n))), ← whole) l.invariant.1.holds
+    rw (← (pairs_walked n a.m a.rows.now c.requires skip (replicate 400 false) [] (pairs_from n all) agree_none (from_vertices n all (openers_rise (rows_in n a.m a.rows.now) n))), ← whole) l.invariant.1.holds

@@ -10,9 +10,6 @@ use Rattle.openers.proofs.PairWalk.{found_from, marks_from}
 use Rattle.openers.proofs.pair_openers.Given as goal
 
 abbrev pub invariant-loop-k : goal.invariant-loop-k
-invariant-loop-k l = (l.k ≤ l.many)
-    × HoldsCodes l.codes l.count (found_from (pair_codes (rows_in 32 l.m l.rows)) (breaks l.tolerance (limits_of l.min l.max) (points_of l.points)) (replicate 400 false) l.points.n (vertices_in l.openers) l.k)
-    × (l.marks ≡ marks_from (pair_codes (rows_in 32 l.m l.rows)) (breaks l.tolerance (limits_of l.min l.max) (points_of l.points)) (replicate 400 false) l.points.n (vertices_in l.openers) l.k)
-
-abbrev pub decreases-loop-k : goal.decreases-loop-k
-decreases-loop-k l = l.many - l.k
+invariant-loop-k l = (l.k ≤ l.openers.count)
+    × HoldsCodes l.codes l.count (found_from (pair_codes (rows_in 32 l.m l.rows)) (breaks l.tolerance (limits_of l.limits) (points_of l.points)) (replicate 400 false) l.points.n (vertices_in l.openers) l.k)
+    × (l.marks ≡ marks_from (pair_codes (rows_in 32 l.m l.rows)) (breaks l.tolerance (limits_of l.limits) (points_of l.points)) (replicate 400 false) l.points.n (vertices_in l.openers) l.k)

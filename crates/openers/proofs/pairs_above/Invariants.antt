@@ -2,7 +2,7 @@
 use mathlib.Core.Path.{◌≡◌}
 use mathlib.Core.List.{◌++◌}
 use Prim.Native.Nat.{◌-◌, ◌≤◌, ◌<◌}
-use Rattle.space.specs.Meaning.{borrowed, points_of, limits_of}
+use Rattle.space.specs.Meaning.{points_of, limits_of}
 use Rattle.openers.specs.Rows.{rows_in}
 use Rattle.openers.specs.Meaning.{breaks, pair_codes, pairs_in, listed, HoldsCodes}
 use Rattle.openers.proofs.PairWalk.{found_up, marks_up}
@@ -10,9 +10,6 @@ use Rattle.openers.proofs.pairs_above.Given as goal
 
 abbrev pub invariant-loop-w : goal.invariant-loop-w
 invariant-loop-w l = (l.v < l.w)
-    × HoldsCodes l.codes l.pairs (pairs_in (listed l.initial.codes l.count) ++ found_up (pair_codes (rows_in 32 l.m l.rows)) (breaks l.tolerance (limits_of l.min l.max) (points_of (borrowed l.points l.n l.d))) l.initial.marks l.v l.w)
-    × (l.marks ≡ marks_up (pair_codes (rows_in 32 l.m l.rows)) (breaks l.tolerance (limits_of l.min l.max) (points_of (borrowed l.points l.n l.d))) l.initial.marks l.v l.w)
-    × (l.w ≤ l.n)
-
-abbrev pub decreases-loop-w : goal.decreases-loop-w
-decreases-loop-w l = l.n - l.w
+    × HoldsCodes l.codes l.pairs (pairs_in (listed l.initial.codes l.count) ++ found_up (pair_codes (rows_in 32 l.m l.rows)) (breaks l.tolerance (limits_of l.limits) (points_of l.points)) l.initial.marks l.v l.w)
+    × (l.marks ≡ marks_up (pair_codes (rows_in 32 l.m l.rows)) (breaks l.tolerance (limits_of l.limits) (points_of l.points)) l.initial.marks l.v l.w)
+    × (l.w ≤ l.points.n)

@@ -8,11 +8,11 @@ use Rattle.openers.proofs.Laws.{vertex_passed, vertex_opened}
 use Rattle.laws.specs.Clauses.{of_two}
 use Rattle.openers.proofs.try_vertex.Goals as goal
 
-pub returns-then-marks-v : goal.returns-then-marks-v
-returns-then-marks-v c = of_two (λ x0 x1. record { joins = x0; marks = x1 })
-    (let long : length c.args.found.at ≡ 20 = search rules in
-    vertex_passed (rows_in 32 c.args.m c.args.rows.now) c.args.marks.now c.args.v c.args.found (omega arith) long c.if-marks-v.true)
+pub returns-then-not-marks-v : goal.returns-then-not-marks-v
+returns-then-not-marks-v c = of_two (λ x0 x1. record { joins = x0; marks = x1 })
+    (vertex_opened (rows_in 32 c.args.m c.args.rows.now) c.args.marks.now c.args.v c.args.found.now c.if-not-marks-v.true _ _ c.push.ensures c.mark_images.ensures)
 
-pub returns : goal.returns
-returns c = of_two (λ x0 x1. record { joins = x0; marks = x1 })
-    (vertex_opened (rows_in 32 c.args.m c.args.rows.now) c.args.marks.now c.args.v c.args.found c.if-marks-v.false _ _ c.with_vertex.ensures c.mark_images.ensures)
+pub returns-else-not-marks-v : goal.returns-else-not-marks-v
+returns-else-not-marks-v c = of_two (λ x0 x1. record { joins = x0; marks = x1 })
+    (let long : length c.args.found.now.at ≡ 20 = search rules in
+    vertex_passed (rows_in 32 c.args.m c.args.rows.now) c.args.marks.now c.args.v c.args.found.now (omega arith) long c.if-not-marks-v.false)

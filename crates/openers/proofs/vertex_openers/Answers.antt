@@ -14,16 +14,16 @@ pub loop-v-init : goal.loop-v-init
 loop-v-init c = let none = found_none (vertex_images (rows_in 32 c.args.m c.args.rows.now)) (replicate 20 false) in
     (omega arith, rw none.0 c.new-found.ensures, sym none.1)
 
-pub try_vertex-more-requires : goal.try_vertex-more-requires
-try_vertex-more-requires c = let l = c.loop-v in let few = found_few (vertex_images (rows_in 32 c.args.m c.args.rows.now)) (replicate 20 false) l.v in
+pub try_vertex-requires : goal.try_vertex-requires
+try_vertex-requires c = let l = c.loop-v in let few = found_few (vertex_images (rows_in 32 c.args.m c.args.rows.now)) (replicate 20 false) l.v in
     let is = l.invariant.1.count_is in
     (c.requires.m_fits, omega (arith, c.requires.n_fits), images_under c.requires l.v (omega arith), omega (arith, c.requires.n_fits))
 
 pub loop-v-preserved : goal.loop-v-preserved
 loop-v-preserved c = let l = c.loop-v in let images = vertex_images (rows_in 32 c.args.m c.args.rows.now) in (
   omega arith,
-  rw (found_more images (replicate 20 false) l.v, ← l.invariant.1.means, ← l.invariant.2) c.try_vertex-more.ensures.joins,
-  rw (marks_more images (replicate 20 false) l.v, ← l.invariant.2) c.try_vertex-more.ensures.marks,
+  rw (found_more images (replicate 20 false) l.v, ← l.invariant.1.means, ← l.invariant.2) c.try_vertex.ensures.joins,
+  rw (marks_more images (replicate 20 false) l.v, ← l.invariant.2) c.try_vertex.ensures.marks,
 )
 
 pub returns : goal.returns

@@ -10,6 +10,3 @@ use Rattle.openers.proofs.vertex_openers.Given as goal
 
 abbrev pub invariant-loop-v : goal.invariant-loop-v
 invariant-loop-v l = (l.v ≤ l.n) × HoldsVertices l.found (found_below (vertex_images (rows_in 32 l.m l.rows)) (replicate 20 false) l.v) × (l.marks ≡ marks_below (vertex_images (rows_in 32 l.m l.rows)) (replicate 20 false) l.v)
-
-abbrev pub decreases-loop-v : goal.decreases-loop-v
-decreases-loop-v l = l.n - l.v

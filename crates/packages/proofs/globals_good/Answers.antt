@@ -13,14 +13,14 @@ pub returns-then-g-v : goal.returns-then-g-v
 returns-then-g-v c =
     let a = c.args in
     let l = c.loop-i in
-    let w = c.wide-v.ensures in
+    let w = c.from-v.ensures in
     once_stops_above a.g a.pack.now a.at a.n l.i l.invariant.1 (omega arith) (omega arith) (le-ltb _ _ (rw w at c.if-g-v.true))
 
 pub returns-then-stands_among : goal.returns-then-stands_among
 returns-then-stands_among c =
     let a = c.args in
     let l = c.loop-i in
-    let w = c.wide-v.ensures in
+    let w = c.from-v.ensures in
     let again = sym c.stands_among.ensures ∙ c.if-stands_among.true in
     once_stops_again a.g a.pack.now a.at a.n l.i l.invariant.1 (omega arith) (omega arith) (rw w at again)
 
@@ -28,7 +28,7 @@ pub loop-i-preserved : goal.loop-i-preserved
 loop-i-preserved c =
     let a = c.args in
     let l = c.loop-i in
-    let w = c.wide-v.ensures in
+    let w = c.from-v.ensures in
     let new = sym c.stands_among.ensures ∙ c.if-stands_among.false in
     (omega arith, once_goes_on a.g a.pack.now a.at a.n l.i l.invariant.1 (omega arith) (omega arith) (lt-ltb _ _ (rw w at c.if-g-v.false)) (rw w at new))
 

@@ -5,8 +5,8 @@ use Rattle.packages.specs.Passed.{loaded_numbers, package_fits, package_is}
 use Rattle.laws.specs.Clauses.{of_two}
 use Rattle.packages.proofs.load_package.Goals as goal
 
-pub get_u16-rows-requires : goal.get_u16-rows-requires
-get_u16-rows-requires c =
+pub get-rows-requires : goal.get-rows-requires
+get-rows-requires c =
     let k = loaded_numbers c.args.n c.args.pack.now c.requires.0 c.requires.1 in
     omega (arith, k.long)
 
@@ -15,8 +15,8 @@ bounds-pack-2 c =
     let k = loaded_numbers c.args.n c.args.pack.now c.requires.0 c.requires.1 in
     omega (arith, k.long)
 
-pub get_u16-count-requires : goal.get_u16-count-requires
-get_u16-count-requires c =
+pub get-count-requires : goal.get-count-requires
+get-count-requires c =
     let k = loaded_numbers c.args.n c.args.pack.now c.requires.0 c.requires.1 in
     omega (arith, k.long)
 
@@ -28,12 +28,12 @@ copy_rows-requires c =
 pub copy_rows-requires-2 : goal.copy_rows-requires-2
 copy_rows-requires-2 c =
     let k = loaded_numbers c.args.n c.args.pack.now c.requires.0 c.requires.1 in
-    rw (c.wide-size.ensures, c.get_u16-rows.ensures) (omega (arith, k.size_most), omega (arith, k.long), omega (arith, k.rows_most, c.requires.3))
+    rw (c.from-size.ensures, c.get-rows.ensures) (omega (arith, k.size_most), omega (arith, k.long), omega (arith, k.rows_most, c.requires.3))
 
 pub returns : goal.returns
 returns c = of_two (λ x0 x1. record { fits = x0; is = x1 })
     (let globals = c.copy_rows.ensures.rows in
-    let full = rw (c.wide-size.ensures, c.get_u16-rows.ensures) at c.copy_rows-2.ensures.rows in (
-      package_fits c.args.n c.args.pack.now c.requires.0 c.requires.1 _ _ _ c.wide-size.ensures c.get_u16-rows.ensures c.get_u16-count.ensures globals.0 (globals.1 ∙ c.requires.2) full.0 (full.1 ∙ c.requires.3),
-      package_is c.args.n c.args.pack.now c.requires.0 c.requires.1 _ _ _ c.wide-size.ensures c.get_u16-rows.ensures c.get_u16-count.ensures globals.0 (globals.1 ∙ c.requires.2) full.0 (full.1 ∙ c.requires.3),
+    let full = rw (c.from-size.ensures, c.get-rows.ensures) at c.copy_rows-2.ensures.rows in (
+      package_fits c.args.n c.args.pack.now c.requires.0 c.requires.1 _ _ _ c.from-size.ensures c.get-rows.ensures c.get-count.ensures globals.0 (globals.1 ∙ c.requires.2) full.0 (full.1 ∙ c.requires.3),
+      package_is c.args.n c.args.pack.now c.requires.0 c.requires.1 _ _ _ c.from-size.ensures c.get-rows.ensures c.get-count.ensures globals.0 (globals.1 ∙ c.requires.2) full.0 (full.1 ∙ c.requires.3),
     ))

@@ -12,8 +12,8 @@ returns-then-not-counts_good c =
     let a = c.args in
     good_counts a.n a.pack.now (sym c.counts_good.ensures ∙ c.if-not-counts_good.true)
 
-pub get_u16-rows-requires : goal.get_u16-rows-requires
-get_u16-rows-requires c =
+pub get-rows-requires : goal.get-rows-requires
+get-rows-requires c =
     let a = c.args in
     let k = numbers a.n a.pack.now (true→holds (sym c.counts_good.ensures ∙ c.if-not-counts_good.false)) in
     omega (arith, k.long)
@@ -35,13 +35,13 @@ returns-then-not-globals_good c =
     let a = c.args in
     let counts = sym c.counts_good.ensures ∙ c.if-not-counts_good.false in
     let once = sym c.globals_good.ensures ∙ c.if-not-globals_good.true in
-    good_globals a.n a.pack.now counts (rw c.wide-size.ensures at once)
+    good_globals a.n a.pack.now counts (rw c.from-size.ensures at once)
 
 pub is_identity-requires : goal.is_identity-requires
 is_identity-requires c =
     let a = c.args in
     let k = numbers a.n a.pack.now (true→holds (sym c.counts_good.ensures ∙ c.if-not-counts_good.false)) in
-    rw c.wide-size.ensures (row_fits a.n (length a.pack.now) _ _ k.rows_least k.long)
+    rw c.from-size.ensures (row_fits a.n (length a.pack.now) _ _ k.rows_least k.long)
   where
     row_fits : (n long size rows : ℕ) → 1 ≤ rows → long ≡ 5 + n + size * rows → 5 + n + size ≤ long
     row_fits n long size zero h e = absurd (omega arith)
@@ -53,13 +53,13 @@ returns-then-not-is_identity c =
     let counts = sym c.counts_good.ensures ∙ c.if-not-counts_good.false in
     let once = sym c.globals_good.ensures ∙ c.if-not-globals_good.false in
     let other = sym c.is_identity.ensures ∙ c.if-not-is_identity.true in
-    good_identity a.n a.pack.now counts (rw c.wide-size.ensures at once) (rw c.wide-size.ensures at other)
+    good_identity a.n a.pack.now counts (rw c.from-size.ensures at once) (rw c.from-size.ensures at other)
 
 pub rows_good-requires : goal.rows_good-requires
 rows_good-requires c =
     let a = c.args in
     let k = numbers a.n a.pack.now (true→holds (sym c.counts_good.ensures ∙ c.if-not-counts_good.false)) in
-    rw (c.wide-size.ensures, c.get_u16-rows.ensures) (k.size_most, omega (arith, k.long))
+    rw (c.from-size.ensures, c.get-rows.ensures) (k.size_most, omega (arith, k.long))
 
 pub returns : goal.returns
 returns c =
@@ -67,5 +67,5 @@ returns c =
     let counts = sym c.counts_good.ensures ∙ c.if-not-counts_good.false in
     let once = sym c.globals_good.ensures ∙ c.if-not-globals_good.false in
     let first = sym c.is_identity.ensures ∙ c.if-not-is_identity.false in
-    let all = rw (c.wide-size.ensures, c.get_u16-rows.ensures) at c.rows_good.ensures in
-    all ∙ good_rows a.n a.pack.now counts (rw c.wide-size.ensures at once) (rw c.wide-size.ensures at first)
+    let all = rw (c.from-size.ensures, c.get-rows.ensures) at c.rows_good.ensures in
+    all ∙ good_rows a.n a.pack.now counts (rw c.from-size.ensures at once) (rw c.from-size.ensures at first)

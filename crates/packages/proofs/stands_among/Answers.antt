@@ -10,17 +10,17 @@ loop-i-init c =
     let a = c.args in
     (omega arith, decides_first (member_nat a.v) a.pack.now a.at a.many)
 
-pub returns-then-wide-v : goal.returns-then-wide-v
-returns-then-wide-v c =
+pub returns-then-from-v : goal.returns-then-from-v
+returns-then-from-v c =
     let a = c.args in
     let l = c.loop-i in
-    among_found a.v a.pack.now a.at a.many l.i l.invariant.1 (omega arith) (omega arith) (eq-eqb _ _ (sym c.if-wide-v.true ∙ c.wide.ensures))
+    among_found a.v a.pack.now a.at a.many l.i l.invariant.1 (omega arith) (omega arith) (eq-eqb _ _ (sym c.if-from-v.true ∙ c.from.ensures))
 
 pub loop-i-preserved : goal.loop-i-preserved
 loop-i-preserved c =
     let a = c.args in
     let l = c.loop-i in
-    (omega arith, among_goes_on a.v a.pack.now a.at a.many l.i l.invariant.1 (omega arith) (omega arith) (ne_eqb _ _ (λ e. c.if-wide-v.false (c.wide.ensures ∙ sym e))))
+    (omega arith, among_goes_on a.v a.pack.now a.at a.many l.i l.invariant.1 (omega arith) (omega arith) (ne_eqb _ _ (λ e. c.if-from-v.false (c.from.ensures ∙ sym e))))
 
 pub returns : goal.returns
 returns c =

@@ -6,6 +6,3 @@ use Rattle.packages.proofs.stands_among.Given as goal
 
 abbrev pub invariant-loop-i : goal.invariant-loop-i
 invariant-loop-i l = (l.i ≤ l.many) × Decides (member_nat l.v) l.pack l.at l.many l.i
-
-abbrev pub decreases-loop-i : goal.decreases-loop-i
-decreases-loop-i l = l.many - l.i

@@ -7,6 +7,3 @@ use Rattle.stabilizers.proofs.place_in.Given as goal
 
 abbrev pub invariant-loop-v : goal.invariant-loop-v
 invariant-loop-v l = (l.v ≤ l.u) × (l.below + length (vertices_from l.v (l.u - l.v) l.rest) ≡ length (vertices_from 0 (l.u - 0) l.set))
-
-abbrev pub decreases-loop-v : goal.decreases-loop-v
-decreases-loop-v l = l.u - l.v

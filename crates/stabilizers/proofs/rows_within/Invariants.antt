@@ -9,6 +9,3 @@ use Rattle.stabilizers.proofs.rows_within.Given as goal
 
 abbrev pub invariant-loop-i : goal.invariant-loop-i
 invariant-loop-i l = (l.i ≤ l.m) × (l.count ≤ l.i) × (l.count ≡ length (kept (vertices_of l.n l.set) l.n l.rows l.initial.out l.i)) × (l.out ≡ written_rows (kept (vertices_of l.n l.set) l.n l.rows l.initial.out l.i) 0 l.initial.out)
-
-abbrev pub decreases-loop-i : goal.decreases-loop-i
-decreases-loop-i l = l.m - l.i

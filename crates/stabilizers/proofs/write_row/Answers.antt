@@ -16,9 +16,6 @@ pub put_place-next-requires : goal.put_place-next-requires
 put_place-next-requires c = let l = c.loop-v in
     (omega (arith, c.requires.0.long, c.requires.0.n_fits), omega (arith, c.requires.0.below l.v (omega arith), c.requires.0.n_fits), omega (arith, l.invariant.1, c.requires.1), omega (arith, l.invariant.2, c.requires.0.n_fits))
 
-pub overflow_add-v : goal.overflow_add-v
-overflow_add-v c = omega (arith, c.requires.0.n_fits)
-
 pub loop-v-preserved : goal.loop-v-preserved
 loop-v-preserved c = let l = c.loop-v in
     let few = one_few l.v l.rest in

@@ -7,6 +7,3 @@ use Rattle.vectors.proofs.dot_at.Given as goal
 
 abbrev pub invariant-loop-i : goal.invariant-loop-i
 invariant-loop-i l = (l.i ≤ l.d) × (l.sum ≡ dot (take l.i l.a) (take l.i (drop l.at l.b)))
-
-abbrev pub decreases-loop-i : goal.decreases-loop-i
-decreases-loop-i l = l.d - l.i

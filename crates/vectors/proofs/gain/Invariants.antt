@@ -7,6 +7,3 @@ use Rattle.vectors.proofs.gain.Given as goal
 
 abbrev pub invariant-loop-i : goal.invariant-loop-i
 invariant-loop-i l = (l.i ≤ l.d) × (length l.q ≡ length l.initial.q) × (take l.i l.q ≡ plus_times (take l.i l.initial.q) (take l.i (drop l.at l.b)) l.s) × (drop l.i l.q ≡ drop l.i l.initial.q)
-
-abbrev pub decreases-loop-i : goal.decreases-loop-i
-decreases-loop-i l = l.d - l.i

@@ -9,6 +9,3 @@ use Rattle.vectors.proofs.normalise.Given as goal
 
 abbrev pub invariant-loop-i : goal.invariant-loop-i
 invariant-loop-i l = (l.i ≤ l.d) × (length l.r ≡ 5) × (take l.i l.r ≡ map (λ (x : Float). div binary64 x l.length) (take l.i l.v)) × (drop l.i l.r ≡ drop l.i (zeros 5))
-
-abbrev pub decreases-loop-i : goal.decreases-loop-i
-decreases-loop-i l = l.d - l.i

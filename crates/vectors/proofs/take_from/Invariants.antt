@@ -7,6 +7,3 @@ use Rattle.vectors.proofs.take_from.Given as goal
 
 abbrev pub invariant-loop-i : goal.invariant-loop-i
 invariant-loop-i l = (l.i ≤ l.d) × (length l.out ≡ length l.initial.out) × (take l.i l.out ≡ minus (take l.i (drop l.at l.p)) (take l.i l.q)) × (drop l.i l.out ≡ drop l.i l.initial.out)
-
-abbrev pub decreases-loop-i : goal.decreases-loop-i
-decreases-loop-i l = l.d - l.i

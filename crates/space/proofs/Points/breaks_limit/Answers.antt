@@ -1,10 +1,16 @@
--- `Points::breaks_limit` meets its contract: the length between two points is that of the two alone.
-use mathlib.Core.Path.{◌∙◌}
+-- `Points::breaks_limit` meets its contract: where no limit is given nothing breaks one, else from the contracts of its calls.
+use mathlib.Core.Path.{refl, sym, ◌∙◌}
+use Rattle.definitions.specs.Orbits.{breaks_limit}
 use Rattle.space.specs.Meaning.{points_of, limits_of}
-use Rattle.space.specs.Counts.{point_row, two_alone}
+use Rattle.space.proofs.Laws.{nothing_breaks}
 use Rattle.space.proofs.Points.breaks_limit.Goals as goal
 
-pub returns : goal.returns
-returns c =
+pub returns-then-not-is_empty : goal.returns-then-not-is_empty
+unfolding breaks_limit limits_of
+returns-then-not-is_empty c = c.broken_by.ensures ∙ rw c.length_between.ensures refl
+
+pub returns-else-not-is_empty : goal.returns-else-not-is_empty
+returns-else-not-is_empty c =
     let a = c.args in
-    c.breaks_limit_at.ensures ∙ two_alone a.tolerance (limits_of a.min a.max) (points_of a.self) a.v a.w _ _ (point_row a.self a.v c.requires.1) (point_row a.self a.w c.requires.2)
+    let empty = c.if-not-is_empty.false in
+    rw empty (sym (nothing_breaks a.tolerance a.limits (points_of a.self.now) a.v a.w (sym c.is_empty.ensures ∙ empty)))

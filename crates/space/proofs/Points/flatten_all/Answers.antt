@@ -1,39 +1,47 @@
-use mathlib.Core.Path.{◌≡◌, refl, ap, ◌∙◌}
-use Prim.Native.Nat.{◌*◌, ◌<◌}
-use lib.ListN.{length, take, drop}
-use Rattle.laws.specs.Parts.{map_rows_more, rows}
-use Rattle.laws.specs.Segments.{onto}
-use Rattle.vectors.specs.Meaning.{vector_of, zeros}
-use Rattle.vectors.specs.Wholes.{five_length, five_means}
-use Rattle.vectors.proofs.Wholes.{five_own}
-use Rattle.space.specs.Meaning.{points_of, in_rows, joined, subspace_of}
-use Rattle.space.specs.Counts.{offset_long, basis_long, holds_points, point_row, point_means, point_places, flatten_length, row_joined}
+use mathlib.Core.Path.{◌≡◌, ap, subst, ◌∙◌}
+use mathlib.Core.List.{map}
+use Prim.Native.Nat.{ℕ, ◌*◌, ◌<◌}
 use native.Mathlib.Omega.{arith}
+use lib.ListN.{length, take, drop}
 use Rattle.definitions.specs.Subspace.{flatten}
+use Rattle.laws.specs.Parts.{map_rows_more, rows}
+use Rattle.vectors.specs.Meaning.{vector_of, five}
+use Rattle.vectors.specs.Wholes.{five_means}
+use Rattle.vectors.proofs.Wholes.{five_own}
+use Rattle.space.specs.Meaning.{points_of, subspace_of}
+use Rattle.space.specs.Counts.{point_row, point_means, flatten_length}
+use Rattle.space.specs.Counts.{one_more}
 use Rattle.space.proofs.Points.flatten_all.Goals as goal
 
+pub new-flat-requires : goal.new-flat-requires
+new-flat-requires c = c.args.plane.now.fits.rank_fits
+
 pub loop-i-init : goal.loop-i-init
-unfolding points_of rows in_rows joined onto zeros
-loop-i-init c = (omega arith, holds_points _ _ _ (record { n_fits = omega arith; d_fits = c.requires.1.rank_fits; at_is = refl }) refl refl)
+unfolding rows
+loop-i-init c = (omega arith, c.new-flat.ensures.n_is, c.new-flat.ensures)
+
+pub push-requires : goal.push-requires
+push-requires c =
+    let l = c.loop-i in
+    let plane = c.args.plane.now in
+    let own : c.flatten.result ≡ five (vector_of plane.rank c.flatten.result) = five_own c.flatten.result _ plane.rank c.flatten.ensures (flatten_length plane _) in
+    (omega (arith, l.invariant.1, c.args.self.now.fits.n_fits), cc own)
 
 pub loop-i-preserved : goal.loop-i-preserved
 loop-i-preserved c =
     let l = c.loop-i in
-    let p = c.args.self in
-    let plane = c.args.plane in
+    let p = c.args.self.now in
+    let plane = c.args.plane.now in
+    let inside : l.i < p.n = omega arith in
     let row = take p.d (drop (5 * l.i) p.at) in
-    let result = c.flatten.result in
-    let inside : l.i < p.n = omega (arith, c.loop-i-test.true) in
-    let point : vector_of p.d c.point_at.result ≡ row = point_means p c.requires.0 l.i inside _ (c.point_at.ensures ∙ point_places p c.requires.0 l.i inside) ∙ point_row p l.i inside in
-    let flat-long = flatten_length plane c.requires.1 (offset_long plane c.requires.1) (basis_long plane c.requires.1) (vector_of plane.d c.point_at.result) in
-    let long : length result ≡ 5 = ap length c.flatten.ensures ∙ five_length _ (omega (arith, flat-long, c.requires.1.rank_fits)) in
-    let flat : vector_of plane.rank result ≡ flatten (subspace_of plane) row = five_means result _ plane.rank c.flatten.ensures flat-long ∙ rw (← c.requires.2, point) refl in
-    let more = row_joined (record { at = l.flat; n = l.i; d = plane.rank }) l.invariant.1.fits result (omega (arith, inside, c.requires.0.n_fits)) long (five_own result _ plane.rank c.flatten.ensures flat-long) in
-    (omega (arith, inside), rw (c.put_point.ensures, map_rows_more (flatten (subspace_of plane)) 5 p.d l.i p.at, ← flat, ← l.invariant.1.means) more)
+    let point : vector_of p.d c.point.result ≡ row = point_means p l.i inside _ c.point.ensures ∙ point_row p l.i inside in
+    let same : vector_of plane.d c.point.result ≡ row = subst (λ (k : ℕ). vector_of k c.point.result ≡ row) c.requires point in
+    let flat : vector_of plane.rank c.flatten.result ≡ flatten (subspace_of plane) row = five_means c.flatten.result _ plane.rank c.flatten.ensures (flatten_length plane _) ∙ ap (flatten (subspace_of plane)) same in
+    (omega arith, omega arith, rw (map_rows_more (flatten (subspace_of plane)) 5 p.d l.i p.at) (one_more l.flat _ plane.rank _ c.flatten.result _ l.invariant.2 flat c.push.ensures.0))
 
 pub returns : goal.returns
 unfolding points_of
 returns c =
     let l = c.loop-i in
-    let end : l.i ≡ c.args.self.n = omega arith in
-    (rw (← end) l.invariant.1, refl)
+    let end : l.i ≡ c.args.self.now.n = omega arith in
+    (rw (← end) l.invariant.2, l.invariant.1 ∙ end)

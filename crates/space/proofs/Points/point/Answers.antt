@@ -4,4 +4,4 @@ use Rattle.space.specs.Counts.{point_places}
 use Rattle.space.proofs.Points.point.Goals as goal
 
 pub returns : goal.returns
-returns c = c.point_at.ensures ∙ point_places c.args.self c.requires.0 c.args.i c.requires.1
+returns c = c.point_at.ensures ∙ point_places c.args.self.now c.args.i c.requires

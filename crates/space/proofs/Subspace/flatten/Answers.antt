@@ -20,7 +20,7 @@ loop-j-init c = (omega arith, refl, refl, refl)
 pub loop-j-preserved : goal.loop-j-preserved
 loop-j-preserved c =
     let l = c.loop-j in
-    let s = c.args.self in (
+    let s = c.args.self.now in (
       omega arith,
       length-set l.r l.j _ ∙ l.invariant.1,
       take_more_set l.r l.j _ (omega arith) ∙ rw (l.invariant.2, c.dot_at.ensures) (sym (map_rows_more _ 5 s.d l.j s.basis)),
@@ -32,5 +32,5 @@ pub returns : goal.returns
 unfolding flatten subspace_of five
 returns c =
     let l = c.loop-j in
-    let end : l.j ≡ c.args.self.rank = omega arith in
+    let end : l.j ≡ c.args.self.now.rank = omega arith in
     rw (← end, ← c.away-away.ensures) (whole l.r (zeros 5) _ l.j (omega (arith, l.invariant.1)) l.invariant.2 l.invariant.3)

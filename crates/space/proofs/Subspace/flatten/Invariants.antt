@@ -9,7 +9,4 @@ use Rattle.vectors.specs.Meaning.{zeros}
 use Rattle.space.proofs.Subspace.flatten.Given as goal
 
 abbrev pub invariant-loop-j : goal.invariant-loop-j
-invariant-loop-j l = (l.j ≤ l.rank) × (length l.r ≡ 5) × (take l.j l.r ≡ map (dot (take l.d l.away)) (rows 5 l.d l.j l.self.basis)) × (drop l.j l.r ≡ drop l.j (zeros 5))
-
-abbrev pub decreases-loop-j : goal.decreases-loop-j
-decreases-loop-j l = l.rank - l.j
+invariant-loop-j l = (l.j ≤ l.self.rank) × (length l.r ≡ 5) × (take l.j l.r ≡ map (dot (take l.self.d l.away)) (rows 5 l.self.d l.j l.self.basis)) × (drop l.j l.r ≡ drop l.j (zeros 5))

@@ -7,7 +7,7 @@ use Rattle.definitions.specs.Orbits.{point_at}
 use Rattle.laws.specs.Segments.{onto}
 use Rattle.vectors.specs.Meaning.{vector_of, zeros, five}
 use Rattle.space.specs.Meaning.{subspace_of, is_full_rank, points_of}
-use Rattle.space.specs.Counts.{holds_own, points_length, at_long, point_means, point_own, point_places}
+use Rattle.space.specs.Counts.{holds_subspace, points_length, at_long, point_means, point_own, point_places}
 use Rattle.space.proofs.Laws.{add_points_full, add_points_step, add_points_end, from_points_none, from_points_first, has_room}
 use Rattle.space.proofs.Subspace.from_points.Goals as goal
 
@@ -15,67 +15,55 @@ pub new-requires : goal.new-requires
 unfolding five onto zeros
 new-requires c = (omega arith, refl)
 
-pub returns-then-n-eq0 : goal.returns-then-n-eq0
-returns-then-n-eq0 c = (rw (from_points_none _ c.args.points c.if-n-eq0.true) c.new.ensures.0, λ h. absurd (omega arith))
+pub returns-then-points-eq0 : goal.returns-then-points-eq0
+returns-then-points-eq0 c = (rw (from_points_none _ c.args.points.now c.if-points-eq0.true) c.new.ensures.0, λ h. absurd (omega arith))
 
 pub point_at-requires : goal.point_at-requires
-point_at-requires c =
-    omega (arith, at_long c.args.points c.requires)
+point_at-requires c = omega (arith, at_long c.args.points.now)
 
 pub new-s-requires : goal.new-s-requires
 new-s-requires c =
-    let p = c.args.points in
-    (c.requires.d_fits, point_own p c.requires 0 (omega arith) _ (c.point_at.ensures ∙ point_places p c.requires 0 (omega arith)))
+    let p = c.args.points.now in
+    (p.fits.d_fits, point_own p 0 (omega arith) _ (c.point_at.ensures ∙ point_places p 0 (omega arith)))
 
 pub loop-i-init : goal.loop-i-init
 loop-i-init c =
-    let p = c.args.points in
-    let first : vector_of p.d c.point_at.result ≡ point_at (points_of p) 0 = point_means p c.requires 0 (omega arith) _ (c.point_at.ensures ∙ point_places p c.requires 0 (omega arith)) in
-    let some-points : 0 < length (points_of p) = omega (arith, points_length p) in (
-      omega arith,
-      c.new-s.ensures.1,
-      holds_own _ _ c.new-s.ensures.0,
-      rw (c.new-s.ensures.0.means, first) (sym (from_points_first c.args.tolerance (points_of p) some-points)),
-    )
-
-pub is_full_rank-requires : goal.is_full_rank-requires
-is_full_rank-requires c = c.loop-i.invariant.2.fits
+    let p = c.args.points.now in
+    let first : vector_of p.d c.point_at.result ≡ point_at (points_of p) 0 = point_means p 0 (omega arith) _ (c.point_at.ensures ∙ point_places p 0 (omega arith)) in
+    let some-points : 0 < length (points_of p) = omega (arith, points_length p) in
+    (omega arith, c.new-s.ensures.1, rw (c.new-s.ensures.0.means, first) (sym (from_points_first c.args.tolerance (points_of p) some-points)))
 
 pub returns-then-is_full_rank : goal.returns-then-is_full_rank
 returns-then-is_full_rank c =
     let l = c.loop-i in
     let full : is_full_rank (subspace_of l.s) ≡ true = sym c.is_full_rank.ensures ∙ c.if-is_full_rank.true in
-    (rw (← l.invariant.3, add_points_full _ _ _ full) l.invariant.2, λ h. l.invariant.1)
+    (holds_subspace _ _ (sym (add_points_full _ _ _ full) ∙ l.invariant.2), λ h. l.invariant.1)
 
 pub point_at-requires-in-loop-i : goal.point_at-requires-in-loop-i
-point_at-requires-in-loop-i c =
-    omega (arith, at_long c.args.points c.requires, c.loop-i-test.true, c.requires.n_fits)
+point_at-requires-in-loop-i c = omega (arith, at_long c.args.points.now, c.args.points.now.fits.n_fits)
 
-pub add-wider-requires : goal.add-wider-requires
-add-wider-requires c =
+pub add-s-requires : goal.add-s-requires
+add-s-requires c =
     let l = c.loop-i in
-    let room : l.s.rank < l.s.d = has_room l.s l.invariant.2 (sym c.is_full_rank.ensures ∙ c.if-is_full_rank.false) in
-    let fits : l.s.d ≤ 5 = l.invariant.2.fits.d_fits in
-    (l.invariant.2.fits, omega (arith, room, fits))
+    omega (arith, has_room l.s (sym c.is_full_rank.ensures ∙ c.if-is_full_rank.false), l.s.fits.d_fits)
 
 pub loop-i-preserved : goal.loop-i-preserved
 loop-i-preserved c =
     let l = c.loop-i in
-    let p = c.args.points in
+    let p = c.args.points.now in
     let s = subspace_of l.s in
-    let inside : l.i < p.n = omega (arith, c.loop-i-test.true) in
+    let inside : l.i < p.n = omega arith in
     let not_full : is_full_rank s ≡ false = sym c.is_full_rank.ensures ∙ c.if-is_full_rank.false in
-    let below : l.i < length (points_of p) = omega (arith, inside, points_length p) in
-    let point : vector_of l.s.d c.point_at-in-loop-i.result ≡ point_at (points_of p) l.i = rw l.invariant.1 (point_means p c.requires l.i inside _ (c.point_at-in-loop-i.ensures ∙ point_places p c.requires l.i inside)) in (
-      omega (arith, inside),
-      c.add-wider.ensures.1 ∙ l.invariant.1,
-      holds_own _ _ c.add-wider.ensures.0,
-      rw (c.add-wider.ensures.0.means, point) (sym (add_points_step c.args.tolerance s (points_of p) l.i below not_full) ∙ l.invariant.3),
+    let below : l.i < length (points_of p) = omega (arith, points_length p) in
+    let point : vector_of l.s.d c.point_at-in-loop-i.result ≡ point_at (points_of p) l.i = rw l.invariant.1 (point_means p l.i inside _ (c.point_at-in-loop-i.ensures ∙ point_places p l.i inside)) in (
+      omega arith,
+      c.add-s.ensures.1 ∙ l.invariant.1,
+      rw (c.add-s.ensures.0.means, point) (sym (add_points_step c.args.tolerance s (points_of p) l.i below not_full) ∙ l.invariant.2),
     )
 
 pub returns : goal.returns
 returns c =
     let l = c.loop-i in
-    let p = c.args.points in
+    let p = c.args.points.now in
     let end : length (points_of p) ≤ l.i = omega (arith, points_length p) in
-    (rw (← l.invariant.3, add_points_end c.args.tolerance (subspace_of l.s) (points_of p) l.i end) l.invariant.2, λ h. l.invariant.1)
+    (holds_subspace _ _ (sym (add_points_end c.args.tolerance (subspace_of l.s) (points_of p) l.i end) ∙ l.invariant.2), λ h. l.invariant.1)

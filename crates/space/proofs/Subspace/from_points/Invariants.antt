@@ -3,11 +3,8 @@ use mathlib.Core.Path.{◌≡◌}
 use Prim.Native.Nat.{◌-◌, ◌≤◌}
 use lib.ListN.{drop}
 use Rattle.definitions.specs.Subspace.{add_points, from_points}
-use Rattle.space.specs.Meaning.{subspace_of, HoldsSubspace, points_of}
+use Rattle.space.specs.Meaning.{subspace_of, points_of}
 use Rattle.space.proofs.Subspace.from_points.Given as goal
 
 abbrev pub invariant-loop-i : goal.invariant-loop-i
-invariant-loop-i l = (l.i ≤ l.n) × (l.s.d ≡ l.d) × HoldsSubspace l.s (subspace_of l.s) × (add_points l.tolerance (subspace_of l.s) (drop l.i (points_of l.points)) ≡ from_points l.tolerance (points_of l.points))
-
-abbrev pub decreases-loop-i : goal.decreases-loop-i
-decreases-loop-i l = l.n - l.i
+invariant-loop-i l = (l.i ≤ l.points.n) × (l.s.d ≡ l.points.d) × (add_points l.tolerance (subspace_of l.s) (drop l.i (points_of l.points)) ≡ from_points l.tolerance (points_of l.points))

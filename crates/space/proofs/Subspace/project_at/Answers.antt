@@ -11,26 +11,24 @@ use Rattle.laws.specs.Segments.{take_onto, drop_onto}
 use Rattle.vectors.specs.Meaning.{zeros, five}
 use Rattle.vectors.specs.Wholes.{whole, five_rest, minus_length, plus_times_length}
 use Rattle.space.specs.Meaning.{subspace_of}
-use Rattle.space.specs.Counts.{offset_length}
+use Rattle.space.specs.Counts.{offset_long, basis_long, offset_length}
 use Rattle.space.proofs.Laws.{gains_snoc}
-use Rattle.space.proofs.project_at.Goals as goal
+use Rattle.space.proofs.Subspace.project_at.Goals as goal
 
 pub loop-j-init : goal.loop-j-init
 unfolding gains rows subspace_of
 loop-j-init c =
-    let plane = c.args.plane in
-    let long : length plane.offset ≡ 5 = search rules in
-    (omega arith, long, refl, five_rest plane.offset (take plane.d plane.offset) plane.d c.requires.0.offset_is (offset_length plane c.requires.0.d_fits long))
+    let s = c.args.self.now in
+    (omega arith, offset_long s, refl, five_rest s.offset (take s.d s.offset) s.d s.fits.offset_is (offset_length s))
 
 pub loop-j-preserved : goal.loop-j-preserved
 loop-j-preserved c =
-    let s = c.args.plane in
+    let s = c.args.self.now in
     let l = c.loop-j in
     let row = take s.d (drop (5 * l.j) s.basis) in
-    let basis_long : length s.basis ≡ 25 = search rules in
     let below : l.j < s.rank = omega (arith, c.loop-j-test.true) in
-    let row_long : length row ≡ s.d = length-take-le s.d (drop (5 * l.j) s.basis) (omega (arith, length-drop (5 * l.j) s.basis, c.requires.0.d_fits, c.requires.0.rank_fits)) in
-    let q-long : length (take s.d l.q) ≡ s.d = length-take-le s.d l.q (omega (arith, l.invariant.1, c.requires.0.d_fits)) in
+    let row_long : length row ≡ s.d = length-take-le s.d (drop (5 * l.j) s.basis) (omega (arith, length-drop (5 * l.j) s.basis, basis_long s, s.fits.d_fits, s.fits.rank_fits)) in
+    let q-long : length (take s.d l.q) ≡ s.d = length-take-le s.d l.q (omega (arith, l.invariant.1, s.fits.d_fits)) in
     let gained : s.d ≡ length (plus_times (take s.d l.q) row c.dot_at-s.result) = sym (plus_times_length _ row _ (q-long ∙ sym row_long) ∙ q-long) in
     let long : length c.gain.new.q ≡ 5 = search rules in (
       omega (arith, below),
@@ -42,12 +40,11 @@ loop-j-preserved c =
 pub returns : goal.returns
 unfolding project subspace_of five
 returns c =
-    let s = c.args.plane in
+    let s = c.args.self.now in
     let l = c.loop-j in
     let p = take s.d (drop c.args.at c.args.points.now) in
-    let offset_long : length s.offset ≡ 5 = search rules in
-    let p-long : length p ≡ s.d = length-take-le s.d (drop c.args.at c.args.points.now) (omega (arith, length-drop c.args.at c.args.points.now, c.requires.1)) in
-    let away-long : s.d ≡ length (minus p (take s.d s.offset)) = sym (minus_length p _ (p-long ∙ sym (offset_length s c.requires.0.d_fits offset_long)) ∙ p-long) in
+    let p-long : length p ≡ s.d = length-take-le s.d (drop c.args.at c.args.points.now) (omega (arith, length-drop c.args.at c.args.points.now, c.requires)) in
+    let away-long : s.d ≡ length (minus p (take s.d s.offset)) = sym (minus_length p _ (p-long ∙ sym (offset_length s)) ∙ p-long) in
     let away : take s.d c.take_from.new.out ≡ minus p (take s.d s.offset) = rw c.take_from.ensures (take_onto _ _ s.d away-long) in
     let end : l.j ≡ s.rank = omega arith in
-    whole l.q (zeros 5) _ s.d (omega (arith, l.invariant.1, c.requires.0.d_fits)) (l.invariant.2 ∙ rw (away, end) refl) l.invariant.3
+    whole l.q (zeros 5) _ s.d (omega (arith, l.invariant.1, s.fits.d_fits)) (l.invariant.2 ∙ rw (away, end) refl) l.invariant.3
