@@ -13,13 +13,13 @@ use Rattle.shelf.specs.declared.Level.{Level}
 use Rattle.shelf.specs.Leaves.{answer_left}
 use Rattle.kept_edges.specs.Edges.{edge_answer}
 use Rattle.load.specs.declared.Fields.{Fields}
-use Rattle.job.specs.declared.Checked.TheVariants.{Passed}
 use Rattle.job.specs.Refusal.{checked_of}
 use Rattle.calls.specs.declared.Called.{Called}
-use Rattle.calls.specs.declared.Called.TheVariants.{Refused, Ends, Left}
+use Rattle.calls.specs.declared.Called.TheVariants.{Ends, Left}
+use Rattle.refusals.specs.declared.Refusal.{Refusal}
+use Rattle.refusals.specs.Refused.{number_of}
+use Rattle.std.specs.Prelude.{Result, Ok, Err}
 use Rattle.figure_words.specs.Wrote.{Wrote}
-use Rattle.answering.specs.declared.Written.{Written}
-use Rattle.answering.specs.declared.Written.TheVariants as is
 use Rattle.job_calls.specs.Writable.{Writable}
 use Rattle.answering.specs.Closed.{written_in, buffer_in, written_to, buffer_to, written_all, buffer_all}
 use Rattle.job_calls.specs.Said.{outcome_said, CanWrite, Said}
@@ -28,19 +28,19 @@ use Rattle.job_calls.specs.Loaded.{JobCalled, alone_passed}
 -- ---- what the call says, once it is known which of the three it is
 
 module _ {rank n m : ℕ} {rows : List ℕ} {budget : ℕ} {call : Outcome Answer} {s : List ℕ} where
-  pub said_as : {called other : Called} → Said rank n m rows budget call called s → called ≡ other → Said rank n m rows budget call other s
-  said_as d e = subst (λ (x : Called). Said rank n m rows budget call x s) e d
+  pub said_as : {called other : Result Called Refusal} → Said rank n m rows budget call called s → called ≡ other → Said rank n m rows budget call other s
+  said_as d e = subst (λ (x : Result Called Refusal). Said rank n m rows budget call x s) e d
 
-  pub said_refuses : {number : ℕ} → Said rank n m rows budget call (Refused number) s → call ≡ refused number
+  pub said_refuses : {e : Refusal} → Said rank n m rows budget call (Err e) s → call ≡ refused (number_of e)
   unfolding outcome_said
   said_refuses d = d.is
 
-  pub said_ends : {swapped : Bool} {rest : ℕ} → Said rank n m rows budget call (Ends swapped rest) s → (call ≡ answered (edge_answer swapped rest)) × (rest ≤ budget) × (rank ≤ 2)
+  pub said_ends : {swapped : Bool} {rest : ℕ} → Said rank n m rows budget call (Ok (Ends swapped rest)) s → (call ≡ answered (edge_answer swapped rest)) × (rest ≤ budget) × (rank ≤ 2)
   unfolding outcome_said CanWrite
   said_ends d = let w = d.can_write in (d.is, w.0, w.1)
 
   -- and what a call of rank 3 or more leaves is its answer
-  pub said_leaves : {level : Level} {rest : ℕ} → Said rank n m rows budget call (Left level rest) s
+  pub said_leaves : {level : Level} {rest : ℕ} → Said rank n m rows budget call (Ok (Left level rest)) s
       → (kept : List Kept)
       × (call ≡ answered (answer_left (rank - 3) n (rows_in n m rows) kept level s rest))
       × (3 ≤ rank) × (rank ≤ 4) × Writable (rank - 3) n m rows kept level budget rest s
@@ -48,17 +48,17 @@ module _ {rank n m : ℕ} {rows : List ℕ} {budget : ℕ} {call : Outcome Answe
   said_leaves d = let w = d.can_write in (d.kept, d.is, w.0, w.1, w.2)
 
 -- of a job's own call
-pub called_as : {bytes : Bytes} {f : Fields} {rows s : List ℕ} {called other : Called} → JobCalled bytes f rows called s → called ≡ other → JobCalled bytes f rows other s
-called_as {bytes} {f} {rows} {s} d e = subst (λ (x : Called). JobCalled bytes f rows x s) e d
+pub called_as : {bytes : Bytes} {f : Fields} {rows s : List ℕ} {called other : Result Called Refusal} → JobCalled bytes f rows called s → called ≡ other → JobCalled bytes f rows other s
+called_as {bytes} {f} {rows} {s} d e = subst (λ (x : Result Called Refusal). JobCalled bytes f rows x s) e d
 
 module _ {bytes : Bytes} {f : Fields} {rows s : List ℕ} where
-  pub call_refuses : {number : ℕ} → JobCalled bytes f rows (Refused number) s → call_of bounds1 (read_job bytes) ≡ refused number
+  pub call_refuses : {e : Refusal} → JobCalled bytes f rows (Err e) s → call_of bounds1 (read_job bytes) ≡ refused (number_of e)
   call_refuses d = said_refuses d.said
 
-  pub call_ends : {swapped : Bool} {rest : ℕ} → JobCalled bytes f rows (Ends swapped rest) s → (call_of bounds1 (read_job bytes) ≡ answered (edge_answer swapped rest)) × (rest ≤ f.budget) × (f.rank ≤ 2)
+  pub call_ends : {swapped : Bool} {rest : ℕ} → JobCalled bytes f rows (Ok (Ends swapped rest)) s → (call_of bounds1 (read_job bytes) ≡ answered (edge_answer swapped rest)) × (rest ≤ f.budget) × (f.rank ≤ 2)
   call_ends d = said_ends d.said
 
-  pub call_leaves : {level : Level} {rest : ℕ} → JobCalled bytes f rows (Left level rest) s
+  pub call_leaves : {level : Level} {rest : ℕ} → JobCalled bytes f rows (Ok (Left level rest)) s
       → (kept : List Kept)
       × (call_of bounds1 (read_job bytes) ≡ answered (answer_left (f.rank - 3) f.n (rows_in f.n f.count rows) kept level s rest))
       × (3 ≤ f.rank) × (f.rank ≤ 4) × Writable (f.rank - 3) f.n f.count rows kept level f.budget rest s
@@ -76,11 +76,11 @@ module _ (budget : ℕ) (call : Outcome Answer) where
   called_answered e = ap (bytes_of budget) e
 
   pub refused_clauses : {number : ℕ} → call ≡ refused number → (answer : Bytes) → answer ≡ replicate (length answer) 0
-      → (is.Refused number ≡ written_in (length answer) (bytes_of budget call)) × (answer ≡ buffer_in (length answer) (bytes_of budget call))
+      → (refused number ≡ written_in (length answer) (bytes_of budget call)) × (answer ≡ buffer_in (length answer) (bytes_of budget call))
   unfolding written_in buffer_in bytes_of and_then buffer_of
   refused_clauses e answer clear = let o = ap (bytes_of budget) e in (sym (ap (written_in (length answer)) o), clear ∙ sym (ap (buffer_in (length answer)) o))
 
-  pub answered_clauses : {a : Answer} → call ≡ answered a → (from to after : Bytes) (at : ℕ) {r : Written} → from ≡ replicate (length from) 0 → length from < full
+  pub answered_clauses : {a : Answer} → call ≡ answered a → (from to after : Bytes) (at : ℕ) {r : Outcome ℕ} → from ≡ replicate (length from) 0 → length from < full
       → Wrote from 0 to at (answer_words budget a) → r ≡ written_to (length to) at → after ≡ buffer_to to at
       → (r ≡ written_in (length from) (bytes_of budget call)) × (after ≡ buffer_in (length from) (bytes_of budget call))
   answered_clauses {a} e from to after at clear short wrote r-is after_is =
@@ -91,6 +91,6 @@ module _ (budget : ℕ) (call : Outcome Answer) where
       )
 
 -- what the job gets by itself is what is written of its call
-pub alone_written : (bytes : Bytes) (workspace : ℕ) (f : Fields) → Passed f ≡ checked_of bytes workspace → alone bytes workspace ≡ bytes_of f.budget (call_of bounds1 (read_job bytes))
+pub alone_written : (bytes : Bytes) (workspace : ℕ) (f : Fields) → answered f ≡ checked_of bytes workspace → alone bytes workspace ≡ bytes_of f.budget (call_of bounds1 (read_job bytes))
 unfolding bytes_of
 alone_written bytes workspace f passed = alone_passed bytes workspace f passed

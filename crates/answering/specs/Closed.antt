@@ -10,24 +10,22 @@ use Rattle.definitions.specs.Job.{Bytes, fitting, buffer_of}
 use Rattle.laws.specs.Segments.{le_or_lt}
 use Rattle.words.specs.Writer.{encoded, full, written, cursor_of, encoded_length, written_none, cursor_none, written_fits, padded_answer, cursor_fits, cursor_full}
 use Rattle.figure_words.specs.Wrote as writing
-use Rattle.answering.specs.declared.Written.{Written}
-use Rattle.answering.specs.declared.Written.TheVariants.{Refused, Short, Wrote}
 
 -- ---- what is written of a job's outcome by itself
 
--- with room for so many bytes
-unfoldable pub written_in : ℕ → Outcome Bytes → Written
-written_in room (refused number) = Refused number
-written_in room (answered bytes) = cond (ltb room (length bytes)) Short (Wrote (length bytes))
+-- so many bytes, where there is room for them
+unfoldable pub written_in : ℕ → Outcome Bytes → Outcome ℕ
+written_in room (refused number) = refused number
+written_in room (answered bytes) = cond (ltb room (length bytes)) (refused 17) (answered (length bytes))
 
--- the buffer behind it: that of the call whose refusal 17 is `Short`
+-- the buffer behind it
 unfoldable pub buffer_in : ℕ → Outcome Bytes → Bytes
 buffer_in room o = buffer_of room (and_then o (fitting room))
 
 -- ---- the same by the cursor
 
-unfoldable pub written_to : ℕ → ℕ → Written
-written_to room at = cond (ltb room at) Short (Wrote at)
+unfoldable pub written_to : ℕ → ℕ → Outcome ℕ
+written_to room at = cond (ltb room at) (refused 17) (answered at)
 
 -- what has no room is cleared again
 unfoldable pub buffer_to : Bytes → ℕ → Bytes
@@ -58,7 +56,7 @@ module _ (words buffer : List ℕ) (at : ℕ) (w : WroteAll words buffer at) (sh
           let a = all_fit h in
           let e = encoded_length words in
           let long : at ≡ length (encoded words) = w.cursor_is ∙ cursor_fits room words a in (
-            rw (le-ltb room at h, le-ltb room (length (encoded words)) (omega arith)) (ap Wrote long),
+            rw (le-ltb room at h, le-ltb room (length (encoded words)) (omega arith)) (ap answered long),
             rw (le-ltb room at h, le-ltb room (length (encoded words)) (omega arith)) (w.buffer_is ∙ (written_fits room words a ∙ padded_answer room (encoded words))),
           )
 

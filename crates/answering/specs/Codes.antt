@@ -10,22 +10,19 @@ use Rattle.definitions.specs.Outcome.{Outcome, refused, answered, and_then, refu
 use Rattle.definitions.specs.Job.{Bytes, fitting, outcome, code_of, buffer_of, alone}
 use Rattle.laws.specs.Bools.{false→fails, true→holds}
 use Rattle.completeness.specs.Lengths.{outcome_alone}
-use Rattle.answering.specs.declared.Written.{Written}
-use Rattle.answering.specs.declared.Written.TheVariants.{Refused, Short, Wrote}
 use Rattle.answering.specs.Closed.{written_in, buffer_in}
 
--- [12.7] [11.5] minus the refusal's number, 17 where there is no room, or the length
-unfoldable pub code_written : Written → ℤ
-code_written (Refused number) = neg_ℤ (pos number)
-code_written Short = neg_ℤ (pos 17)
-code_written (Wrote many) = pos many
+-- [12.7] [11.5] minus the refusal's number, or the length
+unfoldable pub code_written : Outcome ℕ → ℤ
+code_written (refused number) = neg_ℤ (pos number)
+code_written (answered many) = pos many
 
 -- of any outcome of which so much is written
-pub written_code : (room : ℕ) (o : Outcome Bytes) {w : Written} → w ≡ written_in room o → code_written w ≡ code_of (and_then o (fitting room))
+pub written_code : (room : ℕ) (o : Outcome Bytes) {w : Outcome ℕ} → w ≡ written_in room o → code_written w ≡ code_of (and_then o (fitting room))
 unfolding code_written written_in code_of fitting refuse_if and_then
 written_code room o {w} e = ap code_written e ∙ go o
   where
-    by_room : (bytes : Bytes) (b : Bool) → code_written (cond b Short (Wrote (length bytes))) ≡ code_of (refuse_if b 17 (λ u. answered bytes))
+    by_room : (bytes : Bytes) (b : Bool) → code_written (cond b (refused 17) (answered (length bytes))) ≡ code_of (refuse_if b 17 (λ u. answered bytes))
     by_room bytes true = refl
     by_room bytes false = refl
 
@@ -33,7 +30,7 @@ written_code room o {w} e = ap code_written e ∙ go o
     go (refused number) = refl
     go (answered bytes) = by_room bytes (ltb room (length bytes))
 
-pub code_is : (job : Bytes) (workspace room : ℕ) {w : Written} → w ≡ written_in room (alone job workspace) → code_written w ≡ code_of (outcome job workspace room)
+pub code_is : (job : Bytes) (workspace room : ℕ) {w : Outcome ℕ} → w ≡ written_in room (alone job workspace) → code_written w ≡ code_of (outcome job workspace room)
 code_is job workspace room e = written_code room (alone job workspace) e ∙ sym (ap code_of (outcome_alone job workspace room))
 
 pub buffer_is : (job : Bytes) (workspace room : ℕ) → buffer_in room (alone job workspace) ≡ buffer_of room (outcome job workspace room)
@@ -42,49 +39,36 @@ buffer_is job workspace room = sym (ap (buffer_of room) (outcome_alone job works
 
 -- ---- what the job gets by itself, from what came of it
 
-length_written : Written → ℕ
-length_written (Refused number) = 0
-length_written Short = 0
-length_written (Wrote many) = many
-
-kind_written : Written → ℕ
-kind_written (Refused number) = 0
-kind_written Short = 1
-kind_written (Wrote many) = 2
-
-number_written : Written → ℕ
-number_written (Refused number) = number
-number_written Short = 0
-number_written (Wrote many) = 0
-
 module _ (room : ℕ) where
-  pub says_refused : (o : Outcome Bytes) (number : ℕ) → Refused number ≡ written_in room o → o ≡ refused number
-  unfolding written_in kind_written number_written
-  says_refused (refused n) number e = ap refused (sym (ap number_written e))
-  says_refused (answered bytes) number e = absurd (go (ltb room (length bytes)) e)
+  -- a refusal that is not 17 is the outcome's own
+  pub says_refused : (o : Outcome Bytes) (number : ℕ) → (number ≡ 17 → ⊥) → refused number ≡ written_in room o → o ≡ refused number
+  unfolding written_in
+  says_refused (refused n) number other e = cc
+  says_refused (answered bytes) number other e = go (ltb room (length bytes)) e
     where
-      go : (b : Bool) → Refused number ≡ cond b Short (Wrote (length bytes)) → ⊥
-      go true q = let k = ap kind_written q in absurd (omega arith)
-      go false q = let k = ap kind_written q in absurd (omega arith)
+      go : (b : Bool) → refused number ≡ cond b (refused 17) (answered (length bytes)) → answered bytes ≡ refused number
+      go true q = let same : number ≡ 17 = cc in absurd (other same)
+      go false q = cc
 
-  pub says_short : (o : Outcome Bytes) → Short ≡ written_in room o → (bytes : Bytes) × (o ≡ answered bytes) × (room < length bytes)
-  unfolding written_in kind_written
-  says_short (refused n) e = let k = ap kind_written e in absurd (omega arith)
-  says_short (answered bytes) e = go (ltb room (length bytes)) refl e
+  -- 17 is an answer that does not fit, where it is not the outcome's own
+  pub says_short : (o : Outcome Bytes) → (o ≡ refused 17 → ⊥) → refused 17 ≡ written_in room o → (bytes : Bytes) × (o ≡ answered bytes) × (room < length bytes)
+  unfolding written_in
+  says_short (refused n) other e = let same : n ≡ 17 = cc in absurd (other (ap refused same))
+  says_short (answered bytes) other e = go (ltb room (length bytes)) refl e
     where
-      go : (b : Bool) → ltb room (length bytes) ≡ b → Short ≡ cond b Short (Wrote (length bytes)) → (l : Bytes) × (answered bytes ≡ answered l) × (room < length l)
+      go : (b : Bool) → ltb room (length bytes) ≡ b → refused 17 ≡ cond b (refused 17) (answered (length bytes)) → (l : Bytes) × (answered bytes ≡ answered l) × (room < length l)
       go true t q = (bytes, refl, ltb→lt room (length bytes) (true→holds t))
-      go false t q = let k = ap kind_written q in absurd (omega arith)
+      go false t q = let no : ⊥ = cc in absurd no
 
-  pub says_wrote : (o : Outcome Bytes) (many : ℕ) → Wrote many ≡ written_in room o → (bytes : Bytes) × (o ≡ answered bytes) × (many ≡ length bytes) × (many ≤ room)
-  unfolding written_in kind_written length_written
-  says_wrote (refused n) many e = let k = ap kind_written e in absurd (omega arith)
+  pub says_wrote : (o : Outcome Bytes) (many : ℕ) → answered many ≡ written_in room o → (bytes : Bytes) × (o ≡ answered bytes) × (many ≡ length bytes) × (many ≤ room)
+  unfolding written_in
+  says_wrote (refused n) many e = let no : ⊥ = cc in absurd no
   says_wrote (answered bytes) many e = go (ltb room (length bytes)) refl e
     where
-      go : (b : Bool) → ltb room (length bytes) ≡ b → Wrote many ≡ cond b Short (Wrote (length bytes)) → (l : Bytes) × (answered bytes ≡ answered l) × (many ≡ length l) × (many ≤ room)
-      go true t q = let k = ap kind_written q in absurd (omega arith)
+      go : (b : Bool) → ltb room (length bytes) ≡ b → answered many ≡ cond b (refused 17) (answered (length bytes)) → (l : Bytes) × (answered bytes ≡ answered l) × (many ≡ length l) × (many ≤ room)
+      go true t q = let no : ⊥ = cc in absurd no
       go false t q =
-          let same : many ≡ length bytes = ap length_written q in
+          let same : many ≡ length bytes = cc in
           let short = nltb→le room (length bytes) (false→fails t) in
           (bytes, refl, same, omega arith)
 

@@ -1,10 +1,10 @@
-// A job from its bytes to its answer's: checked, called, and what the call leaves written into a cleared buffer. What comes of it is told as it is, a refusal, an answer that has no
+// A job from its bytes to its answer's: checked, called, and what the call leaves written into a cleared buffer. What comes of it is told as it is, a refusal, 17 where an answer has no
 // room, or the length of one that stands there: the exported functions make their return codes of that.
 
 #![tactic(auto)]
 
 ghost use Rattle.std.specs.Prelude.{◌≡◌, List, ◌-◌, ◌≤◌, length, replicate};
-ghost use Rattle.definitions.specs.Outcome.{Outcome};
+ghost use Rattle.definitions.specs.Outcome.{Outcome, answered};
 ghost use Rattle.definitions.specs.Recursion.{Answer};
 ghost use Rattle.definitions.specs.Job.{answer_words, alone};
 ghost use Rattle.openers.specs.Rows.{rows_in};
@@ -12,7 +12,7 @@ ghost use Rattle.shapes.specs.Kept.{Kept};
 ghost use Rattle.shelf.specs.Leaves.{answer_left};
 ghost use Rattle.kept_edges.specs.Edges.{edge_answer};
 ghost use Rattle.job.specs.Refusal.{checked_of};
-ghost use Rattle.job.specs.declared.Checked.TheVariants.{Passed};
+ghost use Rattle.refusals.specs.Refused.{outcome_of};
 ghost use Rattle.figure_words.specs.Wrote.{Wrote};
 ghost use Rattle.job_calls.specs.Writable.{Writable};
 ghost use Rattle.job_calls.specs.Said.{Said};
@@ -20,8 +20,8 @@ ghost use Rattle.answering.specs.Answered.{bytes_of};
 ghost use Rattle.answering.specs.Closed.{written_in, buffer_in, written_to, buffer_to};
 
 use calls::Called;
-use job::Checked;
 use load::Fields;
+use refusals::Refusal;
 use shelf::Level;
 
 // ---- writing what a call leaves
@@ -96,44 +96,35 @@ fn write_left(
 
 // ---- the answer
 
-// What came of a job: a refusal that is not 17, an answer that is longer than the buffer, or one that stands in it, so many bytes.
-#[derive(Clone, Copy)]
-pub enum Written {
-    Refused(u8),
-    Short,
-    Wrote(usize),
-}
-
-// The cursor behind the last word is the answer's length, or past the buffer: then the buffer is cleared again.
-pub fn close(answer: &mut [u8], at: usize) -> Written
-    ensures result { result ≡ written_to (length answer.old) at }
+// The cursor behind the last word is the answer's length, or past the buffer: then the buffer is cleared again and refusal 17 is the outcome.
+pub fn close(answer: &mut [u8], at: usize) -> Result<usize, Refusal>
+    ensures result { outcome_of result ≡ written_to (length answer.old) at }
     ensures buffer { answer.new ≡ buffer_to answer.old at }
 {
     if answer.len() < at {
-        words::clear(answer);
-        return Written::Short;
+        answer.fill(0);
+        return Err(Refusal::Room);
     }
-    Written::Wrote(at)
+    Ok(at)
 }
 
 // What a call says, written into the cleared buffer.
 pub fn write_called(
-    called: Called,
+    called: Result<Called, Refusal>,
     fields: Fields,
     rows: &[u8],
     ws: &mut [u8],
     answer: &mut [u8],
-) -> Written
+) -> Result<usize, Refusal>
     requires { (answer.old ≡ replicate (length answer.old) 0) × ((call : Outcome Answer) × Said fields.rank fields.n fields.count rows.now fields.budget call called ws.old) }
-    ensures result { (call : Outcome Answer) → Said fields.rank fields.n fields.count rows.now fields.budget call called ws.old → result ≡ written_in (length answer.old) (bytes_of fields.budget call) }
+    ensures result { (call : Outcome Answer) → Said fields.rank fields.n fields.count rows.now fields.budget call called ws.old → outcome_of result ≡ written_in (length answer.old) (bytes_of fields.budget call) }
     ensures buffer { (call : Outcome Answer) → Said fields.rank fields.n fields.count rows.now fields.budget call called ws.old → answer.new ≡ buffer_in (length answer.old) (bytes_of fields.budget call) }
 {
     let rank = fields.rank;
     let n = fields.n;
     let m = fields.count;
     let budget = fields.budget;
-    match called {
-        Called::Refused(number) => Written::Refused(number),
+    match called? {
         Called::Ends(swapped, rest) => {
             let end = write_ends(answer, swapped, budget, rest);
             close(answer, end)
@@ -146,9 +137,9 @@ pub fn write_called(
 }
 
 // A job that passed the refusals before the call, called, and what its call says written into the cleared buffer.
-fn write_job(job: &[u8], fields: Fields, ws: &mut [u8], answer: &mut [u8]) -> Written
-    requires { (Passed fields ≡ checked_of job.now (length ws.old)) × (answer.old ≡ replicate (length answer.old) 0) }
-    ensures result { result ≡ written_in (length answer.old) (alone job.now (length ws.old)) }
+fn write_job(job: &[u8], fields: Fields, ws: &mut [u8], answer: &mut [u8]) -> Result<usize, Refusal>
+    requires { (answered fields ≡ checked_of job.now (length ws.old)) × (answer.old ≡ replicate (length answer.old) 0) }
+    ensures result { outcome_of result ≡ written_in (length answer.old) (alone job.now (length ws.old)) }
     ensures buffer { answer.new ≡ buffer_in (length answer.old) (alone job.now (length ws.old)) }
 {
     let mut rows = [0; job_calls::ROWS_ROOM];
@@ -157,13 +148,11 @@ fn write_job(job: &[u8], fields: Fields, ws: &mut [u8], answer: &mut [u8]) -> Wr
 }
 
 // Any job, answered into a cleared buffer.
-pub fn answer_job(job: &[u8], workspace: &mut [u8], answer: &mut [u8]) -> Written
+pub fn answer_job(job: &[u8], workspace: &mut [u8], answer: &mut [u8]) -> Result<usize, Refusal>
     requires { answer.old ≡ replicate (length answer.old) 0 }
-    ensures result { result ≡ written_in (length answer.old) (alone job.now (length workspace.old)) }
+    ensures result { outcome_of result ≡ written_in (length answer.old) (alone job.now (length workspace.old)) }
     ensures buffer { answer.new ≡ buffer_in (length answer.old) (alone job.now (length workspace.old)) }
 {
-    match job::check(job, workspace.len()) {
-        Checked::Refused(number) => Written::Refused(number),
-        Checked::Passed(fields) => write_job(job, fields, workspace, answer),
-    }
+    let fields = job::check(job, workspace.len())?;
+    write_job(job, fields, workspace, answer)
 }

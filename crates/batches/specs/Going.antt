@@ -1,5 +1,5 @@
 -- The loop over a row's jobs: what holds before each of them, and what follows from the record of one. Leans on Cutting, Records and Heads.
-use Rattle.std.specs.Prelude.{◌≡◌, ℕ, ◌+◌, ◌-◌, ◌≤◌, ◌<◌, pos}
+use Rattle.std.specs.Prelude.{◌≡◌, ℕ, ◌+◌, ◌-◌, ◌≤◌, ◌<◌}
 use Rattle.std.proofs.Math.Path.{refl, sym, ap}
 use Rattle.std.proofs.Common.{◌∙◌, length-drop, drop_at, drop-drop}
 use Rattle.std.proofs.Math.Bool.{true}
@@ -9,13 +9,11 @@ use Rattle.std.proofs.Math.ListN.{length, take, drop, replicate, length-append}
 use Rattle.std.proofs.lemmas.List.{length-replicate}
 use Rattle.std.proofs.Math.Seq.{take_at}
 use Rattle.definitions.specs.Outcome.{Outcome, refused, answered, and_then}
-use Rattle.definitions.specs.Job.{Bytes, number_at, code_of, buffer_of, alone}
+use Rattle.definitions.specs.Job.{Bytes, number_at, buffer_of, alone}
 use Rattle.words.specs.Lent.{lent_tail, back_whole, back_length}
-use Rattle.batches.specs.declared.Recorded.{Recorded}
-use Rattle.batches.specs.declared.Recorded.TheVariants.{TooLong, Wrote}
 use Rattle.definitions.specs.Batch.{jobs_in, records_of, fitting_all, batch}
 use Rattle.batches.specs.Cutting.{first_length, behind_first, cut_empty, cut_first, is_cut, first_passes, begins, cut_refused}
-use Rattle.batches.specs.Records.{record_in, recorded_as, fits_all, wrote_too_long, too_long_wrote, wrote_length, record_of_holds, behind_these, at_first, one_more, none_more}
+use Rattle.batches.specs.Records.{record_in, recorded_as, fits_all, record_of_holds, behind_these, at_first, one_more, none_more}
 
 -- Before the job at `at`: what is behind it is jobs, and the records so far stand in the front of the buffer, zeros behind them.
 pub record Going (row : Bytes) (workspace room at end : ℕ) (records : Bytes) : Type 0 where
@@ -116,7 +114,7 @@ module _ {row : Bytes} {workspace room at end : ℕ} {records : Bytes} (g : Goin
   lent = take (length records - end) (drop end records)
 
   -- the record of the job, in what was lent
-  module _ (h : at < length row) {r : Recorded} {p : Bytes} (n : length p ≡ length lent)
+  module _ (h : at < length row) {r : Outcome ℕ} {p : Bytes} (n : length p ≡ length lent)
       (r-is : r ≡ recorded_as (record_in (length lent) (alone job workspace))) (p-is : p ≡ buffer_of (length lent) (record_in (length lent) (alone job workspace))) where
     abbrev here : Outcome Bytes
     here = record_in (room - end) (alone job workspace)
@@ -128,28 +126,28 @@ module _ {row : Bytes} {workspace room at end : ℕ} {records : Bytes} (g : Goin
     p_here = p-is ∙ (λ i. buffer_of (lent_length g i) (record_in (lent_length g i) (alone job workspace)))
 
     -- there is none: the row's refusal is 27
-    pub stops : r ≡ TooLong → batch row workspace room ≡ refused 27
+    pub stops : (number : ℕ) → r ≡ refused number → batch row workspace room ≡ refused 27
     unfolding recorded_as
-    stops e = g.is ∙ (ap (behind_these workspace room g.done) (cut_so h) ∙ by_record here refl (sym r_here ∙ e))
+    stops failed e = g.is ∙ (ap (behind_these workspace room g.done) (cut_so h) ∙ by_record here refl (sym r_here ∙ e))
       where
         by_rest : (o : Outcome (List Bytes)) → is_cut o ≡ true → (number : ℕ) → record_in (room - length g.done) (alone job workspace) ≡ refused number
             → behind_these workspace room g.done (and_then o (λ (others : List Bytes). answered (job ∷ others))) ≡ refused 27
         by_rest (refused k) c number q = absurd (cut_refused k c)
         by_rest (answered others) c number q = none_more workspace room g.done job (omega (arith, g.done_long, g.end_inside)) number q others
 
-        by_record : (o : Outcome Bytes) → here ≡ o → recorded_as o ≡ TooLong → behind_these workspace room g.done (and_then (jobs_in (drop (at + 4 + many) row)) (λ (others : List Bytes). answered (job ∷ others))) ≡ refused 27
+        by_record : (o : Outcome Bytes) → here ≡ o → recorded_as o ≡ refused failed → behind_these workspace room g.done (and_then (jobs_in (drop (at + 4 + many) row)) (λ (others : List Bytes). answered (job ∷ others))) ≡ refused 27
         by_record (refused number) q t = by_rest (jobs_in (drop (at + 4 + many) row)) (next_cut h) number (ap (λ (k : ℕ). record_in (room - k) (alone job workspace)) g.done_long ∙ q)
-        by_record (answered bytes) q t = absurd (wrote_too_long (length bytes) t)
+        by_record (answered bytes) q t = let no : ⊥ = cc in absurd no
 
     -- there is one: one record more is done
-    pub goes_on : (count : ℕ) → r ≡ Wrote count → (end + count ≤ room) × Going row workspace room (at + 4 + many) (end + count) (take end records ++ (p ++ drop (length records - end) (drop end records)))
+    pub goes_on : (count : ℕ) → r ≡ answered count → (end + count ≤ room) × Going row workspace room (at + 4 + many) (end + count) (take end records ++ (p ++ drop (length records - end) (drop end records)))
     unfolding recorded_as buffer_of
     goes_on count e = by_record here refl (sym r_here ∙ e) p_here
       where
-        by_record : (o : Outcome Bytes) → here ≡ o → recorded_as o ≡ Wrote count → p ≡ buffer_of (room - end) o → (end + count ≤ room) × Going row workspace room (at + 4 + many) (end + count) (take end records ++ (p ++ drop (length records - end) (drop end records)))
-        by_record (refused number) q t b = absurd (too_long_wrote count t)
+        by_record : (o : Outcome Bytes) → here ≡ o → recorded_as o ≡ answered count → p ≡ buffer_of (room - end) o → (end + count ≤ room) × Going row workspace room (at + 4 + many) (end + count) (take end records ++ (p ++ drop (length records - end) (drop end records)))
+        by_record (refused number) q t b = let no : ⊥ = cc in absurd no
         by_record (answered first) q t b =
-            let same : length first ≡ count = wrote_length (length first) count t in
+            let same : length first ≡ count = cc in
             let recorded = record_of_holds (room - end) (alone job workspace) first q in
             let behind : room - end - length first ≡ room - (end + count) = omega arith in (
               omega (arith, recorded.1, g.end_inside),
@@ -171,10 +169,10 @@ module _ {row : Bytes} {workspace room at end : ℕ} {records : Bytes} (g : Goin
 
 -- no job is left: the records are all of them
 pub ended : {row : Bytes} {workspace room end : ℕ} {at : ℕ} {records : Bytes} → Going row workspace room at end records → length row ≤ at
-    → (pos end ≡ code_of (batch row workspace room)) × (records ≡ buffer_of room (batch row workspace room))
-unfolding behind_these and_then records_of code_of buffer_of
+    → (answered end ≡ recorded_as (batch row workspace room)) × (records ≡ buffer_of room (batch row workspace room))
+unfolding behind_these and_then records_of recorded_as buffer_of
 ended {row} {workspace} {room} {end} {at} {records} g h =
     let none : jobs_in (drop at row) ≡ answered [] = cut_empty (drop at row) (omega (arith, length-drop at row)) in
     let all : batch row workspace room ≡ answered g.done =
     g.is ∙ (ap (behind_these workspace room g.done) none ∙ (ap (fitting_all room) (append-nil g.done) ∙ fits_all room g.done (omega (arith, g.done_long, g.end_inside)))) in
-    (ap pos (sym g.done_long) ∙ sym (ap code_of all), g.records_are ∙ (ap (λ (k : ℕ). g.done ++ replicate (room - k) 0) (sym g.done_long) ∙ sym (ap (buffer_of room) all)))
+    (ap answered (sym g.done_long) ∙ sym (ap recorded_as all), g.records_are ∙ (ap (λ (k : ℕ). g.done ++ replicate (room - k) 0) (sym g.done_long) ∙ sym (ap (buffer_of room) all)))

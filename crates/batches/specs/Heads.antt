@@ -11,11 +11,8 @@ use Rattle.definitions.specs.Job.{Bytes, word_bytes, buffer_of}
 use Rattle.laws.specs.Segments.{drop_replicate}
 use Rattle.words.specs.Words.{put, bytes_of, word_bytes_is}
 use Rattle.words.specs.Lent.{lent_tail, back_whole}
-use Rattle.answering.specs.declared.Written.TheVariants as written
 use Rattle.answering.specs.Closed.{written_in, buffer_in}
 use Rattle.answering.specs.Codes.{says_refused, says_short, says_wrote, short_buffer, wrote_buffer}
-use Rattle.batches.specs.declared.Recorded.{Recorded}
-use Rattle.batches.specs.declared.Recorded.TheVariants.{TooLong, Wrote}
 use Rattle.definitions.specs.Batch.{half_bytes}
 use Rattle.batches.specs.Records.{record_in, recorded_as, refused_record, answered_record, long_record, no_room, no_head}
 
@@ -59,20 +56,20 @@ module _ (records : Bytes) (clear : records ≡ zeros (length records)) (to : �
 
 -- ---- the clauses
 
-abbrev Clauses : ℕ → Outcome Bytes → Recorded → Bytes → Type 0
+abbrev Clauses : ℕ → Outcome Bytes → Outcome ℕ → Bytes → Type 0
 Clauses room o r buffer = (r ≡ recorded_as (record_in room o)) × (buffer ≡ buffer_of room (record_in room o))
 
 module _ (room : ℕ) (o : Outcome Bytes) where
-  pub too_long_clauses : record_in room o ≡ refused 27 → (buffer : Bytes) → buffer ≡ zeros room → Clauses room o TooLong buffer
+  pub too_long_clauses : record_in room o ≡ refused 27 → (buffer : Bytes) → buffer ≡ zeros room → Clauses room o (refused 27) buffer
   unfolding recorded_as buffer_of
   too_long_clauses e buffer b = (sym (ap recorded_as e), b ∙ sym (ap (buffer_of room) e))
 
-  wrote_clauses : (bytes : Bytes) → record_in room o ≡ answered bytes → (many : ℕ) → many ≡ length bytes → (buffer : Bytes) → buffer ≡ bytes ++ zeros (room - length bytes) → Clauses room o (Wrote many) buffer
+  wrote_clauses : (bytes : Bytes) → record_in room o ≡ answered bytes → (many : ℕ) → many ≡ length bytes → (buffer : Bytes) → buffer ≡ bytes ++ zeros (room - length bytes) → Clauses room o (answered many) buffer
   unfolding recorded_as buffer_of
-  wrote_clauses bytes e many n buffer b = (ap Wrote n ∙ sym (ap recorded_as e), b ∙ sym (ap (buffer_of room) e))
+  wrote_clauses bytes e many n buffer b = (ap answered n ∙ sym (ap recorded_as e), b ∙ sym (ap (buffer_of room) e))
 
   -- no room for the head
-  pub head_clauses : room < 6 → (buffer : Bytes) → buffer ≡ zeros room → Clauses room o TooLong buffer
+  pub head_clauses : room < 6 → (buffer : Bytes) → buffer ≡ zeros room → Clauses room o (refused 27) buffer
   head_clauses h = too_long_clauses (no_head room o h)
 
 -- the job was answered in what is behind the head, which is given back as `p`
@@ -94,26 +91,26 @@ module _ (records : Bytes) (clear : records ≡ zeros (length records)) (h : 6 �
   p_in = p-is ∙ ap (λ (k : ℕ). buffer_in k o) behind_length_holds
 
   -- a refusal
-  pub refused_clauses : (number : ℕ) → written.Refused number ≡ written_in (length (lent records clear 6 h)) o → Clauses room o (Wrote 6) (put 2 back 4 number)
+  pub refused_clauses : (number : ℕ) → (number ≡ 17 → ⊥) → refused number ≡ written_in (length (lent records clear 6 h)) o → Clauses room o (answered 6) (put 2 back 4 number)
   unfolding buffer_in and_then buffer_of word_bytes half_bytes
-  refused_clauses number told =
-      let is = says_refused (length (lent records clear 6 h)) o number told in
+  refused_clauses number other told =
+      let is = says_refused (length (lent records clear 6 h)) o number other told in
       let zero-behind : p ≡ zeros (room - 6) = p_in ∙ ap (buffer_in (room - 6)) is in
       wrote_clauses room o (word_bytes 0 ++ half_bytes number) (ap (record_in room) is ∙ refused_record room number h) 6 refl (put 2 back 4 number)
       (ap (λ (l : Bytes). put 2 l 4 number) (back_is ∙ ap (λ (l : Bytes). zeros 6 ++ l) zero-behind) ∙ put_number (zeros (room - 6)) number)
 
   -- an answer without room
-  pub short_clauses : written.Short ≡ written_in (length (lent records clear 6 h)) o → Clauses room o TooLong back
-  short_clauses told =
-      let s = says_short (length (lent records clear 6 h)) o told in
+  pub short_clauses : (o ≡ refused 17 → ⊥) → refused 17 ≡ written_in (length (lent records clear 6 h)) o → Clauses room o (refused 27) back
+  short_clauses never told =
+      let s = says_short (length (lent records clear 6 h)) o never told in
       let whole : 6 + (room - 6) ≡ room = omega arith in
       let zero-behind : p ≡ zeros (room - 6) = p_in ∙ (ap (buffer_in (room - 6)) s.1 ∙ short_buffer (room - 6) s.0 (omega (arith, s.2, behind_length_holds))) in
       too_long_clauses room o (ap (record_in room) s.1 ∙ no_room room s.0 (omega (arith, s.2, behind_length_holds))) back
       (back_is ∙ (ap (λ (l : Bytes). zeros 6 ++ l) zero-behind ∙ (replicate-append-replicate 6 (room - 6) 0 ∙ ap zeros whole)))
 
-  module _ (many : ℕ) (told : written.Wrote many ≡ written_in (length (lent records clear 6 h)) o) where
+  module _ (many : ℕ) (told : answered many ≡ written_in (length (lent records clear 6 h)) o) where
     -- an answer whose length is no u32: everything is cleared
-    pub long_clauses : 4294967295 < many → (buffer : Bytes) → buffer ≡ zeros room → Clauses room o TooLong buffer
+    pub long_clauses : 4294967295 < many → (buffer : Bytes) → buffer ≡ zeros room → Clauses room o (refused 27) buffer
     long_clauses k =
         let s = says_wrote (length (lent records clear 6 h)) o many told in
         too_long_clauses room o (ap (record_in room) s.1 ∙ long_record room s.0 (omega (arith, s.2)))
@@ -122,7 +119,7 @@ module _ (records : Bytes) (clear : records ≡ zeros (length records)) (h : 6 �
     wrote_inside = let s = says_wrote (length (lent records clear 6 h)) o many told in omega (arith, s.3, behind_length_holds)
 
     -- an answer
-    pub answered_clauses : many ≤ 4294967295 → Clauses room o (Wrote (6 + many)) (put 4 back 0 many)
+    pub answered_clauses : many ≤ 4294967295 → Clauses room o (answered (6 + many)) (put 4 back 0 many)
     unfolding word_bytes half_bytes
     answered_clauses k =
         let s = says_wrote (length (lent records clear 6 h)) o many told in

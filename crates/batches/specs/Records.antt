@@ -11,8 +11,6 @@ use Rattle.completeness.specs.Refusals.{RefusedWithin, by_answer, by_test, by_th
 use Rattle.laws.specs.Segments.{le_or_lt}
 use Rattle.laws.specs.Outcomes.{answered_before, not_refused_if}
 use Rattle.shapes.specs.Answered.{answers_equal}
-use Rattle.batches.specs.declared.Recorded.{Recorded}
-use Rattle.batches.specs.declared.Recorded.TheVariants.{TooLong, Wrote}
 use Rattle.definitions.specs.Batch.{jobs_in, half_bytes, record_bytes, record_of, records_of, fitting_all, batch}
 use Rattle.batches.specs.Cutting.{is_cut, not_cut}
 
@@ -23,9 +21,9 @@ unfoldable pub record_in : ℕ → Outcome Bytes → Outcome Bytes
 record_in room o = and_then (record_of o) (fitting_all room)
 
 -- as the code gives it back
-unfoldable pub recorded_as : Outcome Bytes → Recorded
-recorded_as (refused number) = TooLong
-recorded_as (answered bytes) = Wrote (length bytes)
+unfoldable pub recorded_as : Outcome Bytes → Outcome ℕ
+recorded_as (refused number) = refused number
+recorded_as (answered bytes) = answered (length bytes)
 
 -- every record has its head of six bytes
 pub record_length : (o : Outcome Bytes) → 6 ≤ length (record_bytes o)
@@ -72,28 +70,6 @@ module _ (room : ℕ) where
   unfolding record_in record_of and_then record_bytes word_bytes half_bytes
   no_head (refused number) h = fits_not room (word_bytes 0 ++ half_bytes number) h
   no_head (answered bytes) h = no_room bytes (omega arith)
-
--- ---- what came of a record, and what it is
-
-kind_of : Recorded → ℕ
-kind_of TooLong = 0
-kind_of (Wrote many) = 1
-
-many_of : Recorded → ℕ
-many_of TooLong = 0
-many_of (Wrote many) = many
-
-pub wrote_too_long : (many : ℕ) → Wrote many ≡ TooLong → ⊥
-unfolding kind_of
-wrote_too_long many e = let k = ap kind_of e in omega arith
-
-pub too_long_wrote : (many : ℕ) → TooLong ≡ Wrote many → ⊥
-unfolding kind_of
-too_long_wrote many e = let k = ap kind_of e in omega arith
-
-pub wrote_length : (m n : ℕ) → Wrote m ≡ Wrote n → m ≡ n
-unfolding many_of
-wrote_length m n e = ap many_of e
 
 -- a record that has room is the job's, and has room
 pub record_of_holds : (room : ℕ) (o : Outcome Bytes) (bytes : Bytes) → record_in room o ≡ answered bytes → (record_of o ≡ answered bytes) × (length bytes ≤ room)

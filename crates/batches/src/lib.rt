@@ -4,12 +4,14 @@
 #![tactic(auto)]
 
 ghost use Rattle.std.specs.Prelude.{◌≡◌, true, length, replicate};
-ghost use Rattle.definitions.specs.Job.{code_of, buffer_of, alone};
+ghost use Rattle.definitions.specs.Job.{buffer_of, alone};
 ghost use Rattle.definitions.specs.Batch.{jobs_in, batch};
+ghost use Rattle.refusals.specs.Refused.{outcome_of};
 ghost use Rattle.batches.specs.Cutting.{is_cut};
 ghost use Rattle.batches.specs.Records.{record_in, recorded_as};
 
-use answering::Written;
+use refusals::Refusal;
+use words::Word;
 
 // ---- the row
 
@@ -26,7 +28,7 @@ pub fn is_cut(row: &[u8]) -> bool
         if left < LENGTH_BYTES {
             return false;
         }
-        let many = words::get_u32(row, at) as usize;
+        let many = u32::get(row, at) as usize;
         if left - LENGTH_BYTES < many {
             return false;
         }
@@ -40,70 +42,65 @@ pub fn is_cut(row: &[u8]) -> bool
 // A record's head: the answer's length as u32 and the refusal's number as u16.
 const HEAD_BYTES: usize = 6;
 
-// What came of a record: it stands there, so many bytes, or it has no room or no u32 for its length.
-#[derive(Clone, Copy)]
-pub enum Recorded {
-    TooLong,
-    Wrote(usize),
-}
-
-// The record of a job at the front of a cleared buffer. Of a refused job only the number is written, of an accepted one only the length: the rest of the head is zero already.
-fn write_record(job: &[u8], workspace: &mut [u8], records: &mut [u8]) -> Recorded
+// The record of a job at the front of a cleared buffer: how many bytes it has, or refusal 27 where it has no room or no u32 for its length. Of a refused job only the number is written, of an accepted one only the length: the rest of the head is zero already.
+fn write_record(job: &[u8], workspace: &mut [u8], records: &mut [u8]) -> Result<usize, Refusal>
     requires { records.old ≡ replicate (length records.old) 0 }
-    ensures result { result ≡ recorded_as (record_in (length records.old) (alone job.now (length workspace.old))) }
+    ensures result { outcome_of result ≡ recorded_as (record_in (length records.old) (alone job.now (length workspace.old))) }
     ensures buffer { records.new ≡ buffer_of (length records.old) (record_in (length records.old) (alone job.now (length workspace.old))) }
 {
     if records.len() < HEAD_BYTES {
-        return Recorded::TooLong;
+        return Err(Refusal::Records);
     }
     match answering::answer_job(job, workspace, &mut records[HEAD_BYTES..]) {
-        Written::Refused(number) => {
-            words::put_u16(records, LENGTH_BYTES, number as u16);
-            Recorded::Wrote(HEAD_BYTES)
-        }
-        Written::Short => Recorded::TooLong,
-        Written::Wrote(many) => {
-            if 4294967295 < many {
-                words::clear(records);
-                return Recorded::TooLong;
+        Err(refusal) => {
+            if let Refusal::Room = refusal {
+                return Err(Refusal::Records);
             }
-            words::put_u32(records, 0, many as u32);
-            Recorded::Wrote(HEAD_BYTES + many)
+            u16::put(records, LENGTH_BYTES, refusal.number() as u16);
+            Ok(HEAD_BYTES)
+        }
+        Ok(many) => {
+            if 4294967295 < many {
+                records.fill(0);
+                return Err(Refusal::Records);
+            }
+            u32::put(records, 0, many as u32);
+            Ok(HEAD_BYTES + many)
         }
     }
 }
 
 // The records of a row's jobs, into a cleared buffer, which is cleared again where one has no room.
-fn write_records(row: &[u8], workspace: &mut [u8], records: &mut [u8]) -> i64
+fn write_records(row: &[u8], workspace: &mut [u8], records: &mut [u8]) -> Result<usize, Refusal>
     requires { (is_cut (jobs_in row.now) ≡ true) × (records.old ≡ replicate (length records.old) 0) }
-    ensures code { result ≡ code_of (batch row.now (length workspace.old) (length records.old)) }
+    ensures result { outcome_of result ≡ recorded_as (batch row.now (length workspace.old) (length records.old)) }
     ensures buffer { records.new ≡ buffer_of (length records.old) (batch row.now (length workspace.old) (length records.old)) }
 {
     let mut at = 0;
     let mut end = 0;
     while at < row.len() {
         let from = at + LENGTH_BYTES;
-        let to = from + words::get_u32(row, at) as usize;
+        let to = from + u32::get(row, at) as usize;
         match write_record(&row[from..to], workspace, &mut records[end..]) {
-            Recorded::TooLong => {
-                words::clear(records);
-                return -27;
+            Err(_) => {
+                records.fill(0);
+                return Err(Refusal::Records);
             }
-            Recorded::Wrote(many) => end += many,
+            Ok(many) => end += many,
         }
         at = to;
     }
-    end as i64
+    Ok(end)
 }
 
-// The records of a row, whatever its bytes: their length, or minus the refusal's number.
-pub fn answer_row(row: &[u8], workspace: &mut [u8], records: &mut [u8]) -> i64
-    ensures code { result ≡ code_of (batch row.now (length workspace.old) (length records.old)) }
+// The records of a row, whatever its bytes: their length, or refusal 26 or 27.
+pub fn answer_row(row: &[u8], workspace: &mut [u8], records: &mut [u8]) -> Result<usize, Refusal>
+    ensures result { outcome_of result ≡ recorded_as (batch row.now (length workspace.old) (length records.old)) }
     ensures buffer { records.new ≡ buffer_of (length records.old) (batch row.now (length workspace.old) (length records.old)) }
 {
-    words::clear(records);
+    records.fill(0);
     if is_cut(row) {
         return write_records(row, workspace, records);
     }
-    -26
+    Err(Refusal::Cut)
 }

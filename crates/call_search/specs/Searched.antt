@@ -19,9 +19,10 @@ use Rattle.facets.specs.declared.Areas.{Areas}
 use Rattle.facets.specs.Layout.{Inputs, lists_part}
 use Rattle.order.specs.Numbers.{AllBelow}
 use Rattle.frames.specs.Paths.{Emitted, emitted_in}
-use Rattle.search.specs.declared.Outcome.{Outcome}
-use Rattle.search.specs.declared.Outcome.TheVariants as search
-use Rattle.search.specs.Outcomes.{search_limit, entry_limits_of, search_outcome, counted_lists}
+use Rattle.std.specs.Prelude.{Result, Ok, Err}
+use Rattle.refusals.specs.declared.Refusal.{Refusal}
+use Rattle.search.specs.declared.Listed.{Listed as Emissions}
+use Rattle.search.specs.Outcomes.{entry_limits_of, search_outcome, counted_lists}
 use Rattle.shapes.specs.Answered.{Preparation}
 use Rattle.shapes.specs.Emitted.{found_apart}
 use Rattle.shapes.specs.Kept.{Kept, kept_table, kept_answer}
@@ -41,7 +42,7 @@ use Rattle.entries.specs.Calls.{three_plain, four_splittable}
 use Rattle.entries.specs.Answer.{left_whole}
 use Rattle.entries.proofs.Answer.{left_split}
 use Rattle.calls.specs.declared.Rules.{Rules}
-use Rattle.calls.specs.declared.Called.TheVariants.{Refused, Left}
+use Rattle.calls.specs.declared.Called.TheVariants.{Left}
 use Rattle.shares.specs.declared.Desk.{Desk}
 use Rattle.ridges.specs.Desks.{Given, areas_of}
 use Rattle.ridges.specs.Ranks.{desk3, desk4}
@@ -179,7 +180,7 @@ module _ (k : Stock) (shelf : Shelf) (rank : ℕ) (rows : List ℕ) (m : ℕ) (r
   unfolding search_from entry_limits entry_limits_of call_rules
   search_is a bound =
       let same : a.bound ≡ rules.entries = bound ∙ sym st.few_entries_holds in
-      λ i. def.search (sym table_is i) (record { limit = search_limit rules.limit; bound = same i; extended = st.extended_is i }) (st.left_is i)
+      λ i. def.search (sym table_is i) (record { limit = rules.limit; bound = same i; extended = st.extended_is i }) (st.left_is i)
 
   -- ---- what the search leaves
 
@@ -278,28 +279,28 @@ module _ (k : Stock) (shelf : Shelf) (rank : ℕ) (rows : List ℕ) (m : ℕ) (r
         front_kept shelf.owners a.frames s1 now p.frames (back_front shelf.owners s1 u inside long-u) (ap (take a.frames) tail_is ∙ tables)
         ∙ (sym (take-take (shelf.owners + 2048) shelf.end s1 p.owners) ∙ (ap (take (shelf.owners + 2048)) front1 ∙ take-take (shelf.owners + 2048) shelf.end s p.owners))
 
-    module _ (o : Outcome) (said : search_outcome table a o u ≡ def.search table (entry_limits_of a (record { limit = rules.limit; extended = extended })) left) where
+    module _ (o : Result Emissions Refusal) (said : search_outcome table a o u ≡ def.search table (entry_limits_of a (record { limit = rules.limit; extended = extended })) left) where
       whole : search_outcome table a o u ≡ search_from (call_rules rules) k.prepared
       whole = said ∙ search_is a (placed a is).bound
 
       -- it is refused
-      pub search_refused : (number : ℕ) → o ≡ search.Refused number → (v : List ℕ) → Searched k rules (Refused number) v
+      pub search_refused : (e : Refusal) → o ≡ Err e → (v : List ℕ) → Searched k rules (Err e) v
       unfolding search_outcome Searched
-      search_refused number e v = sym whole ∙ ap (λ (x : Outcome). search_outcome table a x u) e
+      search_refused e is v = sym whole ∙ ap (λ (x : Result Emissions Refusal). search_outcome table a x u) is
 
       -- or it found lists, which stand in the whole workspace
-      pub search_answered : (n rest : ℕ) → o ≡ search.Found n rest
-          → result.answered (record { lists = emitted_in table a (lists_part a (drop shelf.owners now)); left = rest }) ≡ search_from (call_rules rules) k.prepared
+      pub search_answered : (e : Emissions) → o ≡ Ok e
+          → result.answered (record { lists = emitted_in table a (lists_part a (drop shelf.owners now)); left = e.left }) ≡ search_from (call_rules rules) k.prepared
       unfolding search_outcome
-      search_answered n rest e =
-          ap (λ (l : List ℕ). result.answered (record { lists = emitted_in table a (lists_part a l); left = rest })) tail_is
-          ∙ (sym (ap (λ (x : Outcome). search_outcome table a x u) e) ∙ whole)
+      search_answered e is =
+          ap (λ (l : List ℕ). result.answered (record { lists = emitted_in table a (lists_part a l); left = e.left })) tail_is
+          ∙ (sym (ap (λ (x : Result Emissions Refusal). search_outcome table a x u) is) ∙ whole)
 
-    pub search_emitted : (o : Outcome) → counted_lists table a o u → (n rest : ℕ) → o ≡ search.Found n rest → Emitted a (lists_part a (drop shelf.owners now))
+    pub search_emitted : (o : Result Emissions Refusal) → counted_lists table a o u → (e : Emissions) → o ≡ Ok e → Emitted a (lists_part a (drop shelf.owners now))
     unfolding counted_lists
-    search_emitted o c n rest e = subst (λ (l : List ℕ). Emitted a (lists_part a l)) (sym tail_is) (emitted_in_holds (subst (λ (x : Outcome). counted_lists table a x u) e c))
+    search_emitted o c e is = subst (λ (l : List ℕ). Emitted a (lists_part a l)) (sym tail_is) (emitted_in_holds (subst (λ (x : Result Emissions Refusal). counted_lists table a x u) is c))
       where
-        emitted_in_holds : counted_lists table a (search.Found n rest) u → Emitted a (lists_part a u)
+        emitted_in_holds : counted_lists table a (Ok e) u → Emitted a (lists_part a u)
         emitted_in_holds d = d.emitted
 
   -- ---- the tables as they are laid
@@ -323,7 +324,7 @@ module _ (k : Stock) (shelf : Shelf) (rank : ℕ) (rows : List ℕ) (m : ℕ) (r
 
       -- ---- what the search said
 
-      module _ (long1 : length s1 ≡ length s) (o : Outcome) (u : List ℕ) (long-u : length u ≡ length (take (length s1 - shelf.owners) (drop shelf.owners s1)))
+      module _ (long1 : length s1 ≡ length s) (o : Result Emissions Refusal) (u : List ℕ) (long-u : length u ≡ length (take (length s1 - shelf.owners) (drop shelf.owners s1)))
           (said : (t : Table) → Inputs t a (take (length s1 - shelf.owners) (drop shelf.owners s1)) → search_outcome t a o u ≡ def.search t (entry_limits_of a (record { limit = rules.limit; extended = extended })) left)
           (many : (t : Table) → counted_lists t a o u) (tables : take a.frames u ≡ take a.frames (take (length s1 - shelf.owners) (drop shelf.owners s1))) where
         tail_long : length u ≡ length (drop shelf.owners s1)
@@ -335,20 +336,20 @@ module _ (k : Stock) (shelf : Shelf) (rank : ℕ) (rows : List ℕ) (m : ℕ) (r
         abbrev whole_now : List ℕ
         whole_now = given_back shelf.owners s1 u
 
-        pub call_refused : (number : ℕ) → o ≡ search.Refused number → (v : List ℕ) → Searched k rules (Refused number) v
+        pub call_refused : (e : Refusal) → o ≡ Err e → (v : List ℕ) → Searched k rules (Err e) v
         call_refused = search_refused s1 long1 laid_front a areas_are u tail_long tables_are o (said table laid_inputs)
 
-        module _ (n rest : ℕ) (e : o ≡ search.Found n rest) where
+        module _ (e : Emissions) (is : o ≡ Ok e) where
           -- what `list_entries` is asked
           pub call_emits : ListsReady shelf rank a whole_now
           call_emits =
-              entries_asked a areas_are whole_now (long_is s1 long1 laid_front a areas_are u tail_long tables_are) (front_is s1 long1 laid_front a areas_are u tail_long tables_are) rest
-              (search_answered s1 long1 laid_front a areas_are u tail_long tables_are o (said table laid_inputs) n rest e)
-              (search_emitted s1 long1 laid_front a areas_are u tail_long tables_are o (many table) n rest e)
+              entries_asked a areas_are whole_now (long_is s1 long1 laid_front a areas_are u tail_long tables_are) (front_is s1 long1 laid_front a areas_are u tail_long tables_are) e.left
+              (search_answered s1 long1 laid_front a areas_are u tail_long tables_are o (said table laid_inputs) e is)
+              (search_emitted s1 long1 laid_front a areas_are u tail_long tables_are o (many table) e is)
 
-          pub call_answers : (level : Level) (v : List ℕ) → EntriesListed shelf rank a whole_now level v → Searched k rules (Left level rest) v
+          pub call_answers : (level : Level) (v : List ℕ) → EntriesListed shelf rank a whole_now level v → Searched k rules (Ok (Left level e.left)) v
           unfolding Searched
           call_answers level v l =
-              entries_answer a areas_are whole_now (long_is s1 long1 laid_front a areas_are u tail_long tables_are) (front_is s1 long1 laid_front a areas_are u tail_long tables_are) rest
-              (search_answered s1 long1 laid_front a areas_are u tail_long tables_are o (said table laid_inputs) n rest e)
-              (search_emitted s1 long1 laid_front a areas_are u tail_long tables_are o (many table) n rest e) level v l
+              entries_answer a areas_are whole_now (long_is s1 long1 laid_front a areas_are u tail_long tables_are) (front_is s1 long1 laid_front a areas_are u tail_long tables_are) e.left
+              (search_answered s1 long1 laid_front a areas_are u tail_long tables_are o (said table laid_inputs) e is)
+              (search_emitted s1 long1 laid_front a areas_are u tail_long tables_are o (many table) e is) level v l

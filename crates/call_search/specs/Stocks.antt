@@ -13,7 +13,6 @@ use Rattle.laws.specs.Lists.{Mem}
 use Rattle.laws.specs.Parts.{length_rows}
 use Rattle.openers.specs.Rows.{rows_in, RowsFit}
 use Rattle.space.specs.Meaning as space
-use Rattle.search.specs.Outcomes.{search_limit}
 use Rattle.shapes.specs.Answered.{Preparation}
 use Rattle.shapes.specs.Calls.{Given}
 use Rattle.shapes.specs.Kept.{Kept, kept_of, numbers_kept}
@@ -36,8 +35,8 @@ use Rattle.call_search.specs.Desks.{desk_for, desk_three, desk_four}
 unfoldable pub call_rules : Rules → def.Rules
 call_rules rules = record {
   tolerance = rules.tolerance;
-  lengths = space.limits_of rules.min rules.max;
-  entry_limit = search_limit rules.limit;
+  lengths = space.limits_of rules.limits;
+  entry_limit = rules.limit;
   bounds = record { orbits = rules.orbits; facets = rules.facets; entries = rules.entries };
   rule = rules.rule;
 }

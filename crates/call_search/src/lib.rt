@@ -11,7 +11,8 @@ ghost use Rattle.call_search.specs.Searched.{ListsReady, EntriesListed};
 
 use calls::{Called, Rules};
 use facets::Areas;
-use search::{Course, Outcome};
+use refusals::Refusal;
+use search::Course;
 use shares::Desk;
 use shelf::{Level, Shelf};
 
@@ -68,7 +69,7 @@ pub fn search_call(
     rules: Rules,
     extended: bool,
     left: u32,
-) -> Called
+) -> Result<Called, Refusal>
     requires { (k : Stock) × Stocked k shelf rank rows.now m rules extended left ws.old }
     ensures { (k : Stock) → Stocked k shelf rank rows.now m rules extended left ws.old → Searched k rules result ws.new }
 {
@@ -80,12 +81,7 @@ pub fn search_call(
     };
     let desk = desk_for(rank);
     let areas = ridges::lay_tables(rows, m, shelf, desk, ws);
-    let outcome = search::search(&mut ws[owners..], areas, course, left);
-    match outcome {
-        Outcome::Refused(number) => Called::Refused(number),
-        Outcome::Found(_, rest) => {
-            let level = list_entries(ws, shelf, rank, areas);
-            Called::Left(level, rest)
-        }
-    }
+    let found = search::search(&mut ws[owners..], areas, course, left)?;
+    let level = list_entries(ws, shelf, rank, areas);
+    Ok(Called::Left(level, found.left))
 }

@@ -9,14 +9,14 @@ ghost use Rattle.openers.specs.Rows.{rows_in};
 ghost use Rattle.calls.specs.Layouts.{shelf_for};
 
 use shelf::{Level, Shelf};
+use space::Limits;
 
 // What is alike at every depth: the tolerance, the limits on lengths and on entries, how many hyperplane orbits, possible facets and entries a call may have, and the rule of crowded lines.
 #[derive(Clone, Copy)]
 pub struct Rules {
     pub tolerance: f64,
-    pub min: space::Limit,
-    pub max: space::Limit,
-    pub limit: search::Limit,
+    pub limits: Limits,
+    pub limit: Option<u32>,
     pub orbits: usize,
     pub facets: usize,
     pub entries: usize,
@@ -26,7 +26,6 @@ pub struct Rules {
 // What a call answers. At rank 2: whether some row swaps the ends. Above: where its answer stands in the workspace. Both with what is left of the budget.
 #[derive(Clone, Copy)]
 pub enum Called {
-    Refused(u8),
     Ends(bool, u32),
     Left(Level, u32),
 }
@@ -36,12 +35,10 @@ pub fn swaps_ends(rows: &[u8], m: usize) -> bool
     requires { 32 * m ≤ length rows.now }
     ensures { (n : ℕ) → 0 < n → n ≤ 32 → result ≡ any_of (λ (row : Row). eqb 1 (image row 0)) (rows_in n m rows.now) }
 {
-    let mut i = 0;
-    while i < m {
+    for i in 0..m {
         if openers::image(rows, i, 0) == 1 {
             return true;
         }
-        i += 1;
     }
     false
 }

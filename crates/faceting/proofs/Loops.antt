@@ -17,13 +17,13 @@ use Rattle.space.specs.declared.Points.{Points}
 use Rattle.space.specs.Meaning.{subspace_of, points_of, HoldsPoints, limits_of}
 use Rattle.space.specs.Counts.{points_length}
 use Rattle.orbits.specs.Answers.{answer_in}
-use Rattle.orbits.specs.declared.Answer.{Answer}
-use Rattle.orbits.specs.declared.Answer.TheVariants.{Orbits, Refused as RefusedAnswer}
+use Rattle.refusals.specs.declared.Refusal.{Refusal}
+use Rattle.refusals.specs.Refused.{number_of}
+use Rattle.std.specs.Prelude.{Result, Ok, Err}
 use Rattle.shapes.specs.Calls.{Given}
 use Rattle.shelf.specs.Keeps.{Keeps, Ridges}
 use Rattle.calls.specs.Layouts.{shelf_for}
 use Rattle.calls.specs.declared.Rules.{Rules}
-use Rattle.calls.specs.declared.Called.TheVariants.{Refused}
 use Rattle.faceting.specs.Asked.{Asked}
 use Rattle.call_search.specs.Stocks.{call_rules}
 use Rattle.inner_answers.specs.Says.{Site, all_orbits}
@@ -47,32 +47,31 @@ module _ (rank : ℕ) (plane : stored.Subspace) (points : Points) (rows : List �
   abbrev called : Site
   called = site_in goes (subspace_of plane) (points_of points) rank flat rows m rules budget
 
-  module _ (r : Answer) (u : List ℕ)
-      (answers : answer_in flat.n r u ≡ taken_or_refusal goes rules.orbits (hyperplane_orbits rules.tolerance (limits_of rules.min rules.max) rules.rule (rank - 3) (points_of points) (points_of flat) (rows_in flat.n m rows))) where
+  module _ (r : Result ℕ Refusal) (u : List ℕ)
+      (answers : answer_in flat.n r u ≡ taken_or_refusal goes rules.orbits (hyperplane_orbits rules.tolerance (limits_of rules.limits) rules.rule (rank - 3) (points_of points) (points_of flat) (rows_in flat.n m rows))) where
     found_for : answer_in flat.n r u ≡ taken_or_refusal goes (call_rules rules).bounds.orbits (all_orbits called)
     unfolding call_rules orbits_of
     found_for =
-        subst (λ (ps : List Vec). answer_in flat.n r u ≡ taken_or_refusal goes rules.orbits (hyperplane_orbits rules.tolerance (limits_of rules.min rules.max) rules.rule (rank - 3) (points_of points) ps (rows_in flat.n m rows))) holds.means answers
+        subst (λ (ps : List Vec). answer_in flat.n r u ≡ taken_or_refusal goes rules.orbits (hyperplane_orbits rules.tolerance (limits_of rules.limits) rules.rule (rank - 3) (points_of points) ps (rows_in flat.n m rows))) holds.means answers
 
     -- refusal 13
-    pub start_refused : r ≡ RefusedAnswer → SaysOf (way_of points.n way globals full) (rank - 2) rules (subspace_of plane) (points_of points) (rows_in points.n m rows) budget (Refused 13) u
-    start_refused e =
-        says_rank way globals full rank above flat.n points.n same_n rules (subspace_of plane) (points_of points) rows m budget (Refused 13) u
-        (finishes.says_thirteen goes (rank - 3) rules (subspace_of plane) (points_of points) (rows_in flat.n m rows) budget u
-        (found_too_many goes (call_rules rules).bounds.orbits (all_orbits called) flat.n u (subst (λ (a : Answer). answer_in flat.n a u ≡ taken_or_refusal goes (call_rules rules).bounds.orbits (all_orbits called)) e found_for)))
+    pub start_refused : (x : Refusal) → r ≡ Err x → SaysOf (way_of points.n way globals full) (rank - 2) rules (subspace_of plane) (points_of points) (rows_in points.n m rows) budget (Err x) u
+    start_refused x e =
+        let k = found_too_many goes (call_rules rules).bounds.orbits (all_orbits called) flat.n u x (subst (λ (a : Result ℕ Refusal). answer_in flat.n a u ≡ taken_or_refusal goes (call_rules rules).bounds.orbits (all_orbits called)) e found_for) in
+        says_rank way globals full rank above flat.n points.n same_n rules (subspace_of plane) (points_of points) rows m budget (Err x) u
+        (finishes.says_thirteen goes (rank - 3) rules (subspace_of plane) (points_of points) (rows_in flat.n m rows) budget x u k.0 k.1)
 
     -- or the loop begins
-    pub begun : (count : ℕ) → r ≡ Orbits count → ((k : ℕ) → Keeps k (shelf_for rank) [] u × Ridges (shelf_for rank) [] u) → length u ≡ length ws
+    pub begun : (count : ℕ) → r ≡ Ok count → ((k : ℕ) → Keeps k (shelf_for rank) [] u × Ridges (shelf_for rank) [] u) → length u ≡ length ws
         → Loop goes (subspace_of plane) (points_of points) rank flat rows m rules budget count u
     unfolding call_rules
     begun count e cleared long =
-        let all = subst (λ (a : Answer). answer_in flat.n a u ≡ taken_or_refusal goes (call_rules rules).bounds.orbits (all_orbits called)) e found_for in
+        let all = subst (λ (a : Result ℕ Refusal). answer_in flat.n a u ≡ taken_or_refusal goes (call_rules rules).bounds.orbits (all_orbits called)) e found_for in
         let many = found_count goes (call_rules rules).bounds.orbits (all_orbits called) flat.n u count all in
         let size : flat.n ≡ length (points_of points) = same_n ∙ sym (points_length points) in
         record {
           rank_least = above;
           rank_most = asked.rank_most;
-          flat_fits = holds.fits;
           flat_is = holds.means;
           size = size;
           permute = permute rank plane points rows m rules budget ws way globals full asked above flat holds same_n;

@@ -8,8 +8,8 @@ use Rattle.definitions.specs.Faceting.{Way}
 use Rattle.orbits.specs.Numbers.{orbit_of}
 use Rattle.orbits.specs.Workspace.{orbits_in, orbits_front}
 use Rattle.orbits.specs.Answers.{answer_in}
-use Rattle.orbits.specs.declared.Answer.{Answer}
-use Rattle.orbits.specs.declared.Answer.TheVariants.{Orbits, Refused as RefusedAnswer}
+use Rattle.refusals.specs.declared.Refusal.{Refusal}
+use Rattle.std.specs.Prelude.{Result, Ok, Err}
 use Rattle.shapes.specs.Answered.{TakesSome}
 use Rattle.shelf.specs.Keeps.{ShelfFits, Keeps, Ridges}
 use Rattle.shelf.specs.declared.Shelf.{Shelf}
@@ -23,16 +23,16 @@ use Rattle.faceting.proofs.Ways.{found_few, found_count, found_all}
 use Rattle.faceting.specs.Starts.{shelf_empty}
 
 -- the answer still holds where the front of the workspace is as it was
-pub answer_kept : (way : Way) → TakesSome way → (bound : ℕ) (orbits : List Orbit) (n : ℕ) (r : Answer) (s u : List ℕ) → bound ≤ 256 → take 2048 u ≡ take 2048 s → answer_in n r s ≡ taken_or_refusal way bound orbits
+pub answer_kept : (way : Way) → TakesSome way → (bound : ℕ) (orbits : List Orbit) (n : ℕ) (r : Result ℕ Refusal) (s u : List ℕ) → bound ≤ 256 → take 2048 u ≡ take 2048 s → answer_in n r s ≡ taken_or_refusal way bound orbits
     → answer_in n r u ≡ taken_or_refusal way bound orbits
 unfolding answer_in
-answer_kept way takes bound orbits n RefusedAnswer s u few front e = e
-answer_kept way takes bound orbits n (Orbits count) s u few front e =
+answer_kept way takes bound orbits n (Err x) s u few front e = e
+answer_kept way takes bound orbits n (Ok count) s u few front e =
     let h : 8 * count ≤ 2048 = omega (arith, found_few way bound orbits n s count e, found_count way bound orbits n s count e, takes.no_more orbits) in
     ap (λ (l : List Pair). answered (map (orbit_of n) l)) (sym (orbits_front u 2048 count h) ∙ (ap (λ (l : List ℕ). orbits_in l count) front ∙ orbits_front s 2048 count h)) ∙ e
 
 -- what a cleared shelf behind the orbits says of them
-pub start_kept : (way : Way) → TakesSome way → (bound : ℕ) (orbits : List Orbit) (n : ℕ) (r : Answer) (rank : ℕ) (shelf : Shelf) (s u : List ℕ) → shelf ≡ shelf_for rank → ShelfFits (shelf_for rank) (length s) → bound ≤ 256 → ShelfWritten shelf s u
+pub start_kept : (way : Way) → TakesSome way → (bound : ℕ) (orbits : List Orbit) (n : ℕ) (r : Result ℕ Refusal) (rank : ℕ) (shelf : Shelf) (s u : List ℕ) → shelf ≡ shelf_for rank → ShelfFits (shelf_for rank) (length s) → bound ≤ 256 → ShelfWritten shelf s u
     → ((k : ℕ) → shelf.orbits ≡ 0 → shelf.facets ≡ 0 → Keeps k shelf [] u × Ridges shelf [] u) → answer_in n r s ≡ taken_or_refusal way bound orbits
     → (answer_in n r u ≡ taken_or_refusal way bound orbits) × ((k : ℕ) → Keeps k (shelf_for rank) [] u × Ridges (shelf_for rank) [] u)
 start_kept way takes bound orbits n r rank shelf s u is fits few within keeps e =
@@ -42,7 +42,7 @@ start_kept way takes bound orbits n r rank shelf s u is fits few within keeps e 
     (answer_kept way takes bound orbits n r s u few (beside_take w 2048 fits.orbit_room) e, λ k. cleared k (shelf_empty rank).0 (shelf_empty rank).1)
 
 -- before the first inner call: the orbits are found, those that are kept stand there, and the shelf is cleared behind them
-pub loop_starts : (g : Site) → TakesSome g.way → (shelf : Shelf) (n count : ℕ) (s u : List ℕ) → n ≡ length g.points → answer_in n (Orbits count) s ≡ taken_or_refusal g.way g.rules.bounds.orbits (all_orbits g)
+pub loop_starts : (g : Site) → TakesSome g.way → (shelf : Shelf) (n count : ℕ) (s u : List ℕ) → n ≡ length g.points → answer_in n (Ok count) s ≡ taken_or_refusal g.way g.rules.bounds.orbits (all_orbits g)
     → g.rules.bounds.orbits ≤ 256 → take 2048 u ≡ take 2048 s → Keeps (length g.points) shelf [] u → Ridges shelf [] u → SiteState g shelf g.budget 0 u
 loop_starts g takes shelf n count s u n_is e few front keeps ridges =
     let os = site_orbits g in

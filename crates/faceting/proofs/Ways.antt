@@ -15,14 +15,15 @@ use Rattle.laws.specs.Outcomes.{not_refused_if}
 use Rattle.orbits.specs.Numbers.{orbit_of}
 use Rattle.orbits.specs.Workspace.{orbits_in, orbits_length}
 use Rattle.orbits.specs.Answers.{answer_in, orbits_or_refusal}
-use Rattle.orbits.specs.declared.Answer.TheVariants.{Orbits, Refused as RefusedAnswer}
+use Rattle.refusals.specs.declared.Refusal.{Refusal}
+use Rattle.std.specs.Prelude.{Ok, Err}
 use Rattle.shapes.specs.Answered.{answers_equal}
 use Rattle.tallies.specs.Meaning.{package_in}
 use Rattle.faceting.specs.declared.Way.{Way}
 use Rattle.faceting.specs.Ways.{all_taken, found_too_many, some_taken, taken_or_refusal, too_many, way_noble, way_of}
 
 module _ (way : def.Way) (bound : ℕ) (orbits : List Orbit) (n : ℕ) (s : List ℕ) where
-  module _ (count : ℕ) (e : answer_in n (Orbits count) s ≡ taken_or_refusal way bound orbits) where
+  module _ (count : ℕ) (e : answer_in n (Ok count) s ≡ taken_or_refusal way bound orbits) where
     found_whole : refuse_if (ltb bound (length orbits)) 13 (λ u. answered (way.keeps orbits)) ≡ answered (map (orbit_of n) (orbits_in s count))
     unfolding answer_in taken_or_refusal
     found_whole = sym e
@@ -49,11 +50,11 @@ module _ (n : ℕ) (way : Way) (globals full : List ℕ) (bound : ℕ) (orbits :
   abbrev by : def.Way
   by = way_of n way globals full
 
-  pub kept_refused : (s u : List ℕ) → answer_in n RefusedAnswer s ≡ orbits_or_refusal bound orbits → answer_in n RefusedAnswer u ≡ taken_or_refusal by bound orbits
-  kept_refused s u found = too_many by bound orbits n u (found_too_many plain_way bound orbits n s (found ∙ all_taken bound orbits))
+  pub kept_refused : (e : Refusal) (s u : List ℕ) → answer_in n (Err e) s ≡ orbits_or_refusal bound orbits → answer_in n (Err e) u ≡ taken_or_refusal by bound orbits
+  kept_refused e s u found = let k = found_too_many plain_way bound orbits n s e (found ∙ all_taken bound orbits) in too_many by bound orbits n u e k.0 k.1
 
-  module _ (count : ℕ) (s : List ℕ) (found : answer_in n (Orbits count) s ≡ orbits_or_refusal bound orbits) where
-    plainly : answer_in n (Orbits count) s ≡ taken_or_refusal plain_way bound orbits
+  module _ (count : ℕ) (s : List ℕ) (found : answer_in n (Ok count) s ≡ orbits_or_refusal bound orbits) where
+    plainly : answer_in n (Ok count) s ≡ taken_or_refusal plain_way bound orbits
     plainly = found ∙ all_taken bound orbits
 
     are : orbits ≡ map (orbit_of n) (orbits_in s count)
@@ -64,7 +65,7 @@ module _ (n : ℕ) (way : Way) (globals full : List ℕ) (bound : ℕ) (orbits :
     unfolding plain_way
     few_counted = let e = found_count plain_way bound orbits n s count plainly in let f = found_few plain_way bound orbits n s count plainly in omega arith
 
-    pub kept_some : (r : ℕ) (u : List ℕ) → way.plain ≡ false → map (orbit_of n) (orbits_in u r) ≡ kept_by (package_in n way.whole globals full) (map (orbit_of n) (orbits_in s count)) → answer_in n (Orbits r) u ≡ taken_or_refusal by bound orbits
+    pub kept_some : (r : ℕ) (u : List ℕ) → way.plain ≡ false → map (orbit_of n) (orbits_in u r) ≡ kept_by (package_in n way.whole globals full) (map (orbit_of n) (orbits_in s count)) → answer_in n (Ok r) u ≡ taken_or_refusal by bound orbits
     unfolding noble_way
     kept_some r u e kept =
         some_taken by bound orbits n u r (found_few plain_way bound orbits n s count plainly)

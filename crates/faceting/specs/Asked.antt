@@ -4,7 +4,7 @@ use Rattle.std.specs.Prelude.{◌≡◌, List, ℕ, ◌≤◌, length}
 use Rattle.openers.specs.Rows.{rows_in}
 use Rattle.space.specs.declared.Subspace.{Subspace}
 use Rattle.space.specs.declared.Points.{Points}
-use Rattle.space.specs.Meaning.{SubspaceFits, PointsFit, points_of}
+use Rattle.space.specs.Meaning.{points_of}
 use Rattle.stabilizers.specs.Permutations.{Permutations}
 use Rattle.shapes.specs.Calls.{Given}
 use Rattle.calls.specs.declared.Rules.{Rules}
@@ -14,8 +14,6 @@ use Rattle.faceting.specs.Ways.{WayFits}
 pub record Asked (rank : ℕ) (plane : Subspace) (points : Points) (rows : List ℕ) (m : ℕ) (rules : Rules) (ws : List ℕ) (way : Way) (globals full : List ℕ) : Type 0 where
   pub rank_least : 2 ≤ rank
   pub rank_most : rank ≤ 4
-  pub points_fit : PointsFit points
-  pub plane_fits : SubspaceFits plane
   pub same_d : points.d ≡ plane.d
   pub permute : Permutations points.n m rows
   pub rows_few : m ≤ 120

@@ -30,6 +30,8 @@ use Rattle.shelf.specs.Front.{keeps_front}
 use Rattle.shelf.specs.declared.Shelf.{Shelf}
 use Rattle.calls.specs.Layouts.{shelf_for}
 use Rattle.calls.specs.declared.Called.{Called}
+use Rattle.refusals.specs.declared.Refusal.{Refusal}
+use Rattle.std.specs.Prelude.{Result}
 use Rattle.keep.specs.Adding.{orbit_at}
 use Rattle.inner_answers.specs.State as state
 use Rattle.inner_answers.specs.Spaces.{Laid}
@@ -161,7 +163,7 @@ module _ (g : Site) (shelf : Shelf) (left i : ℕ) (s u : List ℕ) (fitting : F
     rows_with p = rows_within (orbit_of n p).vertices g.rows
 
     -- the inner call was made, and the turn has all that the keeping of its answer asks
-    pub turn_called : (called : Called) (rows : List ℕ) (m : ℕ) → eqb (length (site_plane g i s).basis) (suc g.more) ≡ true
+    pub turn_called : (called : Result Called Refusal) (rows : List ℕ) (m : ℕ) → eqb (length (site_plane g i s).basis) (suc g.more) ≡ true
         → Says plain_way g.more g.rules (site_plane g i s) (site_points g i s) (site_rows g i s) left called (drop shelf.end u)
         → site_rows g i s ≡ rows_in (length (site_points g i s)) m rows → RowsFit (length (site_points g i s)) m rows → m ≤ 120
         → Given (site_points g i s) (site_rows g i s) → Laid shelf (shelf_for (3 + g.more)) → Turn g shelf left i called rows m u

@@ -1,7 +1,7 @@
 -- How the loop of a call ends: at a refusal, which is the call's, or with every orbit's inner call made and kept, which is what its search begins with. What the search says is what the call says.
 -- Leans on State, Stocks, Answers and the steps of a call.
 use Rattle.std.specs.Prelude.{◌≡◌, refl, Bool, List, [], ℕ, suc, ◌+◌, ◌≤◌, ◌<◌, length, drop}
-use Rattle.std.proofs.Common.{ap, ◌∙◌, subst, arith}
+use Rattle.std.proofs.Common.{sym, ap, ◌∙◌, subst, arith}
 use Rattle.std.proofs.Math.Seq.{drop-length}
 use Rattle.definitions.specs.Outcome as result
 use Rattle.definitions.specs.Vectors.{Vec}
@@ -16,7 +16,10 @@ use Rattle.calls.specs.Layouts.{shelf_for}
 use Rattle.calls.specs.Steps.{Reached, reached_all, call_thirteen, call_inner_refused, call_prepared}
 use Rattle.calls.specs.declared.Rules.{Rules}
 use Rattle.calls.specs.declared.Called.{Called}
-use Rattle.calls.specs.declared.Called.TheVariants.{Refused, Ends, Left}
+use Rattle.calls.specs.declared.Called.TheVariants.{Ends, Left}
+use Rattle.refusals.specs.declared.Refusal.{Refusal}
+use Rattle.refusals.specs.Refused.{number_of}
+use Rattle.std.specs.Prelude.{Result, Ok, Err}
 use Rattle.inner_answers.specs.Spaces.{Laid}
 use Rattle.inner_answers.specs.State as state
 use Rattle.call_search.specs.Stocks.{Stock, Stocked, call_rules}
@@ -27,19 +30,19 @@ module _ (way : Way) (more : ℕ) (rules : Rules) (plane : Subspace) (points : L
   abbrev pub site : Site
   site = record { way = way; more = more; rules = call_rules rules; plane = plane; points = points; rows = rows; budget = budget }
 
-  abbrev SaysCall : Called → List ℕ → Type 0
+  abbrev SaysCall : Result Called Refusal → List ℕ → Type 0
   SaysCall = Says way (suc more) (call_rules rules) plane points rows budget
 
   -- refusal 13
-  pub says_thirteen : (s : List ℕ) → (call_rules rules).bounds.orbits < length (all_orbits site) → SaysCall (Refused 13) s
+  pub says_thirteen : (e : Refusal) (s : List ℕ) → number_of e ≡ 13 → (call_rules rules).bounds.orbits < length (all_orbits site) → SaysCall (Err e) s
   unfolding Says
-  says_thirteen s h = call_thirteen way more (call_rules rules) plane points rows budget h
+  says_thirteen e s is h = call_thirteen way more (call_rules rules) plane points rows budget h ∙ ap result.refused (sym is)
 
   module _ (few : length (all_orbits site) ≤ (call_rules rules).bounds.orbits) where
     -- a refusal on the way
-    pub says_refused : (number : ℕ) (s : List ℕ) → site_whole site ≡ result.refused number → SaysCall (Refused number) s
+    pub says_refused : (e : Refusal) (s : List ℕ) → site_whole site ≡ result.refused (number_of e) → SaysCall (Err e) s
     unfolding Says
-    says_refused number s e = call_inner_refused way more (call_rules rules) plane points rows budget few number e
+    says_refused e s is = call_inner_refused way more (call_rules rules) plane points rows budget few (number_of e) is
 
     module _ (shelf : Shelf) (left i : ℕ) (s : List ℕ) (st : SiteState site shelf left i s) (all : length (site_orbits site) ≤ i) where
       none_left : drop i (site_orbits site) ≡ []
@@ -84,11 +87,11 @@ module _ (way : Way) (more : ℕ) (rules : Rules) (plane : Subspace) (points : L
       }
 
       -- what the search says
-      pub says_searched : (r : Called) (u : List ℕ) → Searched stock rules r u → SaysCall r u
+      pub says_searched : (r : Result Called Refusal) (u : List ℕ) → Searched stock rules r u → SaysCall r u
       unfolding Says Searched
-      says_searched (Refused number) u a = searched_refused way stock rules budget prepared_is number u a
-      says_searched (Ends swapped rest) u a = a
-      says_searched (Left level rest) u a = record {
+      says_searched (Err e) u a = searched_refused way stock rules budget prepared_is e u a
+      says_searched (Ok (Ends swapped rest)) u a = a
+      says_searched (Ok (Left level rest)) u a = record {
         before = before;
         prepared = prepared_is;
         leaves = a.leaves;

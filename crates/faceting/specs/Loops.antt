@@ -3,7 +3,6 @@
 use Rattle.std.specs.Prelude.{◌≡◌, Bool, true, false, cond, T, eqb, take, drop}
 use Rattle.std.proofs.Math.Path.{refl, sym, subst}
 use Rattle.std.proofs.Common.{ap, ◌∙◌, ⊎_elim, arith}
-use Rattle.std.proofs.Math.Option.{some, none}
 use mathlib.Core.List.{List, [], map}
 use Prim.Native.Nat.{ℕ, suc, ◌+◌, ◌*◌, ◌-◌, ◌%◌, ◌^◌, ◌≤◌, ◌<◌}
 use Rattle.std.proofs.Math.ListN.{length}
@@ -22,11 +21,9 @@ use Rattle.laws.specs.Sets.{vertices_of}
 use Rattle.openers.specs.Rows.{rows_in, RowsFit, written_rows}
 use Rattle.space.specs.declared.Subspace as stored
 use Rattle.space.specs.declared.Points.{Points}
-use Rattle.space.specs.Meaning.{PointsFit, subspace_of, points_of, HoldsPoints}
+use Rattle.space.specs.Meaning.{subspace_of, points_of, HoldsPoints}
 use Rattle.stabilizers.specs.Permutations.{Permutations, rows_fit_holds}
-use Rattle.sets.specs.Refitting.{Refitted, refitted_plane, fitted}
-use Rattle.sets.specs.declared.Fit.{Fit}
-use Rattle.sets.specs.declared.Fit.TheVariants.{Fitted, Refused as RefusedFit}
+use Rattle.sets.specs.Refitting.{Refitted, FittedPlane, HoldsPlane, refitted_plane}
 use Rattle.orbits.specs.Answers.{CallFits}
 use Rattle.shapes.specs.Answered.{TakesSome}
 use Rattle.shapes.specs.Calls.{Given}
@@ -36,7 +33,10 @@ use Rattle.shelf.specs.declared.Shelf.{Shelf}
 use Rattle.calls.specs.Layouts.{shelf_three, shelf_four, shelf_for, three_fits, four_fits, at_three, at_four}
 use Rattle.calls.specs.declared.Rules.{Rules}
 use Rattle.calls.specs.declared.Called.{Called}
-use Rattle.calls.specs.declared.Called.TheVariants.{Refused, Ends}
+use Rattle.calls.specs.declared.Called.TheVariants.{Ends}
+use Rattle.refusals.specs.declared.Refusal.{Refusal}
+use Rattle.refusals.specs.Refused.{number_of}
+use Rattle.std.specs.Prelude.{Result, Ok, Err}
 use Rattle.kept_edges.specs.Edges.{edge_answer}
 use Rattle.faceting.specs.declared.Next.{Next}
 use Rattle.faceting.specs.Asked.{Asked}
@@ -61,7 +61,6 @@ site_in way plane points rank flat rows m rules budget = site way (rank - 3) rul
 pub record Loop (way : def.Way) (plane : Subspace) (points : List Vec) (rank : ℕ) (flat : Points) (rows : List ℕ) (m : ℕ) (rules : Rules) (budget count : ℕ) (ws : List ℕ) : Type 0 where
   pub rank_least : 3 ≤ rank
   pub rank_most : rank ≤ 4
-  pub flat_fits : PointsFit flat
   pub flat_is : points_of flat ≡ map (flatten plane) points
   pub size : flat.n ≡ length points
   pub permute : Permutations flat.n m rows
@@ -79,19 +78,19 @@ pub record Loop (way : def.Way) (plane : Subspace) (points : List Vec) (rank : �
 
 -- ---- the ranks
 
-abbrev pub SaysOf : def.Way → ℕ → Rules → Subspace → List Vec → List Row → ℕ → Called → List ℕ → Type 0
+abbrev pub SaysOf : def.Way → ℕ → Rules → Subspace → List Vec → List Row → ℕ → Result Called Refusal → List ℕ → Type 0
 SaysOf way more rules = Says way more (call_rules rules)
 
 -- at rank 2 the rows alone answer
 pub says_ends : (way : def.Way) (rank : ℕ) (rules : Rules) (plane : Subspace) (points : List Vec) (rows : List Row) (budget : ℕ) (swapped : Bool) (s : List ℕ) → rank ≡ 2
-    → swapped ≡ any_of (λ (row : Row). eqb 1 (image row 0)) rows → SaysOf way (rank - 2) rules plane points rows budget (Ends swapped budget) s
+    → swapped ≡ any_of (λ (row : Row). eqb 1 (image row 0)) rows → SaysOf way (rank - 2) rules plane points rows budget (Ok (Ends swapped budget)) s
 unfolding Says def.faceting_with edge_call edge_answer
 says_ends way rank rules plane points rows budget swapped s e is =
     let q : 0 ≡ rank - 2 = omega arith in
-    subst (λ (more : ℕ). SaysOf way more rules plane points rows budget (Ends swapped budget) s) q (ap (λ (b : Bool). result.answered (cond b (swapped_ends budget) (separate_ends budget))) (sym is))
+    subst (λ (more : ℕ). SaysOf way more rules plane points rows budget (Ok (Ends swapped budget)) s) q (ap (λ (b : Bool). result.answered (cond b (swapped_ends budget) (separate_ends budget))) (sym is))
 
 -- a call of rank 3 + more, by its rank, and by any number that is the number of points
-pub says_rank : (way : Way) (globals full : List ℕ) (rank : ℕ) → 3 ≤ rank → (n k : ℕ) → n ≡ k → (rules : Rules) (plane : Subspace) (points : List Vec) (rows : List ℕ) (m budget : ℕ) (r : Called) (s : List ℕ)
+pub says_rank : (way : Way) (globals full : List ℕ) (rank : ℕ) → 3 ≤ rank → (n k : ℕ) → n ≡ k → (rules : Rules) (plane : Subspace) (points : List Vec) (rows : List ℕ) (m budget : ℕ) (r : Result Called Refusal) (s : List ℕ)
     → SaysOf (way_of n way globals full) (suc (rank - 3)) rules plane points (rows_in n m rows) budget r s → SaysOf (way_of k way globals full) (rank - 2) rules plane points (rows_in k m rows) budget r s
 says_rank way globals full rank least n k e rules plane points rows m budget r s a =
     let q : suc (rank - 3) ≡ rank - 2 = omega arith in
@@ -135,7 +134,7 @@ module _ (rank : ℕ) (plane : stored.Subspace) (points : Points) (rows : List �
   -- what the start of a call is asked
   pub start_asks : CallFits points flat m rows × (rules.orbits ≤ 256) × (124928 ≤ length ws) × ShelfFits (shelf_for rank) (length ws) × (3 ≤ rank) × WayFits flat.n way globals full
   start_asks = (
-    record { points_fit = asked.points_fit; flat_fit = holds.fits; same_n = sym same_n; permute = permute; few = asked.rows_few },
+    record { same_n = sym same_n; permute = permute; few = asked.rows_few },
     asked.few_orbits_holds,
     omega (arith, enough),
     shelf_fits rank (length ws) above asked.rank_most asked.room_three asked.room_four,
@@ -146,17 +145,13 @@ module _ (rank : ℕ) (plane : stored.Subspace) (points : Points) (rows : List �
 -- ---- a turn
 
 -- a refit that is refused has another number of basis vectors, and one that is not has the number wanted
-not_fitted : (f : Fit) (x p : Subspace) (b : Bool) → f ≡ RefusedFit → fitted f x ≡ cond b (some p) none → b ≡ false
-unfolding fitted
-not_fitted RefusedFit x p true e q = cc
-not_fitted RefusedFit x p false e q = refl
-not_fitted Fitted x p b e q = cc
+not_fitted : (e : Refusal) (p : Subspace) (b : Bool) → result.refused (number_of e) ≡ cond b (result.answered p) (result.refused 14) → (b ≡ false) × (number_of e ≡ 14)
+not_fitted e p true q = (cc, cc)
+not_fitted e p false q = (refl, cc)
 
-is_fitted : (f : Fit) (x p : Subspace) (b : Bool) → f ≡ Fitted → fitted f x ≡ cond b (some p) none → b ≡ true
-unfolding fitted
-is_fitted Fitted x p true e q = refl
-is_fitted Fitted x p false e q = cc
-is_fitted RefusedFit x p b e q = cc
+is_fitted : (x p : Subspace) (b : Bool) → result.answered x ≡ cond b (result.answered p) (result.refused 14) → b ≡ true
+is_fitted x p true q = refl
+is_fitted x p false q = cc
 
 module _ {way : def.Way} {plane : Subspace} {points : List Vec} {rank : ℕ} {flat : Points} {rows : List ℕ} {m : ℕ} {rules : Rules} {budget count : ℕ} {ws : List ℕ} (l : Loop way plane points rank flat rows m rules budget count ws) where
   abbrev g : Site
@@ -170,7 +165,7 @@ module _ {way : def.Way} {plane : Subspace} {points : List Vec} {rank : ℕ} {fl
   fitting_is = record {
     takes = l.takes;
     few_more = few_more;
-    few_points = omega (arith, l.size, l.flat_fits.n_fits);
+    few_points = omega (arith, l.size, flat.fits.n_fits);
     few_orbits_holds = omega (arith, l.takes.no_more (all_orbits g), l.few_found, l.few_orbits_holds);
     few_facets_holds = l.few_facets_holds;
     few_entries_holds = omega (arith, l.entries_are);
@@ -205,30 +200,36 @@ module _ {way : def.Way} {plane : Subspace} {points : List Vec} {rank : ℕ} {fl
       -- what the inner call is given, as `next_call` gives it
       module _ (next : Next) (out inner : List ℕ) (out-long : length out ≡ 3840)
           (holds : HoldsPoints next.points flat.d (map (point_at (points_of flat)) (vertices_of flat.n set)))
-          (refits : Refitted next.refitted next.points (from_points rules.tolerance (map (point_at (points_of flat)) (vertices_of flat.n set))) (rank - 2))
+          (refits : Refitted next.plane next.points (from_points rules.tolerance (map (point_at (points_of flat)) (vertices_of flat.n set))) (rank - 2))
           (many : next.m ≡ length (rows_within (vertices_of flat.n set) (rows_in flat.n m rows)))
           (written : inner ≡ written_rows (rows_within (vertices_of flat.n set) (rows_in flat.n m rows)) 0 out) where
         next_holds : HoldsPoints next.points flat.d (site_points g shelf.orbits s)
         next_holds = subst (HoldsPoints next.points flat.d) points_are holds
 
-        next_refits : Refitted next.refitted next.points (site_plane g shelf.orbits s) (suc (rank - 3))
+        next_refits : Refitted next.plane next.points (site_plane g shelf.orbits s) (suc (rank - 3))
         unfolding call_rules
         next_refits =
             let q : rank - 2 ≡ suc (rank - 3) = omega (arith, l.rank_least) in
-            subst (Refitted next.refitted next.points (site_plane g shelf.orbits s)) q
-            (subst (λ (ps : List Vec). Refitted next.refitted next.points (from_points rules.tolerance ps) (rank - 2)) points_are refits)
+            subst (Refitted next.plane next.points (site_plane g shelf.orbits s)) q
+            (subst (λ (ps : List Vec). Refitted next.plane next.points (from_points rules.tolerance ps) (rank - 2)) points_are refits)
+
+        abbrev enough_basis : Bool
+        enough_basis = eqb (length (site_plane g shelf.orbits s).basis) (suc (rank - 3))
 
         -- refusal 14
-        pub refit_refused : next.refitted.fit ≡ RefusedFit → site_whole g ≡ result.refused 14
+        pub refit_refused : (e : Refusal) → next.plane ≡ Err e → site_whole g ≡ result.refused (number_of e)
         unfolding refitted_plane
-        refit_refused e =
-            turns.turn_refit way (rank - 3) (call_rules rules) plane points (rows_in flat.n m rows) budget (length points) shelf left shelf.orbits s st next_below
-            (not_fitted next.refitted.fit (subspace_of next.refitted.plane) (site_plane g shelf.orbits s) (eqb (length (site_plane g shelf.orbits s).basis) (suc (rank - 3))) e next_refits.answer)
+        refit_refused e is =
+            let k = not_fitted e (site_plane g shelf.orbits s) enough_basis (ap refitted_plane (sym is) ∙ next_refits.answer) in
+            turns.turn_refit way (rank - 3) (call_rules rules) plane points (rows_in flat.n m rows) budget (length points) shelf left shelf.orbits s st next_below k.0 ∙ ap result.refused (sym k.1)
 
-        module _ (e : next.refitted.fit ≡ Fitted) where
-          fits_so : eqb (length (site_plane g shelf.orbits s).basis) (suc (rank - 3)) ≡ true
+        module _ (inner_plane : stored.Subspace) (e : next.plane ≡ Ok inner_plane) where
+          plane_holds : FittedPlane inner_plane next.points (site_plane g shelf.orbits s)
+          plane_holds = subst (λ (r : Result stored.Subspace Refusal). HoldsPlane r next.points (site_plane g shelf.orbits s)) e next_refits.fitted
+
+          fits_so : enough_basis ≡ true
           unfolding refitted_plane
-          fits_so = is_fitted next.refitted.fit (subspace_of next.refitted.plane) (site_plane g shelf.orbits s) (eqb (length (site_plane g shelf.orbits s).basis) (suc (rank - 3))) e next_refits.answer
+          fits_so = is_fitted (subspace_of inner_plane) (site_plane g shelf.orbits s) enough_basis (ap refitted_plane (sym e) ∙ next_refits.answer)
 
           given_next : Given (site_points g shelf.orbits s) (site_rows g shelf.orbits s)
           given_next = begins.next_given g fitting_is shelf left shelf.orbits s st next_below l.given fits_so
@@ -250,13 +251,11 @@ module _ {way : def.Way} {plane : Subspace} {points : List Vec} {rank : ℕ} {fl
 
           -- so the inner call may be made, behind the shelf
           pub inner_asks : (tail : List ℕ) → Laid shelf (shelf_for rank) → length s ≡ length ws → length tail ≡ length s - shelf.end
-              → (plain : Way) (globals full : List ℕ) → plain.plain ≡ true → Asked (rank - 1) next.refitted.plane next.points inner next.m rules tail plain globals full
+              → (plain : Way) (globals full : List ℕ) → plain.plain ≡ true → Asked (rank - 1) inner_plane next.points inner next.m rules tail plain globals full
           inner_asks tail laid long rest plain globals full is_plain = record {
             rank_least = omega (arith, l.rank_least);
             rank_most = omega (arith, l.rank_most);
-            points_fit = next_holds.fits;
-            plane_fits = next_refits.holds.fits;
-            same_d = sym (next_refits.same_d (omega (arith, next_holds.n_is, given_next.two)));
+            same_d = sym (plane_holds.same_d (omega (arith, next_holds.n_is, given_next.two)));
             permute = subst (λ (n : ℕ). Permutations n next.m inner) (sym next_holds.n_is) permute_next;
             rows_few = few_next;
             given = subst (λ (ps : List Vec). Given ps (rows_in next.points.n next.m inner)) (sym next_holds.means) (subst (Given (site_points g shelf.orbits s)) rows_stored given_next);
@@ -269,14 +268,14 @@ module _ {way : def.Way} {plane : Subspace} {points : List Vec} {rank : ℕ} {fl
           }
 
           -- and what it says is the turn's
-          pub turned : (called : Called) (u : List ℕ) → Laid shelf (shelf_for rank) → take shelf.end u ≡ take shelf.end s → length u ≡ length s
-              → SaysOf plain_way (rank - 1 - 2) rules (subspace_of next.refitted.plane) (points_of next.points) (rows_in next.points.n next.m inner) left called (drop shelf.end u)
+          pub turned : (called : Result Called Refusal) (u : List ℕ) → Laid shelf (shelf_for rank) → take shelf.end u ≡ take shelf.end s → length u ≡ length s
+              → SaysOf plain_way (rank - 1 - 2) rules (subspace_of inner_plane) (points_of next.points) (rows_in next.points.n next.m inner) left called (drop shelf.end u)
               → Turn g shelf left shelf.orbits called inner next.m u
           turned called u laid front long says =
               let q : rank - 1 - 2 ≡ rank - 3 = omega arith in
               let r : rank ≡ 3 + (rank - 3) = omega (arith, l.rank_least) in
-              let at_rank = subst (λ (more : ℕ). SaysOf plain_way more rules (subspace_of next.refitted.plane) (points_of next.points) (rows_in next.points.n next.m inner) left called (drop shelf.end u)) q says in
-              let at-plane = subst (λ (p : Subspace). SaysOf plain_way (rank - 3) rules p (points_of next.points) (rows_in next.points.n next.m inner) left called (drop shelf.end u)) next_refits.holds.means at_rank in
+              let at_rank = subst (λ (more : ℕ). SaysOf plain_way more rules (subspace_of inner_plane) (points_of next.points) (rows_in next.points.n next.m inner) left called (drop shelf.end u)) q says in
+              let at-plane = subst (λ (p : Subspace). SaysOf plain_way (rank - 3) rules p (points_of next.points) (rows_in next.points.n next.m inner) left called (drop shelf.end u)) plane_holds.holds.means at_rank in
               let at-points = subst (λ (ps : List Vec). SaysOf plain_way (rank - 3) rules (site_plane g shelf.orbits s) ps (rows_in next.points.n next.m inner) left called (drop shelf.end u)) next_holds.means at-plane in
               let at_rows = subst (λ (rs : List Row). SaysOf plain_way (rank - 3) rules (site_plane g shelf.orbits s) (site_points g shelf.orbits s) rs left called (drop shelf.end u)) (sym rows_stored) at-points in
               begins.turn_called g shelf left shelf.orbits s u fitting_is st front long next_below called inner next.m fits_so at_rows rows_next (rows_fit_holds permute_next) few_next given_next
@@ -285,10 +284,10 @@ module _ {way : def.Way} {plane : Subspace} {points : List Vec} {rank : ℕ} {fl
   -- ---- the end
 
   -- a refusal met in a turn is the call's
-  pub loop_refused : (number : ℕ) (s : List ℕ) → site_whole g ≡ result.refused number → SaysOf way (suc (rank - 3)) rules plane points (rows_in flat.n m rows) budget (Refused number) s
+  pub loop_refused : (e : Refusal) (s : List ℕ) → site_whole g ≡ result.refused (number_of e) → SaysOf way (suc (rank - 3)) rules plane points (rows_in flat.n m rows) budget (Err e) s
   unfolding call_rules
-  loop_refused number s e =
-      finishes.says_refused way (rank - 3) rules plane points (rows_in flat.n m rows) budget l.few_found number s e
+  loop_refused e s is =
+      finishes.says_refused way (rank - 3) rules plane points (rows_in flat.n m rows) budget l.few_found e s is
 
   module _ (shelf : Shelf) (left : ℕ) (s : List ℕ) (st : SiteState g shelf left shelf.orbits s) (laid : Laid shelf (shelf_for rank)) (all : count ≤ shelf.orbits) (long : length s ≡ length ws) where
     pub every : length (site_orbits g) ≤ shelf.orbits
@@ -309,5 +308,5 @@ module _ {way : def.Way} {plane : Subspace} {points : List Vec} {rank : ℕ} {fl
         (λ q. omega (arith, l.room_three q, long)) (λ q. omega (arith, l.room_four q, long))
 
     -- and what it says is what the call says
-    pub loop_searched : (r : Called) (u : List ℕ) → Searched stock rules r u → SaysOf way (suc (rank - 3)) rules plane points (rows_in flat.n m rows) budget r u
+    pub loop_searched : (r : Result Called Refusal) (u : List ℕ) → Searched stock rules r u → SaysOf way (suc (rank - 3)) rules plane points (rows_in flat.n m rows) budget r u
     loop_searched r u a = finishes.says_searched way (rank - 3) rules plane points (rows_in flat.n m rows) budget few shelf left shelf.orbits s st every r u a

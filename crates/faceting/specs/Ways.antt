@@ -16,8 +16,9 @@ use Rattle.laws.specs.Outcomes.{not_refused_if}
 use Rattle.orbits.specs.Numbers.{orbit_of}
 use Rattle.orbits.specs.Workspace.{orbits_in}
 use Rattle.orbits.specs.Answers.{answer_in, orbits_or_refusal}
-use Rattle.orbits.specs.declared.Answer.{Answer}
-use Rattle.orbits.specs.declared.Answer.TheVariants.{Orbits, Refused as RefusedAnswer}
+use Rattle.refusals.specs.declared.Refusal.{Refusal}
+use Rattle.refusals.specs.Refused.{number_of}
+use Rattle.std.specs.Prelude.{Result, Ok, Err}
 use Rattle.shapes.specs.Answered.{TakesSome, plain_takes, noble_takes}
 use Rattle.tallies.specs.Meaning.{PackageFits, package_in}
 use Rattle.faceting.specs.declared.Way.{Way}
@@ -66,20 +67,22 @@ all_taken bound orbits = refl
 
 module _ (way : def.Way) (bound : ℕ) (orbits : List Orbit) (n : ℕ) (s : List ℕ) where
   -- refusal 13: there are more orbits than the bound
-  pub found_too_many : answer_in n RefusedAnswer s ≡ taken_or_refusal way bound orbits → bound < length orbits
+  pub found_too_many : (e : Refusal) → answer_in n (Err e) s ≡ taken_or_refusal way bound orbits → (number_of e ≡ 13) × (bound < length orbits)
   unfolding answer_in taken_or_refusal refuse_if
-  found_too_many e = ⊎_elim
+  found_too_many e is = ⊎_elim
       (λ h.
-      let q : refused 13 ≡ answered (way.keeps orbits) = e ∙ ap (λ (b : Bool). refuse_if b 13 (λ u. answered (way.keeps orbits))) (le-ltb bound (length orbits) h) in
-      absurd (subst T (not_refused_if true 13 (λ u. answered (way.keeps orbits)) (way.keeps orbits) q).0 tt))
-      (λ h. h)
+      let q : refused (number_of e) ≡ answered (way.keeps orbits) = is ∙ ap (λ (b : Bool). refuse_if b 13 (λ u. answered (way.keeps orbits))) (le-ltb bound (length orbits) h) in
+      cc)
+      (λ h.
+      let q : refused (number_of e) ≡ refused 13 = is ∙ ap (λ (b : Bool). refuse_if b 13 (λ u. answered (way.keeps orbits))) (lt-ltb bound (length orbits) h) in
+      (cc, h))
       (le_or_lt (length orbits) bound)
 
-  pub too_many : bound < length orbits → answer_in n RefusedAnswer s ≡ taken_or_refusal way bound orbits
+  pub too_many : (e : Refusal) → number_of e ≡ 13 → bound < length orbits → answer_in n (Err e) s ≡ taken_or_refusal way bound orbits
   unfolding answer_in taken_or_refusal refuse_if
-  too_many h = sym (ap (λ (b : Bool). refuse_if b 13 (λ u. answered (way.keeps orbits))) (lt-ltb bound (length orbits) h))
+  too_many e is h = ap refused is ∙ sym (ap (λ (b : Bool). refuse_if b 13 (λ u. answered (way.keeps orbits))) (lt-ltb bound (length orbits) h))
 
-  pub some_taken : (count : ℕ) → length orbits ≤ bound → map (orbit_of n) (orbits_in s count) ≡ way.keeps orbits → answer_in n (Orbits count) s ≡ taken_or_refusal way bound orbits
+  pub some_taken : (count : ℕ) → length orbits ≤ bound → map (orbit_of n) (orbits_in s count) ≡ way.keeps orbits → answer_in n (Ok count) s ≡ taken_or_refusal way bound orbits
   unfolding answer_in taken_or_refusal refuse_if
   some_taken count few e =
       ap answered e ∙ sym (ap (λ (b : Bool). refuse_if b 13 (λ u. answered (way.keeps orbits))) (le-ltb bound (length orbits) few))
@@ -90,5 +93,5 @@ module _ (n : ℕ) (way : Way) (globals full : List ℕ) (bound : ℕ) (orbits :
   abbrev by : def.Way
   by = way_of n way globals full
 
-  pub kept_plain : (r : Answer) (s : List ℕ) → way.plain ≡ true → answer_in n r s ≡ orbits_or_refusal bound orbits → answer_in n r s ≡ taken_or_refusal by bound orbits
+  pub kept_plain : (r : Result ℕ Refusal) (s : List ℕ) → way.plain ≡ true → answer_in n r s ≡ orbits_or_refusal bound orbits → answer_in n r s ≡ taken_or_refusal by bound orbits
   kept_plain r s e found = found ∙ (all_taken bound orbits ∙ ap (λ (w : def.Way). taken_or_refusal w bound orbits) (sym (way_plain n way globals full e)))

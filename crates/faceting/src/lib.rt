@@ -12,7 +12,7 @@ ghost use Rattle.definitions.specs.Orbits.{Orbit, point_at, hyperplane_orbits};
 ghost use Rattle.definitions.specs.Recursion.{rows_within};
 ghost use Rattle.laws.specs.Sets.{vertices_of};
 ghost use Rattle.openers.specs.Rows.{rows_in, written_rows};
-ghost use Rattle.space.specs.Meaning.{PointsFit, points_of, subspace_of, HoldsPoints, limits_of};
+ghost use Rattle.space.specs.Meaning.{points_of, subspace_of, HoldsPoints, limits_of};
 ghost use Rattle.orbits.specs.Answers.{CallFits, answer_in, orbits_or_refusal};
 ghost use Rattle.shelf.specs.Keeps.{ShelfFits, Keeps, Ridges};
 ghost use Rattle.calls.specs.Layouts.{shelf_for};
@@ -21,9 +21,7 @@ ghost use Rattle.stabilizers.specs.Permutations.{Permutations};
 ghost use Rattle.call_search.specs.Stocks.{call_rules};
 
 use calls::{Called, Rules};
-use inner_answers::Stored;
-use orbits::Answer;
-use sets::{Fit, SetPlane};
+use refusals::Refusal;
 use space::{Points, Subspace};
 use tallies::FullSet;
 
@@ -36,26 +34,15 @@ pub struct Way {
     pub whole: FullSet,
 }
 
-// Of the orbits that were found those that the way keeps, moved together.
-fn keep_found(
-    answer: Answer,
-    way: Way,
-    globals: &[u8],
-    full: &[u8],
-    n: usize,
-    ws: &mut [u8],
-) -> Answer
-    requires { WayFits n way globals.now full.now × (124928 ≤ length ws.old) × ((bound : ℕ) × (orbits : List Orbit) × (bound ≤ 256) × (answer_in n answer ws.old ≡ orbits_or_refusal bound orbits)) }
-    ensures { (bound : ℕ) (orbits : List Orbit) → answer_in n answer ws.old ≡ orbits_or_refusal bound orbits → answer_in n result ws.new ≡ taken_or_refusal (way_of n way globals.now full.now) bound orbits }
+// Of so many orbits that were found those that the way keeps, moved together: how many they are.
+fn keep_found(count: usize, way: Way, globals: &[u8], full: &[u8], n: usize, ws: &mut [u8]) -> usize
+    requires { WayFits n way globals.now full.now × (124928 ≤ length ws.old) × ((bound : ℕ) × (orbits : List Orbit) × (bound ≤ 256) × (answer_in n (Ok count) ws.old ≡ orbits_or_refusal bound orbits)) }
+    ensures { (bound : ℕ) (orbits : List Orbit) → answer_in n (Ok count) ws.old ≡ orbits_or_refusal bound orbits → answer_in n (Ok result) ws.new ≡ taken_or_refusal (way_of n way globals.now full.now) bound orbits }
 {
     if way.plain {
-        return answer;
+        return count;
     }
-    let Answer::Orbits(count) = answer else {
-        return Answer::Refused;
-    };
-    let kept = tallies::keep_orbits(globals, full, way.whole, n, count, ws);
-    Answer::Orbits(kept)
+    tallies::keep_orbits(globals, full, way.whole, n, count, ws)
 }
 
 // A call's hyperplane orbits are found, or refused: 13 counts them all. Then those are kept that its way keeps.
@@ -70,20 +57,19 @@ fn find_kept(
     way: Way,
     globals: &[u8],
     full: &[u8],
-) -> Answer
+) -> Result<usize, Refusal>
     requires { CallFits points flat m rows.now × (rules.orbits ≤ 256) × (124928 ≤ length ws.old) × (3 ≤ rank) × WayFits flat.n way globals.now full.now }
-    ensures { answer_in flat.n result ws.new ≡ taken_or_refusal (way_of flat.n way globals.now full.now) rules.orbits (hyperplane_orbits rules.tolerance (limits_of rules.min rules.max) rules.rule (rank - 3) (points_of points) (points_of flat) (rows_in flat.n m rows.now)) }
+    ensures { answer_in flat.n result ws.new ≡ taken_or_refusal (way_of flat.n way globals.now full.now) rules.orbits (hyperplane_orbits rules.tolerance (limits_of rules.limits) rules.rule (rank - 3) (points_of points) (points_of flat) (rows_in flat.n m rows.now)) }
 {
-    let min = rules.min;
-    let max = rules.max;
+    let limits = rules.limits;
     let tolerance = rules.tolerance;
     let rule = rules.rule;
     let bound = rules.orbits;
     let more = rank - 3;
     let found = orbits::find_orbits(
-        points, flat, more, rows, m, min, max, tolerance, rule, bound, ws,
-    );
-    keep_found(found, way, globals, full, flat.n, ws)
+        points, flat, more, rows, m, limits, tolerance, rule, bound, ws,
+    )?;
+    Ok(keep_found(found, way, globals, full, flat.n, ws))
 }
 
 // A call's orbits, or a refusal, and the shelf of its rank is cleared behind them.
@@ -98,9 +84,9 @@ fn start_call(
     way: Way,
     globals: &[u8],
     full: &[u8],
-) -> Answer
+) -> Result<usize, Refusal>
     requires { CallFits points flat m rows.now × (rules.orbits ≤ 256) × (124928 ≤ length ws.old) × ShelfFits (shelf_for rank) (length ws.old) × (3 ≤ rank) × WayFits flat.n way globals.now full.now }
-    ensures { (answer_in flat.n result ws.new ≡ taken_or_refusal (way_of flat.n way globals.now full.now) rules.orbits (hyperplane_orbits rules.tolerance (limits_of rules.min rules.max) rules.rule (rank - 3) (points_of points) (points_of flat) (rows_in flat.n m rows.now))) × ((k : ℕ) → Keeps k (shelf_for rank) [] ws.new × Ridges (shelf_for rank) [] ws.new) }
+    ensures { (answer_in flat.n result ws.new ≡ taken_or_refusal (way_of flat.n way globals.now full.now) rules.orbits (hyperplane_orbits rules.tolerance (limits_of rules.limits) rules.rule (rank - 3) (points_of points) (points_of flat) (rows_in flat.n m rows.now))) × ((k : ℕ) → Keeps k (shelf_for rank) [] ws.new × Ridges (shelf_for rank) [] ws.new) }
 {
     let answer = find_kept(ws, rank, points, flat, rows, m, rules, way, globals, full);
     let shelf = calls::shelf_for(rank);
@@ -110,10 +96,10 @@ fn start_call(
 
 // ---- the inner calls
 
-// What an inner call is given: the plane of its set, refused or not, its points, and how many rows keep the set.
+// What an inner call is given: the plane of its set, or refusal 14, its points, and how many rows keep the set.
 #[derive(Clone, Copy)]
 pub struct Next {
-    pub refitted: SetPlane,
+    pub plane: Result<Subspace, Refusal>,
     pub points: Points,
     pub m: usize,
 }
@@ -128,18 +114,18 @@ fn next_call(
     wanted: usize,
     inner: &mut [u8],
 ) -> Next
-    requires { PointsFit flat × Permutations flat.n m rows.now × (set < 2 ^ flat.n) × (32 * m ≤ length inner.old) }
+    requires { Permutations flat.n m rows.now × (set < 2 ^ flat.n) × (32 * m ≤ length inner.old) }
     ensures points { HoldsPoints result.points flat.d (map (point_at (points_of flat)) (vertices_of flat.n set)) }
-    ensures plane { Refitted result.refitted result.points (from_points tolerance (map (point_at (points_of flat)) (vertices_of flat.n set))) wanted }
+    ensures plane { Refitted result.plane result.points (from_points tolerance (map (point_at (points_of flat)) (vertices_of flat.n set))) wanted }
     ensures count { result.m ≡ length (rows_within (vertices_of flat.n set) (rows_in flat.n m rows.now)) }
     ensures rows { inner.new ≡ written_rows (rows_within (vertices_of flat.n set) (rows_in flat.n m rows.now)) 0 inner.old }
 {
     let n = flat.n;
-    let points = sets::chosen_points(flat, set);
-    let refitted = sets::refit(points, tolerance, wanted);
+    let points = sets::chosen_points(&flat, set);
+    let plane = sets::refit(points, tolerance, wanted);
     let count = stabilizers::rows_within(rows, m, n, set, inner);
     Next {
-        refitted: refitted,
+        plane: plane,
         points: points,
         m: count,
     }
@@ -161,30 +147,23 @@ pub fn faceting(
     way: Way,
     globals: &[u8],
     full: &[u8],
-) -> Called
+) -> Result<Called, Refusal>
     requires { Asked rank plane points rows.now m rules ws.old way globals.now full.now }
     ensures { Says (way_of points.n way globals.now full.now) (rank - 2) (call_rules rules) (subspace_of plane) (points_of points) (rows_in points.n m rows.now) budget result ws.new }
 {
     if rank == 2 {
-        return Called::Ends(calls::swaps_ends(rows, m), budget);
+        return Ok(Called::Ends(calls::swaps_ends(rows, m), budget));
     }
     let whole = way.whole;
-    let flat = points.flatten_all(plane);
-    let found = start_call(ws, rank, points, flat, rows, m, rules, way, globals, full);
-    let Answer::Orbits(count) = found else {
-        return Called::Refused(13);
-    };
+    let flat = points.flatten_all(&plane);
+    let count = start_call(ws, rank, points, flat, rows, m, rules, way, globals, full)?;
     let mut shelf = calls::shelf_for(rank);
     let mut left = budget;
     while shelf.orbits < count {
         let mut kept = [0; 3840];
         let set = orbits::set_at(ws, shelf.orbits, flat.n);
         let next = next_call(flat, set, rows, m, rules.tolerance, rank - 2, &mut kept);
-        let inner = next.refitted;
-        let fit = inner.fit;
-        if let Fit::Refused = fit {
-            return Called::Refused(14);
-        }
+        let inner_plane = next.plane?;
         let behind = shelf.end;
         let inner_way = Way {
             plain: true,
@@ -192,7 +171,7 @@ pub fn faceting(
         };
         let called = faceting(
             rank - 1,
-            inner.plane,
+            inner_plane,
             next.points,
             &kept,
             next.m,
@@ -207,18 +186,13 @@ pub fn faceting(
             ws,
             shelf,
             flat.n,
-            called,
+            called?,
             &kept,
             next.m,
             rules.facets,
-        );
-        match stored {
-            Stored::Refused(number) => return Called::Refused(number),
-            Stored::Kept(more, rest) => {
-                shelf = more;
-                left = rest;
-            }
-        }
+        )?;
+        shelf = stored.shelf;
+        left = stored.left;
     }
     call_search::search_call(ws, shelf, rank, rows, m, rules, way.plain, left)
 }

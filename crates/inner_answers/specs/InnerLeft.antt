@@ -2,7 +2,7 @@
 use Rattle.std.specs.Prelude.{◌≡◌, refl, ℕ, suc, ◌+◌, ◌≤◌, ◌<◌, length, get_or, drop}
 use Rattle.std.proofs.Common.{sym, ap, ◌∙◌, subst, arith}
 use mathlib.Core.List.{List, [], ◌∷◌, ◌++◌, map, Memᴰ}
-use Rattle.std.proofs.Math.Option.{Option, some, none}
+use Rattle.std.specs.Prelude.{Option, Some, None}
 use Rattle.std.proofs.lemmas.List.{length-map}
 use Rattle.definitions.specs.Lists.{Pair}
 use Rattle.definitions.specs.Vectors.{Vec}
@@ -47,15 +47,15 @@ one_edges rules plane points rows p given made few k m =
 -- ---- labels
 
 -- a label is one of the compounds
-compound_in : (a : ℕ) (os : List (Option Pair)) (p : Pair) → Mem (some p) os → (w : ℕ) × Mem (record { whole = w; first = p.0; second = p.1 }) (compounds_from a os)
+compound_in : (a : ℕ) (os : List (Option Pair)) (p : Pair) → Mem (Some p) os → (w : ℕ) × Mem (record { whole = w; first = p.0; second = p.1 }) (compounds_from a os)
 unfolding compounds_from compound_at
 compound_in a [] p x' = elim x' [ ]
-compound_in a (some q ∷ os) p (Memᴰ.head e) = (a, here (ap (λ (o : Option Pair). made a o) e))
+compound_in a (Some q ∷ os) p (Memᴰ.head e) = (a, here (ap (λ (o : Option Pair). made a o) e))
   where
     made : ℕ → Option Pair → Compound
-    made a none = record { whole = a; first = 0; second = 0 }
-    made a (some p) = record { whole = a; first = p.0; second = p.1 }
-compound_in a (none ∷ os) p (Memᴰ.head e) = absurd (none_is_not_some p (sym e))
+    made a None = record { whole = a; first = 0; second = 0 }
+    made a (Some p) = record { whole = a; first = p.0; second = p.1 }
+compound_in a (None ∷ os) p (Memᴰ.head e) = absurd (none_is_not_some p (sym e))
 compound_in a (o ∷ os) p (Memᴰ.tail m) = let r = compound_in (suc a) os p m in (r.0, to_right (compound_at a o) (compounds_from (suc a) os) (record { whole = r.0; first = p.0; second = p.1 }) r.1)
   where
     to_right : (l k : List Compound) (c : Compound) → Mem c k → Mem c (l ++ k)
@@ -65,7 +65,7 @@ compound_in a (o ∷ os) p (Memᴰ.tail m) = let r = compound_in (suc a) os p m 
 -- the labels that a call of rank 3 leaves name its entries
 pub labels_left_holds : (rules : Rules) (plane : Subspace) (points : List Vec) (rows : List Row) (budget n : ℕ) (kept : List Kept) (level : Level) (s : List ℕ) (left : ℕ)
     → faceting 1 rules plane points rows budget ≡ answered (answer_left 0 n rows kept level s left) → (p : Pair)
-    → Mem (some p) (labels_in (level.bytes + 2048) level.count (drop level.lists s)) → (p.0 < p.1) × (p.1 < level.count)
+    → Mem (Some p) (labels_in (level.bytes + 2048) level.count (drop level.lists s)) → (p.0 < p.1) × (p.1 < level.count)
 unfolding answer_left
 labels_left_holds rules plane points rows budget n kept level s left e p m =
     let a = answer_left 0 n rows kept level s left in

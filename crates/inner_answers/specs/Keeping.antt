@@ -27,6 +27,8 @@ use Rattle.shelf.specs.declared.Level.{Level}
 use Rattle.calls.specs.Layouts.{shelf_for, shelf_three, shelf_four, at_three, at_four}
 use Rattle.calls.specs.declared.Called.{Called}
 use Rattle.calls.specs.declared.Called.TheVariants.{Ends, Left}
+use Rattle.refusals.specs.declared.Refusal.{Refusal}
+use Rattle.std.specs.Prelude.{Result, Ok}
 use Rattle.keep.specs.Adding.{orbit_at}
 use Rattle.kept_edges.specs.Edges.{edge_answer}
 use Rattle.keep.specs.Rooms.{RoomFor}
@@ -44,7 +46,7 @@ use Rattle.inner_answers.specs.Turns as turns
 use Rattle.inner_answers.specs.Spaces.{Laid, room_three, room_four}
 use Rattle.inner_answers.specs.Says.{Site, Turn, Says, AnswerStands, SiteState, site_orbits, site_orbit, site_points, site_plane, site_rows, site_whole}
 
-module _ (g : Site) (shelf : Shelf) (left i : ℕ) (called : Called) (rows : List ℕ) (m : ℕ) (s : List ℕ) (t : Turn g shelf left i called rows m s) where
+module _ (g : Site) (shelf : Shelf) (left i : ℕ) (called : Result Called Refusal) (rows : List ℕ) (m : ℕ) (s : List ℕ) (t : Turn g shelf left i called rows m s) where
   abbrev n : ℕ
   n = length g.points
 
@@ -88,13 +90,13 @@ unfolding edge_answer swapped_ends separate_ends
 one_entry true rest = (refl, refl)
 one_entry false rest = (refl, refl)
 
-module _ (g : Site) (shelf : Shelf) (left i : ℕ) (swapped : Bool) (rest : ℕ) (rows : List ℕ) (m : ℕ) (s : List ℕ) (t : Turn g shelf left i (Ends swapped rest) rows m s) where
+module _ (g : Site) (shelf : Shelf) (left i : ℕ) (swapped : Bool) (rest : ℕ) (rows : List ℕ) (m : ℕ) (s : List ℕ) (t : Turn g shelf left i (Ok (Ends swapped rest)) rows m s) where
   -- only the inner calls of rank 3 answer with ends alone
   pub ends_three : (g.more ≡ 0) × (faceting g.more g.rules (site_plane g i s) (site_points g i s) (site_rows g i s) left ≡ answered (edge_answer swapped rest))
   unfolding Says faceting_with faceting prepare
   ends_three = go g.more t.says
     where
-      go : (more : ℕ) → Says plain_way more g.rules (site_plane g i s) (site_points g i s) (site_rows g i s) left (Ends swapped rest) (drop shelf.end s)
+      go : (more : ℕ) → Says plain_way more g.rules (site_plane g i s) (site_points g i s) (site_rows g i s) left (Ok (Ends swapped rest)) (drop shelf.end s)
           → (more ≡ 0) × (faceting more g.rules (site_plane g i s) (site_points g i s) (site_rows g i s) left ≡ answered (edge_answer swapped rest))
       go zero e = (refl, e)
       go (suc more) e = absurd e
@@ -112,23 +114,23 @@ module _ (g : Site) (shelf : Shelf) (left i : ℕ) (swapped : Bool) (rest : ℕ)
   -- there is room for the edge
   pub ends_room : length (site_orbits g) ≤ 190 → RoomFor shelf (map kept_of t.state_is.done) 1 1 2 2
   ends_room few =
-      let e = orbits_so_far g shelf left i (Ends swapped rest) rows m s t in
+      let e = orbits_so_far g shelf left i (Ok (Ends swapped rest)) rows m s t in
       let b = t.below in
       room_three (length g.points) shelf t.state_is.done s t.state_is.keeps (subst (λ (more : ℕ). Amounts (most_at more) (map kept_of t.state_is.done)) ends_three.0 t.state_is.amounts) laid_three (omega arith)
 
   pub ends_full : g.rules.bounds.facets < shelf.facets + 1 → site_whole g ≡ refused 15
-  ends_full k = too_many g shelf left i (Ends swapped rest) rows m s t (edge_answer swapped rest) ends_three.1 (let e = (one_entry swapped rest).0 in omega arith)
+  ends_full k = too_many g shelf left i (Ok (Ends swapped rest)) rows m s t (edge_answer swapped rest) ends_three.1 (let e = (one_entry swapped rest).0 in omega arith)
 
   pub ends_kept : shelf.facets + 1 ≤ g.rules.bounds.facets → (r : Shelf) (u : List ℕ)
       → Keeps (length g.points) r (map kept_of t.state_is.done ++ (kept_of (record { orbit = site_orbit g i s; answer = edge_answer swapped rest }) ∷ [])) u
       → Ridges r (map kept_of t.state_is.done ++ (kept_of (record { orbit = site_orbit g i s; answer = edge_answer swapped rest }) ∷ [])) u → take 2048 u ≡ take 2048 s → SiteState g r rest (i + 1) u
   ends_kept room r u keeps ridges front =
       subst (λ (x : ℕ). SiteState g r x (i + 1) u) (one_entry swapped rest).1
-      (next_state g shelf left i (Ends swapped rest) rows m s t (edge_answer swapped rest) ends_three.1 (let e = (one_entry swapped rest).0 in omega arith) ends_amounts r u keeps ridges front)
+      (next_state g shelf left i (Ok (Ends swapped rest)) rows m s t (edge_answer swapped rest) ends_three.1 (let e = (one_entry swapped rest).0 in omega arith) ends_amounts r u keeps ridges front)
 
 -- ---- rank 4
 
-module _ (g : Site) (shelf : Shelf) (left : ℕ) (level : Level) (rest : ℕ) (rows : List ℕ) (m : ℕ) (s : List ℕ) (t : Turn g shelf left shelf.orbits (Left level rest) rows m s) where
+module _ (g : Site) (shelf : Shelf) (left : ℕ) (level : Level) (rest : ℕ) (rows : List ℕ) (m : ℕ) (s : List ℕ) (t : Turn g shelf left shelf.orbits (Ok (Left level rest)) rows m s) where
   abbrev i₀ : ℕ
   i₀ = shelf.orbits
 
@@ -147,7 +149,7 @@ module _ (g : Site) (shelf : Shelf) (left : ℕ) (level : Level) (rest : ℕ) (r
   unfolding Says
   left_four = go g.more t.fitting.few_more t.says
     where
-      go : (more : ℕ) → more ≤ 1 → Says plain_way more g.rules (site_plane g i₀ s) (site_points g i₀ s) (site_rows g i₀ s) left (Left level rest) behind
+      go : (more : ℕ) → more ≤ 1 → Says plain_way more g.rules (site_plane g i₀ s) (site_points g i₀ s) (site_rows g i₀ s) left (Ok (Left level rest)) behind
           → (more ≡ 1) × AnswerStands plain_way 0 g.rules (site_plane g i₀ s) (site_points g i₀ s) (site_rows g i₀ s) left level rest behind
       go zero few e = absurd e
       go (suc zero) few e = (refl, e)
@@ -239,9 +241,9 @@ module _ (g : Site) (shelf : Shelf) (left : ℕ) (level : Level) (rest : ℕ) (r
       (omega (arith, t.fitting.few_facets_holds)) (omega arith) few_inner (omega arith)
 
   pub left_full : g.rules.bounds.facets < shelf.facets + level.count → site_whole g ≡ refused 15
-  left_full k = too_many g shelf left i₀ (Left level rest) rows m s t left_answer left_answer_holds (let e = entries_many in omega arith)
+  left_full k = too_many g shelf left i₀ (Ok (Left level rest)) rows m s t left_answer left_answer_holds (let e = entries_many in omega arith)
 
   pub left_kept : shelf.facets + level.count ≤ g.rules.bounds.facets → (r : Shelf) (u : List ℕ)
       → Keeps (length g.points) r (map kept_of t.state_is.done ++ (kept_of left_made ∷ [])) u → Ridges r (map kept_of t.state_is.done ++ (kept_of left_made ∷ [])) u → take 2048 u ≡ take 2048 s → SiteState g r rest (i₀ + 1) u
   unfolding answer_left
-  left_kept room r u keeps ridges front = next_state g shelf left i₀ (Left level rest) rows m s t left_answer left_answer_holds (let e = entries_many in omega arith) left_amounts r u keeps ridges front
+  left_kept room r u keeps ridges front = next_state g shelf left i₀ (Ok (Left level rest)) rows m s t left_answer left_answer_holds (let e = entries_many in omega arith) left_amounts r u keeps ridges front

@@ -17,7 +17,10 @@ use Rattle.shelf.specs.declared.Level.{Level}
 use Rattle.calls.specs.Layouts.{shelf_for}
 use Rattle.calls.specs.Steps.{kept_orbits}
 use Rattle.calls.specs.declared.Called.{Called}
-use Rattle.calls.specs.declared.Called.TheVariants.{Refused, Ends, Left}
+use Rattle.calls.specs.declared.Called.TheVariants.{Ends, Left}
+use Rattle.refusals.specs.declared.Refusal.{Refusal}
+use Rattle.refusals.specs.Refused.{number_of}
+use Rattle.std.specs.Prelude.{Result, Ok, Err}
 use Rattle.keep.specs.Adding.{orbit_at}
 use Rattle.kept_edges.specs.Edges.{edge_answer}
 use Rattle.inner_answers.specs.State as state
@@ -34,13 +37,13 @@ pub record AnswerStands (way : Way) (more : ℕ) (rules : Rules) (plane : Subspa
   pub ends : level.lists + (level.bytes + 6144) ≤ 3211264
 
 -- what a call of rank 2 + more says: only rank 2 answers with ends alone
-unfoldable pub Says : Way → ℕ → Rules → Subspace → List Vec → List Row → ℕ → Called → List ℕ → Type 0
-Says way zero rules plane points rows budget (Refused number) s = faceting_with way 0 rules plane points rows budget ≡ refused number
-Says way zero rules plane points rows budget (Ends swapped rest) s = faceting_with way 0 rules plane points rows budget ≡ answered (edge_answer swapped rest)
-Says way zero rules plane points rows budget (Left level rest) s = ⊥
-Says way (suc more) rules plane points rows budget (Refused number) s = faceting_with way (suc more) rules plane points rows budget ≡ refused number
-Says way (suc more) rules plane points rows budget (Ends swapped rest) s = ⊥
-Says way (suc more) rules plane points rows budget (Left level rest) s = AnswerStands way more rules plane points rows budget level rest s
+unfoldable pub Says : Way → ℕ → Rules → Subspace → List Vec → List Row → ℕ → Result Called Refusal → List ℕ → Type 0
+Says way zero rules plane points rows budget (Err e) s = faceting_with way 0 rules plane points rows budget ≡ refused (number_of e)
+Says way zero rules plane points rows budget (Ok (Ends swapped rest)) s = faceting_with way 0 rules plane points rows budget ≡ answered (edge_answer swapped rest)
+Says way zero rules plane points rows budget (Ok (Left level rest)) s = ⊥
+Says way (suc more) rules plane points rows budget (Err e) s = faceting_with way (suc more) rules plane points rows budget ≡ refused (number_of e)
+Says way (suc more) rules plane points rows budget (Ok (Ends swapped rest)) s = ⊥
+Says way (suc more) rules plane points rows budget (Ok (Left level rest)) s = AnswerStands way more rules plane points rows budget level rest s
 
 -- the definition's call that the loop belongs to
 pub record Site : Type 0 where
@@ -89,7 +92,7 @@ pub record Fitting (g : Site) : Type 0 where
   pub few_entries_holds : g.rules.bounds.entries ≤ 1024
 
 -- a turn: the inner call on the next orbit's set was made and says this, in the workspace behind the shelf
-pub record Turn (g : Site) (shelf : Shelf) (left i : ℕ) (called : Called) (rows : List ℕ) (m : ℕ) (s : List ℕ) : Type 0 where
+pub record Turn (g : Site) (shelf : Shelf) (left i : ℕ) (called : Result Called Refusal) (rows : List ℕ) (m : ℕ) (s : List ℕ) : Type 0 where
   pub fitting : Fitting g
   pub state_is : SiteState g shelf left i s
   pub below : i < length (site_orbits g)

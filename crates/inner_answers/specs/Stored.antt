@@ -15,7 +15,10 @@ use Rattle.shapes.specs.Kept.{Kept, kept_of}
 use Rattle.shelf.specs.Keeps.{Keeps, Ridges}
 use Rattle.shelf.specs.declared.Shelf.{Shelf}
 use Rattle.shelf.specs.declared.Level.{Level}
-use Rattle.calls.specs.declared.Called.TheVariants.{Refused, Ends, Left}
+use Rattle.calls.specs.declared.Called.TheVariants.{Ends, Left}
+use Rattle.refusals.specs.declared.Refusal.{Refusal}
+use Rattle.refusals.specs.Refused.{number_of}
+use Rattle.std.specs.Prelude.{Result, Ok, Err}
 use Rattle.keep.specs.Adding.{orbit_at, with_facets}
 use Rattle.kept_edges.specs.Edges.{edge_answer}
 use Rattle.keep.specs.Rooms.{RoomFor}
@@ -26,16 +29,15 @@ use Rattle.inner_answers.specs.Spaces.{Laid}
 use Rattle.inner_answers.specs.Says.{Site, Turn, Says, SiteState, all_orbits, site_orbits, site_orbit, site_points, site_plane, site_rows, site_whole}
 use Rattle.inner_answers.specs.Keeping as keeping
 use Rattle.inner_answers.specs.declared.Stored.{Stored}
-use Rattle.inner_answers.specs.declared.Stored.TheVariants.{Refused as RefusedStored, Kept as KeptStored}
 
 -- what is stored: one orbit more on a shelf whose areas lie as before
 pub record OneMore (g : Site) (shelf : Shelf) (r : Shelf) (rest : ℕ) (u : List ℕ) : Type 0 where
   pub state_is : SiteState g r rest (shelf.orbits + 1) u
   pub laid : Laid r shelf
 
-unfoldable pub Storing : Site → Shelf → Stored → List ℕ → Type 0
-Storing g shelf (RefusedStored number) u = site_whole g ≡ refused number
-Storing g shelf (KeptStored r rest) u = OneMore g shelf r rest u
+unfoldable pub Storing : Site → Shelf → Result Stored Refusal → List ℕ → Type 0
+Storing g shelf (Err e) u = site_whole g ≡ refused (number_of e)
+Storing g shelf (Ok stored) u = OneMore g shelf stored.shelf stored.left u
 
 -- the orbits of a call of rank 3 are 190 at most
 few_three : (g : Site) → TakesSome g.way → g.more ≡ 0 → length g.points ≤ 20 → length (site_orbits g) ≤ 190
@@ -50,18 +52,18 @@ laid_more : (shelf : Shelf) (k : ℕ) → Laid (with_facets shelf k) shelf
 unfolding with_facets
 laid_more shelf k = record { edges = refl; labels = refl; owners = refl; ridges = refl; places = refl; end = refl }
 
--- a refusal is passed on
-pub refusal_stored : (g : Site) (shelf : Shelf) (left number : ℕ) (rows : List ℕ) (m : ℕ) (s : List ℕ) → Turn g shelf left shelf.orbits (Refused number) rows m s → site_whole g ≡ refused number
+-- the inner call's refusal is the whole's
+pub refusal_stored : (g : Site) (shelf : Shelf) (left : ℕ) (e : Refusal) (rows : List ℕ) (m : ℕ) (s : List ℕ) → Turn g shelf left shelf.orbits (Err e) rows m s → site_whole g ≡ refused (number_of e)
 unfolding Says faceting_with faceting prepare
-refusal_stored g shelf left number rows m s t =
-    keeping.inner_refusal g shelf left shelf.orbits (Refused number) rows m s t number (go g.more t.says)
+refusal_stored g shelf left e rows m s t =
+    keeping.inner_refusal g shelf left shelf.orbits (Err e) rows m s t (number_of e) (go g.more t.says)
   where
-    go : (more : ℕ) → Says plain_way more g.rules (site_plane g shelf.orbits s) (site_points g shelf.orbits s) (site_rows g shelf.orbits s) left (Refused number) (drop shelf.end s)
-        → faceting more g.rules (site_plane g shelf.orbits s) (site_points g shelf.orbits s) (site_rows g shelf.orbits s) left ≡ refused number
-    go zero e = e
-    go (suc more) e = e
+    go : (more : ℕ) → Says plain_way more g.rules (site_plane g shelf.orbits s) (site_points g shelf.orbits s) (site_rows g shelf.orbits s) left (Err e) (drop shelf.end s)
+        → faceting more g.rules (site_plane g shelf.orbits s) (site_points g shelf.orbits s) (site_rows g shelf.orbits s) left ≡ refused (number_of e)
+    go zero says = says
+    go (suc more) says = says
 
-module _ (g : Site) (shelf : Shelf) (left : ℕ) (swapped : Bool) (rest : ℕ) (rows : List ℕ) (m : ℕ) (s : List ℕ) (t : Turn g shelf left shelf.orbits (Ends swapped rest) rows m s)
+module _ (g : Site) (shelf : Shelf) (left : ℕ) (swapped : Bool) (rest : ℕ) (rows : List ℕ) (m : ℕ) (s : List ℕ) (t : Turn g shelf left shelf.orbits (Ok (Ends swapped rest)) rows m s)
     (n : ℕ) (n_is : n ≡ length g.points) where
   abbrev kept : List Kept
   kept = map kept_of t.state_is.done
@@ -70,7 +72,7 @@ module _ (g : Site) (shelf : Shelf) (left : ℕ) (swapped : Bool) (rest : ℕ) (
   edge_asked =
       subst (λ (x : ℕ). (x ≤ 20) × (2 ≤ length (vertices_of x (number_at s (8 * shelf.orbits) 4))) × ((kept : List Kept) × Keeps x shelf kept s × Ridges shelf kept s × RoomFor shelf kept 1 1 2 2)) (sym n_is) (
         t.fitting.few_points,
-        keeping.two_vertices g shelf left shelf.orbits (Ends swapped rest) rows m s t,
+        keeping.two_vertices g shelf left shelf.orbits (Ok (Ends swapped rest)) rows m s t,
         (kept, t.state_is.keeps, t.state_is.ridges, keeping.ends_room g shelf left shelf.orbits swapped rest rows m s t (few_three g t.fitting.takes (keeping.ends_three g shelf left shelf.orbits swapped rest rows m s t).0 t.fitting.few_points)),
       )
 
@@ -89,7 +91,7 @@ module _ (g : Site) (shelf : Shelf) (left : ℕ) (swapped : Bool) (rest : ℕ) (
         laid = subst (λ (x : Shelf). Laid x shelf) (sym is) (laid_more shelf 1);
       }
 
-module _ (g : Site) (shelf : Shelf) (left : ℕ) (level : Level) (rest : ℕ) (rows : List ℕ) (m : ℕ) (s : List ℕ) (t : Turn g shelf left shelf.orbits (Left level rest) rows m s)
+module _ (g : Site) (shelf : Shelf) (left : ℕ) (level : Level) (rest : ℕ) (rows : List ℕ) (m : ℕ) (s : List ℕ) (t : Turn g shelf left shelf.orbits (Ok (Left level rest)) rows m s)
     (n : ℕ) (n_is : n ≡ length g.points) where
   abbrev kept_so_far : List Kept
   kept_so_far = map kept_of t.state_is.done

@@ -1,5 +1,5 @@
-// What becomes of an inner call's answer: its refusal is the call's, or the orbit's facets and ridges are stored on
-// the shelf, or there are too many facets, 15. The laws of a call's state after so many orbits stand in specs/.
+// What becomes of an inner call's answer: the orbit's facets and ridges are stored on the shelf, or there are too many
+// facets, 15. The laws of a call's state after so many orbits stand in specs/.
 
 #![tactic(auto)]
 
@@ -9,13 +9,14 @@ ghost use Rattle.inner_answers.specs.Stored.{Storing};
 ghost use Rattle.calls.specs.declared.Called.TheVariants.{Ends, Left};
 
 use calls::Called;
+use refusals::Refusal;
 use shelf::{Level, Shelf};
 
-// What became of an inner call: a refusal, or the shelf with one orbit more and what is left of the budget.
+// What became of an inner call: the shelf with one orbit more, and what is left of the budget.
 #[derive(Clone, Copy)]
-pub enum Stored {
-    Refused(u8),
-    Kept(Shelf, u32),
+pub struct Stored {
+    pub shelf: Shelf,
+    pub left: u32,
 }
 
 // The edge of an inner call of rank 2 is kept, unless it is past the bound.
@@ -26,16 +27,19 @@ fn keep_ends(
     swapped: bool,
     rest: u32,
     bound: usize,
-) -> Stored
-    requires { (g : Site) × (left : ℕ) × (rows : List ℕ) × (m : ℕ) × Turn g shelf left shelf.orbits (Ends swapped rest) rows m ws.old × (n ≡ length g.points) × (bound ≡ g.rules.bounds.facets) }
-    ensures { (g : Site) (left : ℕ) (rows : List ℕ) (m : ℕ) → Turn g shelf left shelf.orbits (Ends swapped rest) rows m ws.old → n ≡ length g.points → bound ≡ g.rules.bounds.facets → Storing g shelf result ws.new }
+) -> Result<Stored, Refusal>
+    requires { (g : Site) × (left : ℕ) × (rows : List ℕ) × (m : ℕ) × Turn g shelf left shelf.orbits (Ok (Ends swapped rest)) rows m ws.old × (n ≡ length g.points) × (bound ≡ g.rules.bounds.facets) }
+    ensures { (g : Site) (left : ℕ) (rows : List ℕ) (m : ℕ) → Turn g shelf left shelf.orbits (Ok (Ends swapped rest)) rows m ws.old → n ≡ length g.points → bound ≡ g.rules.bounds.facets → Storing g shelf result ws.new }
 {
     let facets = shelf.facets;
     if bound < facets + 1 {
-        return Stored::Refused(15);
+        return Err(Refusal::Bound);
     }
     let more = kept_edges::keep_edge(ws, shelf, n, swapped);
-    Stored::Kept(more, rest)
+    Ok(Stored {
+        shelf: more,
+        left: rest,
+    })
 }
 
 // The entries of an inner call of rank 3, which stand behind the shelf, are kept, unless they are past the bound.
@@ -48,21 +52,24 @@ fn keep_left(
     rows: &[u8],
     m: usize,
     bound: usize,
-) -> Stored
-    requires { (g : Site) × (left : ℕ) × Turn g shelf left shelf.orbits (Left level rest) rows.now m ws.old × (n ≡ length g.points) × (bound ≡ g.rules.bounds.facets) }
-    ensures { (g : Site) (left : ℕ) → Turn g shelf left shelf.orbits (Left level rest) rows.now m ws.old → n ≡ length g.points → bound ≡ g.rules.bounds.facets → Storing g shelf result ws.new }
+) -> Result<Stored, Refusal>
+    requires { (g : Site) × (left : ℕ) × Turn g shelf left shelf.orbits (Ok (Left level rest)) rows.now m ws.old × (n ≡ length g.points) × (bound ≡ g.rules.bounds.facets) }
+    ensures { (g : Site) (left : ℕ) → Turn g shelf left shelf.orbits (Ok (Left level rest)) rows.now m ws.old → n ≡ length g.points → bound ≡ g.rules.bounds.facets → Storing g shelf result ws.new }
 {
     let facets = shelf.facets;
     let count = level.count;
     let end = shelf.end;
     if bound < facets + count {
-        return Stored::Refused(15);
+        return Err(Refusal::Bound);
     }
     let more = kept_polygons::keep_polygons(ws, shelf, n, end, level, rows, m);
-    Stored::Kept(more, rest)
+    Ok(Stored {
+        shelf: more,
+        left: rest,
+    })
 }
 
-// What the inner call on the next orbit's set says: a refusal is passed on, and else its answer is kept.
+// What the inner call on the next orbit's set answers is kept.
 pub fn keep_inner(
     ws: &mut [u8],
     shelf: Shelf,
@@ -71,12 +78,11 @@ pub fn keep_inner(
     rows: &[u8],
     m: usize,
     bound: usize,
-) -> Stored
-    requires { (g : Site) × (left : ℕ) × Turn g shelf left shelf.orbits called rows.now m ws.old × (n ≡ length g.points) × (bound ≡ g.rules.bounds.facets) }
-    ensures { (g : Site) (left : ℕ) → Turn g shelf left shelf.orbits called rows.now m ws.old → n ≡ length g.points → bound ≡ g.rules.bounds.facets → Storing g shelf result ws.new }
+) -> Result<Stored, Refusal>
+    requires { (g : Site) × (left : ℕ) × Turn g shelf left shelf.orbits (Ok called) rows.now m ws.old × (n ≡ length g.points) × (bound ≡ g.rules.bounds.facets) }
+    ensures { (g : Site) (left : ℕ) → Turn g shelf left shelf.orbits (Ok called) rows.now m ws.old → n ≡ length g.points → bound ≡ g.rules.bounds.facets → Storing g shelf result ws.new }
 {
     match called {
-        Called::Refused(number) => Stored::Refused(number),
         Called::Ends(swapped, rest) => keep_ends(ws, shelf, n, swapped, rest, bound),
         Called::Left(level, rest) => keep_left(ws, shelf, n, level, rest, rows, m, bound),
     }

@@ -2,7 +2,7 @@
 use mathlib.Core.Path.{◌≡◌, refl, sym, ap, ◌∙◌}
 use mathlib.Core.Bool.{Bool, true, false, ◌&&◌}
 use mathlib.Core.List.{List, [], ◌∷◌, ◌++◌}
-use mathlib.Core.Option.{Option, some, none}
+use Rattle.std.specs.Prelude.{Option, Some, None}
 use Prim.Native.Nat.{ℕ, suc, ◌+◌, ◌-◌, ◌*◌, ◌≤◌, ◌<◌}
 use native.Mathlib.Omega.{arith}
 use borrow.Author.Tests.{lt-leb, le-leb, eq-eqb, ne_eqb}
@@ -16,12 +16,11 @@ use Rattle.definitions.specs.Job.{Bytes, read_job, float_at, floats_at, vectors_
 use Rattle.laws.specs.Bools.{true→holds, first, second}
 use Rattle.laws.specs.Refusals.{first_refused, first_one_of, stops, first_refused_append}
 use Rattle.laws.specs.Tests.{product_at_most, spaced, spaced_first, all_same, all_spaced, same_first, same_none, between_opposites}
-use Rattle.space.specs.Meaning.{length_of}
 use Rattle.load.specs.declared.Header.{Header}
 use Rattle.load.specs.declared.Fields.{Fields}
 use Rattle.load.specs.Places.{Counted}
 use Rattle.load.specs.Meaning.{fields_of, rows_at, Loadable}
-use Rattle.job.specs.declared.Checked.TheVariants.{Refused, Passed}
+use Rattle.definitions.specs.Outcome.{Outcome, refused, answered}
 use Rattle.job.specs.Refusal.{checked_as, checked_by, has_mark, size_within}
 use Rattle.job.specs.Passed.{refused_as, passed_as}
 
@@ -74,11 +73,11 @@ unfolding size_within of_bits
 within_1 x = between_opposites 1 1 (pos 0) refl x
 
 module _ (x : Float) (r : Bool) (told : r ≡ size_within (of_bits binary64 0x4100000000000000) x) where
-  pub length_in_size : r ≡ true → le zero64 x ≡ limit_good (some x)
+  pub length_in_size : r ≡ true → le zero64 x ≡ limit_good (Some x)
   unfolding limit_good
   length_in_size e = rw (← (within_131072 x), ← told, e) refl
 
-  pub length_beyond : r ≡ false → r ≡ limit_good (some x)
+  pub length_beyond : r ≡ false → r ≡ limit_good (Some x)
   unfolding limit_good
   length_beyond e = rw (← (within_131072 x), ← told, e) refl
 
@@ -103,7 +102,7 @@ module _ (c : Float) (most : ℕ) (same : (x : Float) → size_within c x ≡ wi
 -- the tests of the floats, in terms of the fields
 module _ (bytes : Bytes) (f : Fields) (k : Loadable bytes f) where
   abbrev limits_good : Bool
-  limits_good = limit_good (length_of f.min) && limit_good (length_of f.max) && is_finite f.tolerance
+  limits_good = limit_good f.limits.shortest && limit_good f.limits.longest && is_finite f.tolerance
 
   abbrev offset_good : Bool
   offset_good = all_of (size_within (of_bits binary64 0x40f0000000000000)) (floats_at bytes f.offset f.d)
@@ -117,7 +116,7 @@ module _ (bytes : Bytes) (f : Fields) (k : Loadable bytes f) where
   floats_are : floats_good (read_job bytes) ≡ (limits_good && offset_good && basis_good && points_good)
   unfolding floats_good
   floats_are =
-      rw (k.min_is, k.max_is, k.tolerance_is, k.offset_is, k.basis_is, k.points_is, vector_good _ 65536 within_65536 bytes f.offset f.d, vectors_good _ 1 within_1 bytes f.basis f.d (f.rank - 1), vectors_good _ 65536 within_65536 bytes f.points f.d f.n) refl
+      rw (k.shortest_is, k.longest_is, k.tolerance_is, k.offset_is, k.basis_is, k.points_is, vector_good _ 65536 within_65536 bytes f.offset f.d, vectors_good _ 1 within_1 bytes f.basis f.d (f.rank - 1), vectors_good _ 65536 within_65536 bytes f.points f.d f.n) refl
 
   pub limits_fail : limits_good ≡ false → false ≡ floats_good (read_job bytes)
   limits_fail p = sym (floats_are ∙ ap (λ (z : Bool). z && offset_good && basis_good && points_good) p)
@@ -187,21 +186,21 @@ module _ (ts : List Test) (bytes : Bytes) where
   Reached many = first_refused ts ≡ first_refused (drop many ts)
 
   -- the first of those left is not passed: it decides
-  pub refused_here : (t : Test) (us : List Test) → first_refused ts ≡ first_refused (t ∷ us) → t.passes tt ≡ false → Refused t.number ≡ checked_by ts bytes
+  pub refused_here : (t : Test) (us : List Test) → first_refused ts ≡ first_refused (t ∷ us) → t.passes tt ≡ false → refused t.number ≡ checked_by ts bytes
   unfolding checked_by checked_as
   refused_here t us reached fails = sym (ap (checked_as bytes) (stops ts t us reached fails))
 
   -- none is left
-  pub all_passed : first_refused ts ≡ none → (f : Fields) → f ≡ fields_of bytes → Passed f ≡ checked_by ts bytes
+  pub all_passed : first_refused ts ≡ None → (f : Fields) → f ≡ fields_of bytes → answered f ≡ checked_by ts bytes
   unfolding checked_by checked_as
-  all_passed none_fails f e = ap Passed e ∙ sym (ap (checked_as bytes) none_fails)
+  all_passed none_fails f e = ap answered e ∙ sym (ap (checked_as bytes) none_fails)
 
 -- one list behind another: the first refuses, or leaves it to the second
 module _ (ts us : List Test) (bytes : Bytes) where
-  pub refused_before : (number : ℕ) → Refused number ≡ checked_by ts bytes → Refused number ≡ checked_by (ts ++ us) bytes
+  pub refused_before : (number : ℕ) → refused number ≡ checked_by ts bytes → refused number ≡ checked_by (ts ++ us) bytes
   unfolding checked_by checked_as first_one_of
   refused_before number e = sym (ap (checked_as bytes) (first_refused_append ts us ∙ ap (λ (o : Option ℕ). first_one_of o (first_refused us)) (refused_as bytes (first_refused ts) number e)))
 
-  pub left_to_second : (f : Fields) → Passed f ≡ checked_by ts bytes → checked_by us bytes ≡ checked_by (ts ++ us) bytes
+  pub left_to_second : (f : Fields) → answered f ≡ checked_by ts bytes → checked_by us bytes ≡ checked_by (ts ++ us) bytes
   unfolding checked_by checked_as first_one_of
   left_to_second f e = sym (ap (checked_as bytes) (first_refused_append ts us ∙ ap (λ (o : Option ℕ). first_one_of o (first_refused us)) (passed_as bytes (first_refused ts) f e).0))

@@ -2,10 +2,10 @@
 -- and that the workspace is long enough. A passed test is found by its number (`passed` in laws/Refusals). Leans on Refusal.
 use Rattle.std.specs.Prelude.{◌≡◌, refl, ◌&&◌, List, [], ◌∷◌, ℕ, ◌-◌, ◌≤◌, T, leb, eqb, length, take}
 use Rattle.std.proofs.Common.{ap, ◌∙◌, eqb→eq}
-use Rattle.std.proofs.Math.Option.{Option, some, none}
+use Rattle.std.specs.Prelude.{Option, Some, None}
 use Rattle.std.proofs.Math.Dec.{leb→le}
 use Rattle.definitions.specs.Lists.{all_of}
-use Rattle.definitions.specs.Outcome.{refused, and_then}
+use Rattle.definitions.specs.Outcome.{Outcome, refused, answered, and_then}
 use Rattle.definitions.specs.Recursion.{Bounds, Answer}
 use Rattle.definitions.specs.Job.{Bytes, read_job, between, same_nats, is_permutation, workspace_for, Test, header_tests, value_tests, job_tests, workspace_tests, tests, call_of, fitting, answer_bytes, outcome_within}
 use Rattle.laws.specs.Bools.{first, second}
@@ -13,27 +13,26 @@ use Rattle.laws.specs.Refusals.{first_refused, pass_all_refused, pass_all_passed
 use Rattle.load.specs.declared.Fields.{Fields}
 use Rattle.load.specs.Places.{header_of, Exact, size_is}
 use Rattle.load.specs.Meaning.{fields_of}
-use Rattle.job.specs.declared.Checked.TheVariants.{Refused, Passed}
 use Rattle.job.specs.Refusal.{checked_as, checked_by, checked_of}
 
 -- ---- the answer's cases
 
-pub refused_as : (bytes : Bytes) (o : Option ℕ) (number : ℕ) → Refused number ≡ checked_as bytes o → o ≡ some number
+pub refused_as : (bytes : Bytes) (o : Option ℕ) (number : ℕ) → refused number ≡ checked_as bytes o → o ≡ Some number
 unfolding checked_as
-refused_as bytes none number e = cc
-refused_as bytes (some k) number e = cc
+refused_as bytes None number e = cc
+refused_as bytes (Some k) number e = cc
 
-pub refused_means : (bytes : Bytes) (workspace number : ℕ) → Refused number ≡ checked_of bytes workspace → first_refused (tests bytes workspace) ≡ some number
+pub refused_means : (bytes : Bytes) (workspace number : ℕ) → refused number ≡ checked_of bytes workspace → first_refused (tests bytes workspace) ≡ Some number
 unfolding checked_of checked_by
 refused_means bytes workspace number e = refused_as bytes (first_refused (tests bytes workspace)) number e
 
-pub passed_as : (bytes : Bytes) (o : Option ℕ) (f : Fields) → Passed f ≡ checked_as bytes o → (o ≡ none) × (f ≡ fields_of bytes)
+pub passed_as : (bytes : Bytes) (o : Option ℕ) (f : Fields) → answered f ≡ checked_as bytes o → (o ≡ None) × (f ≡ fields_of bytes)
 unfolding checked_as
-passed_as bytes none f e = (refl, cc)
-passed_as bytes (some k) f e = (cc, cc)
+passed_as bytes None f e = (refl, cc)
+passed_as bytes (Some k) f e = (cc, cc)
 
 -- where a list of tests refuses nothing, none of it fails, and the fields are the job's
-pub checked_passed : (ts : List Test) (bytes : Bytes) (f : Fields) → Passed f ≡ checked_by ts bytes → (first_refused ts ≡ none) × (f ≡ fields_of bytes)
+pub checked_passed : (ts : List Test) (bytes : Bytes) (f : Fields) → answered f ≡ checked_by ts bytes → (first_refused ts ≡ None) × (f ≡ fields_of bytes)
 unfolding checked_by
 checked_passed ts bytes f e = passed_as bytes (first_refused ts) f e
 
@@ -41,18 +40,18 @@ pub rank_loaded : (bytes : Bytes) (f : Fields) → f ≡ fields_of bytes → f.r
 unfolding fields_of read_job header_of
 rank_loaded bytes f e = ap (λ (g : Fields). g.rank) e
 
-pub passed_means : (bytes : Bytes) (workspace : ℕ) (f : Fields) → Passed f ≡ checked_of bytes workspace → (first_refused (tests bytes workspace) ≡ none) × (f ≡ fields_of bytes)
+pub passed_means : (bytes : Bytes) (workspace : ℕ) (f : Fields) → answered f ≡ checked_of bytes workspace → (first_refused (tests bytes workspace) ≡ None) × (f ≡ fields_of bytes)
 unfolding checked_of checked_by
 passed_means bytes workspace f e = passed_as bytes (first_refused (tests bytes workspace)) f e
 
 -- ---- the outcome
 
 module _ (bounds : Bounds) (bytes : Bytes) (workspace room : ℕ) where
-  pub outcome_refused : (number : ℕ) → first_refused (tests bytes workspace) ≡ some number → outcome_within bounds bytes workspace room ≡ refused number
+  pub outcome_refused : (number : ℕ) → first_refused (tests bytes workspace) ≡ Some number → outcome_within bounds bytes workspace room ≡ refused number
   unfolding outcome_within
   outcome_refused number e = pass_all_refused (tests bytes workspace) _ number e
 
-  pub outcome_passed : first_refused (tests bytes workspace) ≡ none
+  pub outcome_passed : first_refused (tests bytes workspace) ≡ None
       → outcome_within bounds bytes workspace room ≡ and_then (call_of bounds (read_job bytes)) (λ (a : Answer). fitting room (answer_bytes (read_job bytes).budget a))
   unfolding outcome_within
   outcome_passed e = pass_all_passed (tests bytes workspace) _ e
@@ -85,7 +84,7 @@ header_passed bytes h =
       long = eqb→eq (length bytes) job.size size ∙ size_is bytes;
     }
 
-module _ (bytes : Bytes) (workspace : ℕ) (none_fails : first_refused (tests bytes workspace) ≡ none) where
+module _ (bytes : Bytes) (workspace : ℕ) (none_fails : first_refused (tests bytes workspace) ≡ None) where
   -- the job's own tests
   pub own_passed : AllPassed (job_tests bytes)
   unfolding tests

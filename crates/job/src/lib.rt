@@ -6,13 +6,13 @@
 ghost use Rattle.std.specs.Prelude.{◌≡◌, ◌&&◌, ◌+◌, ◌*◌, ◌≤◌, length, take, drop};
 ghost use Rattle.definitions.specs.Lists.{all_of, count_from};
 ghost use Rattle.definitions.specs.Job.{read_job, floats_at, between, limit_good, is_finite, tolerance_good, floats_good, same_nats, is_permutation, workspace_for, header_tests, value_tests, job_tests};
-ghost use Rattle.space.specs.Meaning.{length_of};
+ghost use Rattle.refusals.specs.Refused.{outcome_of};
 ghost use Rattle.load.specs.Places.{Exact};
 ghost use Rattle.load.specs.Meaning.{fields_of, rows_at};
 ghost use Rattle.job.specs.Refusal.{has_mark, size_within, checked_by, checked_of};
 
 use load::Fields;
-use space::Limit;
+use refusals::Refusal;
 
 // ---- single tests
 
@@ -46,12 +46,12 @@ fn within(x: f64, most: f64) -> bool
 }
 
 // −0 is not below 0.
-fn limit_good(limit: Limit) -> bool
-    ensures { result ≡ limit_good (length_of limit) }
+fn limit_good(limit: Option<f64>) -> bool
+    ensures { result ≡ limit_good limit }
 {
     match limit {
-        Limit::Absent => true,
-        Limit::Length(x) => within(x, 131072.0) && 0.0 <= x,
+        None => true,
+        Some(x) => within(x, 131072.0) && 0.0 <= x,
     }
 }
 
@@ -78,17 +78,10 @@ fn tolerance_good(tolerance: f64) -> bool
 
 // The f64 that stand before the budget.
 fn limits_good(fields: Fields) -> bool
-    ensures { result ≡ (limit_good (length_of fields.min) && limit_good (length_of fields.max) && is_finite fields.tolerance) }
+    ensures { result ≡ (limit_good fields.limits.shortest && limit_good fields.limits.longest && is_finite fields.tolerance) }
 {
-    let min = fields.min;
-    let max = fields.max;
-    if !limit_good(min) {
-        return false;
-    }
-    if !limit_good(max) {
-        return false;
-    }
-    is_finite(fields.tolerance)
+    let limits = fields.limits;
+    limit_good(limits.shortest) && limit_good(limits.longest) && is_finite(fields.tolerance)
 }
 
 // So many numbers from a place on.
@@ -96,12 +89,10 @@ fn all_within(job: &[u8], at: usize, many: usize, most: f64) -> bool
     requires { at + 8 * many ≤ length job.now }
     ensures { result ≡ all_of (size_within most) (floats_at job.now at many) }
 {
-    let mut i = 0;
-    while i < many {
+    for i in 0..many {
         if !within(load::float_at(job, at + 8 * i), most) {
             return false;
         }
-        i += 1;
     }
     true
 }
@@ -136,12 +127,10 @@ pub fn is_identity(job: &[u8], at: usize, n: usize) -> bool
     requires { at + n ≤ length job.now }
     ensures { result ≡ same_nats (take n (drop at job.now)) (count_from 0 n) }
 {
-    let mut i = 0;
-    while i < n {
-        if words::wide(job[at + i]) != i {
+    for i in 0..n {
+        if usize::from(job[at + i]) != i {
             return false;
         }
-        i += 1;
     }
     true
 }
@@ -152,9 +141,8 @@ fn is_permutation(job: &[u8], at: usize, n: usize) -> bool
     ensures { result ≡ is_permutation n (take n (drop at job.now)) }
 {
     let mut marks = [false; 20];
-    let mut i = 0;
-    while i < n {
-        let v = words::wide(job[at + i]);
+    for i in 0..n {
+        let v = usize::from(job[at + i]);
         if n <= v {
             return false;
         }
@@ -162,7 +150,6 @@ fn is_permutation(job: &[u8], at: usize, n: usize) -> bool
             return false;
         }
         marks[v] = true;
-        i += 1;
     }
     true
 }
@@ -171,12 +158,10 @@ pub fn rows_good(job: &[u8], at: usize, n: usize, count: usize) -> bool
     requires { (n ≤ 20) × (at + n * count ≤ length job.now) }
     ensures { result ≡ all_of (is_permutation n) (rows_at job.now at n count) }
 {
-    let mut i = 0;
-    while i < count {
+    for i in 0..count {
         if !is_permutation(job, at + n * i, n) {
             return false;
         }
-        i += 1;
     }
     true
 }
@@ -197,90 +182,77 @@ pub fn workspace_for(rank: usize) -> usize
 
 // ---- the order
 
-// The number of the first refusal, or the fields of a job that passes.
-#[derive(Clone, Copy)]
-pub enum Checked {
-    Refused(u8),
-    Passed(Fields),
-}
-
-// Refusals 1 to 8: the header, and the length that it states.
-fn check_header(job: &[u8]) -> Checked
-    ensures { result ≡ checked_by (header_tests job.now) job.now }
+// The first refusal, or the fields of a job that passes. Refusals 1 to 8: the header, and the length that it states.
+fn check_header(job: &[u8]) -> Result<Fields, Refusal>
+    ensures { outcome_of result ≡ checked_by (header_tests job.now) job.now }
 {
     if !has_mark(job) {
-        return Checked::Refused(1);
+        return Err(Refusal::Mark);
     }
     let h = load::header_of(job);
     if !between(1, 3, h.version) {
-        return Checked::Refused(2);
+        return Err(Refusal::Version);
     }
     if !between(2, 4, h.rank) {
-        return Checked::Refused(3);
+        return Err(Refusal::Rank);
     }
     if !between(h.rank - 1, 4, h.d) {
-        return Checked::Refused(4);
+        return Err(Refusal::Dimension);
     }
     if !between(2, 20, h.n) {
-        return Checked::Refused(5);
+        return Err(Refusal::Points);
     }
     if !between(1, 120, h.count) {
-        return Checked::Refused(6);
+        return Err(Refusal::Rows);
     }
     if 8 <= h.flags {
-        return Checked::Refused(7);
+        return Err(Refusal::Flags);
     }
     let p = load::places_of(h);
     if job.len() != p.size {
-        return Checked::Refused(8);
+        return Err(Refusal::Length);
     }
-    Checked::Passed(load::fields_of(job))
+    Ok(load::fields_of(job))
 }
 
 // Refusals 9, 22, 25, 10 and 11, of a job whose header passes: its floats, its tolerance, its rule and its rows.
-fn check_values(job: &[u8], fields: Fields) -> Checked
+fn check_values(job: &[u8], fields: Fields) -> Result<Fields, Refusal>
     requires { Exact job.now × (fields ≡ fields_of job.now) }
-    ensures { result ≡ checked_by (value_tests job.now) job.now }
+    ensures { outcome_of result ≡ checked_by (value_tests job.now) job.now }
 {
     if !floats_good(job, fields) {
-        return Checked::Refused(9);
+        return Err(Refusal::Number);
     }
     if !tolerance_good(fields.tolerance) {
-        return Checked::Refused(22);
+        return Err(Refusal::Tolerance);
     }
     if !between(1, 2, fields.rule) {
-        return Checked::Refused(25);
+        return Err(Refusal::Rule);
     }
     if !is_identity(job, fields.rows, fields.n) {
-        return Checked::Refused(10);
+        return Err(Refusal::FirstRow);
     }
     if !rows_good(job, fields.rows, fields.n, fields.count) {
-        return Checked::Refused(11);
+        return Err(Refusal::Row);
     }
-    Checked::Passed(fields)
+    Ok(fields)
 }
 
 // The job's own refusals: what its bytes alone decide.
-pub fn check_job(job: &[u8]) -> Checked
-    ensures { result ≡ checked_by (job_tests job.now) job.now }
+pub fn check_job(job: &[u8]) -> Result<Fields, Refusal>
+    ensures { outcome_of result ≡ checked_by (job_tests job.now) job.now }
 {
-    match check_header(job) {
-        Checked::Refused(number) => Checked::Refused(number),
-        Checked::Passed(fields) => check_values(job, fields),
-    }
+    let fields = check_header(job)?;
+    check_values(job, fields)
 }
 
 // All refusals before the call.
-pub fn check(job: &[u8], workspace: usize) -> Checked
-    ensures { result ≡ checked_of job.now workspace }
+pub fn check(job: &[u8], workspace: usize) -> Result<Fields, Refusal>
+    ensures { outcome_of result ≡ checked_of job.now workspace }
 {
-    match check_job(job) {
-        Checked::Refused(number) => Checked::Refused(number),
-        Checked::Passed(fields) => {
-            if workspace < workspace_for(fields.rank) {
-                return Checked::Refused(12);
-            }
-            Checked::Passed(fields)
-        }
+    let fields = check_job(job)?;
+    if workspace < workspace_for(fields.rank) {
+        return Err(Refusal::Workspace);
     }
+    Ok(fields)
 }

@@ -3,7 +3,7 @@
 use Rattle.std.specs.Prelude.{◌≡◌, List, ℕ, ◌-◌, ◌*◌, ◌≤◌, length}
 use Rattle.std.proofs.Math.Path.{sym, ap, subst}
 use Rattle.std.proofs.Common.{◌∙◌, arith}
-use Rattle.std.proofs.Math.Option.{none}
+use Rattle.std.specs.Prelude.{None}
 use Rattle.definitions.specs.Outcome.{Outcome, refused, answered, and_then}
 use Rattle.definitions.specs.Recursion as recursion
 use Rattle.definitions.specs.Faceting.{Way, plain_way, faceting_with}
@@ -20,9 +20,10 @@ use Rattle.space.specs.declared.Points.{Points}
 use Rattle.space.specs.Meaning.{HoldsSubspace, HoldsPoints, subspace_of, points_of, limits_of}
 use Rattle.load.specs.declared.Fields.{Fields}
 use Rattle.load.specs.Places.{Exact}
-use Rattle.load.specs.Meaning.{fields_of, limit_number, Loadable}
+use Rattle.load.specs.Meaning.{fields_of, Loadable}
 use Rattle.load.proofs.Meaning.{loadable}
-use Rattle.job.specs.declared.Checked.TheVariants.{Refused, Passed}
+use Rattle.refusals.specs.declared.Refusal.{Refusal}
+use Rattle.std.specs.Prelude.{Result}
 use Rattle.job.specs.Refusal.{checked_of}
 use Rattle.job.specs.Passed.{refused_means, passed_means, own_passed, passed_exact, passed_rows, passed_workspace}
 use Rattle.calls.specs.declared.Rules.{Rules}
@@ -37,7 +38,7 @@ use Rattle.job_calls.specs.Said.{Said}
 
 -- the definition's rules, from the fields of a job
 unfoldable pub job_rules : Fields → recursion.Rules
-job_rules f = record { tolerance = f.tolerance; lengths = limits_of f.min f.max; entry_limit = limit_number f.entries; bounds = bounds1; rule = f.rule }
+job_rules f = record { tolerance = f.tolerance; lengths = limits_of f.limits; entry_limit = f.entries; bounds = bounds1; rule = f.rule }
 
 -- a job as a call takes it
 pub record Loaded (bytes : Bytes) (f : Fields) (plane : Subspace) (points : Points) (rows : List ℕ) (rules : Rules) : Type 0 where
@@ -51,7 +52,7 @@ pub record Loaded (bytes : Bytes) (f : Fields) (plane : Subspace) (points : Poin
 
 -- What the outermost call [12.1] of a job says, its rows lying where they were loaded: `(said).is` is the equation with
 -- the definition's call, and `(said).can_write_lem` that its answer, if it has one, can be written.
-pub record JobCalled (bytes : Bytes) (f : Fields) (rows : List ℕ) (called : Called) (s : List ℕ) : Type 0 where
+pub record JobCalled (bytes : Bytes) (f : Fields) (rows : List ℕ) (called : Result Called Refusal) (s : List ℕ) : Type 0 where
   pub said : Said f.rank f.n f.count rows f.budget (call_of bounds1 (read_job bytes)) called s
   pub rows_are : rows_in f.n f.count rows ≡ (read_job bytes).rows
 
@@ -60,12 +61,12 @@ unfoldable pub call_by : Way → job.Job → Outcome recursion.Answer
 call_by way own = faceting_with way (own.rank - 2) (job.rules_of bounds1 own) (plane_of own) own.points own.rows own.budget
 
 -- what it says
-pub record CalledIn (way : Way) (bytes : Bytes) (f : Fields) (rows : List ℕ) (called : Called) (s : List ℕ) : Type 0 where
+pub record CalledIn (way : Way) (bytes : Bytes) (f : Fields) (rows : List ℕ) (called : Result Called Refusal) (s : List ℕ) : Type 0 where
   pub said : Said f.rank f.n f.count rows f.budget (call_by way (read_job bytes)) called s
   pub rows_are : rows_in f.n f.count rows ≡ (read_job bytes).rows
 
 -- without a package it is the job's call
-pub called_plainly : (bytes : Bytes) (f : Fields) (rows : List ℕ) (called : Called) (s : List ℕ) → CalledIn plain_way bytes f rows called s → JobCalled bytes f rows called s
+pub called_plainly : (bytes : Bytes) (f : Fields) (rows : List ℕ) (called : Result Called Refusal) (s : List ℕ) → CalledIn plain_way bytes f rows called s → JobCalled bytes f rows called s
 unfolding call_by call_of
 called_plainly bytes f rows called s d = record {
   said = subst (λ (call : recursion.Call). Said f.rank f.n f.count rows f.budget (call (plane_of (read_job bytes)) (read_job bytes).points (read_job bytes).rows (read_job bytes).budget) called s)
@@ -73,8 +74,8 @@ called_plainly bytes f rows called s d = record {
   rows_are = d.rows_are;
 }
 
-module _ (bytes : Bytes) (workspace : ℕ) (f : Fields) (passed : Passed f ≡ checked_of bytes workspace) where
-  none_fails : first_refused (tests bytes workspace) ≡ none
+module _ (bytes : Bytes) (workspace : ℕ) (f : Fields) (passed : answered f ≡ checked_of bytes workspace) where
+  none_fails : first_refused (tests bytes workspace) ≡ None
   none_fails = (passed_means bytes workspace f passed).0
 
   pub exact : Exact bytes
@@ -124,8 +125,6 @@ module _ (bytes : Bytes) (workspace : ℕ) (f : Fields) (passed : Passed f ≡ c
     call_asked ws long way globals full fits = record {
       rank_least = counts.rank_least;
       rank_most = counts.rank_most;
-      points_fit = l.points_held.fits;
-      plane_fits = l.plane_held.fits;
       same_d = l.points_held.d_is ∙ sym l.plane_d;
       permute = subst (λ (n : ℕ). Permutations n f.count rows) (sym l.points_n) permute;
       rows_few = counts.count_most;
@@ -141,10 +140,10 @@ module _ (bytes : Bytes) (workspace : ℕ) (f : Fields) (passed : Passed f ≡ c
     -- the rules are the job's
     rules_job : call_rules rules ≡ job.rules_of bounds1 (read_job bytes)
     unfolding job_rules job.rules_of limits_of
-    rules_job = l.rules_are ∙ (λ i. record { tolerance = counts.tolerance_is i; lengths = record { shortest = counts.min_is i; longest = counts.max_is i }; entry_limit = counts.entries_is i; bounds = bounds1; rule = counts.rule_is i })
+    rules_job = l.rules_are ∙ (λ i. record { tolerance = counts.tolerance_is i; lengths = record { shortest = counts.shortest_is i; longest = counts.longest_is i }; entry_limit = counts.entries_is i; bounds = bounds1; rule = counts.rule_is i })
 
     -- what the call on what is loaded says
-    module _ (way : code.Way) (globals full : List ℕ) (fits : WayFits f.n way globals full) (called : Called) (s : List ℕ) (long : length s ≡ workspace)
+    module _ (way : code.Way) (globals full : List ℕ) (fits : WayFits f.n way globals full) (called : Result Called Refusal) (s : List ℕ) (long : length s ≡ workspace)
         (h : Says (way_of points.n way globals full) (f.rank - 2) (call_rules rules) (subspace_of plane) (points_of points) (rows_in points.n f.count rows) f.budget called s) where
       abbrev goes : ℕ → Way
       goes n = way_of n way globals full
@@ -178,6 +177,6 @@ module _ (bytes : Bytes) (workspace : ℕ) (f : Fields) (passed : Passed f ≡ c
 
 -- ---- a job that is refused
 
-pub alone_refused : (bytes : Bytes) (workspace number : ℕ) → Refused number ≡ checked_of bytes workspace → alone bytes workspace ≡ refused number
+pub alone_refused : (bytes : Bytes) (workspace number : ℕ) → refused number ≡ checked_of bytes workspace → alone bytes workspace ≡ refused number
 unfolding alone
 alone_refused bytes workspace number e = pass_all_refused (tests bytes workspace) _ number (refused_means bytes workspace number e)

@@ -18,26 +18,29 @@ use Rattle.shapes.specs.Kept.{Kept}
 use Rattle.shelf.specs.Leaves.{answer_left}
 use Rattle.kept_edges.specs.Edges.{edge_answer}
 use Rattle.calls.specs.declared.Called.{Called}
-use Rattle.calls.specs.declared.Called.TheVariants.{Refused, Ends, Left}
+use Rattle.calls.specs.declared.Called.TheVariants.{Ends, Left}
+use Rattle.refusals.specs.declared.Refusal.{Refusal}
+use Rattle.refusals.specs.Refused.{number_of}
+use Rattle.std.specs.Prelude.{Result, Ok, Err}
 use Rattle.inner_answers.specs.Says.{Says}
 use Rattle.job_calls.specs.Spent.{call_spends_with}
 use Rattle.job_calls.specs.Writable.{Writable, kept_by, call_writable}
 
 -- the outcome of a call of rank 3 + more, or of rank 2, from what the code gives back and what it left
-unfoldable pub outcome_said : ℕ → ℕ → List Row → List Kept → Called → List ℕ → Outcome Answer
-outcome_said more n rows kept (Refused number) s = refused number
-outcome_said more n rows kept (Ends swapped rest) s = answered (edge_answer swapped rest)
-outcome_said more n rows kept (Left level rest) s = answered (answer_left more n rows kept level s rest)
+unfoldable pub outcome_said : ℕ → ℕ → List Row → List Kept → Result Called Refusal → List ℕ → Outcome Answer
+outcome_said more n rows kept (Err e) s = refused (number_of e)
+outcome_said more n rows kept (Ok (Ends swapped rest)) s = answered (edge_answer swapped rest)
+outcome_said more n rows kept (Ok (Left level rest)) s = answered (answer_left more n rows kept level s rest)
 
 -- and an answer can be written
-unfoldable pub CanWrite : ℕ → ℕ → ℕ → List ℕ → List Kept → ℕ → Called → List ℕ → Type 0
-CanWrite rank n m rows kept budget (Refused number) s = Unit {0}
-CanWrite rank n m rows kept budget (Ends swapped rest) s = (rest ≤ budget) × (rank ≤ 2)
-CanWrite rank n m rows kept budget (Left level rest) s =
+unfoldable pub CanWrite : ℕ → ℕ → ℕ → List ℕ → List Kept → ℕ → Result Called Refusal → List ℕ → Type 0
+CanWrite rank n m rows kept budget (Err e) s = Unit {0}
+CanWrite rank n m rows kept budget (Ok (Ends swapped rest)) s = (rest ≤ budget) × (rank ≤ 2)
+CanWrite rank n m rows kept budget (Ok (Left level rest)) s =
     (3 ≤ rank) × (rank ≤ 4) × Writable (rank - 3) n m rows kept level budget rest s
 
 -- `call` is the definition's outcome
-pub record Said (rank n m : ℕ) (rows : List ℕ) (budget : ℕ) (call : Outcome Answer) (called : Called) (s : List ℕ) : Type 0 where
+pub record Said (rank n m : ℕ) (rows : List ℕ) (budget : ℕ) (call : Outcome Answer) (called : Result Called Refusal) (s : List ℕ) : Type 0 where
   pub kept : List Kept
   pub is : call ≡ outcome_said (rank - 3) n (rows_in n m rows) kept called s
   pub can_write : CanWrite rank n m rows kept budget called s
@@ -53,25 +56,25 @@ module _ (way : Way) (takes : TakesSome way) (rules : Rules) (plane : Subspace) 
   abbrev call : ℕ → Outcome Answer
   call k = faceting_with way k rules plane points (rows_in (length points) m rows) budget
 
-  abbrev says_at : ℕ → Called → Type 0
+  abbrev says_at : ℕ → Result Called Refusal → Type 0
   says_at k called = Says way k rules plane points (rows_in (length points) m rows) budget called s
 
   pub call_said : {rank : ℕ} → 2 ≤ rank → rank ≤ 4 → Given points (rows_in (length points) m rows) → RowsFit (length points) m rows → m ≤ 120 → (rank ≡ 4 → 4194304 ≤ length s)
-      → (called : Called) → says_at (rank - 2) called → Said rank (length points) m rows budget (call (rank - 2)) called s
+      → (called : Result Called Refusal) → says_at (rank - 2) called → Said rank (length points) m rows budget (call (rank - 2)) called s
   unfolding Says outcome_said CanWrite
   call_said {rank} rank_least rank_most given rows_fit_holds few_rows room called h = go (rank - 2) refl called h
     where
-      go : (k : ℕ) → rank - 2 ≡ k → (c : Called) → says_at k c → Said rank (length points) m rows budget (call k) c s
-      go zero e (Refused number) h = record { kept = []; is = h; can_write = tt }
-      go zero e (Ends swapped rest) h = record {
+      go : (k : ℕ) → rank - 2 ≡ k → (c : Result Called Refusal) → says_at k c → Said rank (length points) m rows budget (call k) c s
+      go zero e (Err x) h = record { kept = []; is = h; can_write = tt }
+      go zero e (Ok (Ends swapped rest)) h = record {
         kept = [];
         is = h;
         can_write = (subst (λ (x : ℕ). x ≤ budget) (ends_left swapped rest) (call_spends_with way 0 rules plane points (rows_in (length points) m rows) budget (edge_answer swapped rest) h), omega arith);
       }
-      go zero e (Left level rest) h = absurd h
-      go (suc more) e (Refused number) h = record { kept = []; is = h; can_write = tt }
-      go (suc more) e (Ends swapped rest) h = absurd h
-      go (suc more) e (Left level rest) h =
+      go zero e (Ok (Left level rest)) h = absurd h
+      go (suc more) e (Err x) h = record { kept = []; is = h; can_write = tt }
+      go (suc more) e (Ok (Ends swapped rest)) h = absurd h
+      go (suc more) e (Ok (Left level rest)) h =
           let less : rank - 3 ≡ more = omega arith in
           record {
             kept = kept_by way takes more rules plane points m rows budget level rest s h;

@@ -3,44 +3,30 @@
 #![tactic(auto)]
 
 ghost use Rattle.std.specs.Prelude.{◌≡◌, true, length};
-ghost use Rattle.load.specs.Meaning.{limit_number};
 ghost use Rattle.job.specs.Refusal.{checked_of};
-ghost use Rattle.job.specs.declared.Checked.TheVariants.{Passed};
-ghost use Rattle.search.specs.Outcomes.{search_limit};
+ghost use Rattle.definitions.specs.Outcome.{answered};
 ghost use Rattle.call_search.specs.Stocks.{call_rules};
 ghost use Rattle.faceting.specs.Ways.{way_of, WayFits};
 ghost use Rattle.job_calls.specs.Loaded.{job_rules, JobCalled, CalledIn};
 
 use calls::{Called, Rules};
 use faceting::Way;
-use load::{EntryLimit, Fields};
-use search::Limit;
+use load::Fields;
+use refusals::Refusal;
 use tallies::FullSet;
 
 // ---- loading and calling
-
-// The entry limit as the search takes it.
-fn limit_of(entries: EntryLimit) -> Limit
-    ensures { search_limit result ≡ limit_number entries }
-{
-    match entries {
-        EntryLimit::Unlimited => Limit::Absent,
-        EntryLimit::Number(m) => Limit::Entries(m),
-    }
-}
 
 // What is alike at every depth of a job's call: the job's own tolerance, limits and rule, and the bounds of [12.2].
 fn rules_of(fields: Fields) -> Rules
     ensures { call_rules result ≡ job_rules fields }
 {
-    let min = fields.min;
-    let max = fields.max;
+    let limits = fields.limits;
     let entries = fields.entries;
     Rules {
         tolerance: fields.tolerance,
-        min: min,
-        max: max,
-        limit: limit_of(entries),
+        limits,
+        limit: entries,
         orbits: 256,
         facets: 1024,
         entries: 1024,
@@ -60,8 +46,8 @@ pub fn call_in_way(
     way: Way,
     globals: &[u8],
     full: &[u8],
-) -> Called
-    requires { (Passed fields ≡ checked_of job.now (length ws.old)) × (length rows.old ≡ 3840) × WayFits fields.n way globals.now full.now }
+) -> Result<Called, Refusal>
+    requires { (answered fields ≡ checked_of job.now (length ws.old)) × (length rows.old ≡ 3840) × WayFits fields.n way globals.now full.now }
     ensures { CalledIn (way_of fields.n way globals.now full.now) job.now fields rows.new result ws.new }
 {
     let rank = fields.rank;
@@ -91,8 +77,13 @@ fn plain_way() -> Way
 }
 
 // The job's own call, without a package: it reads neither global numbers nor full rows, so that any bytes may stand for them.
-pub fn call_job(job: &[u8], fields: Fields, ws: &mut [u8], rows: &mut [u8]) -> Called
-    requires { (Passed fields ≡ checked_of job.now (length ws.old)) × (length rows.old ≡ 3840) }
+pub fn call_job(
+    job: &[u8],
+    fields: Fields,
+    ws: &mut [u8],
+    rows: &mut [u8],
+) -> Result<Called, Refusal>
+    requires { (answered fields ≡ checked_of job.now (length ws.old)) × (length rows.old ≡ 3840) }
     ensures { JobCalled job.now fields rows.new result ws.new }
 {
     call_in_way(job, fields, ws, rows, plain_way(), job, job)

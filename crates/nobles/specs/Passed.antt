@@ -4,7 +4,7 @@ use Rattle.std.specs.Prelude.{◌≡◌, true, false, ℕ, ◌≤◌, T, leb}
 use Rattle.std.proofs.Math.Path.{refl, sym, ap}
 use Rattle.std.proofs.Common.{subst, ◌∙◌}
 use mathlib.Core.List.{List, [], ◌++◌}
-use Rattle.std.proofs.Math.Option.{Option, some, none}
+use Rattle.std.specs.Prelude.{Option, Some, None}
 use Rattle.definitions.specs.Outcome.{refused, answered, and_then}
 use Rattle.definitions.specs.Recursion.{Answer}
 use Rattle.definitions.specs.Faceting.{Way}
@@ -16,7 +16,6 @@ use Rattle.load.specs.declared.Fields.{Fields}
 use Rattle.load.specs.Places.{header_of}
 use Rattle.load.specs.Meaning.{fields_of}
 use Rattle.load.proofs.Meaning.{loadable}
-use Rattle.job.specs.declared.Checked.TheVariants.{Refused, Passed}
 use Rattle.job.specs.Refusal.{checked_as, checked_by, checked_of}
 use Rattle.job.specs.Passed.{checked_passed, refused_as, rank_loaded, header_passed}
 use Rattle.tallies.specs.Meaning.{package_in}
@@ -26,28 +25,28 @@ use Rattle.job_calls.specs.Loaded.{call_by, counts}
 use Rattle.answering.specs.Answered.{bytes_of}
 
 -- where two lists of tests together refuse nothing, neither does
-none_of : (x y : Option ℕ) → first_one_of x y ≡ none → (x ≡ none) × (y ≡ none)
+none_of : (x y : Option ℕ) → first_one_of x y ≡ None → (x ≡ None) × (y ≡ None)
 unfolding first_one_of
-none_of none y e = (refl, e)
-none_of (some k) y e = (e, cc)
+none_of None y e = (refl, e)
+none_of (Some k) y e = (e, cc)
 
-pub both_pass : (ts us : List Test) → first_refused (ts ++ us) ≡ none → (first_refused ts ≡ none) × (first_refused us ≡ none)
+pub both_pass : (ts us : List Test) → first_refused (ts ++ us) ≡ None → (first_refused ts ≡ None) × (first_refused us ≡ None)
 both_pass ts us e = none_of (first_refused ts) (first_refused us) (sym (first_refused_append ts us) ∙ e)
 
 module _ (bytes pack : Bytes) (workspace : ℕ) where
-  pub noble_refused : (number : ℕ) → Refused number ≡ checked_by (noble_tests bytes pack workspace) bytes → noble_alone bytes pack workspace ≡ refused number
+  pub noble_refused : (number : ℕ) → refused number ≡ checked_by (noble_tests bytes pack workspace) bytes → noble_alone bytes pack workspace ≡ refused number
   unfolding noble_alone checked_by
   noble_refused number e = pass_all_refused (noble_tests bytes pack workspace) _ number (refused_as bytes (first_refused (noble_tests bytes pack workspace)) number e)
 
-  module _ (f : Fields) (passes : Passed f ≡ checked_by (noble_tests bytes pack workspace) bytes) where
-    none_fails : first_refused (noble_tests bytes pack workspace) ≡ none
+  module _ (f : Fields) (passes : answered f ≡ checked_by (noble_tests bytes pack workspace) bytes) where
+    none_fails : first_refused (noble_tests bytes pack workspace) ≡ None
     none_fails = (checked_passed (noble_tests bytes pack workspace) bytes f passes).0
 
-    own_and_rest : (first_refused (job_tests bytes) ≡ none) × (first_refused (package_tests bytes pack ++ workspace_tests bytes workspace) ≡ none)
+    own_and_rest : (first_refused (job_tests bytes) ≡ None) × (first_refused (package_tests bytes pack ++ workspace_tests bytes workspace) ≡ None)
     unfolding noble_tests
     own_and_rest = both_pass (job_tests bytes) (package_tests bytes pack ++ workspace_tests bytes workspace) none_fails
 
-    rest : (first_refused (package_tests bytes pack) ≡ none) × (first_refused (workspace_tests bytes workspace) ≡ none)
+    rest : (first_refused (package_tests bytes pack) ≡ None) × (first_refused (workspace_tests bytes workspace) ≡ None)
     rest = both_pass (package_tests bytes pack) (workspace_tests bytes workspace) own_and_rest.1
 
     -- the package passes
@@ -56,12 +55,12 @@ module _ (bytes pack : Bytes) (workspace : ℕ) where
     pack_good = passed 18 (package_tests bytes pack) (none_refused (package_tests bytes pack) rest.0)
 
     -- and the job passes as without it
-    pub job_passes : Passed f ≡ checked_of bytes workspace
+    pub job_passes : answered f ≡ checked_of bytes workspace
     unfolding checked_of checked_by checked_as tests first_one_of
     job_passes =
-        let all : first_refused (job_tests bytes ++ workspace_tests bytes workspace) ≡ none =
+        let all : first_refused (job_tests bytes ++ workspace_tests bytes workspace) ≡ None =
         first_refused_append (job_tests bytes) (workspace_tests bytes workspace) ∙ (ap (λ (o : Option ℕ). first_one_of o (first_refused (workspace_tests bytes workspace))) own_and_rest.0 ∙ rest.1) in
-        ap Passed (checked_passed (noble_tests bytes pack workspace) bytes f passes).1 ∙ sym (ap (checked_as bytes) all)
+        ap answered (checked_passed (noble_tests bytes pack workspace) bytes f passes).1 ∙ sym (ap (checked_as bytes) all)
 
     n_is : f.n ≡ (read_job bytes).n
     n_is = (counts bytes workspace f job_passes).n_is
@@ -92,13 +91,13 @@ n_loaded bytes f e = ap (λ (g : Fields). g.n) e
 
 module _ (bytes pack : Bytes) (workspace : ℕ) where
   -- a refusal of the job's own
-  pub refused_own : (number : ℕ) → Refused number ≡ checked_by (job_tests bytes) bytes → Refused number ≡ checked_by (noble_tests bytes pack workspace) bytes
+  pub refused_own : (number : ℕ) → refused number ≡ checked_by (job_tests bytes) bytes → refused number ≡ checked_by (noble_tests bytes pack workspace) bytes
   unfolding checked_by checked_as noble_tests first_one_of
   refused_own number e =
       sym (ap (checked_as bytes) (first_refused_append (job_tests bytes) (package_tests bytes pack ++ workspace_tests bytes workspace)
       ∙ ap (λ (o : Option ℕ). first_one_of o (first_refused (package_tests bytes pack ++ workspace_tests bytes workspace))) (refused_as bytes (first_refused (job_tests bytes)) number e)))
 
-  module _ (f : Fields) (own : Passed f ≡ checked_by (job_tests bytes) bytes) where
+  module _ (f : Fields) (own : answered f ≡ checked_by (job_tests bytes) bytes) where
     loaded : f ≡ fields_of bytes
     loaded = (checked_passed (job_tests bytes) bytes f own).1
 
@@ -113,7 +112,7 @@ module _ (bytes pack : Bytes) (workspace : ℕ) where
     good_is : package_good f.n pack ≡ package_good (read_job bytes).n pack
     good_is = ap (λ (n : ℕ). package_good n pack) (n_loaded bytes f loaded)
 
-    pub refused_eighteen : package_good f.n pack ≡ false → Refused 18 ≡ checked_by (noble_tests bytes pack workspace) bytes
+    pub refused_eighteen : package_good f.n pack ≡ false → refused 18 ≡ checked_by (noble_tests bytes pack workspace) bytes
     unfolding checked_by checked_as first_one_of package_tests
     refused_eighteen e =
         let one = stops (package_tests bytes pack) _ [] refl (sym good_is ∙ e) in
@@ -129,20 +128,20 @@ module _ (bytes pack : Bytes) (workspace : ℕ) where
       enough_is : leb (workspace_for f.rank) workspace ≡ leb (workspace_for (read_job bytes).rank) workspace
       enough_is = ap (λ (rank : ℕ). leb (workspace_for rank) workspace) (rank_loaded bytes f loaded)
 
-      pub refused_twelve : leb (workspace_for f.rank) workspace ≡ false → Refused 12 ≡ checked_by (noble_tests bytes pack workspace) bytes
+      pub refused_twelve : leb (workspace_for f.rank) workspace ≡ false → refused 12 ≡ checked_by (noble_tests bytes pack workspace) bytes
       unfolding checked_by checked_as workspace_tests
       refused_twelve e =
           let one = stops (workspace_tests bytes workspace) _ [] refl (sym enough_is ∙ e) in
           sym (ap (checked_as bytes) (to_workspace ∙ one))
 
-      pub all_pass : leb (workspace_for f.rank) workspace ≡ true → Passed f ≡ checked_by (noble_tests bytes pack workspace) bytes
+      pub all_pass : leb (workspace_for f.rank) workspace ≡ true → answered f ≡ checked_by (noble_tests bytes pack workspace) bytes
       unfolding checked_by checked_as workspace_tests
       all_pass e =
           let none_here = ends (workspace_tests bytes workspace) _ refl (sym enough_is ∙ e) in
-          ap Passed loaded ∙ sym (ap (checked_as bytes) (to_workspace ∙ none_here))
+          ap answered loaded ∙ sym (ap (checked_as bytes) (to_workspace ∙ none_here))
 
 -- and a job that passes its own has 20 points at most
-pub few_points : (bytes : Bytes) (f : Fields) → Passed f ≡ checked_by (job_tests bytes) bytes → f.n ≤ 20
+pub few_points : (bytes : Bytes) (f : Fields) → answered f ≡ checked_by (job_tests bytes) bytes → f.n ≤ 20
 unfolding job_tests
 few_points bytes f own =
     let c = checked_passed (job_tests bytes) bytes f own in

@@ -6,40 +6,42 @@
 ghost use Rattle.std.specs.Prelude.{◌≡◌, length, replicate};
 ghost use Rattle.definitions.specs.NobleCalls.{noble_tests, noble_alone};
 ghost use Rattle.job.specs.Refusal.{checked_by};
-ghost use Rattle.job.specs.declared.Checked.TheVariants.{Passed};
+ghost use Rattle.definitions.specs.Outcome.{answered};
+ghost use Rattle.refusals.specs.Refused.{outcome_of};
 ghost use Rattle.answering.specs.Closed.{written_in, buffer_in};
 
-use answering::Written;
 use faceting::Way;
-use job::Checked;
 use job_calls::ROWS_ROOM;
 use load::Fields;
+use refusals::Refusal;
 
 // The bytes of a package's global numbers, as one row.
 const GLOBALS_ROOM: usize = 32;
 
 // All refusals before the call: 18 stands between the job's own and 12.
-fn check_noble(job: &[u8], pack: &[u8], workspace: usize) -> Checked
-    ensures { result ≡ checked_by (noble_tests job.now pack.now workspace) job.now }
+fn check_noble(job: &[u8], pack: &[u8], workspace: usize) -> Result<Fields, Refusal>
+    ensures { outcome_of result ≡ checked_by (noble_tests job.now pack.now workspace) job.now }
 {
-    match job::check_job(job) {
-        Checked::Refused(number) => Checked::Refused(number),
-        Checked::Passed(fields) => {
-            if !packages::package_good(pack, fields.n) {
-                return Checked::Refused(18);
-            }
-            if workspace < job::workspace_for(fields.rank) {
-                return Checked::Refused(12);
-            }
-            Checked::Passed(fields)
-        }
+    let fields = job::check_job(job)?;
+    if !packages::package_good(pack, fields.n) {
+        return Err(Refusal::Package);
     }
+    if workspace < job::workspace_for(fields.rank) {
+        return Err(Refusal::Workspace);
+    }
+    Ok(fields)
 }
 
 // A job and a package that passed, called, and what the call says written into the cleared buffer.
-fn write_noble(job: &[u8], pack: &[u8], fields: Fields, ws: &mut [u8], answer: &mut [u8]) -> Written
-    requires { (Passed fields ≡ checked_by (noble_tests job.now pack.now (length ws.old)) job.now) × (answer.old ≡ replicate (length answer.old) 0) }
-    ensures result { result ≡ written_in (length answer.old) (noble_alone job.now pack.now (length ws.old)) }
+fn write_noble(
+    job: &[u8],
+    pack: &[u8],
+    fields: Fields,
+    ws: &mut [u8],
+    answer: &mut [u8],
+) -> Result<usize, Refusal>
+    requires { (answered fields ≡ checked_by (noble_tests job.now pack.now (length ws.old)) job.now) × (answer.old ≡ replicate (length answer.old) 0) }
+    ensures result { outcome_of result ≡ written_in (length answer.old) (noble_alone job.now pack.now (length ws.old)) }
     ensures buffer { answer.new ≡ buffer_in (length answer.old) (noble_alone job.now pack.now (length ws.old)) }
 {
     let mut rows = [0; ROWS_ROOM];
@@ -55,13 +57,16 @@ fn write_noble(job: &[u8], pack: &[u8], fields: Fields, ws: &mut [u8], answer: &
 }
 
 // Any job with any package, answered into a cleared buffer.
-pub fn noble_job(job: &[u8], pack: &[u8], workspace: &mut [u8], answer: &mut [u8]) -> Written
+pub fn noble_job(
+    job: &[u8],
+    pack: &[u8],
+    workspace: &mut [u8],
+    answer: &mut [u8],
+) -> Result<usize, Refusal>
     requires { answer.old ≡ replicate (length answer.old) 0 }
-    ensures result { result ≡ written_in (length answer.old) (noble_alone job.now pack.now (length workspace.old)) }
+    ensures result { outcome_of result ≡ written_in (length answer.old) (noble_alone job.now pack.now (length workspace.old)) }
     ensures buffer { answer.new ≡ buffer_in (length answer.old) (noble_alone job.now pack.now (length workspace.old)) }
 {
-    match check_noble(job, pack, workspace.len()) {
-        Checked::Refused(number) => Written::Refused(number),
-        Checked::Passed(fields) => write_noble(job, pack, fields, workspace, answer),
-    }
+    let fields = check_noble(job, pack, workspace.len())?;
+    write_noble(job, pack, fields, workspace, answer)
 }

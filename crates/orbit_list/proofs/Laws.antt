@@ -13,26 +13,23 @@ use Rattle.definitions.specs.Recursion.{rows_within}
 use Rattle.definitions.specs.Job.{Bytes, read_job}
 use Rattle.laws.specs.Sets.{vertices_of}
 use Rattle.space.specs.declared.Points.{Points}
-use Rattle.space.specs.Meaning.{PointsFit}
 use Rattle.load.specs.declared.Fields.{Fields}
 use Rattle.load.specs.Places.{Exact}
 use Rattle.load.specs.Meaning.{fields_of, Loadable}
 use Rattle.load.proofs.Meaning.{loadable}
-use Rattle.job.specs.declared.Checked.TheVariants.{Passed}
 use Rattle.job.specs.Refusal.{checked_of}
 use Rattle.job.specs.Passed.{passed_means, passed_exact, passed_rows}
 use Rattle.openers.specs.Rows.{rows_in, written_rows}
 use Rattle.stabilizers.specs.Permutations.{Permutations, permutations_of}
 use Rattle.stabilizers.specs.Inner.{inner_permute}
-use Rattle.orbits.specs.declared.Answer.{Answer}
-use Rattle.orbits.specs.declared.Answer.TheVariants.{Orbits}
+use Rattle.std.specs.Prelude.{Ok}
 use Rattle.orbits.specs.Numbers.{orbit_of}
 use Rattle.orbits.specs.Workspace.{orbits_in, orbits_length}
 use Rattle.orbits.specs.Answers.{answer_in, orbits_or_refusal, CallFits}
 
 -- ---- a job that passes
 
-module _ (bytes : Bytes) (f : Fields) (passed : Passed f ≡ checked_of bytes 4194304) where
+module _ (bytes : Bytes) (f : Fields) (passed : answered f ≡ checked_of bytes 4194304) where
   pub exact : Exact bytes
   exact = passed_exact bytes 4194304 (passed_means bytes 4194304 f passed).0
 
@@ -47,11 +44,9 @@ module _ (bytes : Bytes) (f : Fields) (passed : Passed f ≡ checked_of bytes 41
       let good = passed_rows bytes 4194304 (passed_means bytes 4194304 f passed).0 in
       permutations_of f.n f.count region counts.n_most room (rw (held, counts.n_is) good)
 
-  pub call_fits : (points flat : Points) → PointsFit points → PointsFit flat → points.n ≡ f.n → flat.n ≡ points.n → (region : Bytes) → 32 * f.count ≤ length region
+  pub call_fits : (points flat : Points) → points.n ≡ f.n → flat.n ≡ points.n → (region : Bytes) → 32 * f.count ≤ length region
       → rows_in f.n f.count region ≡ (read_job bytes).rows → CallFits points flat f.count region
-  call_fits points flat a b e g region room held = record {
-    points_fit = a;
-    flat_fit = b;
+  call_fits points flat e g region room held = record {
     same_n = sym g;
     permute = subst (λ (n : ℕ). Permutations n f.count region) (sym (g ∙ e)) (rows_permute region room held);
     few = counts.count_most;
@@ -60,10 +55,10 @@ module _ (bytes : Bytes) (f : Fields) (passed : Passed f ≡ checked_of bytes 41
 -- ---- what is listed
 
 -- no more orbits than the bound allows
-pub orbits_few : (n count bound : ℕ) (ws : List ℕ) (orbits : List Orbit) (r : Answer) → r ≡ Orbits count → answer_in n r ws ≡ orbits_or_refusal bound orbits → count ≤ bound
+pub orbits_few : (n count bound : ℕ) (ws : List ℕ) (orbits : List Orbit) → answer_in n (Ok count) ws ≡ orbits_or_refusal bound orbits → count ≤ bound
 unfolding answer_in orbits_or_refusal refuse_if
-orbits_few n count bound ws orbits r is e =
-    go (ltb bound (length orbits)) (λ q. ltb-false bound (length orbits) q) (subst (λ (a : Answer). answer_in n a ws ≡ refuse_if (ltb bound (length orbits)) 13 (λ u. answered orbits)) is e)
+orbits_few n count bound ws orbits e =
+    go (ltb bound (length orbits)) (λ q. ltb-false bound (length orbits) q) e
   where
     go : (b : Bool) → (b ≡ false → length orbits ≤ bound) → answered (map (orbit_of n) (orbits_in ws count)) ≡ refuse_if b 13 (λ u. answered orbits) → count ≤ bound
     go true h q = let z : ◌≡◌ {A = ℕ} 0 1 = cc in absurd (omega arith)

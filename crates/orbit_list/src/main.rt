@@ -5,16 +5,13 @@
 
 ghost use Rattle.std.specs.Prelude.{◌≡◌, ◌+◌, ◌*◌, ◌^◌, ◌≤◌, ◌<◌, length};
 ghost use Rattle.job.specs.Refusal.{checked_of};
-ghost use Rattle.job.specs.declared.Checked.TheVariants.{Passed};
-ghost use Rattle.space.specs.Meaning.{PointsFit};
+ghost use Rattle.definitions.specs.Outcome.{answered};
 ghost use Rattle.stabilizers.specs.Permutations.{Permutations};
 
-use job::Checked;
 use load::Fields;
-use orbits::Answer;
-use sets::Fit;
 use space::Points;
 use std::io;
+use words::Word;
 
 // ---- words and numbers
 
@@ -29,14 +26,12 @@ fn put_number(rt: &impl Print, x: usize) -> io::Result<()> {
 // The vertices of a set, each behind a blank.
 fn put_vertices(rt: &impl Print, n: usize, set: u32) -> io::Result<()> {
     let mut rest = set;
-    let mut v = 0;
-    while v < n {
+    for v in 0..n {
         if rest % 2 == 1 {
             put(rt, b" ")?;
             put_number(rt, v)?;
         }
         rest = rest / 2;
-        v += 1;
     }
     Ok(())
 }
@@ -45,11 +40,9 @@ fn put_vertices(rt: &impl Print, n: usize, set: u32) -> io::Result<()> {
 fn put_row(rt: &impl Print, rows: &[u8], i: usize, size: usize) -> io::Result<()>
     requires { 32 * i + size ≤ length rows.now }
 {
-    let mut v = 0;
-    while v < size {
+    for v in 0..size {
         put(rt, b" ")?;
         put_number(rt, openers::image(rows, i, v))?;
-        v += 1;
     }
     Ok(())
 }
@@ -58,13 +51,11 @@ fn put_row(rt: &impl Print, rows: &[u8], i: usize, size: usize) -> io::Result<()
 fn put_rows(rt: &impl Print, rows: &[u8], count: usize, size: usize) -> io::Result<()>
     requires { (32 * count ≤ length rows.now) × (size ≤ 32) }
 {
-    let mut i = 0;
-    while i < count {
+    for i in 0..count {
         if 0 < i {
             put(rt, b",")?;
         }
         put_row(rt, rows, i, size)?;
-        i += 1;
     }
     Ok(())
 }
@@ -74,13 +65,11 @@ fn put_rows(rt: &impl Print, rows: &[u8], count: usize, size: usize) -> io::Resu
 fn list_orbits(rt: &impl Print, ws: &[u8], count: usize, n: usize) -> io::Result<()>
     requires { (8 * count ≤ length ws.now) × (n ≤ 20) }
 {
-    let mut k = 0;
-    while k < count {
-        put_number(rt, words::get_u32(ws, 8 * k + 4) as usize)?;
+    for k in 0..count {
+        put_number(rt, u32::get(ws, 8 * k + 4) as usize)?;
         put(rt, b":")?;
         put_vertices(rt, n, orbits::set_at(ws, k, n))?;
         put(rt, b"\n")?;
-        k += 1;
     }
     Ok(())
 }
@@ -114,17 +103,15 @@ fn list_inner(
     m: usize,
     set: u32,
 ) -> io::Result<bool>
-    requires { PointsFit flat × (2 ≤ rank) × Permutations flat.n m rows.now × (m ≤ 120) × (set < 2 ^ flat.n) }
+    requires { (2 ≤ rank) × Permutations flat.n m rows.now × (m ≤ 120) × (set < 2 ^ flat.n) }
 {
-    let chosen = sets::chosen_points(flat, set);
-    let refitted = sets::refit(chosen, tolerance, rank - 2);
-    let fit = refitted.fit;
-    match fit {
-        Fit::Refused => {
-            put(rt, b" refused 14\n")?;
+    let chosen = sets::chosen_points(&flat, set);
+    match sets::refit(chosen, tolerance, rank - 2) {
+        Err(e) => {
+            println!(rt; " refused {e}")?;
             Ok(false)
         }
-        Fit::Fitted => {
+        Ok(_) => {
             list_rows(rt, rows, m, flat.n, set, chosen.n)?;
             Ok(true)
         }
@@ -142,18 +129,16 @@ fn list_inners(
     ws: &[u8],
     count: usize,
 ) -> io::Result<()>
-    requires { PointsFit flat × (2 ≤ rank) × Permutations flat.n m rows.now × (m ≤ 120) × (8 * count ≤ length ws.now) }
+    requires { (2 ≤ rank) × Permutations flat.n m rows.now × (m ≤ 120) × (8 * count ≤ length ws.now) }
 {
     let n = flat.n;
-    let mut k = 0;
-    while k < count {
+    for k in 0..count {
         put(rt, b"inner ")?;
         put_number(rt, k)?;
         put(rt, b":")?;
         if !list_inner(rt, flat, rank, tolerance, rows, m, orbits::set_at(ws, k, n))? {
             return Ok(());
         }
-        k += 1;
     }
     Ok(())
 }
@@ -171,7 +156,7 @@ fn list_found(
     ws: &[u8],
     count: usize,
 ) -> io::Result<()>
-    requires { PointsFit flat × (2 ≤ rank) × Permutations flat.n m rows.now × (m ≤ 120) × (8 * count ≤ length ws.now) }
+    requires { (2 ≤ rank) × Permutations flat.n m rows.now × (m ≤ 120) × (8 * count ≤ length ws.now) }
 {
     put(rt, b" ")?;
     put_number(rt, count)?;
@@ -182,14 +167,13 @@ fn list_found(
 
 // A job of rank 3 or 4 that passes the refusals before the call.
 fn list_call(rt: &impl Print, job: &[u8], fields: Fields, ws: &mut [u8]) -> io::Result<()>
-    requires { (Passed fields ≡ checked_of job.now 4194304) × (3 ≤ fields.rank) × (124928 ≤ length ws.old) }
+    requires { (answered fields ≡ checked_of job.now 4194304) × (3 ≤ fields.rank) × (124928 ≤ length ws.old) }
 {
     let points = load::points_of(job, fields);
-    let flat = points.flatten_all(load::plane_of(job, fields));
+    let flat = points.flatten_all(&load::plane_of(job, fields));
     let rank = fields.rank;
     let m = fields.count;
-    let min = fields.min;
-    let max = fields.max;
+    let limits = fields.limits;
     let tolerance = fields.tolerance;
     let rule = fields.rule;
     let mut rows = [0; 3840];
@@ -200,15 +184,14 @@ fn list_call(rt: &impl Print, job: &[u8], fields: Fields, ws: &mut [u8]) -> io::
         rank - 3,
         &rows,
         m,
-        min,
-        max,
+        limits,
         tolerance,
         rule,
         256,
         ws,
     ) {
-        Answer::Refused => put(rt, b" refused 13\n"),
-        Answer::Orbits(count) => list_found(rt, flat, rank, tolerance, &rows, m, ws, count),
+        Err(e) => println!(rt; " refused {e}"),
+        Ok(count) => list_found(rt, flat, rank, tolerance, &rows, m, ws, count),
     }
 }
 
@@ -217,12 +200,8 @@ fn list_job(rt: &impl Print, job: &[u8], ws: &mut [u8]) -> io::Result<()>
     requires { 124928 ≤ length ws.old }
 {
     match job::check(job, 4194304) {
-        Checked::Refused(number) => {
-            put(rt, b" refused ")?;
-            put_number(rt, number as usize)?;
-            put(rt, b"\n")
-        }
-        Checked::Passed(fields) => {
+        Err(e) => println!(rt; " refused {e}"),
+        Ok(fields) => {
             if fields.rank == 2 {
                 return put(rt, b" rank 2\n");
             }
@@ -240,7 +219,7 @@ fn list_jobs(rt: &impl Print, input: &[u8], ws: &mut [u8]) -> io::Result<()>
     let mut at = 0;
     while at + 2 <= end {
         let from = at + 2;
-        let to = from + words::get_u16(input, at) as usize;
+        let to = from + u16::get(input, at) as usize;
         if end < to {
             return Ok(());
         }

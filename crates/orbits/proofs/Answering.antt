@@ -16,11 +16,11 @@ use Rattle.openers.specs.Meaning.{breaks}
 use Rattle.stabilizers.specs.Permutations.{Permutations, rows_fit_holds}
 use Rattle.orbits.specs.Hyperplanes.{Permutes}
 use Rattle.orbits.specs.Workspace.{seen_in}
-use Rattle.orbits.specs.Walks.{going, Walked}
-use Rattle.orbits.specs.Answers.{answer_in, orbits_or_refusal, PairsRise, pair_tuples, openers_rise, all_found, too_many}
+use Rattle.orbits.specs.Walks.{Walked}
+use Rattle.orbits.specs.Answers.{answer_in, orbits_or_refusal, counted, at_first, PairsRise, pair_tuples, openers_rise, walk_answers}
 use Rattle.orbits.specs.declared.Progress.{Progress}
-use Rattle.orbits.specs.declared.Walk.TheVariants.{Going, Refused}
-use Rattle.orbits.specs.declared.Answer.TheVariants.{Orbits, Refused as RefusedAnswer}
+use Rattle.std.specs.Prelude.{Result, Ok, Err}
+use Rattle.refusals.specs.declared.Refusal.{Refusal}
 
 -- nothing was seen yet
 pub none_ascend : (ws : List ℕ) → Ascending (seen_in 0 ws)
@@ -41,17 +41,16 @@ pub openers_same : (tolerance : Float) (limits : Limits) (points : List Vec) (m 
 openers_same tolerance limits points m s ps n k e h =
     subst (λ (j : ℕ). ps ≡ pair_openers (breaks tolerance limits points) (rows_in j m s) [] (pairs_from j (vertex_openers (rows_in j m s) [] (count_from 0 j)))) e h
 
-module _ (tolerance : Float) (limits : Limits) (rule more : ℕ) (points flat : List Vec) (rows : List Row) (bound : ℕ) (ps : List Pair) (ws : List ℕ) (r : Progress) (after : List ℕ) where
+module _ (tolerance : Float) (limits : Limits) (rule more : ℕ) (points flat : List Vec) (rows : List Row) (bound : ℕ) (ps : List Pair) (ws : List ℕ) (r : Result Progress Refusal) (after : List ℕ) where
   abbrev whole : ℕ → Type 0
-  whole n = (r.walk ≡ Going → answer_in n (Orbits r.count) after ≡ orbits_or_refusal bound (hyperplane_orbits tolerance limits rule more points flat rows))
-      × (r.walk ≡ Refused → answer_in n RefusedAnswer after ≡ orbits_or_refusal bound (hyperplane_orbits tolerance limits rule more points flat rows))
+  whole n = answer_in n (counted r) after ≡ orbits_or_refusal bound (hyperplane_orbits tolerance limits rule more points flat rows)
 
   pub answers : (n most : ℕ) → length flat ≡ n → most ≡ most_vertices rule more n → length points ≡ n → ((row : Row) → Mem row rows → Permutes n row)
       → ps ≡ pair_openers (breaks tolerance limits points) rows [] (pairs_from n (vertex_openers rows [] (count_from 0 n)))
-      → Walked tolerance most flat rows bound (going 0 0) ws (pair_tuples tolerance limits points flat n more ps) r after → whole n
+      → Walked tolerance most flat rows bound at_first ws (pair_tuples tolerance limits points flat n more ps) r after → whole n
   answers n most e =
       subst (λ (k : ℕ). most ≡ most_vertices rule more k → length points ≡ k → ((row : Row) → Mem row rows → Permutes k row) → ps ≡ pair_openers (breaks tolerance limits points) rows [] (pairs_from k (vertex_openers rows [] (count_from 0 k)))
-      → Walked tolerance most flat rows bound (going 0 0) ws (pair_tuples tolerance limits points flat k more ps) r after → whole k) e
+      → Walked tolerance most flat rows bound at_first ws (pair_tuples tolerance limits points flat k more ps) r after → whole k) e
       (λ most-is same permute openers walk.
-      let by-rule = subst (λ (many : ℕ). Walked tolerance many flat rows bound (going 0 0) ws (pair_tuples tolerance limits points flat (length flat) more ps) r after) most-is walk in
-      (all_found tolerance limits rule more points flat rows bound same permute ps openers ws r after by-rule, too_many tolerance limits rule more points flat rows bound same permute ps openers ws r after by-rule))
+      let by-rule = subst (λ (many : ℕ). Walked tolerance many flat rows bound at_first ws (pair_tuples tolerance limits points flat (length flat) more ps) r after) most-is walk in
+      walk_answers tolerance limits rule more points flat rows bound same permute ps openers ws r after by-rule)

@@ -8,14 +8,16 @@ use lib.Ieee.{Float}
 use Rattle.definitions.specs.Vectors.{Vec}
 use Rattle.definitions.specs.Orbits.{Row, Limits, point_at, breaks_limit}
 use Rattle.orbits.specs.Workspace.{OrbitsRoom}
-use Rattle.orbits.specs.Walks.{keeps_limits, Walked, walked_none, walked_append, extensions, extensions_none, extensions_end, extensions_skip, extensions_take}
+use Rattle.orbits.specs.Walks.{keeps_limits, Walked, walked_none, walked_append, walked_refused, extensions, extensions_none, extensions_end, extensions_skip, extensions_take}
+use Rattle.std.specs.Prelude.{Ok, Err}
+use Rattle.refusals.specs.declared.Refusal.{Refusal}
 use Rattle.orbits.specs.declared.Progress.{Progress}
 
 -- some of the tuples were walked along, and the rest is left
 pub record Extending (tolerance : Float) (most : ℕ) (flat : List Vec) (rows : List Row) (bound : ℕ) (state : Progress) (ws : List ℕ) (all rest : List (List Vec)) (reached : Progress) (now : List ℕ) : Type 0 where
   pub done : List (List Vec)
   pub whole : done ++ rest ≡ all
-  pub walked : Walked tolerance most flat rows bound state ws done reached now
+  pub walked : Walked tolerance most flat rows bound state ws done (Ok reached) now
 
 module _ (tolerance : Float) (most : ℕ) (flat : List Vec) (rows : List Row) (bound : ℕ) (state : Progress) (ws : List ℕ) where
   pub extend_start : (all : List (List Vec)) → OrbitsRoom bound state.known state.count ws → Extending tolerance most flat rows bound state ws all all state ws
@@ -23,17 +25,25 @@ module _ (tolerance : Float) (most : ℕ) (flat : List Vec) (rows : List Row) (b
 
   -- more of them are walked along
   pub extend_turn : (all rest ts later : List (List Vec)) (reached : Progress) (now : List ℕ) (next : Progress) (after : List ℕ) → Extending tolerance most flat rows bound state ws all rest reached now
-      → rest ≡ ts ++ later → Walked tolerance most flat rows bound reached now ts next after → Extending tolerance most flat rows bound state ws all later next after
+      → rest ≡ ts ++ later → Walked tolerance most flat rows bound reached now ts (Ok next) after → Extending tolerance most flat rows bound state ws all later next after
   extend_turn all rest ts later reached now next after x e w = record {
     done = x.done ++ ts;
     whole = append_assoc x.done ts later ∙ (ap (λ (l : List (List Vec)). x.done ++ l) (sym e) ∙ x.whole);
-    walked = walked_append tolerance most flat rows bound state ws x.done reached now ts next after x.walked w;
+    walked = walked_append tolerance most flat rows bound state ws x.done reached now ts (Ok next) after x.walked w;
   }
 
-  pub extend_end : (all rest : List (List Vec)) (reached : Progress) (now : List ℕ) → Extending tolerance most flat rows bound state ws all rest reached now → rest ≡ [] → Walked tolerance most flat rows bound state ws all reached now
+  -- a refusal on the way ends it
+  pub extend_refused : (all rest ts later : List (List Vec)) (reached : Progress) (now : List ℕ) (e : Refusal) (after : List ℕ) → Extending tolerance most flat rows bound state ws all rest reached now
+      → rest ≡ ts ++ later → Walked tolerance most flat rows bound reached now ts (Err e) after → Walked tolerance most flat rows bound state ws all (Err e) after
+  extend_refused all rest ts later reached now e after x q w =
+      let whole : (x.done ++ ts) ++ later ≡ all = append_assoc x.done ts later ∙ (ap (λ (l : List (List Vec)). x.done ++ l) (sym q) ∙ x.whole) in
+      let so_far = walked_append tolerance most flat rows bound state ws x.done reached now ts (Err e) after x.walked w in
+      subst (λ (l : List (List Vec)). Walked tolerance most flat rows bound state ws l (Err e) after) whole (walked_refused tolerance most flat rows bound state ws (x.done ++ ts) later e after so_far)
+
+  pub extend_end : (all rest : List (List Vec)) (reached : Progress) (now : List ℕ) → Extending tolerance most flat rows bound state ws all rest reached now → rest ≡ [] → Walked tolerance most flat rows bound state ws all (Ok reached) now
   extend_end all rest reached now x e =
       let done : x.done ≡ all = sym (append-nil x.done) ∙ (ap (λ (l : List (List Vec)). x.done ++ l) (sym e) ∙ x.whole) in
-      subst (λ (l : List (List Vec)). Walked tolerance most flat rows bound state ws l reached now) done x.walked
+      subst (λ (l : List (List Vec)). Walked tolerance most flat rows bound state ws l (Ok reached) now) done x.walked
 
 module _ (passes : ℕ → Bool) (flat tuple : List Vec) (n : ℕ) where
   pub none_added : (from more : ℕ) → more ≡ 0 → extensions passes flat tuple n from more ≡ tuple ∷ []

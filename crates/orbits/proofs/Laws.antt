@@ -22,11 +22,10 @@ use Rattle.sorted.specs.Gathering.{added, gathered, gathered_few, Gathering, gat
 use Rattle.sorted.specs.Merging.{New, Merged}
 use Rattle.openers.specs.Rows.{rows_in, row_at}
 use Rattle.orbits.specs.Numbers.{image_numbers, may_open, near_number, opens_orbit, orbits_from, seen_after}
-use Rattle.orbits.specs.Walks.{going, Walked}
-use Rattle.orbits.specs.Workspace.{seen_in, orbits_in, OrbitsRoom, ReachedBy, Opened, orbits_length, orbits_front}
+use Rattle.orbits.specs.Workspace.{seen_in, orbits_in, OrbitsRoom, Opened, orbits_length, orbits_front}
 use Rattle.orbits.specs.declared.Progress.{Progress}
-use Rattle.orbits.specs.declared.Walk.{Walk}
-use Rattle.orbits.specs.declared.Walk.TheVariants.{Going, Refused}
+use Rattle.std.specs.Prelude.{Ok, Err}
+use Rattle.refusals.specs.declared.Refusal.TheVariants.{Orbits}
 
 -- the sets seen, in the part that is lent
 pub seen_part : (known : ℕ) (ws : List ℕ) → 2048 + 4 * known ≤ length ws → words 4 (take (length ws - 2048) (drop 2048 ws)) known ≡ seen_in known ws
@@ -58,10 +57,10 @@ module _ (known : ℕ) (ws : List ℕ) (fits : 2048 + 4 * known ≤ length ws) (
 
 -- ---- an orbit opened
 
-pub opened_none : (bound known count : ℕ) (ws : List ℕ) (set : ℕ) (images : List ℕ) → OrbitsRoom bound known count ws → count ≡ bound → Opened bound known count ws set images (record { known = known; count = count; walk = Refused }) ws
+pub opened_none : (bound known count : ℕ) (ws : List ℕ) (set : ℕ) (images : List ℕ) → OrbitsRoom bound known count ws → count ≡ bound → Opened bound known count ws set images (Err Orbits) ws
 opened_none bound known count ws set images room e = record {
-  room = room;
-  reached = λ seen orbits h. let n : length orbits ≡ count = ap length (sym h.orbits_are) ∙ orbits_length ws count in omega (arith, length-append orbits ((set, length (added seen images) - length seen) ∷ []));
+  room = tt;
+  reached = λ seen orbits h. let n : length orbits ≡ count = ap length (sym h.orbits_are) ∙ orbits_length ws count in (refl, omega (arith, length-append orbits ((set, length (added seen images) - length seen) ∷ [])));
 }
 
 module _ (bound known count : ℕ) (ws : List ℕ) (set : ℕ) (images : List ℕ) (k : ℕ) (new : List ℕ) (room : OrbitsRoom bound known count ws) (few : k ≤ 120) (small : set < 256 ^ 4) (free : count < bound) where
@@ -142,7 +141,7 @@ module _ (bound known count : ℕ) (ws : List ℕ) (set : ℕ) (images : List �
         let d : length (drop (length both - 2048) (drop 2048 both)) ≡ 0 = length-drop (length both - 2048) (drop 2048 both) ∙ (omega (arith, length-drop 2048 both)) in
         length-append (take 2048 both) _ ∙ (omega (arith, length-append part (drop (length both - 2048) (drop 2048 both)), part_long, room.long))
 
-    pub opened_one : Opened bound known count ws set images (record { known = known + k; count = count + 1; walk = Going }) after
+    pub opened_one : Opened bound known count ws set images (Ok (record { known = known + k; count = count + 1 })) after
     unfolding seen_in
     opened_one = record {
       room = record {
@@ -163,10 +162,10 @@ module _ (bound known count : ℕ) (ws : List ℕ) (set : ℕ) (images : List �
 
   pub opened_by : (w₁ w₂ part : List ℕ) → w₁ ≡ put 4 ws (8 * count) set → w₂ ≡ put 4 w₁ (8 * count + 4) k → Merged (take (length w₂ - 2048) (drop 2048 w₂)) known (take k new) part
       → k ≤ length new → Gathering (seen_in known ws) images (take k new)
-      → Opened bound known count ws set images (record { known = known + k; count = count + 1; walk = Going }) (take 2048 w₂ ++ (part ++ drop (length w₂ - 2048) (drop 2048 w₂)))
+      → Opened bound known count ws set images (Ok (record { known = known + k; count = count + 1 })) (take 2048 w₂ ++ (part ++ drop (length w₂ - 2048) (drop 2048 w₂)))
   opened_by w₁ w₂ part e f merged wide gather =
       let same : w₂ ≡ both = f ∙ ap (λ (l : List ℕ). put 4 l (8 * count + 4) k) e in
-      subst (λ (w : List ℕ). Merged (take (length w - 2048) (drop 2048 w)) known (take k new) part → Opened bound known count ws set images (record { known = known + k; count = count + 1; walk = Going }) (take 2048 w ++ (part ++ drop (length w - 2048) (drop 2048 w))))
+      subst (λ (w : List ℕ). Merged (take (length w - 2048) (drop 2048 w)) known (take k new) part → Opened bound known count ws set images (Ok (record { known = known + k; count = count + 1 })) (take 2048 w ++ (part ++ drop (length w - 2048) (drop 2048 w))))
       (sym same) (λ m. opened_one part m wide gather) merged
 
 -- the part that is lent has room for the sets seen
@@ -191,19 +190,3 @@ module _ (tolerance : Float) (most : ℕ) (flat : List Vec) (rows : List Row) (s
   pub near_is : (set : ℕ) (plane : Subspace) → plane ≡ from_points tolerance points → set ≡ set_number (points_near tolerance plane flat 0) → set ≡ near_number tolerance most flat rows points
   unfolding near_number
   near_is set plane e f = f ∙ ap (λ (s : Subspace). set_number (points_near tolerance s flat 0)) e
-
-module _ (tolerance : Float) (most : ℕ) (flat : List Vec) (rows : List Row) (bound : ℕ) (state : Progress) (ws : List ℕ) (ts : List (List Vec)) where
-  pub stays_refused : state.walk ≡ Refused → OrbitsRoom bound state.known state.count ws → Walked tolerance most flat rows bound state ws ts state ws
-  stays_refused e room = record {
-    room = room;
-    reached = λ seen orbits h.
-        let over : bound < length orbits = subst (λ (v : Walk). ReachedBy v bound state.known state.count ws seen orbits) e h in
-        let more = orbits ++ orbits_from tolerance most flat rows seen ts in
-        subst (λ (v : Walk). ReachedBy v bound state.known state.count ws (seen_after tolerance most flat rows seen ts) more) (sym e) (omega (arith, length-append orbits (orbits_from tolerance most flat rows seen ts)));
-  }
-
-  pub goes_on : (r : Progress) (after : List ℕ) → state.walk ≡ Going → Walked tolerance most flat rows bound (going state.known state.count) ws ts r after → Walked tolerance most flat rows bound state ws ts r after
-  goes_on r after e w = record {
-    room = w.room;
-    reached = λ seen orbits h. w.reached seen orbits (subst (λ (v : Walk). ReachedBy v bound state.known state.count ws seen orbits) e h);
-  }

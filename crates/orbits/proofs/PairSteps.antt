@@ -14,11 +14,11 @@ use Rattle.laws.specs.Parts.{take_more}
 use Rattle.openers.specs.declared.Pairs.{Pairs}
 use Rattle.openers.specs.Meaning.{pair_of, pairs_in}
 use Rattle.orbits.specs.Workspace.{OrbitsRoom}
-use Rattle.orbits.specs.Walks.{Walked, walked_none, walked_append, extensions, keeps_limits}
+use Rattle.orbits.specs.Walks.{Walked, walked_none, walked_append, walked_refused, extensions, keeps_limits}
 use Rattle.orbits.specs.Answers.{tuples_of, pair_tuples}
 use Rattle.orbits.specs.declared.Progress.{Progress}
-use Rattle.orbits.specs.declared.Walk.TheVariants.{Refused}
-use Rattle.orbits.proofs.Laws.{stays_refused}
+use Rattle.std.specs.Prelude.{Result, Ok, Err}
+use Rattle.refusals.specs.declared.Refusal.{Refusal}
 
 module _ (pairs : Pairs) (fits : pairs.count ≤ 190) (long : length pairs.codes ≡ 190) where
   pub pairs_count : length (pairs_in pairs) ≡ pairs.count
@@ -35,7 +35,7 @@ module _ (pairs : Pairs) (fits : pairs.count ≤ 190) (long : length pairs.codes
   pair_in k h = subst (λ (p : Pair). Mem p (pairs_in pairs)) (pair_at k h) (member_at (pairs_in pairs) k (0, 0) (omega (arith, pairs_count)))
 
 module _ (tolerance : Float) (most : ℕ) (limits : Limits) (points flat : List Vec) (n more : ℕ) (rows : List Row) (bound : ℕ) (state : Progress) (ws : List ℕ) where
-  pub walk_start : (l : List Pair) → OrbitsRoom bound state.known state.count ws → Walked tolerance most flat rows bound state ws (pair_tuples tolerance limits points flat n more (take 0 l)) state ws
+  pub walk_start : (l : List Pair) → OrbitsRoom bound state.known state.count ws → Walked tolerance most flat rows bound state ws (pair_tuples tolerance limits points flat n more (take 0 l)) (Ok state) ws
   unfolding pair_tuples flat_map
   walk_start l room = walked_none tolerance most flat rows bound state ws room
 
@@ -46,9 +46,9 @@ module _ (tolerance : Float) (most : ℕ) (limits : Limits) (points flat : List 
       let f = tuples_of tolerance limits points flat n more in
       ap (flat_map f) (take_more l k (0, 0) h) ∙ (flat_map_append f (take k l) (get_or l k (0, 0) ∷ []) ∙ ap (λ (r : List (List Vec)). flat_map f (take k l) ++ r) (append-nil (f (get_or l k (0, 0)))))
 
-  pub walk_turn : (l : List Pair) (k v w : ℕ) (tuple : List Vec) (reached : Progress) (now : List ℕ) (next : Progress) (after : List ℕ) → k < length l → get_or l k (0, 0) ≡ (v, w)
+  pub walk_turn : (l : List Pair) (k v w : ℕ) (tuple : List Vec) (reached : Progress) (now : List ℕ) (next : Result Progress Refusal) (after : List ℕ) → k < length l → get_or l k (0, 0) ≡ (v, w)
       → tuple ≡ point_at flat v ∷ point_at flat w ∷ []
-      → Walked tolerance most flat rows bound state ws (pair_tuples tolerance limits points flat n more (take k l)) reached now
+      → Walked tolerance most flat rows bound state ws (pair_tuples tolerance limits points flat n more (take k l)) (Ok reached) now
       → Walked tolerance most flat rows bound reached now (extensions (keeps_limits tolerance limits points v) flat tuple n (w + 1) more) next after
       → Walked tolerance most flat rows bound state ws (pair_tuples tolerance limits points flat n more (take (k + 1) l)) next after
   unfolding tuples_of
@@ -58,11 +58,10 @@ module _ (tolerance : Float) (most : ℕ) (limits : Limits) (points flat : List 
       rw (next_pair l k h, here) (walked_append tolerance most flat rows bound state ws _ reached now _ next after a b)
 
   -- behind a refusal nothing changes
-  pub walk_ends_holds : (l : List Pair) (k : ℕ) (reached : Progress) (now : List ℕ) → Walked tolerance most flat rows bound state ws (pair_tuples tolerance limits points flat n more (take k l)) reached now → reached.walk ≡ Refused
-      → Walked tolerance most flat rows bound state ws (pair_tuples tolerance limits points flat n more l) reached now
+  pub walk_ends_holds : (l : List Pair) (k : ℕ) (e : Refusal) (now : List ℕ) → Walked tolerance most flat rows bound state ws (pair_tuples tolerance limits points flat n more (take k l)) (Err e) now
+      → Walked tolerance most flat rows bound state ws (pair_tuples tolerance limits points flat n more l) (Err e) now
   unfolding pair_tuples
-  walk_ends_holds l k reached now a e =
+  walk_ends_holds l k e now a =
       let f = tuples_of tolerance limits points flat n more in
-      let rest = stays_refused tolerance most flat rows bound reached now (flat_map f (drop k l)) e a.room in
       let both : flat_map f (take k l) ++ flat_map f (drop k l) ≡ flat_map f l = sym (flat_map_append f (take k l) (drop k l)) ∙ ap (flat_map f) (take-append-drop k l) in
-      subst (λ (ts : List (List Vec)). Walked tolerance most flat rows bound state ws ts reached now) both (walked_append tolerance most flat rows bound state ws (flat_map f (take k l)) reached now (flat_map f (drop k l)) reached now a rest)
+      subst (λ (ts : List (List Vec)). Walked tolerance most flat rows bound state ws ts (Err e) now) both (walked_refused tolerance most flat rows bound state ws (flat_map f (take k l)) (flat_map f (drop k l)) e now a)

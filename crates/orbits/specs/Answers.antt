@@ -1,5 +1,5 @@
 -- What the whole answers: the hyperplane orbits of a call [5.7], or refusal 13. Leans on Hyperplanes and Walks.
-use Rattle.std.specs.Prelude.{◌≡◌, Bool, true, false, cond, not, ◌||◌, ℕ, suc, ◌+◌, ◌*◌, ◌-◌, ◌≤◌, ◌<◌, ltb, get_or, take, drop, Float}
+use Rattle.std.specs.Prelude.{◌≡◌, Bool, true, false, cond, not, ◌||◌, ℕ, suc, ◌+◌, ◌*◌, ◌-◌, ◌≤◌, ◌<◌, ltb, get_or, take, drop, Float, Result, Ok, Err}
 use Rattle.std.proofs.Math.Path.{refl, sym, ap, subst}
 use Rattle.std.proofs.Common.{◌∙◌, arith, add-one}
 use mathlib.Core.List.{List, [], ◌∷◌, ◌++◌, map, flat_map, map-append, Memᴰ}
@@ -13,7 +13,6 @@ use Rattle.definitions.specs.Orbits.{Row, Limits, Orbit, image, point_at, breaks
 use Rattle.laws.specs.Lists.{Mem, here, there, of_map, of_flat_map, at_member, of_count}
 use Rattle.laws.specs.Parts.{rows, get_d_rows, length_rows}
 use Rattle.space.specs.declared.Points.{Points}
-use Rattle.space.specs.Meaning.{PointsFit}
 use Rattle.words.specs.Words.{words}
 use Rattle.sorted.specs.Ascending.{ascending_nil}
 use Rattle.openers.specs.Rows.{rows_in, image_at_holds}
@@ -21,20 +20,27 @@ use Rattle.openers.specs.Meaning.{breaks}
 use Rattle.stabilizers.specs.Permutations.{Permutations}
 use Rattle.orbits.specs.Numbers.{orbit_of, orbits_from, seen_after}
 use Rattle.orbits.specs.Hyperplanes.{Permutes, SeenAs, orbits_are}
-use Rattle.orbits.specs.Workspace.{seen_in, orbits_in, HoldsOrbits, ReachedBy, orbits_length}
-use Rattle.orbits.specs.Walks.{going, Walked, keeps_limits, extensions}
+use Rattle.orbits.specs.Workspace.{seen_in, orbits_in, HoldsOrbits, orbits_length}
+use Rattle.orbits.specs.Walks.{Walked, keeps_limits, extensions}
 use Rattle.orbits.specs.declared.Progress.{Progress}
-use Rattle.orbits.specs.declared.Walk.{Walk}
-use Rattle.orbits.specs.declared.Walk.TheVariants.{Going, Refused}
-use Rattle.orbits.specs.declared.Answer.{Answer}
-use Rattle.orbits.specs.declared.Answer.TheVariants.{Orbits, Refused as RefusedAnswer}
+use Rattle.refusals.specs.declared.Refusal.{Refusal}
+use Rattle.refusals.specs.Refused.{number_of}
 
 -- ---- definitions
 
 -- what an answer says: the orbits that the workspace holds, or refusal 13
-unfoldable pub answer_in : ℕ → Answer → List ℕ → Outcome (List Orbit)
-answer_in n (Orbits count) ws = answered (map (orbit_of n) (orbits_in ws count))
-answer_in n RefusedAnswer ws = refused 13
+unfoldable pub answer_in : ℕ → Result ℕ Refusal → List ℕ → Outcome (List Orbit)
+answer_in n (Ok count) ws = answered (map (orbit_of n) (orbits_in ws count))
+answer_in n (Err e) ws = refused (number_of e)
+
+-- what a walk along all tuples answers: how many orbits it found
+abbrev pub counted : Result Progress Refusal → Result ℕ Refusal
+counted (Ok p) = Ok p.count
+counted (Err e) = Err e
+
+-- no set was seen and no orbit found
+abbrev pub at_first : Progress
+at_first = record { known = 0; count = 0 }
 
 -- the orbits, unless there are more than the bound
 unfoldable pub orbits_or_refusal : ℕ → List Orbit → Outcome (List Orbit)
@@ -42,8 +48,6 @@ orbits_or_refusal bound orbits = refuse_if (ltb bound (length orbits)) 13 (λ u.
 
 -- what a call gives: its points as passed and flattened, and rows that are permutations of them, 120 at most
 pub record CallFits (points flat : Points) (m : ℕ) (rows : List ℕ) : Type 0 where
-  pub points_fit : PointsFit points
-  pub flat_fit : PointsFit flat
   pub same_n : points.n ≡ flat.n
   pub permute : Permutations flat.n m rows
   pub few : m ≤ 120
@@ -153,23 +157,13 @@ module _ (tolerance : Float) (limits : Limits) (rule more : ℕ) (points flat : 
   found_length : length (orbits_from tolerance most flat rows [] all) ≡ length whole
   found_length = sym (length-map (orbits_from tolerance most flat rows [] all) (orbit_of (length flat))) ∙ ap length found
 
-  module _ (ws : List ℕ) (r : Progress) (after : List ℕ) (walk : Walked tolerance most flat rows bound (going 0 0) ws all r after) where
-    end : ReachedBy r.walk bound r.known r.count after (seen_after tolerance most flat rows [] all) (orbits_from tolerance most flat rows [] all)
-    unfolding seen_in words orbits_in
-    end = walk.reached [] [] (record { seen_are = refl; orbits_are = refl })
-
-    pub all_found : r.walk ≡ Going → answer_in (length flat) (Orbits r.count) after ≡ orbits_or_refusal bound whole
-    unfolding answer_in orbits_or_refusal refuse_if
-    all_found e =
-        let held : HoldsOrbits r.known r.count after (seen_after tolerance most flat rows [] all) (orbits_from tolerance most flat rows [] all) =
-        subst (λ (v : Walk). ReachedBy v bound r.known r.count after (seen_after tolerance most flat rows [] all) (orbits_from tolerance most flat rows [] all)) e end in
-        let count : r.count ≡ length whole = sym (orbits_length after r.count) ∙ (ap length held.orbits_are ∙ found_length) in
-        let is : map (orbit_of (length flat)) (orbits_in after r.count) ≡ whole = ap (map (orbit_of (length flat))) held.orbits_are ∙ found in
-        rw (is, le-ltb bound (length whole) (omega (arith, walk.room.count_fits))) refl
-
-    pub too_many : r.walk ≡ Refused → answer_in (length flat) RefusedAnswer after ≡ orbits_or_refusal bound whole
-    unfolding answer_in orbits_or_refusal refuse_if
-    too_many e =
-        let over : bound < length (orbits_from tolerance most flat rows [] all) =
-        subst (λ (v : Walk). ReachedBy v bound r.known r.count after (seen_after tolerance most flat rows [] all) (orbits_from tolerance most flat rows [] all)) e end in
-        rw (lt-ltb bound (length whole) (omega (arith, found_length))) refl
+  pub walk_answers : (ws : List ℕ) (r : Result Progress Refusal) (after : List ℕ) → Walked tolerance most flat rows bound at_first ws all r after → answer_in (length flat) (counted r) after ≡ orbits_or_refusal bound whole
+  unfolding answer_in orbits_or_refusal refuse_if seen_in words orbits_in
+  walk_answers ws (Ok p) after walk =
+      let held : HoldsOrbits p.known p.count after (seen_after tolerance most flat rows [] all) (orbits_from tolerance most flat rows [] all) = walk.reached [] [] (record { seen_are = refl; orbits_are = refl }) in
+      let count : p.count ≡ length whole = sym (orbits_length after p.count) ∙ (ap length held.orbits_are ∙ found_length) in
+      let is : map (orbit_of (length flat)) (orbits_in after p.count) ≡ whole = ap (map (orbit_of (length flat))) held.orbits_are ∙ found in
+      rw (is, le-ltb bound (length whole) (omega (arith, walk.room.count_fits))) refl
+  walk_answers ws (Err e) after walk =
+      let over : (number_of e ≡ 13) × (bound < length (orbits_from tolerance most flat rows [] all)) = walk.reached [] [] (record { seen_are = refl; orbits_are = refl }) in
+      rw (lt-ltb bound (length whole) (omega (arith, over.1, found_length))) (ap refused over.0)

@@ -1,7 +1,7 @@
 -- A walk along tuples of points: what it leaves in the workspace, and which tuples extend one. Leans on Workspace and Numbers.
-use Rattle.std.specs.Prelude.{◌≡◌, Bool, not, length, Float}
+use Rattle.std.specs.Prelude.{◌≡◌, Bool, not, length, Float, Result, Ok, Err}
 use Rattle.std.proofs.Math.Path.{refl, ap}
-use Rattle.std.proofs.Common.{sym, ◌∙◌, add-one}
+use Rattle.std.proofs.Common.{sym, ◌∙◌, add-one, length-append}
 use Rattle.std.proofs.Math.Bool.{true, false, cond}
 use mathlib.Core.List.{List, [], ◌∷◌, ◌++◌, map, append-nil, append_assoc, map-append}
 use Prim.Native.Nat.{ℕ, suc, ◌+◌, ◌-◌, ◌≤◌, ◌<◌}
@@ -12,29 +12,23 @@ use Rattle.definitions.specs.Orbits.{Row, Limits, point_at, breaks_limit}
 use Rattle.laws.specs.Lists.{keep_append}
 use Rattle.laws.specs.Segments.{cons_same}
 use Rattle.space.specs.declared.Points.{Points}
-use Rattle.space.specs.Meaning.{PointsFit}
 use Rattle.stabilizers.specs.Permutations.{Permutations}
 use Rattle.orbits.specs.Numbers.{image_numbers, near_number, opens_orbit, with_images, orbits_from, seen_after, orbits_append, seen_append, one_closed, one_opened}
-use Rattle.orbits.specs.Workspace.{seen_in, OrbitsRoom, Reached, Opened}
+use Rattle.orbits.specs.Workspace.{seen_in, OrbitsRoom, HoldsOrbits, Reached, KeepsRoom, Opened}
 use Rattle.orbits.specs.declared.Progress.{Progress}
-use Rattle.orbits.specs.declared.Walk.TheVariants.{Going}
-
-abbrev pub going : ℕ → ℕ → Progress
-going known count = record { known = known; count = count; walk = Going }
+use Rattle.refusals.specs.declared.Refusal.{Refusal}
 
 -- what a step on a tuple asks of its points and of the rows
 pub record TupleFits (flat tuple : Points) (m : ℕ) (rows : List ℕ) : Type 0 where
-  pub flat_fits : PointsFit flat
-  pub tuple_fits : PointsFit tuple
   pub some_point : 0 < tuple.n
   pub same_d : tuple.d ≡ flat.d
   pub permute : Permutations flat.n m rows
   pub few : m ≤ 120
 
 -- a walk along tuples of points, from a state on
-pub record Walked (tolerance : Float) (most : ℕ) (flat : List Vec) (rows : List Row) (bound : ℕ) (state : Progress) (ws : List ℕ) (tuples : List (List Vec)) (r : Progress) (after : List ℕ) : Type 0 where
-  pub room : OrbitsRoom bound r.known r.count after
-  pub reached : (seen : List ℕ) (orbits : List Pair) → Reached bound state ws seen orbits → Reached bound r after (seen_after tolerance most flat rows seen tuples) (orbits ++ orbits_from tolerance most flat rows seen tuples)
+pub record Walked (tolerance : Float) (most : ℕ) (flat : List Vec) (rows : List Row) (bound : ℕ) (state : Progress) (ws : List ℕ) (tuples : List (List Vec)) (r : Result Progress Refusal) (after : List ℕ) : Type 0 where
+  pub room : KeepsRoom bound r after
+  pub reached : (seen : List ℕ) (orbits : List Pair) → HoldsOrbits state.known state.count ws seen orbits → Reached bound r after (seen_after tolerance most flat rows seen tuples) (orbits ++ orbits_from tolerance most flat rows seen tuples)
 
 -- [5.5] an added vertex that breaks a limit takes its tuples with it
 unfoldable pub keeps_limits : Float → Limits → List Vec → ℕ → ℕ → Bool
@@ -47,23 +41,35 @@ extensions passes flat tuple n from more = map (λ (joining : List ℕ). tuple +
 -- ---- walks
 
 module _ (tolerance : Float) (most : ℕ) (flat : List Vec) (rows : List Row) (bound : ℕ) where
-  pub walked_none : (state : Progress) (ws : List ℕ) → OrbitsRoom bound state.known state.count ws → Walked tolerance most flat rows bound state ws [] state ws
+  pub walked_none : (state : Progress) (ws : List ℕ) → OrbitsRoom bound state.known state.count ws → Walked tolerance most flat rows bound state ws [] (Ok state) ws
   unfolding seen_after orbits_from
   walked_none state ws room = record { room = room; reached = λ seen orbits h. rw append-nil h }
 
-  pub walked_append : (s₀ : Progress) (w₀ : List ℕ) (ts : List (List Vec)) (s₁ : Progress) (w₁ : List ℕ) (us : List (List Vec)) (s₂ : Progress) (w₂ : List ℕ)
-      → Walked tolerance most flat rows bound s₀ w₀ ts s₁ w₁ → Walked tolerance most flat rows bound s₁ w₁ us s₂ w₂ → Walked tolerance most flat rows bound s₀ w₀ (ts ++ us) s₂ w₂
-  walked_append s₀ w₀ ts s₁ w₁ us s₂ w₂ a b = record {
+  pub walked_append : (s₀ : Progress) (w₀ : List ℕ) (ts : List (List Vec)) (s₁ : Progress) (w₁ : List ℕ) (us : List (List Vec)) (r : Result Progress Refusal) (w₂ : List ℕ)
+      → Walked tolerance most flat rows bound s₀ w₀ ts (Ok s₁) w₁ → Walked tolerance most flat rows bound s₁ w₁ us r w₂ → Walked tolerance most flat rows bound s₀ w₀ (ts ++ us) r w₂
+  walked_append s₀ w₀ ts s₁ w₁ us r w₂ a b = record {
     room = b.room;
     reached = λ seen orbits h.
         rw (orbits_append tolerance most flat rows seen ts us, seen_append tolerance most flat rows seen ts us, ← (append_assoc orbits (orbits_from tolerance most flat rows seen ts) (orbits_from tolerance most flat rows (seen_after tolerance most flat rows seen ts) us)))
         (b.reached (seen_after tolerance most flat rows seen ts) (orbits ++ orbits_from tolerance most flat rows seen ts) (a.reached seen orbits h));
   }
 
+  -- a walk that is refused ends: the tuples behind change nothing
+  pub walked_refused : (state : Progress) (ws : List ℕ) (ts us : List (List Vec)) (e : Refusal) (after : List ℕ)
+      → Walked tolerance most flat rows bound state ws ts (Err e) after → Walked tolerance most flat rows bound state ws (ts ++ us) (Err e) after
+  walked_refused state ws ts us e after a = record {
+    room = tt;
+    reached = λ seen orbits h.
+        let more = orbits_from tolerance most flat rows (seen_after tolerance most flat rows seen ts) us in
+        let known = orbits ++ orbits_from tolerance most flat rows seen ts in
+        let k = a.reached seen orbits h in
+        (k.0, rw (orbits_append tolerance most flat rows seen ts us, ← (append_assoc orbits (orbits_from tolerance most flat rows seen ts) more)) (omega (arith, k.1, length-append known more)));
+  }
+
   -- a tuple that opens nothing
-  pub walked_closed : (known count : ℕ) (ws : List ℕ) (points : List Vec) → OrbitsRoom bound known count ws → opens_orbit tolerance most flat rows (seen_in known ws) points ≡ false
-      → Walked tolerance most flat rows bound (going known count) ws (points ∷ []) (going known count) ws
-  walked_closed known count ws points room e = record {
+  pub walked_closed : (state : Progress) (ws : List ℕ) (points : List Vec) → OrbitsRoom bound state.known state.count ws → opens_orbit tolerance most flat rows (seen_in state.known ws) points ≡ false
+      → Walked tolerance most flat rows bound state ws (points ∷ []) (Ok state) ws
+  walked_closed state ws points room e = record {
     room = room;
     reached = λ seen orbits h.
         let shut : opens_orbit tolerance most flat rows seen points ≡ false = ap (λ (l : List ℕ). opens_orbit tolerance most flat rows l points) (sym h.seen_are) ∙ e in
@@ -72,11 +78,11 @@ module _ (tolerance : Float) (most : ℕ) (flat : List Vec) (rows : List Row) (b
   }
 
   -- one that opens an orbit
-  pub walked_opened : (known count : ℕ) (ws : List ℕ) (points : List Vec) (r : Progress) (after : List ℕ) → opens_orbit tolerance most flat rows (seen_in known ws) points ≡ true
-      → Opened bound known count ws (near_number tolerance most flat rows points) (image_numbers (length flat) (near_number tolerance most flat rows points) rows) r after
-      → Walked tolerance most flat rows bound (going known count) ws (points ∷ []) r after
+  pub walked_opened : (state : Progress) (ws : List ℕ) (points : List Vec) (r : Result Progress Refusal) (after : List ℕ) → opens_orbit tolerance most flat rows (seen_in state.known ws) points ≡ true
+      → Opened bound state.known state.count ws (near_number tolerance most flat rows points) (image_numbers (length flat) (near_number tolerance most flat rows points) rows) r after
+      → Walked tolerance most flat rows bound state ws (points ∷ []) r after
   unfolding with_images
-  walked_opened known count ws points r after e o = record {
+  walked_opened state ws points r after e o = record {
     room = o.room;
     reached = λ seen orbits h.
         let opens : opens_orbit tolerance most flat rows seen points ≡ true = ap (λ (l : List ℕ). opens_orbit tolerance most flat rows l points) (sym h.seen_are) ∙ e in

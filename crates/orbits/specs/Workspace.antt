@@ -1,5 +1,5 @@
 -- The workspace of the orbits: what it holds, what every step asks of it, and how far a step has come. Leans on Numbers and on numbers in bytes.
-use Rattle.std.specs.Prelude.{◌≡◌, refl, List, [], ◌∷◌, ◌++◌, ℕ, zero, suc, ◌+◌, ◌*◌, ◌-◌, ◌≤◌, ◌<◌, length, take, drop}
+use Rattle.std.specs.Prelude.{◌≡◌, refl, List, [], ◌∷◌, ◌++◌, ℕ, zero, suc, ◌+◌, ◌*◌, ◌-◌, ◌≤◌, ◌<◌, length, take, drop, Result, Ok, Err}
 use Rattle.std.proofs.Common.{◌∙◌, arith, length-append}
 use Rattle.definitions.specs.Lists.{Pair}
 use Rattle.definitions.specs.Job.{number_at}
@@ -7,8 +7,8 @@ use Rattle.words.specs.Words.{words, number_at_take}
 use Rattle.sorted.specs.Ascending.{Ascending}
 use Rattle.sorted.specs.Gathering.{added}
 use Rattle.orbits.specs.declared.Progress.{Progress}
-use Rattle.orbits.specs.declared.Walk.{Walk}
-use Rattle.orbits.specs.declared.Walk.TheVariants.{Going, Refused}
+use Rattle.refusals.specs.declared.Refusal.{Refusal}
+use Rattle.refusals.specs.Refused.{number_of}
 
 -- the numbers of the sets seen
 unfoldable pub seen_in : ℕ → List ℕ → List ℕ
@@ -33,16 +33,18 @@ pub record HoldsOrbits (known count : ℕ) (ws seen : List ℕ) (orbits : List P
   pub orbits_are : orbits_in ws count ≡ orbits
 
 -- how far a walk has come: it holds what the definition has so far, or the definition has more orbits than the bound
-abbrev pub ReachedBy : Walk → ℕ → ℕ → ℕ → List ℕ → List ℕ → List Pair → Type 0
-ReachedBy Going bound known count ws seen orbits = HoldsOrbits known count ws seen orbits
-ReachedBy Refused bound known count ws seen orbits = bound < length orbits
+abbrev pub Reached : ℕ → Result Progress Refusal → List ℕ → List ℕ → List Pair → Type 0
+Reached bound (Ok p) ws seen orbits = HoldsOrbits p.known p.count ws seen orbits
+Reached bound (Err e) ws seen orbits = (number_of e ≡ 13) × (bound < length orbits)
 
-abbrev pub Reached : ℕ → Progress → List ℕ → List ℕ → List Pair → Type 0
-Reached bound p ws seen orbits = ReachedBy p.walk bound p.known p.count ws seen orbits
+-- a walk that goes on has its space
+abbrev pub KeepsRoom : ℕ → Result Progress Refusal → List ℕ → Type 0
+KeepsRoom bound (Ok p) ws = OrbitsRoom bound p.known p.count ws
+KeepsRoom bound (Err e) ws = Unit {0}
 
 -- what was opened: one orbit more, and its sets among those seen
-pub record Opened (bound known count : ℕ) (ws : List ℕ) (set : ℕ) (images : List ℕ) (r : Progress) (after : List ℕ) : Type 0 where
-  pub room : OrbitsRoom bound r.known r.count after
+pub record Opened (bound known count : ℕ) (ws : List ℕ) (set : ℕ) (images : List ℕ) (r : Result Progress Refusal) (after : List ℕ) : Type 0 where
+  pub room : KeepsRoom bound r after
   pub reached : (seen : List ℕ) (orbits : List Pair) → HoldsOrbits known count ws seen orbits → Reached bound r after (added seen images) (orbits ++ ((set, length (added seen images) - length seen) ∷ []))
 
 -- ---- laws

@@ -7,7 +7,7 @@ ghost use Rattle.std.specs.Prelude.{◌≡◌, ◌∷◌, [], ◌++◌, map, ℕ
 ghost use Rattle.definitions.specs.Lists.{member_nat};
 ghost use Rattle.definitions.specs.Job.{number_at};
 ghost use Rattle.definitions.specs.Orbits.{point_at, most_vertices, hyperplane_orbits};
-ghost use Rattle.space.specs.Meaning.{PointsFit, points_of, HoldsPoints, limits_of};
+ghost use Rattle.space.specs.Meaning.{points_of, HoldsPoints, limits_of};
 ghost use Rattle.words.specs.Words.{words};
 ghost use Rattle.sorted.specs.Ascending.{Ascending};
 ghost use Rattle.sorted.specs.Gathering.{added, Gathering};
@@ -16,27 +16,20 @@ ghost use Rattle.openers.specs.Meaning.{pairs_in};
 ghost use Rattle.stabilizers.specs.Permutations.{Permutations};
 ghost use Rattle.orbits.specs.Numbers.{image_numbers, may_open, near_number, orbits_from, seen_after};
 ghost use Rattle.orbits.specs.Workspace.{seen_in, OrbitsRoom, Opened};
-ghost use Rattle.orbits.specs.Walks.{going, Walked, TupleFits, extensions, keeps_limits};
+ghost use Rattle.orbits.specs.Walks.{Walked, TupleFits, extensions, keeps_limits};
 ghost use Rattle.orbits.specs.Answers.{CallFits, PairsRise, pair_tuples, answer_in, orbits_or_refusal};
 
 use openers::{Pairs, pair_openers};
+use refusals::Refusal;
 use sets::{points_near, set_image};
-use sorted::Found;
-use space::{Limit, Points, Subspace};
-
-// Whether another orbit was due than the bound allows.
-#[derive(Clone, Copy)]
-pub enum Walk {
-    Going,
-    Refused,
-}
+use space::{Limits, Points, Subspace};
+use words::Word;
 
 // How many sets were seen and how many orbits found.
 #[derive(Clone, Copy)]
 pub struct Progress {
     pub known: usize,
     pub count: usize,
-    pub walk: Walk,
 }
 
 // ---- sets seen
@@ -47,8 +40,8 @@ fn is_seen(ws: &[u8], known: usize, set: u32) -> bool
     ensures { result ≡ member_nat set (seen_in known ws.now) }
 {
     match sorted::find(&ws[2048..], known, set) {
-        Found::At(_) => true,
-        Found::Absent => false,
+        Some(_) => true,
+        None => false,
     }
 }
 
@@ -78,15 +71,13 @@ fn gather_images(
     ensures gathers { Gathering (seen_in known ws.now) (image_numbers n set (rows_in n m rows.now)) (take result new.new) }
 {
     let mut k = 0;
-    let mut i = 0;
-    while i < m {
+    for i in 0..m {
         k = sorted::gather(&ws[2048..], known, new, k, set_image(rows, i, n, set));
-        i += 1;
     }
     k
 }
 
-// An orbit more, unless there are as many as the bound allows: its first set, how many sets it has, and its sets among those seen.
+// An orbit more, or refusal 13 where there are as many as the bound allows: its first set, how many sets it has, and its sets among those seen.
 fn open_orbit(
     rows: &[u8],
     m: usize,
@@ -96,27 +87,22 @@ fn open_orbit(
     known: usize,
     count: usize,
     ws: &mut [u8],
-) -> Progress
+) -> Result<Progress, Refusal>
     requires { Permutations n m rows.now × (m ≤ 120) × OrbitsRoom bound known count ws.old }
     ensures { Opened bound known count ws.old set (image_numbers n set (rows_in n m rows.now)) result ws.new }
 {
     if count == bound {
-        return Progress {
-            known: known,
-            count: count,
-            walk: Walk::Refused,
-        };
+        return Err(Refusal::Orbits);
     }
     let mut new = [0; 120];
     let k = gather_images(rows, m, n, set, ws, known, &mut new);
-    words::put_u32(ws, 8 * count, set);
-    words::put_u32(ws, 8 * count + 4, k as u32);
+    u32::put(ws, 8 * count, set);
+    u32::put(ws, 8 * count + 4, k as u32);
     sorted::merge(&mut ws[2048..], known, &new, k);
-    Progress {
+    Ok(Progress {
         known: known + k,
         count: count + 1,
-        walk: Walk::Going,
-    }
+    })
 }
 
 // ---- tuples
@@ -130,63 +116,21 @@ fn fit_tuple(
     tolerance: f64,
     most: usize,
     bound: usize,
-    known: usize,
-    count: usize,
-    ws: &mut [u8],
-) -> Progress
-    requires { TupleFits flat tuple m rows.now × OrbitsRoom bound known count ws.old }
-    ensures { Walked tolerance most (points_of flat) (rows_in flat.n m rows.now) bound (going known count) ws.old (points_of tuple ∷ []) result ws.new }
-{
-    let plane = Subspace::from_points(tuple, tolerance);
-    if !plane.is_hyperplane() {
-        return Progress {
-            known: known,
-            count: count,
-            walk: Walk::Going,
-        };
-    }
-    let set = points_near(flat, plane, tolerance);
-    if !may_open(ws, known, set, flat.n, most) {
-        return Progress {
-            known: known,
-            count: count,
-            walk: Walk::Going,
-        };
-    }
-    open_orbit(rows, m, flat.n, set, bound, known, count, ws)
-}
-
-// A tuple behind a refusal changes nothing.
-fn try_tuple(
-    flat: Points,
-    tuple: Points,
-    rows: &[u8],
-    m: usize,
-    tolerance: f64,
-    most: usize,
-    bound: usize,
     state: Progress,
     ws: &mut [u8],
-) -> Progress
+) -> Result<Progress, Refusal>
     requires { TupleFits flat tuple m rows.now × OrbitsRoom bound state.known state.count ws.old }
     ensures { Walked tolerance most (points_of flat) (rows_in flat.n m rows.now) bound state ws.old (points_of tuple ∷ []) result ws.new }
 {
-    let walk = state.walk;
-    match walk {
-        Walk::Refused => state,
-        Walk::Going => fit_tuple(
-            flat,
-            tuple,
-            rows,
-            m,
-            tolerance,
-            most,
-            bound,
-            state.known,
-            state.count,
-            ws,
-        ),
+    let plane = Subspace::from_points(&tuple, tolerance);
+    if !plane.is_hyperplane() {
+        return Ok(state);
     }
+    let set = points_near(&flat, &plane, tolerance);
+    if !may_open(ws, state.known, set, flat.n, most) {
+        return Ok(state);
+    }
+    open_orbit(rows, m, flat.n, set, bound, state.known, state.count, ws)
 }
 
 // A tuple that begins with v is extended by as many vertices as are wanted, ascending from one on [5.5]; a vertex that breaks a limit with v is passed over.
@@ -199,30 +143,27 @@ fn extend(
     more: usize,
     rows: &[u8],
     m: usize,
-    min: Limit,
-    max: Limit,
+    limits: Limits,
     tolerance: f64,
     most: usize,
     bound: usize,
     state: Progress,
     ws: &mut [u8],
-) -> Progress
-    requires { TupleFits flat tuple m rows.now × OrbitsRoom bound state.known state.count ws.old × PointsFit points × (v < points.n) × (points.n ≡ flat.n) × (tuple.n ≤ from) }
-    ensures { Walked tolerance most (points_of flat) (rows_in flat.n m rows.now) bound state ws.old (extensions (keeps_limits tolerance (limits_of min max) (points_of points) v) (points_of flat) (points_of tuple) flat.n from more) result ws.new }
+) -> Result<Progress, Refusal>
+    requires { TupleFits flat tuple m rows.now × OrbitsRoom bound state.known state.count ws.old × (v < points.n) × (points.n ≡ flat.n) × (tuple.n ≤ from) }
+    ensures { Walked tolerance most (points_of flat) (rows_in flat.n m rows.now) bound state ws.old (extensions (keeps_limits tolerance (limits_of limits) (points_of points) v) (points_of flat) (points_of tuple) flat.n from more) result ws.new }
 {
     if more == 0 {
-        return try_tuple(flat, tuple, rows, m, tolerance, most, bound, state, ws);
+        return fit_tuple(flat, tuple, rows, m, tolerance, most, bound, state, ws);
     }
-    let n = points.n;
     let mut reached = state;
-    let mut u = from;
-    while u < n {
-        if points.breaks_limit(v, u, min, max, tolerance) {
-            u += 1;
+    for u in from..points.n {
+        if points.breaks_limit(v, u, limits, tolerance) {
             continue;
         }
-        let longer = tuple.with_point(flat.point(u));
-        let next = extend(
+        let mut longer = tuple;
+        longer.push(flat.point(u));
+        reached = extend(
             points,
             flat,
             longer,
@@ -231,29 +172,28 @@ fn extend(
             more - 1,
             rows,
             m,
-            min,
-            max,
+            limits,
             tolerance,
             most,
             bound,
             reached,
             ws,
-        );
-        reached = next;
-        u += 1;
+        )?;
     }
-    reached
+    Ok(reached)
 }
 
 // ---- pairs
 
 // The flattened points of a pair.
 fn pair_points(flat: Points, v: usize, w: usize) -> Points
-    requires { PointsFit flat × (v < flat.n) × (w < flat.n) }
+    requires { (v < flat.n) × (w < flat.n) }
     ensures { HoldsPoints result flat.d (point_at (points_of flat) v ∷ point_at (points_of flat) w ∷ []) }
 {
-    let one = Points::new(flat.d).with_point(flat.point(v));
-    one.with_point(flat.point(w))
+    let mut pair = Points::new(flat.d);
+    pair.push(flat.point(v));
+    pair.push(flat.point(w));
+    pair
 }
 
 // Each pair's opener, in order, extended by so many vertices. The walk ends at a refusal.
@@ -264,29 +204,22 @@ fn walk_pairs(
     more: usize,
     rows: &[u8],
     m: usize,
-    min: Limit,
-    max: Limit,
+    limits: Limits,
     tolerance: f64,
     most: usize,
     bound: usize,
     state: Progress,
     ws: &mut [u8],
-) -> Progress
+) -> Result<Progress, Refusal>
     requires { CallFits points flat m rows.now × PairsRise flat.n (pairs_in pairs) × (pairs.count ≤ 190) × OrbitsRoom bound state.known state.count ws.old }
-    ensures { Walked tolerance most (points_of flat) (rows_in flat.n m rows.now) bound state ws.old (pair_tuples tolerance (limits_of min max) (points_of points) (points_of flat) flat.n more (pairs_in pairs)) result ws.new }
+    ensures { Walked tolerance most (points_of flat) (rows_in flat.n m rows.now) bound state ws.old (pair_tuples tolerance (limits_of limits) (points_of points) (points_of flat) flat.n more (pairs_in pairs)) result ws.new }
 {
-    let count = pairs.count;
     let mut reached = state;
-    let mut k = 0;
-    while k < count {
-        let walk = reached.walk;
-        if let Walk::Refused = walk {
-            return reached;
-        }
+    for k in 0..pairs.count {
         let code = pairs.codes[k];
         let v = code / 20;
         let w = code % 20;
-        let next = extend(
+        reached = extend(
             points,
             flat,
             pair_points(flat, v, w),
@@ -295,25 +228,15 @@ fn walk_pairs(
             more,
             rows,
             m,
-            min,
-            max,
+            limits,
             tolerance,
             most,
             bound,
             reached,
             ws,
-        );
-        reached = next;
-        k += 1;
+        )?;
     }
-    reached
-}
-
-// All hyperplane orbits of a call, or refusal 13 where there are more than the bound.
-#[derive(Clone, Copy)]
-pub enum Answer {
-    Orbits(usize),
-    Refused,
+    Ok(reached)
 }
 
 // [5.8] The most vertices of a set that opens an orbit: two on a line of a rank 3 call under rule 2.
@@ -326,37 +249,29 @@ fn most_vertices(rule: usize, more: usize, n: usize) -> usize
     if more == 0 { 2 } else { n }
 }
 
+// How many hyperplane orbits a call has, or refusal 13 where there are more than the bound.
 pub fn find_orbits(
     points: Points,
     flat: Points,
     more: usize,
     rows: &[u8],
     m: usize,
-    min: Limit,
-    max: Limit,
+    limits: Limits,
     tolerance: f64,
     rule: usize,
     bound: usize,
     ws: &mut [u8],
-) -> Answer
+) -> Result<usize, Refusal>
     requires { CallFits points flat m rows.now × (bound ≤ 256) × (124928 ≤ length ws.old) }
-    ensures { answer_in flat.n result ws.new ≡ orbits_or_refusal bound (hyperplane_orbits tolerance (limits_of min max) rule more (points_of points) (points_of flat) (rows_in flat.n m rows.now)) }
+    ensures { answer_in flat.n result ws.new ≡ orbits_or_refusal bound (hyperplane_orbits tolerance (limits_of limits) rule more (points_of points) (points_of flat) (rows_in flat.n m rows.now)) }
 {
-    let pairs = pair_openers(points, rows, m, min, max, tolerance);
-    let state = Progress {
-        known: 0,
-        count: 0,
-        walk: Walk::Going,
-    };
+    let pairs = pair_openers(&points, rows, m, limits, tolerance);
+    let state = Progress { known: 0, count: 0 };
     let most = most_vertices(rule, more, flat.n);
     let done = walk_pairs(
-        points, flat, pairs, more, rows, m, min, max, tolerance, most, bound, state, ws,
-    );
-    let walk = done.walk;
-    match walk {
-        Walk::Refused => Answer::Refused,
-        Walk::Going => Answer::Orbits(done.count),
-    }
+        points, flat, pairs, more, rows, m, limits, tolerance, most, bound, state, ws,
+    )?;
+    Ok(done.count)
 }
 
 // ---- reading an orbit
@@ -367,5 +282,5 @@ pub fn set_at(ws: &[u8], k: usize, n: usize) -> u32
     ensures { (result ≡ number_at ws.now (8 * k) 4 % 2 ^ n) × (result < 2 ^ n) }
 {
     let one: u32 = 1;
-    words::get_u32(ws, 8 * k) % (one << n)
+    u32::get(ws, 8 * k) % (one << n)
 }

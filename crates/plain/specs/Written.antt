@@ -10,12 +10,9 @@ use Rattle.definitions.specs.Plain.{plain_bytes, plain_alone}
 use Rattle.laws.specs.Refusals.{pass_all_refused, pass_all_passed}
 use Rattle.words.specs.Writer.{encoded, full}
 use Rattle.load.specs.declared.Fields.{Fields}
-use Rattle.job.specs.declared.Checked.TheVariants.{Refused, Passed}
 use Rattle.job.specs.Refusal.{checked_of}
 use Rattle.job.specs.Passed.{refused_means, passed_means}
 use Rattle.figure_words.specs.Wrote.{Wrote}
-use Rattle.answering.specs.declared.Written.{Written}
-use Rattle.answering.specs.declared.Written.TheVariants as is
 use Rattle.answering.specs.Closed.{written_in, buffer_in, written_to, buffer_to, written_all, buffer_all}
 use Rattle.plain.specs.Numbers.{number_words, plain_words}
 
@@ -30,24 +27,24 @@ module _ (job : Bytes) (workspace : ℕ) where
   abbrev next : Answer → Outcome Bytes
   next a = answered (plain_bytes a)
 
-  own_refused : {number : ℕ} → Refused number ≡ checked_of job workspace → plain_alone job workspace ≡ refused number
+  own_refused : {number : ℕ} → refused number ≡ checked_of job workspace → plain_alone job workspace ≡ refused number
   unfolding plain_alone answer_of and_then
   own_refused {number} e = ap (λ (o : Outcome Answer). and_then o next) (pass_all_refused (tests job workspace) (λ u. call_of bounds1 (read_job job)) number (refused_means job workspace number e))
 
-  pub own_clauses : {number : ℕ} → Refused number ≡ checked_of job workspace → (answer : Bytes) → answer ≡ replicate (length answer) 0
-      → (is.Refused number ≡ written_in (length answer) (plain_alone job workspace)) × (answer ≡ buffer_in (length answer) (plain_alone job workspace))
+  pub own_clauses : {number : ℕ} → refused number ≡ checked_of job workspace → (answer : Bytes) → answer ≡ replicate (length answer) 0
+      → (refused number ≡ written_in (length answer) (plain_alone job workspace)) × (answer ≡ buffer_in (length answer) (plain_alone job workspace))
   unfolding written_in buffer_in and_then buffer_of
   own_clauses e answer clear = let o = own_refused e in (sym (ap (written_in (length answer)) o), clear ∙ sym (ap (buffer_in (length answer)) o))
 
   -- ---- a job that passes them is called
 
-  module _ (f : Fields) (passed : Passed f ≡ checked_of job workspace) where
+  module _ (f : Fields) (passed : answered f ≡ checked_of job workspace) where
     called : {call : Outcome Answer} → call_of bounds1 (read_job job) ≡ call → plain_alone job workspace ≡ and_then call next
     unfolding plain_alone answer_of
     called e = ap (λ (o : Outcome Answer). and_then o next) (pass_all_passed (tests job workspace) (λ u. call_of bounds1 (read_job job)) (passed_means job workspace f passed).0 ∙ e)
 
     pub refused_clauses : {number : ℕ} → call_of bounds1 (read_job job) ≡ refused number → (answer : Bytes) → answer ≡ replicate (length answer) 0
-        → (is.Refused number ≡ written_in (length answer) (plain_alone job workspace)) × (answer ≡ buffer_in (length answer) (plain_alone job workspace))
+        → (refused number ≡ written_in (length answer) (plain_alone job workspace)) × (answer ≡ buffer_in (length answer) (plain_alone job workspace))
     unfolding written_in buffer_in and_then buffer_of
     refused_clauses e answer clear = let o = called e in (sym (ap (written_in (length answer)) o), clear ∙ sym (ap (buffer_in (length answer)) o))
 
@@ -55,7 +52,7 @@ module _ (job : Bytes) (workspace : ℕ) where
     unfolding and_then
     answered_is {a} e = called e ∙ ap answered (plain_encoded a)
 
-    pub answered_clauses : {a : Answer} → call_of bounds1 (read_job job) ≡ answered a → (from to after : Bytes) (at : ℕ) {r : Written} → from ≡ replicate (length from) 0 → length from < full
+    pub answered_clauses : {a : Answer} → call_of bounds1 (read_job job) ≡ answered a → (from to after : Bytes) (at : ℕ) {r : Outcome ℕ} → from ≡ replicate (length from) 0 → length from < full
         → Wrote from 0 to at (plain_words a) → r ≡ written_to (length to) at → after ≡ buffer_to to at
         → (r ≡ written_in (length from) (plain_alone job workspace)) × (after ≡ buffer_in (length from) (plain_alone job workspace))
     answered_clauses {a} e from to after at clear short wrote r-is after_is =

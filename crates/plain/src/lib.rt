@@ -10,17 +10,17 @@ ghost use Rattle.words.specs.Words.{words};
 ghost use Rattle.shapes.specs.Kept.{Kept};
 ghost use Rattle.shelf.specs.Leaves.{Leaves, answer_left};
 ghost use Rattle.job.specs.Refusal.{checked_of};
-ghost use Rattle.job.specs.declared.Checked.TheVariants.{Passed};
+ghost use Rattle.definitions.specs.Outcome.{answered};
+ghost use Rattle.refusals.specs.Refused.{outcome_of};
 ghost use Rattle.figure_words.specs.Wrote.{Wrote};
 ghost use Rattle.answering.specs.Closed.{written_in, buffer_in};
 ghost use Rattle.plain.specs.Numbers.{number_words, plain_words};
 
-use answering::Written;
 use calls::Called;
-use job::Checked;
 use load::Fields;
-use order::Area;
+use refusals::Refusal;
 use shelf::Level;
+use words::Word;
 
 // So many numbers that stand from a place on: their count, and each.
 fn write_numbers(answer: &mut [u8], at: usize, s: &[u8], from: usize, many: usize) -> usize
@@ -28,10 +28,8 @@ fn write_numbers(answer: &mut [u8], at: usize, s: &[u8], from: usize, many: usiz
     ensures { Wrote answer.old at answer.new result (number_words (words 4 (drop from s.now) many)) }
 {
     let mut cursor = figure_words::push(answer, at, many as u32);
-    let mut i = 0;
-    while i < many {
-        cursor = figure_words::push(answer, cursor, words::get_u32(s, from + 4 * i));
-        i += 1;
+    for i in 0..many {
+        cursor = figure_words::push(answer, cursor, u32::get(s, from + 4 * i));
     }
     cursor
 }
@@ -51,24 +49,24 @@ fn write_plain(answer: &mut [u8], at: usize, ws: &mut [u8], level: Level) -> usi
 {
     let lists = level.lists;
     let labels = level.bytes + 2048;
-    let area = Area {
-        most: 1024,
-        bytes: level.bytes,
-        count: level.count,
-    };
-    let many = filter::filter_irc(&mut ws[lists..], area, labels);
+    let many = filter::filter_irc(&mut ws[lists..], level.area(), labels);
     write_numbers(answer, at, ws, lists + labels, many)
 }
 
 // A job that passed the refusals before the call, called, and its plain entries written into the cleared buffer.
-fn plain_passed(job: &[u8], fields: Fields, ws: &mut [u8], answer: &mut [u8]) -> Written
-    requires { (Passed fields ≡ checked_of job.now (length ws.old)) × (answer.old ≡ replicate (length answer.old) 0) }
-    ensures result { result ≡ written_in (length answer.old) (plain_alone job.now (length ws.old)) }
+fn plain_passed(
+    job: &[u8],
+    fields: Fields,
+    ws: &mut [u8],
+    answer: &mut [u8],
+) -> Result<usize, Refusal>
+    requires { (answered fields ≡ checked_of job.now (length ws.old)) × (answer.old ≡ replicate (length answer.old) 0) }
+    ensures result { outcome_of result ≡ written_in (length answer.old) (plain_alone job.now (length ws.old)) }
     ensures buffer { answer.new ≡ buffer_in (length answer.old) (plain_alone job.now (length ws.old)) }
 {
     let mut rows = [0; job_calls::ROWS_ROOM];
-    match job_calls::call_job(job, fields, ws, &mut rows) {
-        Called::Refused(number) => Written::Refused(number),
+    let called = job_calls::call_job(job, fields, ws, &mut rows)?;
+    match called {
         Called::Ends(_, _) => {
             let end = write_one(answer, 0);
             answering::close(answer, end)
@@ -81,13 +79,11 @@ fn plain_passed(job: &[u8], fields: Fields, ws: &mut [u8], answer: &mut [u8]) ->
 }
 
 // The plain entries of any job, written into a cleared buffer.
-pub fn plain_job(job: &[u8], workspace: &mut [u8], answer: &mut [u8]) -> Written
+pub fn plain_job(job: &[u8], workspace: &mut [u8], answer: &mut [u8]) -> Result<usize, Refusal>
     requires { answer.old ≡ replicate (length answer.old) 0 }
-    ensures result { result ≡ written_in (length answer.old) (plain_alone job.now (length workspace.old)) }
+    ensures result { outcome_of result ≡ written_in (length answer.old) (plain_alone job.now (length workspace.old)) }
     ensures buffer { answer.new ≡ buffer_in (length answer.old) (plain_alone job.now (length workspace.old)) }
 {
-    match job::check(job, workspace.len()) {
-        Checked::Refused(number) => Written::Refused(number),
-        Checked::Passed(fields) => plain_passed(job, fields, workspace, answer),
-    }
+    let fields = job::check(job, workspace.len())?;
+    plain_passed(job, fields, workspace, answer)
 }

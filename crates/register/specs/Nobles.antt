@@ -3,7 +3,7 @@
 use Rattle.std.specs.Prelude.{◌≡◌, refl, ◌++◌, ℕ, ◌-◌, T, ltb, ℤ}
 use Rattle.std.proofs.Math.Path.{sym, ap}
 use Rattle.std.proofs.Common.{◌∙◌, subst, arith}
-use Rattle.std.proofs.Math.Option.{Option, some, none}
+use Rattle.std.specs.Prelude.{Option, Some, None}
 use Rattle.std.proofs.Math.ListN.{length, replicate}
 use Rattle.definitions.specs.Outcome.{Outcome, refused, answered, and_then}
 use Rattle.definitions.specs.Recursion.{Answer}
@@ -19,7 +19,6 @@ use Rattle.shapes.specs.Jobs.{RowsPassed, rows_passed}
 use Rattle.shapes.proofs.Symmetry.{noble_symmetric}
 use Rattle.shapes.specs.JobWords.{rank_passed}
 use Rattle.shapes.proofs.JobWords.{noble_words}
-use Rattle.answering.specs.declared.Written.{Written}
 use Rattle.answering.specs.Closed.{written_in, buffer_in}
 use Rattle.answering.specs.Codes.{code_written, written_code}
 use Rattle.register.specs.Reading.{entries_read, entries_read_holds}
@@ -29,9 +28,9 @@ use Rattle.register.specs.Reading.{entries_read, entries_read_holds}
 room_last : (o : Option ℕ) (budget room : ℕ) (call : Outcome Answer) → refused_or o (λ u. and_then call (λ (a : Answer). fitting room (answer_bytes budget a)))
     ≡ and_then (refused_or o (λ u. and_then call (λ (a : Answer). answered (answer_bytes budget a)))) (fitting room)
 unfolding refused_or and_then
-room_last none budget room (refused number) = refl
-room_last none budget room (answered a) = refl
-room_last (some number) budget room call = refl
+room_last None budget room (refused number) = refl
+room_last None budget room (answered a) = refl
+room_last (Some number) budget room call = refl
 
 module _ (job pack : Bytes) (workspace room : ℕ) where
   abbrev outcome : Outcome Bytes
@@ -50,7 +49,7 @@ module _ (job pack : Bytes) (workspace room : ℕ) where
       let ts = noble_tests job pack workspace in
       pass_all_holds ts _ ∙ (room_last (first_refused ts) (read_job job).budget room (noble_call_of bounds1 (read_job job) full) ∙ ap (λ (o : Outcome Bytes). and_then o (fitting room)) (sym (pass_all_holds ts _)))
 
-  pub code_is : {w : Written} → w ≡ written_in room alone → code_written w ≡ code_of outcome
+  pub code_is : {w : Outcome ℕ} → w ≡ written_in room alone → code_written w ≡ code_of outcome
   code_is e = written_code room alone e ∙ sym (ap code_of outcome_alone)
 
   pub buffer_is : buffer_in room alone ≡ buffer_of room outcome

@@ -21,7 +21,6 @@ use Rattle.shapes.specs.Answered.{answers_equal}
 use Rattle.shapes.specs.FigureNumbers.{WordsBelow}
 use Rattle.shapes.specs.JobWords.{u32s}
 use Rattle.shapes.proofs.JobWords.{job_words}
-use Rattle.answering.specs.declared.Written.{Written}
 use Rattle.answering.specs.Closed.{written_in, buffer_in}
 use Rattle.answering.specs.Codes.{code_written, written_code}
 use Rattle.plain.specs.Numbers.{few_kept, place_kept, flat_self}
@@ -30,7 +29,7 @@ use Rattle.register.specs.Demands.{called, entries_in_holds}
 
 -- ---- code and buffer, by what came of the job
 
-pub plain_code : (job : Bytes) (workspace room : ℕ) {w : Written} → w ≡ written_in room (plain_alone job workspace) → code_written w ≡ code_of (plain_ones job workspace room)
+pub plain_code : (job : Bytes) (workspace room : ℕ) {w : Outcome ℕ} → w ≡ written_in room (plain_alone job workspace) → code_written w ≡ code_of (plain_ones job workspace room)
 unfolding plain_ones
 plain_code job workspace room e = written_code room (plain_alone job workspace) e
 

@@ -1,7 +1,7 @@
 // The register's functions, thin ones: a job's bytes in, its answer's bytes out, whatever the lengths of the slices are. The work is done in the crates below; the crate `register_c` exports them to C.
 #![tactic(auto)]
 
-ghost use Rattle.std.specs.Prelude.{◌≡◌, ℕ, ◌≤◌, pos, neg_ℤ, length, take};
+ghost use Rattle.std.specs.Prelude.{◌≡◌, ℕ, ◌≤◌, ◌<◌, pos, neg_ℤ, length, take, IfOk};
 ghost use Rattle.definitions.specs.Outcome.{answered};
 ghost use Rattle.definitions.specs.Job.{Bytes, outcome, code_of, buffer_of};
 ghost use Rattle.definitions.specs.Demands.{Demand1, Demand2, Demand3};
@@ -10,20 +10,29 @@ ghost use Rattle.definitions.specs.Batch.{batch, Batched};
 ghost use Rattle.definitions.specs.Prices.{quote, quote_code, slip_length, slip, with_room};
 ghost use Rattle.definitions.specs.Plain.{plain_ones, split_lists, LeftOut};
 ghost use Rattle.definitions.specs.NobleCalls.{noble_outcome, FirstDemand, SecondDemand, NobleComplete};
+ghost use Rattle.refusals.specs.Refused.{outcome_of};
+ghost use Rattle.answering.specs.Codes.{code_written};
 ghost use Rattle.register.specs.Reading.{entries_read, numbers_read};
 ghost use Rattle.register.specs.Batches.{Promised};
 
-use answering::Written;
-use quotes::Quoted;
-
-// [11.5] the return value where a buffer is too short
-const NO_ROOM: i64 = -17;
+use refusals::Refusal;
 
 // [12.7] minus the refusal's number
 pub fn refusal(number: u8) -> i64
     ensures { result ≡ neg_ℤ (pos number) }
 {
     -(number as i64)
+}
+
+// [12.7] the return value of what was written: minus the refusal's number, or so many bytes
+fn code(written: Result<usize, Refusal>) -> i64
+    requires { IfOk written (λ many. many < 9223372036854775808) }
+    ensures { result ≡ code_written (outcome_of written) }
+{
+    match written {
+        Ok(many) => many as i64,
+        Err(e) => refusal(e.number()),
+    }
 }
 
 // The answer of a job: its length in bytes, or minus the number of its refusal. The answer stands at the front of the buffer, which is zero behind it, and zero throughout after a refusal. Code
@@ -37,12 +46,8 @@ pub fn register_answer(job: &[u8], workspace: &mut [u8], answer: &mut [u8]) -> i
     ensures third { (bytes : Bytes) → outcome job.now (length workspace.old) (length answer.old) ≡ answered bytes → Demand3 job.now (entries_read answer.new) }
     ensures symmetry { (bytes : Bytes) → outcome job.now (length workspace.old) (length answer.old) ≡ answered bytes → Symmetric job.now (entries_read answer.new) }
 {
-    words::clear(answer); // so that what stands behind the answer is zero
-    match answering::answer_job(job, workspace, answer) {
-        Written::Refused(number) => refusal(number),
-        Written::Short => NO_ROOM,
-        Written::Wrote(many) => many as i64,
-    }
+    answer.fill(0); // so that what stands behind the answer is zero
+    code(answering::answer_job(job, workspace, answer))
 }
 
 // [15.3] The records of a row of jobs, each behind its length: their length in bytes, or minus 26 or 27. Code and buffer are the definition's, whatever the three slices are. After an answer the front of
@@ -52,7 +57,7 @@ pub fn register_batch(row: &[u8], workspace: &mut [u8], answer: &mut [u8]) -> i6
     ensures buffer { answer.new ≡ buffer_of (length answer.old) (batch row.now (length workspace.old) (length answer.old)) }
     ensures each { (bytes : Bytes) → batch row.now (length workspace.old) (length answer.old) ≡ answered bytes → Batched (Promised (length workspace.old)) row.now (take (length bytes) answer.new) }
 {
-    batches::answer_row(row, workspace, answer)
+    code(batches::answer_row(row, workspace, answer))
 }
 
 // The quote of an entry of a job of rank 4, counted from 0, at a tariff: its total in pence, or minus the number of the refusal. The slip stands at the front of the buffer, which is zero behind it, and
@@ -70,8 +75,8 @@ pub fn register_price(
     ensures buffer { answer.new ≡ buffer_of (length answer.old) (with_room (length answer.old) (slip job.now (length workspace.old) entry tariff.now)) }
 {
     match quotes::quote_job(job, workspace, entry, tariff, answer) {
-        Quoted::Refused(number) => refusal(number),
-        Quoted::Total(total) => total as i64,
+        Err(e) => refusal(e.number()),
+        Ok(total) => total as i64,
     }
 }
 
@@ -83,12 +88,8 @@ pub fn register_plain(job: &[u8], workspace: &mut [u8], numbers: &mut [u8]) -> i
     ensures buffer { numbers.new ≡ buffer_of (length numbers.old) (plain_ones job.now (length workspace.old) (length numbers.old)) }
     ensures left_out { (written : Bytes) → plain_ones job.now (length workspace.old) (length numbers.old) ≡ answered written → (first : ℕ) (bytes : Bytes) → outcome job.now (length workspace.old) first ≡ answered bytes → LeftOut (split_lists (entries_read bytes)) (numbers_read numbers.new) }
 {
-    words::clear(numbers);
-    match plain::plain_job(job, workspace, numbers) {
-        Written::Refused(number) => refusal(number),
-        Written::Short => NO_ROOM,
-        Written::Wrote(many) => many as i64,
-    }
+    numbers.fill(0);
+    code(plain::plain_job(job, workspace, numbers))
 }
 
 // [17.10] The answer of a job with a package, in the first call's form: its length in bytes, or minus the number of its refusal. Code and buffer are the definition's, whatever the four slices are;
@@ -102,10 +103,6 @@ pub fn register_noble(job: &[u8], pack: &[u8], workspace: &mut [u8], answer: &mu
     ensures third { (bytes : Bytes) → noble_outcome job.now pack.now (length workspace.old) (length answer.old) ≡ answered bytes → NobleComplete job.now pack.now (entries_read answer.new) }
     ensures symmetry { (bytes : Bytes) → noble_outcome job.now pack.now (length workspace.old) (length answer.old) ≡ answered bytes → Symmetric job.now (entries_read answer.new) }
 {
-    words::clear(answer);
-    match nobles::noble_job(job, pack, workspace, answer) {
-        Written::Refused(number) => refusal(number),
-        Written::Short => NO_ROOM,
-        Written::Wrote(many) => many as i64,
-    }
+    answer.fill(0);
+    code(nobles::noble_job(job, pack, workspace, answer))
 }

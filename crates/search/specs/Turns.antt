@@ -1,8 +1,8 @@
 -- The turns of the search: what follows an examined list, and that each turn of the loop is one step of the definition, or none. Leans on Frames, Steps and Emission.
-use Rattle.std.specs.Prelude.{◌≡◌, true, false, List, [], ◌∷◌, ◌++◌, length, take}
+use Rattle.std.specs.Prelude.{◌≡◌, true, false, List, [], ◌∷◌, ◌++◌, length, take, Result, Ok, Err}
 use Rattle.std.proofs.Math.Path.{refl, sym, ap}
 use Rattle.std.proofs.Common.{◌∙◌, add-one}
-use Rattle.std.proofs.Math.Option.{some}
+use Rattle.std.specs.Prelude.{Some, None}
 use Prim.Native.Nat.{ℕ, zero, suc, ◌+◌, ◌-◌, ◌*◌, ◌≤◌, ◌<◌}
 use native.Mathlib.Omega.{arith}
 use Rattle.definitions.specs.Outcome.{refused, answered}
@@ -13,16 +13,18 @@ use Rattle.pool.specs.Pool.{count}
 use Rattle.facets.specs.declared.Areas.{Areas}
 use Rattle.search.specs.declared.Course.{Course}
 use Rattle.search.specs.declared.Step.{Step}
-use Rattle.search.specs.declared.Step.TheVariants.{On, Stopped, Full}
+use Rattle.search.specs.declared.Step.TheVariants.{On, Stopped}
+use Rattle.refusals.specs.declared.Refusal.{Refusal}
+use Rattle.refusals.specs.Refused.{number_of}
 use Rattle.facets.specs.declared.Verdict.{Verdict}
-use Rattle.facets.specs.Frames.{Frame, pending, moved, child, pending_none, pending_latest, examine_none, examine_spent, examine_over, examine_fifteen, examine_stop, examine_kept}
+use Rattle.facets.specs.Frames.{Frame, waiting, pending, moved, child, pending_none, pending_latest, examine_none, examine_spent, examine_over, examine_fifteen, examine_stop, examine_kept}
 use Rattle.facets.proofs.Frames.{search_starts, examine_open, examine_closed}
 use Rattle.facets.specs.Sums.{judge_sums}
 use Rattle.facets.specs.Judged.{NotOver, judge_light, judge_inside}
-use Rattle.facets.specs.Layout.{verdict, Inputs, AreasFit, holds_kept, ridge_of, totals_part, frames_part, lists_part}
+use Rattle.facets.specs.Layout.{verdict, Inputs, AreasFit, holds_kept, totals_part, frames_part, lists_part}
 use Rattle.frames.specs.Paths.{list_to, frame_at, frames_to, item_at, PathStands, Emitted, emitted_in}
-use Rattle.search.specs.Outcomes.{search_limit, entry_limits_of}
-use Rattle.frames.specs.Steps.{Light, Next, CandidateDue, Visited, Withdrawn, Entered, path_short, candidate_of}
+use Rattle.search.specs.Outcomes.{entry_limits_of}
+use Rattle.frames.specs.Steps.{Light, NextAt, CandidateDue, Visited, Withdrawn, Entered, path_short, candidate_of}
 use Rattle.emission.specs.Emission.{Started, emitted_count}
 
 -- the list that is examined, and the lists that are due behind it
@@ -51,15 +53,15 @@ pub record Stops (t : Table) (a : Areas) (course : Course) (s s' : List ℕ) (d 
   pub same : (left : ℕ) → examine t (entry_limits_of a course) (suc left) (due t (frames_part a s) d) (emitted_in t a (lists_part a s)) ≡ answered (record { lists = emitted_in t a (lists_part a s'); left = left })
   pub tables : take a.frames s' ≡ take a.frames s
 
--- an entry is past the bound
-pub record Fills (t : Table) (a : Areas) (course : Course) (s s' : List ℕ) (d : ℕ) : Type 0 where
-  pub same : (left : ℕ) → examine t (entry_limits_of a course) (suc left) (due t (frames_part a s) d) (emitted_in t a (lists_part a s)) ≡ refused 15
+-- an entry is past the bound: the refusal's number
+pub record Fills (t : Table) (a : Areas) (course : Course) (s s' : List ℕ) (d number : ℕ) : Type 0 where
+  pub same : (left : ℕ) → examine t (entry_limits_of a course) (suc left) (due t (frames_part a s) d) (emitted_in t a (lists_part a s)) ≡ refused number
   pub tables : take a.frames s' ≡ take a.frames s
 
-unfoldable pub Followed : Table → Areas → Course → List ℕ → List ℕ → ℕ → Step → Type 0
-Followed t a course s s' d (On deep) = Goes t a course s s' d deep
-Followed t a course s s' d Stopped = Stops t a course s s' d
-Followed t a course s s' d Full = Fills t a course s s' d
+unfoldable pub Followed : Table → Areas → Course → List ℕ → List ℕ → ℕ → Result Step Refusal → Type 0
+Followed t a course s s' d (Ok (On deep)) = Goes t a course s s' d deep
+Followed t a course s s' d (Ok Stopped) = Stops t a course s s' d
+Followed t a course s s' d (Err e) = Fills t a course s s' d (number_of e)
 
 -- ---- what the verdict says
 
@@ -95,16 +97,15 @@ follow_over t a course s s' d j w = record {
 entered_depth : (t : Table) (a : Areas) (s' : List ℕ) (d : ℕ) → PathStands t a s' (d + 1) d → PathStands t a s' (d + 1) (d + 1 - 1)
 entered_depth t a s' d st = let e : d + 1 - 1 ≡ d = omega arith in rw e st
 
-pub follow_open : (t : Table) (a : Areas) (course : Course) (s s' : List ℕ) (d ridge : ℕ) → Judged t a s d (open_at ridge) → Entered t a s s' d (ridge + 1) → Goes t a course s s' d (d + 1)
-unfolding due item_at ridge_of
+pub follow_open : (t : Table) (a : Areas) (course : Course) (s s' : List ℕ) (d ridge : ℕ) → Judged t a s d (open_at ridge) → Entered t a s s' d (Some ridge) → Goes t a course s s' d (d + 1)
+unfolding due item_at
 follow_open t a course s s' d ridge j w =
-    let k : ridge_of (ridge + 1) ≡ some ridge = rw add-one refl in
     record {
       stands = entered_depth t a s' d w.stands;
       emitted = rw w.lists j.emitted;
       same = λ left.
           examine_open t (entry_limits_of a course) left (item_at t (frames_part a s) d) ridge (frames_to t (frames_part a s) d) (emitted_in t a (lists_part a s)) (judged_is t a s d (open_at ridge) j)
-          ∙ sym (rw (w.frames, w.lists, k) refl);
+          ∙ sym (rw (w.frames, w.lists) refl);
       tables = w.tables;
     }
 
@@ -119,7 +120,7 @@ module _ (t : Table) (a : Areas) (course : Course) (s : List ℕ) (d : ℕ) (j :
   many : length emitted ≡ count (lists_part a s)
   many = emitted_count t a (lists_part a s)
 
-  pub follow_full : a.bound ≤ count (lists_part a s) → Fills t a course s s d
+  pub follow_full : a.bound ≤ count (lists_part a s) → Fills t a course s s d 15
   unfolding due item_at entry_limits_of
   follow_full h = record {
     same = λ left. examine_fifteen t limits left (item_at t (frames_part a s) d) (pending t (frames_to t (frames_part a s) d)) emitted (judged_is t a s d closed j) (omega (arith, many));
@@ -127,39 +128,39 @@ module _ (t : Table) (a : Areas) (course : Course) (s : List ℕ) (d : ℕ) (j :
   }
 
   module _ (h : count (lists_part a s) < a.bound) (s1 : List ℕ) (st : PathStands t a s1 d d) (fr : frames_part a s1 ≡ frames_part a s) (ls : emitted_in t a (lists_part a s1) ≡ emitted ++ (list_to t (frames_part a s) d ∷ [])) (tb : take a.frames s1 ≡ take a.frames s) (em : Emitted a (lists_part a s1)) where
-    pub follow_stop : limit_reached (search_limit course.limit) (count (lists_part a s) + 1) ≡ true → Stops t a course s s1 d
+    pub follow_stop : limit_reached course.limit (count (lists_part a s) + 1) ≡ true → Stops t a course s s1 d
     unfolding due item_at entry_limits_of
     follow_stop r = record {
       inputs = st.inputs;
       emitted = em;
       same = λ left.
           rw ls (examine_stop t limits left (item_at t (frames_part a s) d) (pending t (frames_to t (frames_part a s) d)) emitted (judged_is t a s d closed j) (omega (arith, many))
-          (ap (limit_reached (search_limit course.limit)) (omega (arith, many)) ∙ r));
+          (ap (limit_reached course.limit) (omega (arith, many)) ∙ r));
       tables = tb;
     }
 
-    pub follow_closed : limit_reached (search_limit course.limit) (count (lists_part a s) + 1) ≡ false → course.extended ≡ true → (s' : List ℕ) → Entered t a s1 s' d 0 → Goes t a course s s' d (d + 1)
-    unfolding due item_at entry_limits_of ridge_of
+    pub follow_closed : limit_reached course.limit (count (lists_part a s) + 1) ≡ false → course.extended ≡ true → (s' : List ℕ) → Entered t a s1 s' d None → Goes t a course s s' d (d + 1)
+    unfolding due item_at entry_limits_of
     follow_closed r x s' w =
         record {
           stands = entered_depth t a s' d w.stands;
           emitted = rw w.lists em;
           same = λ left.
               examine_closed t limits left (item_at t (frames_part a s) d) (frames_to t (frames_part a s) d) emitted (judged_is t a s d closed j) (omega (arith, many))
-              (ap (limit_reached (search_limit course.limit)) (omega (arith, many)) ∙ r) x
+              (ap (limit_reached course.limit) (omega (arith, many)) ∙ r) x
               ∙ sym (rw (w.frames, w.lists, ls, fr) refl);
           tables = w.tables ∙ tb;
         }
 
     -- a closed list that is not extended goes as one that is over does
-    pub follow_kept : limit_reached (search_limit course.limit) (count (lists_part a s) + 1) ≡ false → course.extended ≡ false → (s' : List ℕ) → Withdrawn t a s1 s' d → Goes t a course s s' d d
+    pub follow_kept : limit_reached course.limit (count (lists_part a s) + 1) ≡ false → course.extended ≡ false → (s' : List ℕ) → Withdrawn t a s1 s' d → Goes t a course s s' d d
     unfolding due item_at entry_limits_of
     follow_kept r x s' w = record {
       stands = w.stands;
       emitted = rw w.lists em;
       same = λ left.
           examine_kept t limits left (item_at t (frames_part a s) d) (frames_to t (frames_part a s) d) emitted (judged_is t a s d closed j) (omega (arith, many))
-          (ap (limit_reached (search_limit course.limit)) (omega (arith, many)) ∙ r) x
+          (ap (limit_reached course.limit) (omega (arith, many)) ∙ r) x
           ∙ sym (rw (w.frames, w.lists, ls, fr) refl);
       tables = w.tables ∙ tb;
     }
@@ -198,38 +199,38 @@ stands_drop t a s d st h = record {
 }
 
 module _ (t : Table) (a : Areas) (course : Course) (budget : ℕ) (s : List ℕ) (d left : ℕ) (turn : Turn t a course budget s d left) (h : 0 < d) where
+  abbrev fr : Frame
+  fr = frame_at t (frames_part a s) (d - 1)
+
   top : frames_to t (frames_part a s) d ≡ frame_at t (frames_part a s) (d - 1) ∷ frames_to t (frames_part a s) (d - 1)
   unfolding frames_to
   top = let e : d ≡ suc (d - 1) = omega arith in ap (frames_to t (frames_part a s)) e
 
-  pub turn_back : (s' : List ℕ) → Next t (frame_at t (frames_part a s) (d - 1)) 0 → Withdrawn t a s s' (d - 1) → Turn t a course budget s' (d - 1) left
+  pub turn_back : (s' : List ℕ) → waiting t fr.list fr.ridge fr.low fr.place ≡ [] → Withdrawn t a s s' (d - 1) → Turn t a course budget s' (d - 1) left
   turn_back s' n w =
       record {
         stands = w.stands;
         emitted = rw w.lists turn.emitted;
         same =
             rw (w.frames, w.lists)
-            (ap (λ (l : List Item). examine t (entry_limits_of a course) left l (emitted_in t a (lists_part a s))) (sym (ap (pending t) top ∙ pending_none t (frame_at t (frames_part a s) (d - 1)) (frames_to t (frames_part a s) (d - 1)) (n.none refl)))
+            (ap (λ (l : List Item). examine t (entry_limits_of a course) left l (emitted_in t a (lists_part a s))) (sym (ap (pending t) top ∙ pending_none t (frame_at t (frames_part a s) (d - 1)) (frames_to t (frames_part a s) (d - 1)) n))
             ∙ turn.same);
       }
 
-  module _ (r : ℕ) (n : Next t (frame_at t (frames_part a s) (d - 1)) r) (z : 0 < r) where
+  module _ (r : ℕ) (n : NextAt t (frame_at t (frames_part a s) (d - 1)) r) where
     pub turn_ready : CandidateDue t a s d r
     unfolding frame_at
-    turn_ready = record { stands = turn.stands; deep = h; positive = z; inside = n.inside; free = n.free z }
+    turn_ready = record { stands = turn.stands; deep = h; inside = n.inside; free = n.free }
 
-    abbrev fr : Frame
-    fr = frame_at t (frames_part a s) (d - 1)
-
-    latest_first : pending t (frames_to t (frames_part a s) d) ≡ child fr.list fr.mark fr.ridge (candidate_of t fr r) ∷ pending t (moved fr (r - 1) ∷ frames_to t (frames_part a s) (d - 1))
-    latest_first = ap (pending t) top ∙ pending_latest t fr (frames_to t (frames_part a s) (d - 1)) (r - 1) (candidate_of t fr r) (n.found z)
+    latest_first : pending t (frames_to t (frames_part a s) d) ≡ child fr.list fr.mark fr.ridge (candidate_of t fr r) ∷ pending t (moved fr r ∷ frames_to t (frames_part a s) (d - 1))
+    latest_first = ap (pending t) top ∙ pending_latest t fr (frames_to t (frames_part a s) (d - 1)) r (candidate_of t fr r) (n.found)
 
     -- the budget is used up
     pub turn_spent : left ≡ 0 → refused 16 ≡ search t (entry_limits_of a course) budget
     turn_spent e =
         sym (ap (λ (l : List Item). examine t (entry_limits_of a course) left l (emitted_in t a (lists_part a s))) latest_first
-        ∙ (ap (λ (k : ℕ). examine t (entry_limits_of a course) k (child fr.list fr.mark fr.ridge (candidate_of t fr r) ∷ pending t (moved fr (r - 1) ∷ frames_to t (frames_part a s) (d - 1))) (emitted_in t a (lists_part a s))) e
-        ∙ examine_spent t (entry_limits_of a course) (child fr.list fr.mark fr.ridge (candidate_of t fr r)) (pending t (moved fr (r - 1) ∷ frames_to t (frames_part a s) (d - 1))) (emitted_in t a (lists_part a s))))
+        ∙ (ap (λ (k : ℕ). examine t (entry_limits_of a course) k (child fr.list fr.mark fr.ridge (candidate_of t fr r) ∷ pending t (moved fr r ∷ frames_to t (frames_part a s) (d - 1))) (emitted_in t a (lists_part a s))) e
+        ∙ examine_spent t (entry_limits_of a course) (child fr.list fr.mark fr.ridge (candidate_of t fr r)) (pending t (moved fr r ∷ frames_to t (frames_part a s) (d - 1))) (emitted_in t a (lists_part a s))))
         ∙ turn.same
 
     module _ (s1 : List ℕ) (v : Verdict) (w : Visited t a s s1 d r v) (some_left : 0 < left) where
@@ -251,8 +252,8 @@ module _ (t : Table) (a : Areas) (course : Course) (budget : ℕ) (s : List ℕ)
       pub turn_stopped : (s2 : List ℕ) → Stops t a course s1 s2 d → answered (record { lists = emitted_in t a (lists_part a s2); left = left - 1 }) ≡ search t (entry_limits_of a course) budget
       turn_stopped s2 g = sym (g.same (left - 1)) ∙ examined
 
-      pub turn_full : (s2 : List ℕ) → Fills t a course s1 s2 d → refused 15 ≡ search t (entry_limits_of a course) budget
-      turn_full s2 g = sym (g.same (left - 1)) ∙ examined
+      pub turn_full : (s2 : List ℕ) (number : ℕ) → Fills t a course s1 s2 d number → refused number ≡ search t (entry_limits_of a course) budget
+      turn_full s2 number g = sym (g.same (left - 1)) ∙ examined
 
 -- no frame is left
 pub turn_end : (t : Table) (a : Areas) (course : Course) (budget : ℕ) (s : List ℕ) (d left : ℕ) → Turn t a course budget s d left → d ≡ 0

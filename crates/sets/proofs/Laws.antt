@@ -13,12 +13,8 @@ use lib.Ieee.{Float, lt, nan}
 use Rattle.definitions.specs.Vectors.{Vec}
 use Rattle.definitions.specs.Subspace.{Subspace, distance}
 use Rattle.definitions.specs.Orbits.{image, point_at, points_near, set_image}
-use Rattle.laws.specs.Parts.{set_five}
 use Rattle.laws.specs.Sets.{set_number, vertices_from, vertices_of, number_sorted, number_small}
 use Rattle.vectors.specs.Meaning.{five}
-use Rattle.space.specs.declared.Points.{Points}
-use Rattle.space.specs.Meaning.{borrowed, points_of, PointsFit, HoldsPoints}
-use Rattle.space.specs.Counts.{holds_points, at_long, point_means, point_own, point_places, row_joined}
 use Rattle.openers.specs.Rows.{row_at, image_at_holds}
 use Rattle.sets.specs.Steps.{power_below, vertices_step, number_step, number_bound, near_set, near_step}
 
@@ -117,33 +113,11 @@ module _ (ps : List Vec) (n : ℕ) where
   unfolding vertices_of
   points_whole x = let e : n - 0 ≡ n = omega arith in ap (λ (k : ℕ). map (point_at ps) (vertices_from 0 k x)) e
 
-module _ (ps : List Vec) (v x : ℕ) where
-  pub point_few : length (map (point_at ps) (vertices_from v 1 x)) ≤ 1
+  -- vertex v joins where its bit is set
+  pub points_joins : (v x : ℕ) → v < n → x % 2 ≡ 1 → points_from v x ≡ point_at ps v ∷ points_from (v + 1) (x / 2)
   unfolding vertices_from
-  point_few = go (eqb (x % 2) 1)
-    where
-      go : (b : Bool) → length (map (point_at ps) (cond b (v ∷ []) [])) ≤ 1
-      go true = omega arith
-      go false = omega arith
+  points_joins v x h odd = points_turn v x h ∙ rw (eq-eqb (x % 2) 1 odd) refl
 
--- A vertex joins the chosen points where its bit is set, and leaves them as they are where it is not.
-module _ (flat : Points) (fits : PointsFit flat) (v : ℕ) (below : v < flat.n) where
-  abbrev pub row_of : List Float
-  row_of = take 5 (drop (5 * v) flat.at)
-
-  pub point_joins : (chosen : List Float) (count x : ℕ) → PointsFit (borrowed chosen count flat.d) → count < 20
-      → HoldsPoints (borrowed (cond (eqb (x % 2) 1) (set_five chosen (5 * count) row_of nan) chosen) (cond (eqb (x % 2) 1) (count + 1) count) flat.d) flat.d
-      (points_of (borrowed chosen count flat.d) ++ map (point_at (points_of flat)) (vertices_from v 1 x))
+  pub points_stays : (v x : ℕ) → v < n → (x % 2 ≡ 1 → ⊥) → points_from v x ≡ points_from (v + 1) (x / 2)
   unfolding vertices_from
-  point_joins chosen count x old room = go (eqb (x % 2) 1)
-    where
-      places : row_of ≡ five (point_at (points_of flat) v)
-      places = point_places flat fits v below
-
-      long : length row_of ≡ 5
-      long = length-take-le 5 (drop (5 * v) flat.at) (omega (arith, length-drop (5 * v) flat.at, at_long flat fits, fits.n_fits, below))
-
-      go : (b : Bool) → HoldsPoints (borrowed (cond b (set_five chosen (5 * count) row_of nan) chosen) (cond b (count + 1) count) flat.d) flat.d
-          (points_of (borrowed chosen count flat.d) ++ map (point_at (points_of flat)) (cond b (v ∷ []) []))
-      go true = rw (← (point_means flat fits v below row_of places)) (row_joined (borrowed chosen count flat.d) old row_of room long (point_own flat fits v below row_of places))
-      go false = holds_points (borrowed chosen count flat.d) flat.d _ old refl (sym (append-nil (points_of (borrowed chosen count flat.d))))
+  points_stays v x h even = points_turn v x h ∙ rw (ne_eqb (x % 2) 1 even) refl

@@ -1,23 +1,29 @@
 -- What a refit answers [6.4]: refusal 14 where the plane of a set's points has another number of basis vectors than is wanted. Leans on what the structs mean.
 use Rattle.std.specs.Prelude.{◌≡◌, cond, ℕ, ◌<◌, eqb, length}
-use Rattle.std.proofs.Math.Option.{Option, some, none}
+use Rattle.std.specs.Prelude.{Result, Ok, Err}
+use Rattle.definitions.specs.Outcome.{Outcome, refused, answered}
 use Rattle.definitions.specs.Subspace.{Subspace}
 use Rattle.space.specs.declared.Points.{Points}
 use Rattle.space.specs.Meaning.{subspace_of, HoldsSubspace}
-use Rattle.sets.specs.declared.SetPlane.{SetPlane}
-use Rattle.sets.specs.declared.Fit.{Fit}
-use Rattle.sets.specs.declared.Fit.TheVariants.{Fitted, Refused}
+use Rattle.space.specs.declared.Subspace.{Subspace as StoredSubspace}
+use Rattle.refusals.specs.declared.Refusal.{Refusal}
+use Rattle.refusals.specs.Refused.{number_of}
 
-unfoldable pub fitted : Fit → Subspace → Option Subspace
-fitted Fitted plane = some plane
-fitted Refused plane = none
+-- the plane of an answer, or its refusal
+unfoldable pub refitted_plane : Result StoredSubspace Refusal → Outcome Subspace
+refitted_plane (Ok plane) = answered (subspace_of plane)
+refitted_plane (Err e) = refused (number_of e)
 
--- the plane of an answer, or none where it is a refusal
-unfoldable pub refitted_plane : SetPlane → Option Subspace
-refitted_plane r = fitted r.fit (subspace_of r.plane)
+-- a stored plane has what the definition's has, and the d of the points
+pub record FittedPlane (stored : StoredSubspace) (points : Points) (plane : Subspace) : Type 0 where
+  pub holds : HoldsSubspace stored plane
+  pub same_d : 0 < points.n → stored.d ≡ points.d
 
--- refusal 14: exactly where the number of basis vectors is not the one wanted. The struct holds the plane either way, with the d of the points.
-pub record Refitted (r : SetPlane) (points : Points) (plane : Subspace) (wanted : ℕ) : Type 0 where
-  pub answer : refitted_plane r ≡ cond (eqb (length plane.basis) wanted) (some plane) none
-  pub holds : HoldsSubspace r.plane plane
-  pub same_d : 0 < points.n → r.plane.d ≡ points.d
+abbrev pub HoldsPlane : Result StoredSubspace Refusal → Points → Subspace → Type 0
+HoldsPlane (Ok stored) points plane = FittedPlane stored points plane
+HoldsPlane (Err e) points plane = Unit {0}
+
+-- refusal 14: exactly where the number of basis vectors is not the one wanted
+pub record Refitted (r : Result StoredSubspace Refusal) (points : Points) (plane : Subspace) (wanted : ℕ) : Type 0 where
+  pub answer : refitted_plane r ≡ cond (eqb (length plane.basis) wanted) (answered plane) (refused 14)
+  pub fitted : HoldsPlane r points plane

@@ -13,7 +13,7 @@ pub returns-then-answer-at : goal.returns-then-answer-at
 unfolding written_to buffer_to
 returns-then-answer-at c = of_two (λ x0 x1. record { result = x0; buffer = x1 })
     (let past : ltb (length c.args.answer.now) c.args.at ≡ true = lt-ltb (length c.args.answer.now) c.args.at (omega arith) in
-    (rw past refl, rw past c.clear.ensures))
+    (rw past refl, rw past (c.fill.ensures.after (λ y e. e))))
 
 pub returns : goal.returns
 unfolding written_to buffer_to

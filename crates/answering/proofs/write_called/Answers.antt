@@ -2,42 +2,45 @@
 use native.Mathlib.Omega.{arith}
 use Rattle.answering.specs.Answered.{said_as, said_refuses, said_ends, said_leaves, refused_clauses, answered_clauses}
 use Rattle.laws.specs.Clauses.{of_two}
+use mathlib.Core.Path.{ap, ◌∙◌}
+use Rattle.std.specs.Prelude.{Ok}
+use Rattle.refusals.specs.Refused.{refused_on}
 use Rattle.answering.proofs.write_called.Goals as goal
 
-pub returns-in-Refused : goal.returns-in-Refused
-returns-in-Refused c = of_two (λ x0 x1. record { result = x0; buffer = x1 })
+pub returns-in_err-swapped : goal.returns-in_err-swapped
+returns-in_err-swapped c = of_two (λ x0 x1. record { result = x0; buffer = x1 })
     ((
-      (λ call d. (refused_clauses c.args.fields.budget call (said_refuses (said_as d c.in-Refused.is)) _ c.requires.0).0),
-      (λ call d. (refused_clauses c.args.fields.budget call (said_refuses (said_as d c.in-Refused.is)) _ c.requires.0).1),
+      (λ call d. refused_on _ _ c.from_residual.ensures.1 ∙ (refused_clauses c.args.fields.budget call (said_refuses (said_as d c.in_err-swapped.was)) _ c.requires.0).0),
+      (λ call d. (refused_clauses c.args.fields.budget call (said_refuses (said_as d c.in_err-swapped.was)) _ c.requires.0).1),
     ))
 
 pub write_ends-end-requires : goal.write_ends-end-requires
 write_ends-end-requires c =
-    (said_ends (said_as c.requires.1.1 c.in-Ends.is)).1
+    (said_ends (said_as c.requires.1.1 (c.in_ok-swapped.was ∙ ap Ok c.in-Ends.is))).1
 
 pub returns-in-Ends : goal.returns-in-Ends
 returns-in-Ends c = of_two (λ x0 x1. record { result = x0; buffer = x1 })
     ((
       (λ call d.
-          (answered_clauses c.args.fields.budget call (said_ends (said_as d c.in-Ends.is)).0 _ _ _ _ c.requires.0 (omega arith) c.write_ends-end.ensures
+          (answered_clauses c.args.fields.budget call (said_ends (said_as d (c.in_ok-swapped.was ∙ ap Ok c.in-Ends.is))).0 _ _ _ _ c.requires.0 (omega arith) c.write_ends-end.ensures
           c.close.ensures.result c.close.ensures.buffer).0),
       (λ call d.
-          (answered_clauses c.args.fields.budget call (said_ends (said_as d c.in-Ends.is)).0 _ _ _ _ c.requires.0 (omega arith) c.write_ends-end.ensures
+          (answered_clauses c.args.fields.budget call (said_ends (said_as d (c.in_ok-swapped.was ∙ ap Ok c.in-Ends.is))).0 _ _ _ _ c.requires.0 (omega arith) c.write_ends-end.ensures
           c.close.ensures.result c.close.ensures.buffer).1),
     ))
 
 pub write_left-end-requires : goal.write_left-end-requires
 write_left-end-requires c =
-    let left = said_leaves (said_as c.requires.1.1 c.in-Left.is) in
+    let left = said_leaves (said_as c.requires.1.1 (c.in_ok-swapped.was ∙ ap Ok c.in-Left.is)) in
     (left.2, left.3, (left.0, left.4))
 
 pub returns-in-Left : goal.returns-in-Left
 returns-in-Left c = of_two (λ x0 x1. record { result = x0; buffer = x1 })
     ((
       (λ call d.
-          let left = said_leaves (said_as d c.in-Left.is) in
+          let left = said_leaves (said_as d (c.in_ok-swapped.was ∙ ap Ok c.in-Left.is)) in
           (answered_clauses c.args.fields.budget call left.1 _ _ _ _ c.requires.0 (omega arith) (c.write_left-end.ensures left.0 left.4) c.close-in-Left.ensures.result c.close-in-Left.ensures.buffer).0),
       (λ call d.
-          let left = said_leaves (said_as d c.in-Left.is) in
+          let left = said_leaves (said_as d (c.in_ok-swapped.was ∙ ap Ok c.in-Left.is)) in
           (answered_clauses c.args.fields.budget call left.1 _ _ _ _ c.requires.0 (omega arith) (c.write_left-end.ensures left.0 left.4) c.close-in-Left.ensures.result c.close-in-Left.ensures.buffer).1),
     ))

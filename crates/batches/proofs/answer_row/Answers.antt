@@ -4,36 +4,32 @@ use mathlib.Core.Bool.{true, false}
 use Prim.Native.Nat.{ℕ}
 use borrow.Author.Rules.{rules}
 use lib.ListN.{length, replicate}
-use mir.Facts.{to_z-of_z}
-use mir.Syntax.{w64}
-use mir.Val.{SFits}
-use Rattle.definitions.specs.Job.{code_of, buffer_of}
+use Rattle.definitions.specs.Job.{buffer_of}
 use Rattle.definitions.specs.Batch.{batch}
-use Rattle.batches.specs.Records.{not_cut_batch}
+use Rattle.batches.specs.Records.{recorded_as, not_cut_batch}
 use Rattle.laws.specs.Clauses.{of_two}
 use Rattle.batches.proofs.answer_row.Goals as goal
 
 pub write_records-requires : goal.write_records-requires
 write_records-requires c =
     let cut : c.is_cut.result ≡ true = search rules in
-    (sym c.is_cut.ensures ∙ cut, c.clear.ensures ∙ ap (λ (k : ℕ). replicate k 0) (sym c.records-1.given))
+    (sym c.is_cut.ensures ∙ cut, c.fill.ensures.after (λ y e. e) ∙ ap (λ (k : ℕ). replicate k 0) (sym c.fill.auto.self))
 
 pub returns-then-is_cut : goal.returns-then-is_cut
-returns-then-is_cut c = of_two (λ x0 x1. record { code = x0; buffer = x1 })
+returns-then-is_cut c = of_two (λ x0 x1. record { result = x0; buffer = x1 })
     (let row = c.args.row.now in
     let size = length c.args.workspace.now in
-    let same = c.records-1.given in
-    let fits : SFits w64 c.write_records.result = search rules in (
-      to_z-of_z fits ∙ (c.write_records.ensures.code ∙ ap (λ (room : ℕ). code_of (batch row size room)) same),
+    let same = c.fill.auto.self in (
+      c.write_records.ensures.result ∙ ap (λ (room : ℕ). recorded_as (batch row size room)) same,
       c.write_records.ensures.buffer ∙ ap (λ (room : ℕ). buffer_of room (batch row size room)) same,
     ))
 
 pub returns : goal.returns
-unfolding code_of buffer_of
-returns c = of_two (λ x0 x1. record { code = x0; buffer = x1 })
+unfolding recorded_as buffer_of
+returns c = of_two (λ x0 x1. record { result = x0; buffer = x1 })
     (let row = c.args.row.now in
     let size = length c.args.workspace.now in
     let room = length c.args.records.now in
     let not : c.is_cut.result ≡ false = search rules in
     let none = not_cut_batch row size room (sym c.is_cut.ensures ∙ not) in
-    (sym (ap code_of none), c.clear.ensures ∙ sym (ap (buffer_of room) none)))
+    (sym (ap recorded_as none), c.fill.ensures.after (λ y e. e) ∙ sym (ap (buffer_of room) none)))

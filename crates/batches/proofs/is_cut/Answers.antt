@@ -12,12 +12,12 @@ returns-then-left-lt-LENGTH_BYTES c = looked_remainder c.loop-at.invariant (omeg
 
 pub returns-then-left-many : goal.returns-then-left-many
 returns-then-left-many c =
-    looked_overrun c.loop-at.invariant (omega arith) (omega (arith, c.get_u32-many.ensures))
+    looked_overrun c.loop-at.invariant (omega arith) (omega (arith, c.get-many.ensures))
 
 pub loop-at-preserved : goal.loop-at-preserved
 loop-at-preserved c =
-    subst (λ (many : ℕ). Looked c.args.row.now (c.loop-at.at + (4 + many))) (sym c.get_u32-many.ensures)
-    (looked_next c.loop-at.invariant (omega arith) (omega (arith, c.get_u32-many.ensures)))
+    subst (λ (many : ℕ). Looked c.args.row.now (c.loop-at.at + (4 + many))) (sym c.get-many.ensures)
+    (looked_next c.loop-at.invariant (omega arith) (omega (arith, c.get-many.ensures)))
 
 pub returns : goal.returns
 returns c = looked_all c.loop-at.invariant (omega arith)

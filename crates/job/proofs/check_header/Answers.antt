@@ -2,7 +2,7 @@
 -- test k. Assumes nothing.
 use mathlib.Core.Bool.{true}
 use mathlib.Core.Path.{◌≡◌, refl, sym, ap, ◌∙◌}
-use mathlib.Core.Option.{none}
+use Rattle.std.specs.Prelude.{None}
 use Prim.Native.Nat.{ℕ, ◌-◌, ◌<◌}
 use borrow.Author.Tests.{lt-ltb, le-ltb, eq-eqb, ne_eqb}
 use lib.Dec.{ltb, eqb}
@@ -51,7 +51,7 @@ module _ (job : Bytes) (x : Header) (is : x ≡ header_of job) (m : has_mark job
 size-stated : (bytes : Bytes) (p : Places) → p ≡ places_of (header_of bytes) → (read_job bytes).size ≡ p.size
 size-stated bytes p e = size_is bytes ∙ ap (λ (q : Places). q.size) (sym e)
 
-none_fails : (job : Bytes) → Reached (header_tests job) job 7 → (p : Places) → p ≡ places_of (header_of job) → length job ≡ p.size → first_refused (header_tests job) ≡ none
+none_fails : (job : Bytes) → Reached (header_tests job) job 7 → (p : Places) → p ≡ places_of (header_of job) → length job ≡ p.size → first_refused (header_tests job) ≡ None
 unfolding header_tests
 none_fails job b p e s = ends (header_tests job) _ b (ap (λ (size : ℕ). eqb (length job) size) (size-stated job p e) ∙ eq-eqb _ _ s)
 

@@ -2,6 +2,7 @@
 use mathlib.Core.Path.{sym, ◌∙◌}
 use Rattle.definitions.specs.Job.{header_tests, value_tests, job_tests}
 use Rattle.laws.specs.Refusals.{none_refused}
+use Rattle.refusals.specs.Refused.{refused_on}
 use Rattle.job.specs.Passed.{checked_passed, header_passed}
 use Rattle.job.proofs.Laws.{refused_before, left_to_second}
 use Rattle.job.proofs.check_job.Goals as goal
@@ -9,17 +10,17 @@ use Rattle.job.proofs.check_job.Goals as goal
 pub check_values-requires : goal.check_values-requires
 check_values-requires c =
     let job = c.args.job.now in
-    let passes = checked_passed (header_tests job) job _ (sym c.in-Passed.is ∙ c.check_header.ensures) in
+    let passes = checked_passed (header_tests job) job _ (c.in_ok-fields.ensures) in
     (header_passed job (none_refused (header_tests job) passes.0), passes.1)
 
-pub returns-in-Refused : goal.returns-in-Refused
+pub returns-in_err-fields : goal.returns-in_err-fields
 unfolding job_tests
-returns-in-Refused c =
+returns-in_err-fields c =
     let job = c.args.job.now in
-    refused_before (header_tests job) (value_tests job) job _ (sym c.in-Refused.is ∙ c.check_header.ensures)
+    refused_on _ _ c.from_residual.ensures.1 ∙ refused_before (header_tests job) (value_tests job) job _ c.in_err-fields.ensures
 
-pub returns-in-Passed : goal.returns-in-Passed
+pub returns : goal.returns
 unfolding job_tests
-returns-in-Passed c =
+returns c =
     let job = c.args.job.now in
-    c.check_values.ensures ∙ left_to_second (header_tests job) (value_tests job) job _ (sym c.in-Passed.is ∙ c.check_header.ensures)
+    c.check_values.ensures ∙ left_to_second (header_tests job) (value_tests job) job _ (c.in_ok-fields.ensures)

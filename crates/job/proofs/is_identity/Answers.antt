@@ -9,17 +9,17 @@ loop-i-init c =
     let a = c.args in
     (omega arith, count_starts a.job.now a.at a.n)
 
-pub returns-then-wide-i : goal.returns-then-wide-i
-returns-then-wide-i c =
+pub returns-then-from-i : goal.returns-then-from-i
+returns-then-from-i c =
     let a = c.args in
     let l = c.loop-i in
-    count_stops a.job.now a.at a.n l.i (omega arith) (omega arith) (ne_eqb _ _ (λ e. c.if-wide-i.true (c.wide.ensures ∙ e))) l.invariant.1
+    count_stops a.job.now a.at a.n l.i (omega arith) (omega arith) (ne_eqb _ _ (λ e. c.if-from-i.true (c.from.ensures ∙ e))) l.invariant.1
 
 pub loop-i-preserved : goal.loop-i-preserved
 loop-i-preserved c =
     let a = c.args in
     let l = c.loop-i in
-    (omega arith, count_goes_on a.job.now a.at a.n l.i (omega arith) (omega arith) (eq-eqb _ _ (sym c.wide.ensures ∙ c.if-wide-i.false)) l.invariant.1)
+    (omega arith, count_goes_on a.job.now a.at a.n l.i (omega arith) (omega arith) (eq-eqb _ _ (sym c.from.ensures ∙ c.if-from-i.false)) l.invariant.1)
 
 pub returns : goal.returns
 returns c =

@@ -13,19 +13,19 @@ loop-i-init c =
 pub returns-then-n-v : goal.returns-then-n-v
 returns-then-n-v c =
     let l = c.loop-i in
-    let w = c.wide-v.ensures in
+    let w = c.from-v.ensures in
     marks_stop_beyond _ _ _ l.marks l.i (omega arith) (omega arith) (le-ltb _ _ (rw w at c.if-n-v.true)) l.invariant.2
 
 pub returns-then-marks-v : goal.returns-then-marks-v
 returns-then-marks-v c =
     let l = c.loop-i in
-    let w = c.wide-v.ensures in
+    let w = c.from-v.ensures in
     marks_stop_again _ _ _ l.marks l.i (omega arith) (omega arith) (lt-ltb _ _ (rw w at c.if-n-v.false)) (rw w at c.if-marks-v.true) l.invariant.2
 
 pub loop-i-preserved : goal.loop-i-preserved
 loop-i-preserved c =
     let l = c.loop-i in
-    let w = c.wide-v.ensures in
+    let w = c.from-v.ensures in
     (omega arith, length-set l.marks _ _ ∙ l.invariant.1, rw w (marks_go_on _ _ _ l.marks l.i (omega arith) (omega arith) (lt-ltb _ _ (rw w at c.if-n-v.false)) (rw w at c.if-marks-v.false) l.invariant.2))
 
 pub returns : goal.returns

@@ -7,6 +7,3 @@ use Rattle.job.proofs.is_permutation.Given as goal
 
 abbrev pub invariant-loop-i : goal.invariant-loop-i
 invariant-loop-i l = (l.i ≤ l.n) × (length l.marks ≡ 20) × MarksDecide l.job l.at l.n l.marks l.i
-
-abbrev pub decreases-loop-i : goal.decreases-loop-i
-decreases-loop-i l = l.n - l.i

@@ -7,6 +7,3 @@ use Rattle.job.proofs.rows_good.Given as goal
 
 abbrev pub invariant-loop-i : goal.invariant-loop-i
 invariant-loop-i l = (l.i ≤ l.count) × RestDecides (is_permutation l.n) (λ (q : ℕ). take l.n (drop q l.job)) l.n l.at l.count l.i
-
-abbrev pub decreases-loop-i : goal.decreases-loop-i
-decreases-loop-i l = l.count - l.i

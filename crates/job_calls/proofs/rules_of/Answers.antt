@@ -7,4 +7,4 @@ use Rattle.job_calls.proofs.rules_of.Goals as goal
 
 pub returns : goal.returns
 unfolding call_rules job_rules bounds1
-returns c = rw c.limit_of.ensures refl
+returns c = refl

@@ -6,15 +6,16 @@ use Rattle.definitions.specs.Job.{buffer_of}
 use Rattle.answering.specs.Closed.{written_in, buffer_in}
 use Rattle.nobles.specs.Passed.{noble_refused}
 use Rattle.laws.specs.Clauses.{of_two}
+use Rattle.refusals.specs.Refused.{refused_on}
 use Rattle.nobles.proofs.noble_job.Goals as goal
 
 pub write_noble-requires : goal.write_noble-requires
 write_noble-requires c =
-    (sym c.in-Passed.is ∙ c.check_noble.ensures, c.requires)
+    (c.in_ok-fields.ensures, c.requires)
 
-pub returns-in-Refused : goal.returns-in-Refused
+pub returns-in_err-fields : goal.returns-in_err-fields
 unfolding written_in buffer_in and_then buffer_of
-returns-in-Refused c = of_two (λ x0 x1. record { result = x0; buffer = x1 })
+returns-in_err-fields c = of_two (λ x0 x1. record { result = x0; buffer = x1 })
     (let room = length c.args.answer.now in
-    let o = noble_refused c.args.job.now c.args.pack.now (length c.args.workspace.now) _ (sym c.in-Refused.is ∙ c.check_noble.ensures) in
-    (sym (ap (written_in room) o), c.requires ∙ sym (ap (buffer_in room) o)))
+    let o = noble_refused c.args.job.now c.args.pack.now (length c.args.workspace.now) _ c.in_err-fields.ensures in
+    (refused_on _ _ c.from_residual.ensures.1 ∙ sym (ap (written_in room) o), c.requires ∙ sym (ap (buffer_in room) o)))

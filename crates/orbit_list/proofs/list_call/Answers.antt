@@ -19,7 +19,7 @@ find_orbits-requires g c =
     let f = c.flatten_all-flat in
     let l = c.load_rows in
     let k = counts c.args.job.now c.args.fields c.requires.0 in (
-      call_fits c.args.job.now c.args.fields c.requires.0 p.result f.result p.ensures.0.fits f.ensures.0.fits p.ensures.1 f.ensures.1 _ (omega (arith, k.count_most, l.ensures.rows.1)) l.ensures.rows.0,
+      call_fits c.args.job.now c.args.fields c.requires.0 p.result f.result p.ensures.1 f.ensures.1 _ (omega (arith, k.count_most, l.ensures.rows.1)) l.ensures.rows.0,
       omega arith,
       search rules,
     )
@@ -30,10 +30,9 @@ list_found-requires g c =
     let f = c.flatten_all-flat in
     let l = c.load_rows in
     let k = counts c.args.job.now c.args.fields c.requires.0 in
-    let few = orbits_few f.result.n c.in-Orbits.count 256 _ _ c.find_orbits.result c.in-Orbits.is c.find_orbits.ensures in (
-      f.ensures.0.fits,
+    let few = orbits_few f.result.n c.in-Ok.count 256 _ _ c.in-Ok.ensures in (
       omega arith,
-      (call_fits c.args.job.now c.args.fields c.requires.0 p.result f.result p.ensures.0.fits f.ensures.0.fits p.ensures.1 f.ensures.1 _ (omega (arith, k.count_most, l.ensures.rows.1)) l.ensures.rows.0).permute,
+      (call_fits c.args.job.now c.args.fields c.requires.0 p.result f.result p.ensures.1 f.ensures.1 _ (omega (arith, k.count_most, l.ensures.rows.1)) l.ensures.rows.0).permute,
       k.count_most,
       omega (arith, few),
     )

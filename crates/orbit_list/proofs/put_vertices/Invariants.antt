@@ -4,6 +4,3 @@ use Rattle.orbit_list.proofs.put_vertices.Given as goal
 
 abbrev pub invariant-loop-v : goal.invariant-loop-v
 invariant-loop-v g l = l.v ≤ l.n
-
-abbrev pub decreases-loop-v : goal.decreases-loop-v
-decreases-loop-v g l = l.n - l.v

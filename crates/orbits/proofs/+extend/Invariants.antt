@@ -13,7 +13,4 @@ decreases-extend l = l.more
 
 abbrev pub invariant-loop-u : goal.invariant-loop-u
 invariant-loop-u l =
-    (l.from ≤ l.u) × (length l.ws ≡ length l.initial.ws) × Extending l.tolerance l.most (points_of l.flat) (rows_in l.flat.n l.m l.rows) l.bound l.initial.reached l.initial.ws (extensions (keeps_limits l.tolerance (limits_of l.min l.max) (points_of l.points) l.v) (points_of l.flat) (points_of l.tuple) l.flat.n l.from l.more) (extensions (keeps_limits l.tolerance (limits_of l.min l.max) (points_of l.points) l.v) (points_of l.flat) (points_of l.tuple) l.flat.n l.u l.more) l.reached l.ws
-
-abbrev pub decreases-loop-u : goal.decreases-loop-u
-decreases-loop-u l = l.n - l.u
+    (l.from ≤ l.u) × (length l.ws ≡ length l.initial.ws) × Extending l.tolerance l.most (points_of l.flat) (rows_in l.flat.n l.m l.rows) l.bound l.initial.reached l.initial.ws (extensions (keeps_limits l.tolerance (limits_of l.limits) (points_of l.points) l.v) (points_of l.flat) (points_of l.tuple) l.flat.n l.from l.more) (extensions (keeps_limits l.tolerance (limits_of l.limits) (points_of l.points) l.v) (points_of l.flat) (points_of l.tuple) l.flat.n l.u l.more) l.reached l.ws

@@ -10,6 +10,3 @@ use Rattle.orbits.proofs.gather_images.Given as goal
 
 abbrev pub invariant-loop-i : goal.invariant-loop-i
 invariant-loop-i l = (l.i ≤ l.m) × (l.k ≤ l.i) × (length l.new ≡ length l.initial.new) × Gathering (seen_in l.known l.ws) (image_numbers l.n l.set (rows_in l.n l.i l.rows)) (take l.k l.new)
-
-abbrev pub decreases-loop-i : goal.decreases-loop-i
-decreases-loop-i l = l.m - l.i

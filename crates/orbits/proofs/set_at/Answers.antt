@@ -6,4 +6,4 @@ pub nonzero_rem-result : goal.nonzero_rem-result
 nonzero_rem-result c = divisor c.args.n c.requires.1
 
 pub returns : goal.returns
-returns c = rest_small c.get_u32.result _ c.args.n c.requires.1 c.get_u32.ensures
+returns c = rest_small c.get.result _ c.args.n c.requires.1 c.get.ensures

@@ -1,6 +1,6 @@
 use mathlib.Core.Path.{◌≡◌, refl, subst, ◌∙◌}
 use mathlib.Core.List.{List}
-use Prim.Native.Nat.{◌<◌}
+use Prim.Native.Nat.{◌+◌, ◌<◌}
 use native.Mathlib.Omega.{arith}
 use borrow.Author.Rules.{rules}
 use lib.ListN.{length, take}
@@ -12,20 +12,13 @@ use Rattle.openers.specs.Meaning.{pairs_in}
 use Rattle.orbits.specs.Walks.{Walked}
 use Rattle.orbits.specs.Answers.{pair_tuples}
 use Rattle.orbits.proofs.PairSteps.{pairs_count, pair_at, pair_in, walk_start, walk_turn, walk_ends_holds}
+use Rattle.std.specs.Prelude.{Ok}
+use Rattle.refusals.specs.Refused.{handed_on}
 use Rattle.orbits.proofs.walk_pairs.Goals as goal
 
 pub loop-k-init : goal.loop-k-init
 loop-k-init c = let a = c.args in
-    (omega arith, refl, walk_start a.tolerance a.most (limits_of a.min a.max) (points_of a.points) (points_of a.flat) a.flat.n a.more (rows_in a.flat.n a.m a.rows.now) a.bound a.state a.ws.now (pairs_in a.pairs) c.requires.3)
-
-pub shape_of-ws-in-Refused : goal.shape_of-ws-in-Refused
-shape_of-ws-in-Refused c = c.loop-k.invariant.1
-
-pub returns-in-Refused : goal.returns-in-Refused
-returns-in-Refused c =
-    let a = c.args in
-    let l = c.loop-k in
-    walk_ends_holds a.tolerance a.most (limits_of a.min a.max) (points_of a.points) (points_of a.flat) a.flat.n a.more (rows_in a.flat.n a.m a.rows.now) a.bound a.state a.ws.now (pairs_in a.pairs) l.k l.reached l.ws l.invariant.2 c.in-Refused.is
+    (omega arith, refl, walk_start a.tolerance a.most (limits_of a.limits) (points_of a.points) (points_of a.flat) a.flat.n a.more (rows_in a.flat.n a.m a.rows.now) a.bound a.state a.ws.now (pairs_in a.pairs) c.requires.3)
 
 pub offset_bounds-pairs-k : goal.offset_bounds-pairs-k
 offset_bounds-pairs-k c = omega (arith, c.requires.2)
@@ -42,10 +35,10 @@ pair_points-requires c =
     let m = pair_in a.pairs c.requires.2 long c.loop-k.k (omega arith) in
     let up = c.requires.1.rise _ m in
     let below = c.requires.1.below _ m in
-    (c.requires.0.flat_fit, omega arith, omega arith)
+    (omega arith, omega arith)
 
-pub extend-next-requires : goal.extend-next-requires
-extend-next-requires c =
+pub extend-requires : goal.extend-requires
+extend-requires c =
     let long : length c.args.pairs.codes ≡ 190 = search rules in
     let a = c.args in
     let l = c.loop-k in
@@ -53,7 +46,7 @@ extend-next-requires c =
     let up = c.requires.1.rise _ m in
     let below = c.requires.1.below _ m in
     let h = c.pair_points.ensures in
-    (record { flat_fits = c.requires.0.flat_fit; tuple_fits = h.fits; some_point = omega (arith, h.n_is); same_d = h.d_is; permute = c.requires.0.permute; few = c.requires.0.few }, l.invariant.2.room, c.requires.0.points_fit, omega (arith, c.requires.0.same_n), c.requires.0.same_n, omega (arith, h.n_is))
+    (record { some_point = omega (arith, h.n_is); same_d = h.d_is; permute = c.requires.0.permute; few = c.requires.0.few }, l.invariant.2.room, omega (arith, c.requires.0.same_n), c.requires.0.same_n, omega (arith, h.n_is))
 
 pub loop-k-preserved : goal.loop-k-preserved
 loop-k-preserved c =
@@ -63,9 +56,22 @@ loop-k-preserved c =
     let below : l.k < a.pairs.count = c.loop-k-test.true in
     let count = pairs_count a.pairs c.requires.2 long in (
       omega (arith, below),
-      c.extend-next.auto.ws ∙ l.invariant.1,
-      walk_turn a.tolerance a.most (limits_of a.min a.max) (points_of a.points) (points_of a.flat) a.flat.n a.more (rows_in a.flat.n a.m a.rows.now) a.bound a.state a.ws.now (pairs_in a.pairs) l.k _ _ (points_of c.pair_points.result) l.reached l.ws _ _ (omega (arith, below, count)) (pair_at a.pairs c.requires.2 long l.k below) c.pair_points.ensures.means l.invariant.2 c.extend-next.ensures,
+      c.extend.auto.ws ∙ l.invariant.1,
+      walk_turn a.tolerance a.most (limits_of a.limits) (points_of a.points) (points_of a.flat) a.flat.n a.more (rows_in a.flat.n a.m a.rows.now) a.bound a.state a.ws.now (pairs_in a.pairs) l.k _ _ (points_of c.pair_points.result) l.reached l.ws _ _ (omega (arith, below, count)) (pair_at a.pairs c.requires.2 long l.k below) c.pair_points.ensures.means l.invariant.2 c.in_ok-reached.ensures,
     )
+
+pub shape_of-ws-in_err-reached : goal.shape_of-ws-in_err-reached
+shape_of-ws-in_err-reached c = c.extend.auto.ws ∙ c.loop-k.invariant.1
+
+pub returns-in_err-reached : goal.returns-in_err-reached
+returns-in_err-reached c =
+    let long : length c.args.pairs.codes ≡ 190 = search rules in
+    let a = c.args in
+    let l = c.loop-k in
+    let below : l.k < a.pairs.count = c.loop-k-test.true in
+    let count = pairs_count a.pairs c.requires.2 long in
+    let turn = walk_turn a.tolerance a.most (limits_of a.limits) (points_of a.points) (points_of a.flat) a.flat.n a.more (rows_in a.flat.n a.m a.rows.now) a.bound a.state a.ws.now (pairs_in a.pairs) l.k _ _ (points_of c.pair_points.result) l.reached l.ws _ _ (omega (arith, below, count)) (pair_at a.pairs c.requires.2 long l.k below) c.pair_points.ensures.means l.invariant.2 c.in_err-reached.ensures in
+    rw (handed_on _ _ c.from_residual.ensures.1) (walk_ends_holds a.tolerance a.most (limits_of a.limits) (points_of a.points) (points_of a.flat) a.flat.n a.more (rows_in a.flat.n a.m a.rows.now) a.bound a.state a.ws.now (pairs_in a.pairs) (l.k + 1) _ _ turn)
 
 pub shape_of-ws : goal.shape_of-ws
 shape_of-ws c = c.loop-k.invariant.1
@@ -76,4 +82,4 @@ returns c =
     let a = c.args in let l = c.loop-k in
     let count = pairs_count a.pairs c.requires.2 long in
     let all : take l.k (pairs_in a.pairs) ≡ pairs_in a.pairs = take_all l.k (pairs_in a.pairs) (omega arith) in
-    subst (λ (ps : List Pair). Walked a.tolerance a.most (points_of a.flat) (rows_in a.flat.n a.m a.rows.now) a.bound a.state a.ws.now (pair_tuples a.tolerance (limits_of a.min a.max) (points_of a.points) (points_of a.flat) a.flat.n a.more ps) l.reached l.ws) all l.invariant.2
+    subst (λ (ps : List Pair). Walked a.tolerance a.most (points_of a.flat) (rows_in a.flat.n a.m a.rows.now) a.bound a.state a.ws.now (pair_tuples a.tolerance (limits_of a.limits) (points_of a.points) (points_of a.flat) a.flat.n a.more ps) (Ok l.reached) l.ws) all l.invariant.2

@@ -7,10 +7,8 @@ use Rattle.openers.specs.Rows.{rows_in}
 use Rattle.openers.specs.Meaning.{pairs_in}
 use Rattle.orbits.specs.Walks.{Walked}
 use Rattle.orbits.specs.Answers.{pair_tuples}
+use Rattle.std.specs.Prelude.{Ok}
 use Rattle.orbits.proofs.walk_pairs.Given as goal
 
 abbrev pub invariant-loop-k : goal.invariant-loop-k
-invariant-loop-k l = (l.k ≤ l.count) × (length l.ws ≡ length l.initial.ws) × Walked l.tolerance l.most (points_of l.flat) (rows_in l.flat.n l.m l.rows) l.bound l.initial.reached l.initial.ws (pair_tuples l.tolerance (limits_of l.min l.max) (points_of l.points) (points_of l.flat) l.flat.n l.more (take l.k (pairs_in l.pairs))) l.reached l.ws
-
-abbrev pub decreases-loop-k : goal.decreases-loop-k
-decreases-loop-k l = l.count - l.k
+invariant-loop-k l = (l.k ≤ l.pairs.count) × (length l.ws ≡ length l.initial.ws) × Walked l.tolerance l.most (points_of l.flat) (rows_in l.flat.n l.m l.rows) l.bound l.initial.reached l.initial.ws (pair_tuples l.tolerance (limits_of l.limits) (points_of l.points) (points_of l.flat) l.flat.n l.more (take l.k (pairs_in l.pairs))) (Ok l.reached) l.ws

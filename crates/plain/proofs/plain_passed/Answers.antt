@@ -1,5 +1,7 @@
 -- `plain::plain_passed` meets its contract: in each of the three cases what the call says is the definition's outcome, and its plain entries are written. Assumes nothing.
-use mathlib.Core.Path.{sym}
+use mathlib.Core.Path.{sym, ap, ◌∙◌}
+use Rattle.std.specs.Prelude.{Ok}
+use Rattle.refusals.specs.Refused.{handed_on}
 use native.Mathlib.Omega.{arith}
 use lib.ListN.{length}
 use Rattle.figure_words.specs.Wrote.{wrote_as}
@@ -9,24 +11,24 @@ use Rattle.plain.specs.Written.{refused_clauses, answered_clauses}
 use Rattle.laws.specs.Clauses.{of_two}
 use Rattle.plain.proofs.plain_passed.Goals as goal
 
-pub returns-in-Refused : goal.returns-in-Refused
-returns-in-Refused c = of_two (λ x0 x1. record { result = x0; buffer = x1 })
-    (refused_clauses c.args.job.now (length c.args.ws.now) c.args.fields c.requires.0
-    (call_refuses (called_as c.call_job.ensures c.in-Refused.is)) _ c.requires.1)
+pub returns-in_err-called : goal.returns-in_err-called
+returns-in_err-called c = of_two (λ x0 x1. record { result = x0; buffer = x1 })
+    (rw (handed_on _ _ c.from_residual.ensures.1) (refused_clauses c.args.job.now (length c.args.ws.now) c.args.fields c.requires.0
+    (call_refuses (called_as c.call_job.ensures c.in_err-called.was)) _ c.requires.1))
 
 pub returns-in-Ends : goal.returns-in-Ends
 returns-in-Ends c = of_two (λ x0 x1. record { result = x0; buffer = x1 })
     (answered_clauses c.args.job.now (length c.args.ws.now) c.args.fields c.requires.0
-    (call_ends (called_as c.call_job.ensures c.in-Ends.is)).0 _ _ _ _ c.requires.1 (omega arith) (wrote_as c.write_one-end.ensures (sym (one_entry _ _)))
+    (call_ends (called_as c.call_job.ensures (c.in_ok-called.was ∙ ap Ok c.in-Ends.is))).0 _ _ _ _ c.requires.1 (omega arith) (wrote_as c.write_one-end.ensures (sym (one_entry _ _)))
     c.close.ensures.result c.close.ensures.buffer)
 
 pub write_plain-end-requires : goal.write_plain-end-requires
 write_plain-end-requires c =
-    let left = call_leaves (called_as c.call_job.ensures c.in-Left.is) in
+    let left = call_leaves (called_as c.call_job.ensures (c.in_ok-called.was ∙ ap Ok c.in-Left.is)) in
     (_, _, _, left.0, left.4.leaves)
 
 pub returns-in-Left : goal.returns-in-Left
 returns-in-Left c = of_two (λ x0 x1. record { result = x0; buffer = x1 })
-    (let left = call_leaves (called_as c.call_job.ensures c.in-Left.is) in
+    (let left = call_leaves (called_as c.call_job.ensures (c.in_ok-called.was ∙ ap Ok c.in-Left.is)) in
     answered_clauses c.args.job.now (length c.args.ws.now) c.args.fields c.requires.0
     left.1 _ _ _ _ c.requires.1 (omega arith) (c.write_plain-end.ensures _ _ _ _ left.0 left.4.leaves) c.close-in-Left.ensures.result c.close-in-Left.ensures.buffer)

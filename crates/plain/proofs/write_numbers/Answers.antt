@@ -11,7 +11,7 @@ loop-i-init c = (omega arith, wrote_as (wrote_none _ _) (words_none _))
 pub loop-i-preserved : goal.loop-i-preserved
 loop-i-preserved c =
     let l = c.loop-i in
-    (omega arith, wrote_as (wrote_then l.invariant.1 c.push-cursor-in-loop-i.ensures) (words_next c.args.s.now c.args.from l.i _ c.get_u32.ensures))
+    (omega arith, wrote_as (wrote_then l.invariant.1 c.push-cursor-in-loop-i.ensures) (words_next c.args.s.now c.args.from l.i _ c.get.ensures))
 
 pub shape_of-answer : goal.shape_of-answer
 shape_of-answer c = c.loop-i.invariant.1.long ∙ c.push-cursor.ensures.long

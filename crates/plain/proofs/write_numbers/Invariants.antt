@@ -7,6 +7,3 @@ use Rattle.plain.proofs.write_numbers.Given as goal
 
 abbrev pub invariant-loop-i : goal.invariant-loop-i
 invariant-loop-i l = (l.i ≤ l.many) × Wrote l.initial.answer l.initial.cursor l.answer l.cursor (words 4 (drop l.from l.s) l.i)
-
-abbrev pub decreases-loop-i : goal.decreases-loop-i
-decreases-loop-i l = l.many - l.i

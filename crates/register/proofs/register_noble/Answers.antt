@@ -1,66 +1,35 @@
--- `register::register_noble` meets its contract: by what came of the job with its package, whatever the bytes and lengths; the demands follow from code and buffer. Assumes nothing.
+-- `register::register_noble` meets its contract: what came of the job with its package is its return value, whatever the bytes and lengths; the demands follow from code and buffer. Assumes nothing.
 use mathlib.Core.Path.{sym, ap, ◌∙◌}
 use Prim.Native.Nat.{ℕ}
 use native.Mathlib.Omega.{arith}
 use borrow.Author.Rules.{rules}
 use lib.ListN.{length, replicate}
-use mir.Facts.{to_z-of_z, to_z_pos}
+use mir.Facts.{to_z-of_z}
 use mir.Syntax.{w64}
 use mir.Val.{SFits}
 use Rattle.definitions.specs.NobleCalls.{noble_alone}
 use Rattle.answering.specs.Closed.{written_in, buffer_in}
-use Rattle.answering.specs.Codes.{code_written, says_wrote}
 use Rattle.register.specs.Nobles.{meets_all, code_is, buffer_is}
 use Rattle.register.proofs.Parts.{in_six}
+use Rattle.register.proofs.Sizes.{written_fits}
 use Rattle.register.proofs.register_noble.Goals as goal
 
 pub noble_job-requires : goal.noble_job-requires
 noble_job-requires c =
-    c.clear.ensures ∙ ap (λ (k : ℕ). replicate k 0) (sym c.clear.auto.s)
+    c.fill.ensures.after (λ y e. e) ∙ ap (λ (k : ℕ). replicate k 0) (sym c.fill.auto.self)
 
-pub returns-in-Refused : goal.returns-in-Refused
-unfolding code_written
-returns-in-Refused c = in_six (λ x0 x1 x2 x3 x4 x5. record { code = x0; buffer = x1; first = x2; second = x3; third = x4; symmetry = x5 })
+pub code-requires : goal.code-requires
+code-requires c = written_fits _ _ _ c.noble_job.ensures.result (omega (arith, c.fill.auto.self))
+
+pub returns : goal.returns
+returns c = in_six (λ x0 x1 x2 x3 x4 x5. record { code = x0; buffer = x1; first = x2; second = x3; third = x4; symmetry = x5 })
     (let job = c.args.job.now in
     let pack = c.args.pack.now in
     let size = length c.args.workspace.now in
     let room = length c.args.answer.now in
-    let same = c.clear.auto.s in
-    let told = sym c.in-Refused.is ∙ (c.noble_job.ensures.result ∙ ap (λ (k : ℕ). written_in k (noble_alone job pack size)) same) in
-    let fits : SFits w64 c.refusal.result = search rules in
+    let same = c.fill.auto.self in
+    let told = c.noble_job.ensures.result ∙ ap (λ (k : ℕ). written_in k (noble_alone job pack size)) same in
+    let fits : SFits w64 c.code.result = search rules in
     meets_all job pack size room
-    (to_z-of_z fits ∙ (c.refusal.ensures ∙ code_is job pack size room told))
-    (c.noble_job.ensures.buffer ∙ (ap (λ (k : ℕ). buffer_in k (noble_alone job pack size)) same ∙ buffer_is job pack size room)))
-
-pub returns-in-Short : goal.returns-in-Short
-unfolding code_written
-returns-in-Short c = in_six (λ x0 x1 x2 x3 x4 x5. record { code = x0; buffer = x1; first = x2; second = x3; third = x4; symmetry = x5 })
-    (let job = c.args.job.now in
-    let pack = c.args.pack.now in
-    let size = length c.args.workspace.now in
-    let room = length c.args.answer.now in
-    let same = c.clear.auto.s in
-    let told = sym c.in-Short.is ∙ (c.noble_job.ensures.result ∙ ap (λ (k : ℕ). written_in k (noble_alone job pack size)) same) in
-    meets_all job pack size room
-    (code_is job pack size room told)
-    (c.noble_job.ensures.buffer ∙ (ap (λ (k : ℕ). buffer_in k (noble_alone job pack size)) same ∙ buffer_is job pack size room)))
-
-pub overflow_cast-result : goal.overflow_cast-result
-overflow_cast-result c =
-    let o = noble_alone c.args.job.now c.args.pack.now (length c.args.workspace.now) in
-    let short = (says_wrote _ o _ (sym c.in-Wrote.is ∙ c.noble_job.ensures.result)).3 in
-    omega (arith, short, c.clear.auto.s)
-
-pub returns-in-Wrote : goal.returns-in-Wrote
-unfolding code_written
-returns-in-Wrote c = in_six (λ x0 x1 x2 x3 x4 x5. record { code = x0; buffer = x1; first = x2; second = x3; third = x4; symmetry = x5 })
-    (let job = c.args.job.now in
-    let pack = c.args.pack.now in
-    let size = length c.args.workspace.now in
-    let room = length c.args.answer.now in
-    let same = c.clear.auto.s in
-    let told = sym c.in-Wrote.is ∙ (c.noble_job.ensures.result ∙ ap (λ (k : ℕ). written_in k (noble_alone job pack size)) same) in
-    let short = (says_wrote room (noble_alone job pack size) _ told).3 in
-    meets_all job pack size room
-    (to_z_pos w64 {n = _} (omega (arith, short)) ∙ code_is job pack size room told)
+    (to_z-of_z fits ∙ (c.code.ensures ∙ code_is job pack size room told))
     (c.noble_job.ensures.buffer ∙ (ap (λ (k : ℕ). buffer_in k (noble_alone job pack size)) same ∙ buffer_is job pack size room)))

@@ -9,7 +9,6 @@ use Rattle.definitions.specs.Search.{closed, limit_reached}
 use Rattle.pool.specs.Pool.{count}
 use Rattle.facets.specs.Layout.{lists_part, frames_part}
 use Rattle.frames.specs.Paths.{PathStands, Emitted, list_to, emitted_in}
-use Rattle.search.specs.Outcomes.{search_limit}
 use Rattle.facets.specs.Judged.{NotOver}
 use Rattle.frames.specs.Steps.{path_short}
 use Rattle.emission.specs.Emission.{emit_stands, emit_frames, emit_emitted, emit_lists, emit_tables}
@@ -33,7 +32,7 @@ unfolding Followed
 returns-then-reached c =
     λ t j. let e = c.lists-emitted.ensures in
     let h : count (lists_part c.args.a c.args.ws.now) < c.args.a.bound = rw e at c.if-bound-emitted.false in
-    let r : limit_reached (search_limit c.args.course.limit) (count (lists_part c.args.a c.args.ws.now) + 1) ≡ true = rw e at (sym c.reached.ensures ∙ c.if-reached.true) in
+    let r : limit_reached c.args.course.limit (count (lists_part c.args.a c.args.ws.now) + 1) ≡ true = rw e at (sym c.reached.ensures ∙ c.if-reached.true) in
     rw c.emit.ensures
     (follow_stop t c.args.a c.args.course c.args.ws.now c.args.depth j h _ (emit_stands t c.args.a c.args.ws.now c.args.depth j.stands j.emitted h) (emit_frames t c.args.a c.args.ws.now c.args.depth j.stands j.emitted h) (emit_lists t c.args.a c.args.ws.now c.args.depth j.stands j.emitted h) (emit_tables t c.args.a c.args.ws.now c.args.depth j.stands j.emitted h) (emit_emitted t c.args.a c.args.ws.now c.args.depth j.stands j.emitted h) r)
 
@@ -47,7 +46,7 @@ enter-requires c =
       c.requires.0,
       emit_stands c.requires.0 c.args.a c.args.ws.now c.args.depth j.stands j.emitted h,
       j.deep,
-      omega arith,
+      tt,
       rw (emit_frames c.requires.0 c.args.a c.args.ws.now c.args.depth j.stands j.emitted h) light,
     )
 
@@ -60,7 +59,7 @@ unfolding Followed
 returns-then-course c =
     λ t j. let e = c.lists-emitted.ensures in
     let h : count (lists_part c.args.a c.args.ws.now) < c.args.a.bound = rw e at c.if-bound-emitted.false in
-    let r : limit_reached (search_limit c.args.course.limit) (count (lists_part c.args.a c.args.ws.now) + 1) ≡ false = rw e at (sym c.reached.ensures ∙ c.if-reached.false) in
+    let r : limit_reached c.args.course.limit (count (lists_part c.args.a c.args.ws.now) + 1) ≡ false = rw e at (sym c.reached.ensures ∙ c.if-reached.false) in
     let st : PathStands t c.args.a c.emit.new.ws c.args.depth c.args.depth = rw c.emit.ensures (emit_stands t c.args.a c.args.ws.now c.args.depth j.stands j.emitted h) in
     let fr : frames_part c.args.a c.emit.new.ws ≡ frames_part c.args.a c.args.ws.now = rw c.emit.ensures (emit_frames t c.args.a c.args.ws.now c.args.depth j.stands j.emitted h) in
     let ls : emitted_in t c.args.a (lists_part c.args.a c.emit.new.ws) ≡ emitted_in t c.args.a (lists_part c.args.a c.args.ws.now) ++ (list_to t (frames_part c.args.a c.args.ws.now) c.args.depth ∷ []) = rw c.emit.ensures (emit_lists t c.args.a c.args.ws.now c.args.depth j.stands j.emitted h) in
@@ -80,7 +79,7 @@ unfolding Followed
 returns c =
     λ t j. let e = c.lists-emitted.ensures in
     let h : count (lists_part c.args.a c.args.ws.now) < c.args.a.bound = rw e at c.if-bound-emitted.false in
-    let r : limit_reached (search_limit c.args.course.limit) (count (lists_part c.args.a c.args.ws.now) + 1) ≡ false = rw e at (sym c.reached.ensures ∙ c.if-reached.false) in
+    let r : limit_reached c.args.course.limit (count (lists_part c.args.a c.args.ws.now) + 1) ≡ false = rw e at (sym c.reached.ensures ∙ c.if-reached.false) in
     let st : PathStands t c.args.a c.emit.new.ws c.args.depth c.args.depth = rw c.emit.ensures (emit_stands t c.args.a c.args.ws.now c.args.depth j.stands j.emitted h) in
     let fr : frames_part c.args.a c.emit.new.ws ≡ frames_part c.args.a c.args.ws.now = rw c.emit.ensures (emit_frames t c.args.a c.args.ws.now c.args.depth j.stands j.emitted h) in
     let ls : emitted_in t c.args.a (lists_part c.args.a c.emit.new.ws) ≡ emitted_in t c.args.a (lists_part c.args.a c.args.ws.now) ++ (list_to t (frames_part c.args.a c.args.ws.now) c.args.depth ∷ []) = rw c.emit.ensures (emit_lists t c.args.a c.args.ws.now c.args.depth j.stands j.emitted h) in

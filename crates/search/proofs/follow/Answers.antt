@@ -12,7 +12,7 @@ pub enter-requires : goal.enter-requires
 unfolding verdict NotOver
 enter-requires c = let j : Judged c.requires.0 c.args.a c.args.ws.now c.args.s.depth (open_at c.in-Open.ridge) = rw c.in-Open.is at c.requires.1 in
     let r = judged_inside c.requires.0 c.args.a c.args.ws.now c.args.s.depth (open_at c.in-Open.ridge) j c.in-Open.ridge refl in
-    (c.requires.0, j.stands, j.deep, omega arith, judged_light c.requires.0 c.args.a c.args.ws.now c.args.s.depth (open_at c.in-Open.ridge) j tt)
+    rw c.from.ensures (c.requires.0, j.stands, j.deep, r, judged_light c.requires.0 c.args.a c.args.ws.now c.args.s.depth (open_at c.in-Open.ridge) j tt)
 
 pub overflow_add-result : goal.overflow_add-result
 overflow_add-result c =
@@ -30,7 +30,7 @@ pub returns-in-Open : goal.returns-in-Open
 unfolding Followed verdict
 returns-in-Open c =
     λ t j. let k : Judged t c.args.a c.args.ws.now c.args.s.depth (open_at c.in-Open.ridge) = rw c.in-Open.is at j in
-    follow_open t c.args.a c.args.course c.args.ws.now c.enter.new.ws c.args.s.depth c.in-Open.ridge k (c.enter.ensures t k.stands)
+    follow_open t c.args.a c.args.course c.args.ws.now c.enter.new.ws c.args.s.depth c.in-Open.ridge k (rw c.from.ensures at (c.enter.ensures t k.stands))
 
 pub returns-in-Closed : goal.returns-in-Closed
 unfolding verdict

@@ -4,9 +4,10 @@ use Prim.Native.Nat.{ℕ, ◌+◌, ◌-◌, ◌*◌, ◌<◌}
 use Rattle.facets.specs.Layout.{lists_part}
 use Rattle.search.specs.Outcomes.{search_outcome, counted_lists}
 use Rattle.emission.specs.Emission.{emitted_count}
-use Rattle.frames.specs.Steps.{next_holds}
+use Rattle.frames.specs.Steps.{next_none, next_found}
 use Rattle.search.specs.Turns.{Followed, Goes, Stops, Fills, turn_start, turn_depth, turn_back, turn_ready, turn_spent, turn_judged, turn_on, turn_stopped, turn_full, turn_end, budget_falls, inputs_before}
 use Rattle.laws.specs.Clauses.{of_three}
+use Rattle.refusals.specs.Refused.{number_of, handed_on}
 use Rattle.search.proofs.search.Goals as goal
 
 pub loop-s-init : goal.loop-s-init
@@ -17,25 +18,25 @@ loop-s-init c = let go = c.start.ensures c.requires.0 c.requires.1 in (
       (c.start.ensures t (inputs_before t c.args.a c.args.ws.now c.start.new.ws c.requires.1.fits go.tables h)),
 )
 
-pub next-place-requires : goal.next-place-requires
-next-place-requires c =
+pub next-requires : goal.next-requires
+next-requires c =
     let l = c.loop-s in let go = c.start.ensures c.requires.0 c.requires.1 in let turn = l.invariant.2 c.requires.0 go.stands.inputs in (c.requires.0, turn.stands, c.loop-s-test.true)
 
 pub back-s-requires : goal.back-s-requires
 back-s-requires c =
     let l = c.loop-s in let go = c.start.ensures c.requires.0 c.requires.1 in let turn = l.invariant.2 c.requires.0 go.stands.inputs in (c.requires.0, turn.stands, c.loop-s-test.true)
 
-pub loop-s-smaller-then-place-eq0 : goal.loop-s-smaller-then-place-eq0
-loop-s-smaller-then-place-eq0 c =
+pub loop-s-smaller-in-None : goal.loop-s-smaller-in-None
+loop-s-smaller-in-None c =
     let l = c.loop-s in let go = c.start.ensures c.requires.0 c.requires.1 in let turn = l.invariant.2 c.requires.0 go.stands.inputs in let r = c.back-s.ensures in let m = ap (λ (n : ℕ). n * (c.args.a.orbits + 2)) r.1 in omega (arith, r.0, c.loop-s-test.true)
 
-pub loop-s-preserved-then-place-eq0 : goal.loop-s-preserved-then-place-eq0
-loop-s-preserved-then-place-eq0 c =
+pub loop-s-preserved-in-None : goal.loop-s-preserved-in-None
+loop-s-preserved-in-None c =
     let l = c.loop-s in let go = c.start.ensures c.requires.0 c.requires.1 in let turn = l.invariant.2 c.requires.0 go.stands.inputs in (
       c.back-s.auto.ws ∙ l.invariant.0,
       (c.back-s.ensures.2 c.requires.0 turn.stands).tables ∙ l.invariant.1,
-      λ t h. let u = l.invariant.2 t h in let n = next_holds t c.args.a l.ws l.s.depth c.next-place.result u.stands c.loop-s-test.true (c.next-place.ensures t u.stands) in
-          rw (c.back-s.ensures.0, c.back-s.ensures.1) (turn_back t c.args.a c.args.course c.args.budget l.ws l.s.depth l.s.left u c.loop-s-test.true c.back-s.new.ws (rw c.if-place-eq0.true at n) (c.back-s.ensures.2 t u.stands)),
+      λ t h. let u = l.invariant.2 t h in let n = next_none t c.args.a l.ws l.s.depth u.stands c.loop-s-test.true c.next.result (c.next.ensures t u.stands) c.in-None.is in
+          rw (c.back-s.ensures.0, c.back-s.ensures.1) (turn_back t c.args.a c.args.course c.args.budget l.ws l.s.depth l.s.left u c.loop-s-test.true c.back-s.new.ws n (c.back-s.ensures.2 t u.stands)),
     )
 
 pub shape_of-ws-then-s-eq0 : goal.shape_of-ws-then-s-eq0
@@ -46,121 +47,88 @@ pub returns-then-s-eq0 : goal.returns-then-s-eq0
 unfolding search_outcome counted_lists
 returns-then-s-eq0 c = of_three (λ x0 x1 x2. record { found = x0; many = x1; kept = x2 })
     (let l = c.loop-s in let go = c.start.ensures c.requires.0 c.requires.1 in let turn = l.invariant.2 c.requires.0 go.stands.inputs in (
-      (λ t h. let back = c.start.ensures t h in let u = l.invariant.2 t back.stands.inputs in let n = next_holds t c.args.a l.ws l.s.depth c.next-place.result u.stands c.loop-s-test.true (c.next-place.ensures t u.stands) in
-          turn_spent t c.args.a c.args.course c.args.budget l.ws l.s.depth l.s.left u c.loop-s-test.true c.next-place.result n (omega (arith, c.if-place-eq0.false)) c.if-s-eq0.true),
+      (λ t h. let back = c.start.ensures t h in let u = l.invariant.2 t back.stands.inputs in let n = next_found t c.args.a l.ws l.s.depth u.stands c.loop-s-test.true c.next.result c.in-Some.place (c.next.ensures t u.stands) c.in-Some.is in
+          turn_spent t c.args.a c.args.course c.args.budget l.ws l.s.depth l.s.left u c.loop-s-test.true c.in-Some.place n c.if-s-eq0.true),
       (λ t. tt),
       l.invariant.1 ∙ go.tables,
     ))
 
 pub visit-s-requires : goal.visit-s-requires
 visit-s-requires c =
-    let l = c.loop-s in let go = c.start.ensures c.requires.0 c.requires.1 in let turn = l.invariant.2 c.requires.0 go.stands.inputs in let n = next_holds c.requires.0 c.args.a l.ws l.s.depth c.next-place.result turn.stands c.loop-s-test.true (c.next-place.ensures c.requires.0 turn.stands) in (c.requires.0, turn_ready c.requires.0 c.args.a c.args.course c.args.budget l.ws l.s.depth l.s.left turn c.loop-s-test.true c.next-place.result n (omega (arith, c.if-place-eq0.false)), omega (arith, c.if-s-eq0.false))
+    let l = c.loop-s in let go = c.start.ensures c.requires.0 c.requires.1 in let turn = l.invariant.2 c.requires.0 go.stands.inputs in let n = next_found c.requires.0 c.args.a l.ws l.s.depth turn.stands c.loop-s-test.true c.next.result c.in-Some.place (c.next.ensures c.requires.0 turn.stands) c.in-Some.is in (c.requires.0, turn_ready c.requires.0 c.args.a c.args.course c.args.budget l.ws l.s.depth l.s.left turn c.loop-s-test.true c.in-Some.place n, omega (arith, c.if-s-eq0.false))
 
-pub follow-step-requires : goal.follow-step-requires
-follow-step-requires c =
-    let l = c.loop-s in let go = c.start.ensures c.requires.0 c.requires.1 in let turn = l.invariant.2 c.requires.0 go.stands.inputs in let n = next_holds c.requires.0 c.args.a l.ws l.s.depth c.next-place.result turn.stands c.loop-s-test.true (c.next-place.ensures c.requires.0 turn.stands) in
-    let z : 0 < c.next-place.result = omega (arith, c.if-place-eq0.false) in
+pub follow-requires : goal.follow-requires
+follow-requires c =
+    let l = c.loop-s in let go = c.start.ensures c.requires.0 c.requires.1 in let turn = l.invariant.2 c.requires.0 go.stands.inputs in let n = next_found c.requires.0 c.args.a l.ws l.s.depth turn.stands c.loop-s-test.true c.next.result c.in-Some.place (c.next.ensures c.requires.0 turn.stands) c.in-Some.is in
     let d : 0 < l.s.depth = c.loop-s-test.true in
     let p : 0 < l.s.left = omega (arith, c.if-s-eq0.false) in
-    let w = c.visit-s.ensures.2 c.requires.0 (turn_ready c.requires.0 c.args.a c.args.course c.args.budget l.ws l.s.depth l.s.left turn d c.next-place.result n z) in
-    let j = turn_judged c.requires.0 c.args.a c.args.course c.args.budget l.ws l.s.depth l.s.left turn d c.next-place.result n z c.visit-s.new.ws c.visit-s.result.verdict w p in
+    let w = c.visit-s.ensures.2 c.requires.0 (turn_ready c.requires.0 c.args.a c.args.course c.args.budget l.ws l.s.depth l.s.left turn d c.in-Some.place n) in
+    let j = turn_judged c.requires.0 c.args.a c.args.course c.args.budget l.ws l.s.depth l.s.left turn d c.in-Some.place n c.visit-s.new.ws c.visit-s.result.verdict w p in
     (c.requires.0, rw c.visit-s.ensures.0 j)
 
 pub loop-s-smaller : goal.loop-s-smaller
 unfolding Followed
 loop-s-smaller c =
-    let l = c.loop-s in let go = c.start.ensures c.requires.0 c.requires.1 in let turn = l.invariant.2 c.requires.0 go.stands.inputs in let n = next_holds c.requires.0 c.args.a l.ws l.s.depth c.next-place.result turn.stands c.loop-s-test.true (c.next-place.ensures c.requires.0 turn.stands) in
-    let z : 0 < c.next-place.result = omega (arith, c.if-place-eq0.false) in
+    let l = c.loop-s in let go = c.start.ensures c.requires.0 c.requires.1 in let turn = l.invariant.2 c.requires.0 go.stands.inputs in let n = next_found c.requires.0 c.args.a l.ws l.s.depth turn.stands c.loop-s-test.true c.next.result c.in-Some.place (c.next.ensures c.requires.0 turn.stands) c.in-Some.is in
     let d : 0 < l.s.depth = c.loop-s-test.true in
     let p : 0 < l.s.left = omega (arith, c.if-s-eq0.false) in
-    let w = c.visit-s.ensures.2 c.requires.0 (turn_ready c.requires.0 c.args.a c.args.course c.args.budget l.ws l.s.depth l.s.left turn d c.next-place.result n z) in
-    let j = turn_judged c.requires.0 c.args.a c.args.course c.args.budget l.ws l.s.depth l.s.left turn d c.next-place.result n z c.visit-s.new.ws c.visit-s.result.verdict w p in let g = c.follow-step.ensures c.requires.0 (rw c.visit-s.ensures.0 j) in
-    let q : Goes c.requires.0 c.args.a c.args.course c.visit-s.new.ws c.follow-step.new.ws l.s.depth c.in-On.deep = rw (c.in-On.is, c.visit-s.ensures.0) at g in
-    let k = turn_depth c.requires.0 c.args.a c.args.course c.args.budget c.follow-step.new.ws c.in-On.deep (l.s.left - 1) (turn_on c.requires.0 c.args.a c.args.course c.args.budget l.ws l.s.depth l.s.left turn d c.next-place.result n z c.visit-s.new.ws c.visit-s.result.verdict w p c.follow-step.new.ws c.in-On.deep q) in
+    let w = c.visit-s.ensures.2 c.requires.0 (turn_ready c.requires.0 c.args.a c.args.course c.args.budget l.ws l.s.depth l.s.left turn d c.in-Some.place n) in
+    let j = turn_judged c.requires.0 c.args.a c.args.course c.args.budget l.ws l.s.depth l.s.left turn d c.in-Some.place n c.visit-s.new.ws c.visit-s.result.verdict w p in let g = c.in_ok-step-in-Some.ensures c.requires.0 (rw c.visit-s.ensures.0 j) in
+    let q : Goes c.requires.0 c.args.a c.args.course c.visit-s.new.ws c.follow.new.ws l.s.depth c.in-On.deep = rw (c.in-On.is, c.visit-s.ensures.0) at g in
+    let k = turn_depth c.requires.0 c.args.a c.args.course c.args.budget c.follow.new.ws c.in-On.deep (l.s.left - 1) (turn_on c.requires.0 c.args.a c.args.course c.args.budget l.ws l.s.depth l.s.left turn d c.in-Some.place n c.visit-s.new.ws c.visit-s.result.verdict w p c.follow.new.ws c.in-On.deep q) in
     rw (c.at_depth-s.ensures.0, c.at_depth-s.ensures.1, c.visit-s.ensures.1) (budget_falls l.s.left (c.args.a.orbits + 2) c.in-On.deep l.s.depth p k)
 
 pub loop-s-preserved : goal.loop-s-preserved
 unfolding Followed
 loop-s-preserved c =
-    let l = c.loop-s in let go = c.start.ensures c.requires.0 c.requires.1 in let turn = l.invariant.2 c.requires.0 go.stands.inputs in let n = next_holds c.requires.0 c.args.a l.ws l.s.depth c.next-place.result turn.stands c.loop-s-test.true (c.next-place.ensures c.requires.0 turn.stands) in
-    let z : 0 < c.next-place.result = omega (arith, c.if-place-eq0.false) in
+    let l = c.loop-s in let go = c.start.ensures c.requires.0 c.requires.1 in let turn = l.invariant.2 c.requires.0 go.stands.inputs in let n = next_found c.requires.0 c.args.a l.ws l.s.depth turn.stands c.loop-s-test.true c.next.result c.in-Some.place (c.next.ensures c.requires.0 turn.stands) c.in-Some.is in
     let d : 0 < l.s.depth = c.loop-s-test.true in
     let p : 0 < l.s.left = omega (arith, c.if-s-eq0.false) in
-    let w = c.visit-s.ensures.2 c.requires.0 (turn_ready c.requires.0 c.args.a c.args.course c.args.budget l.ws l.s.depth l.s.left turn d c.next-place.result n z) in
-    let j = turn_judged c.requires.0 c.args.a c.args.course c.args.budget l.ws l.s.depth l.s.left turn d c.next-place.result n z c.visit-s.new.ws c.visit-s.result.verdict w p in let g = c.follow-step.ensures c.requires.0 (rw c.visit-s.ensures.0 j) in
-    let q : Goes c.requires.0 c.args.a c.args.course c.visit-s.new.ws c.follow-step.new.ws l.s.depth c.in-On.deep = rw (c.in-On.is, c.visit-s.ensures.0) at g in (
-      c.follow-step.auto.ws ∙ (c.visit-s.auto.ws ∙ l.invariant.0),
+    let w = c.visit-s.ensures.2 c.requires.0 (turn_ready c.requires.0 c.args.a c.args.course c.args.budget l.ws l.s.depth l.s.left turn d c.in-Some.place n) in
+    let j = turn_judged c.requires.0 c.args.a c.args.course c.args.budget l.ws l.s.depth l.s.left turn d c.in-Some.place n c.visit-s.new.ws c.visit-s.result.verdict w p in let g = c.in_ok-step-in-Some.ensures c.requires.0 (rw c.visit-s.ensures.0 j) in
+    let q : Goes c.requires.0 c.args.a c.args.course c.visit-s.new.ws c.follow.new.ws l.s.depth c.in-On.deep = rw (c.in-On.is, c.visit-s.ensures.0) at g in (
+      c.follow.auto.ws ∙ (c.visit-s.auto.ws ∙ l.invariant.0),
       q.tables ∙ (w.tables ∙ l.invariant.1),
-      λ t h. let turn = l.invariant.2 t h in let n = next_holds t c.args.a l.ws l.s.depth c.next-place.result turn.stands c.loop-s-test.true (c.next-place.ensures t turn.stands) in
-          let z : 0 < c.next-place.result = omega (arith, c.if-place-eq0.false) in
+      λ t h. let turn = l.invariant.2 t h in let n = next_found t c.args.a l.ws l.s.depth turn.stands c.loop-s-test.true c.next.result c.in-Some.place (c.next.ensures t turn.stands) c.in-Some.is in
           let d : 0 < l.s.depth = c.loop-s-test.true in
           let p : 0 < l.s.left = omega (arith, c.if-s-eq0.false) in
-          let w = c.visit-s.ensures.2 t (turn_ready t c.args.a c.args.course c.args.budget l.ws l.s.depth l.s.left turn d c.next-place.result n z) in
-          let j = turn_judged t c.args.a c.args.course c.args.budget l.ws l.s.depth l.s.left turn d c.next-place.result n z c.visit-s.new.ws c.visit-s.result.verdict w p in let g = c.follow-step.ensures t (rw c.visit-s.ensures.0 j) in
-          let q : Goes t c.args.a c.args.course c.visit-s.new.ws c.follow-step.new.ws l.s.depth c.in-On.deep = rw (c.in-On.is, c.visit-s.ensures.0) at g in
-          rw (c.at_depth-s.ensures.0, c.at_depth-s.ensures.1, c.visit-s.ensures.1) (turn_on t c.args.a c.args.course c.args.budget l.ws l.s.depth l.s.left turn d c.next-place.result n z c.visit-s.new.ws c.visit-s.result.verdict w p c.follow-step.new.ws c.in-On.deep q),
+          let w = c.visit-s.ensures.2 t (turn_ready t c.args.a c.args.course c.args.budget l.ws l.s.depth l.s.left turn d c.in-Some.place n) in
+          let j = turn_judged t c.args.a c.args.course c.args.budget l.ws l.s.depth l.s.left turn d c.in-Some.place n c.visit-s.new.ws c.visit-s.result.verdict w p in let g = c.in_ok-step-in-Some.ensures t (rw c.visit-s.ensures.0 j) in
+          let q : Goes t c.args.a c.args.course c.visit-s.new.ws c.follow.new.ws l.s.depth c.in-On.deep = rw (c.in-On.is, c.visit-s.ensures.0) at g in
+          rw (c.at_depth-s.ensures.0, c.at_depth-s.ensures.1, c.visit-s.ensures.1) (turn_on t c.args.a c.args.course c.args.budget l.ws l.s.depth l.s.left turn d c.in-Some.place n c.visit-s.new.ws c.visit-s.result.verdict w p c.follow.new.ws c.in-On.deep q),
     )
 
 pub found-requires : goal.found-requires
 unfolding Followed
 found-requires c =
-    let l = c.loop-s in let go = c.start.ensures c.requires.0 c.requires.1 in let turn = l.invariant.2 c.requires.0 go.stands.inputs in let n = next_holds c.requires.0 c.args.a l.ws l.s.depth c.next-place.result turn.stands c.loop-s-test.true (c.next-place.ensures c.requires.0 turn.stands) in
-    let z : 0 < c.next-place.result = omega (arith, c.if-place-eq0.false) in
+    let l = c.loop-s in let go = c.start.ensures c.requires.0 c.requires.1 in let turn = l.invariant.2 c.requires.0 go.stands.inputs in let n = next_found c.requires.0 c.args.a l.ws l.s.depth turn.stands c.loop-s-test.true c.next.result c.in-Some.place (c.next.ensures c.requires.0 turn.stands) c.in-Some.is in
     let d : 0 < l.s.depth = c.loop-s-test.true in
     let p : 0 < l.s.left = omega (arith, c.if-s-eq0.false) in
-    let w = c.visit-s.ensures.2 c.requires.0 (turn_ready c.requires.0 c.args.a c.args.course c.args.budget l.ws l.s.depth l.s.left turn d c.next-place.result n z) in
-    let j = turn_judged c.requires.0 c.args.a c.args.course c.args.budget l.ws l.s.depth l.s.left turn d c.next-place.result n z c.visit-s.new.ws c.visit-s.result.verdict w p in let g = c.follow-step.ensures c.requires.0 (rw c.visit-s.ensures.0 j) in
-    let q : Stops c.requires.0 c.args.a c.args.course c.visit-s.new.ws c.follow-step.new.ws l.s.depth = rw (c.in-Stopped.is, c.visit-s.ensures.0) at g in q.inputs.fits
+    let w = c.visit-s.ensures.2 c.requires.0 (turn_ready c.requires.0 c.args.a c.args.course c.args.budget l.ws l.s.depth l.s.left turn d c.in-Some.place n) in
+    let j = turn_judged c.requires.0 c.args.a c.args.course c.args.budget l.ws l.s.depth l.s.left turn d c.in-Some.place n c.visit-s.new.ws c.visit-s.result.verdict w p in let g = c.in_ok-step-in-Some.ensures c.requires.0 (rw c.visit-s.ensures.0 j) in
+    let q : Stops c.requires.0 c.args.a c.args.course c.visit-s.new.ws c.follow.new.ws l.s.depth = rw (c.in-Stopped.is, c.visit-s.ensures.0) at g in q.inputs.fits
 
 pub shape_of-ws-in-Stopped : goal.shape_of-ws-in-Stopped
 shape_of-ws-in-Stopped c =
-    let l = c.loop-s in c.follow-step.auto.ws ∙ (c.visit-s.auto.ws ∙ (l.invariant.0 ∙ c.start.auto.ws))
+    let l = c.loop-s in c.follow.auto.ws ∙ (c.visit-s.auto.ws ∙ (l.invariant.0 ∙ c.start.auto.ws))
 
 pub returns-in-Stopped : goal.returns-in-Stopped
 unfolding Followed search_outcome counted_lists
 returns-in-Stopped c = of_three (λ x0 x1 x2. record { found = x0; many = x1; kept = x2 })
-    (let l = c.loop-s in let go = c.start.ensures c.requires.0 c.requires.1 in let turn = l.invariant.2 c.requires.0 go.stands.inputs in let n = next_holds c.requires.0 c.args.a l.ws l.s.depth c.next-place.result turn.stands c.loop-s-test.true (c.next-place.ensures c.requires.0 turn.stands) in
-    let z : 0 < c.next-place.result = omega (arith, c.if-place-eq0.false) in
+    (let l = c.loop-s in let go = c.start.ensures c.requires.0 c.requires.1 in let turn = l.invariant.2 c.requires.0 go.stands.inputs in let n = next_found c.requires.0 c.args.a l.ws l.s.depth turn.stands c.loop-s-test.true c.next.result c.in-Some.place (c.next.ensures c.requires.0 turn.stands) c.in-Some.is in
     let d : 0 < l.s.depth = c.loop-s-test.true in
     let p : 0 < l.s.left = omega (arith, c.if-s-eq0.false) in
-    let w = c.visit-s.ensures.2 c.requires.0 (turn_ready c.requires.0 c.args.a c.args.course c.args.budget l.ws l.s.depth l.s.left turn d c.next-place.result n z) in
-    let j = turn_judged c.requires.0 c.args.a c.args.course c.args.budget l.ws l.s.depth l.s.left turn d c.next-place.result n z c.visit-s.new.ws c.visit-s.result.verdict w p in let g = c.follow-step.ensures c.requires.0 (rw c.visit-s.ensures.0 j) in
-    let q : Stops c.requires.0 c.args.a c.args.course c.visit-s.new.ws c.follow-step.new.ws l.s.depth = rw (c.in-Stopped.is, c.visit-s.ensures.0) at g in (
-      (λ t h. let back = c.start.ensures t h in let turn = l.invariant.2 t back.stands.inputs in let n = next_holds t c.args.a l.ws l.s.depth c.next-place.result turn.stands c.loop-s-test.true (c.next-place.ensures t turn.stands) in
-          let z : 0 < c.next-place.result = omega (arith, c.if-place-eq0.false) in
+    let w = c.visit-s.ensures.2 c.requires.0 (turn_ready c.requires.0 c.args.a c.args.course c.args.budget l.ws l.s.depth l.s.left turn d c.in-Some.place n) in
+    let j = turn_judged c.requires.0 c.args.a c.args.course c.args.budget l.ws l.s.depth l.s.left turn d c.in-Some.place n c.visit-s.new.ws c.visit-s.result.verdict w p in let g = c.in_ok-step-in-Some.ensures c.requires.0 (rw c.visit-s.ensures.0 j) in
+    let q : Stops c.requires.0 c.args.a c.args.course c.visit-s.new.ws c.follow.new.ws l.s.depth = rw (c.in-Stopped.is, c.visit-s.ensures.0) at g in (
+      (λ t h. let back = c.start.ensures t h in let turn = l.invariant.2 t back.stands.inputs in let n = next_found t c.args.a l.ws l.s.depth turn.stands c.loop-s-test.true c.next.result c.in-Some.place (c.next.ensures t turn.stands) c.in-Some.is in
           let d : 0 < l.s.depth = c.loop-s-test.true in
           let p : 0 < l.s.left = omega (arith, c.if-s-eq0.false) in
-          let w = c.visit-s.ensures.2 t (turn_ready t c.args.a c.args.course c.args.budget l.ws l.s.depth l.s.left turn d c.next-place.result n z) in
-          let j = turn_judged t c.args.a c.args.course c.args.budget l.ws l.s.depth l.s.left turn d c.next-place.result n z c.visit-s.new.ws c.visit-s.result.verdict w p in let g = c.follow-step.ensures t (rw c.visit-s.ensures.0 j) in
-          let q : Stops t c.args.a c.args.course c.visit-s.new.ws c.follow-step.new.ws l.s.depth = rw (c.in-Stopped.is, c.visit-s.ensures.0) at g in
-          rw (c.found.ensures, c.visit-s.ensures.1) (turn_stopped t c.args.a c.args.course c.args.budget l.ws l.s.depth l.s.left turn d c.next-place.result n z c.visit-s.new.ws c.visit-s.result.verdict w p c.follow-step.new.ws q)),
-      (λ t. rw c.found.ensures (record { many = sym (emitted_count t c.args.a (lists_part c.args.a c.follow-step.new.ws)); emitted = q.emitted })),
-      q.tables ∙ (w.tables ∙ (l.invariant.1 ∙ go.tables)),
-    ))
-
-pub shape_of-ws-in-Full : goal.shape_of-ws-in-Full
-shape_of-ws-in-Full c =
-    let l = c.loop-s in c.follow-step.auto.ws ∙ (c.visit-s.auto.ws ∙ (l.invariant.0 ∙ c.start.auto.ws))
-
-pub returns-in-Full : goal.returns-in-Full
-unfolding Followed search_outcome counted_lists
-returns-in-Full c = of_three (λ x0 x1 x2. record { found = x0; many = x1; kept = x2 })
-    (let l = c.loop-s in let go = c.start.ensures c.requires.0 c.requires.1 in let turn = l.invariant.2 c.requires.0 go.stands.inputs in let n = next_holds c.requires.0 c.args.a l.ws l.s.depth c.next-place.result turn.stands c.loop-s-test.true (c.next-place.ensures c.requires.0 turn.stands) in
-    let z : 0 < c.next-place.result = omega (arith, c.if-place-eq0.false) in
-    let d : 0 < l.s.depth = c.loop-s-test.true in
-    let p : 0 < l.s.left = omega (arith, c.if-s-eq0.false) in
-    let w = c.visit-s.ensures.2 c.requires.0 (turn_ready c.requires.0 c.args.a c.args.course c.args.budget l.ws l.s.depth l.s.left turn d c.next-place.result n z) in
-    let j = turn_judged c.requires.0 c.args.a c.args.course c.args.budget l.ws l.s.depth l.s.left turn d c.next-place.result n z c.visit-s.new.ws c.visit-s.result.verdict w p in let g = c.follow-step.ensures c.requires.0 (rw c.visit-s.ensures.0 j) in
-    let q : Fills c.requires.0 c.args.a c.args.course c.visit-s.new.ws c.follow-step.new.ws l.s.depth = rw (c.in-Full.is, c.visit-s.ensures.0) at g in (
-      (λ t h. let back = c.start.ensures t h in let turn = l.invariant.2 t back.stands.inputs in let n = next_holds t c.args.a l.ws l.s.depth c.next-place.result turn.stands c.loop-s-test.true (c.next-place.ensures t turn.stands) in
-          let z : 0 < c.next-place.result = omega (arith, c.if-place-eq0.false) in
-          let d : 0 < l.s.depth = c.loop-s-test.true in
-          let p : 0 < l.s.left = omega (arith, c.if-s-eq0.false) in
-          let w = c.visit-s.ensures.2 t (turn_ready t c.args.a c.args.course c.args.budget l.ws l.s.depth l.s.left turn d c.next-place.result n z) in
-          let j = turn_judged t c.args.a c.args.course c.args.budget l.ws l.s.depth l.s.left turn d c.next-place.result n z c.visit-s.new.ws c.visit-s.result.verdict w p in let g = c.follow-step.ensures t (rw c.visit-s.ensures.0 j) in
-          let q : Fills t c.args.a c.args.course c.visit-s.new.ws c.follow-step.new.ws l.s.depth = rw (c.in-Full.is, c.visit-s.ensures.0) at g in
-          turn_full t c.args.a c.args.course c.args.budget l.ws l.s.depth l.s.left turn d c.next-place.result n z c.visit-s.new.ws c.visit-s.result.verdict w p c.follow-step.new.ws q),
-      (λ t. tt),
+          let w = c.visit-s.ensures.2 t (turn_ready t c.args.a c.args.course c.args.budget l.ws l.s.depth l.s.left turn d c.in-Some.place n) in
+          let j = turn_judged t c.args.a c.args.course c.args.budget l.ws l.s.depth l.s.left turn d c.in-Some.place n c.visit-s.new.ws c.visit-s.result.verdict w p in let g = c.in_ok-step-in-Some.ensures t (rw c.visit-s.ensures.0 j) in
+          let q : Stops t c.args.a c.args.course c.visit-s.new.ws c.follow.new.ws l.s.depth = rw (c.in-Stopped.is, c.visit-s.ensures.0) at g in
+          rw (c.found.ensures, c.visit-s.ensures.1) (turn_stopped t c.args.a c.args.course c.args.budget l.ws l.s.depth l.s.left turn d c.in-Some.place n c.visit-s.new.ws c.visit-s.result.verdict w p c.follow.new.ws q)),
+      (λ t. rw c.found.ensures (record { many = sym (emitted_count t c.args.a (lists_part c.args.a c.follow.new.ws)); emitted = q.emitted })),
       q.tables ∙ (w.tables ∙ (l.invariant.1 ∙ go.tables)),
     ))
 
@@ -180,3 +148,23 @@ returns c = of_three (λ x0 x1 x2. record { found = x0; many = x1; kept = x2 })
       (λ t. rw c.found-2.ensures (record { many = sym (emitted_count t c.args.a (lists_part c.args.a l.ws)); emitted = turn.emitted })),
       l.invariant.1 ∙ go.tables,
     ))
+
+pub returns-in_err-step-in-Some : goal.returns-in_err-step-in-Some
+unfolding Followed search_outcome counted_lists
+returns-in_err-step-in-Some c = of_three (λ x0 x1 x2. record { found = x0; many = x1; kept = x2 })
+    (rw (handed_on _ _ c.from_residual.ensures.1) (let l = c.loop-s in let go = c.start.ensures c.requires.0 c.requires.1 in let turn = l.invariant.2 c.requires.0 go.stands.inputs in let n = next_found c.requires.0 c.args.a l.ws l.s.depth turn.stands c.loop-s-test.true c.next.result c.in-Some.place (c.next.ensures c.requires.0 turn.stands) c.in-Some.is in
+    let d : 0 < l.s.depth = c.loop-s-test.true in
+    let p : 0 < l.s.left = omega (arith, c.if-s-eq0.false) in
+    let w = c.visit-s.ensures.2 c.requires.0 (turn_ready c.requires.0 c.args.a c.args.course c.args.budget l.ws l.s.depth l.s.left turn d c.in-Some.place n) in
+    let j = turn_judged c.requires.0 c.args.a c.args.course c.args.budget l.ws l.s.depth l.s.left turn d c.in-Some.place n c.visit-s.new.ws c.visit-s.result.verdict w p in let g = c.in_err-step-in-Some.ensures c.requires.0 (rw c.visit-s.ensures.0 j) in
+    let q : Fills c.requires.0 c.args.a c.args.course c.visit-s.new.ws c.follow.new.ws l.s.depth (number_of c.in_err-step-in-Some.field-0.0) = rw c.visit-s.ensures.0 at g in (
+      (λ t h. let back = c.start.ensures t h in let turn = l.invariant.2 t back.stands.inputs in let n = next_found t c.args.a l.ws l.s.depth turn.stands c.loop-s-test.true c.next.result c.in-Some.place (c.next.ensures t turn.stands) c.in-Some.is in
+          let d : 0 < l.s.depth = c.loop-s-test.true in
+          let p : 0 < l.s.left = omega (arith, c.if-s-eq0.false) in
+          let w = c.visit-s.ensures.2 t (turn_ready t c.args.a c.args.course c.args.budget l.ws l.s.depth l.s.left turn d c.in-Some.place n) in
+          let j = turn_judged t c.args.a c.args.course c.args.budget l.ws l.s.depth l.s.left turn d c.in-Some.place n c.visit-s.new.ws c.visit-s.result.verdict w p in let g = c.in_err-step-in-Some.ensures t (rw c.visit-s.ensures.0 j) in
+          let q : Fills t c.args.a c.args.course c.visit-s.new.ws c.follow.new.ws l.s.depth (number_of c.in_err-step-in-Some.field-0.0) = rw c.visit-s.ensures.0 at g in
+          turn_full t c.args.a c.args.course c.args.budget l.ws l.s.depth l.s.left turn d c.in-Some.place n c.visit-s.new.ws c.visit-s.result.verdict w p c.follow.new.ws _ q),
+      (λ t. tt),
+      q.tables ∙ (w.tables ∙ (l.invariant.1 ∙ go.tables)),
+    )))

@@ -1,48 +1,46 @@
-use Prim.Native.Nat.{◌<◌}
-use Rattle.space.specs.Meaning.{HoldsPoints, borrowed, joined, in_rows, points_of}
-use mathlib.Core.Path.{refl, sym, ap, ◌∙◌}
-use mathlib.Core.List.{List, map, ◌++◌, append-nil, append_assoc}
+use mathlib.Core.Path.{◌≡◌, refl, sym, ap, subst, ◌∙◌}
+use mathlib.Core.List.{List, [], ◌∷◌, ◌++◌, append-nil, append_assoc}
+use Prim.Native.Nat.{◌+◌, ◌/◌, ◌≤◌, ◌<◌}
 use native.Mathlib.Omega.{arith}
-use lib.ListN.{length-append}
 use Rattle.definitions.specs.Orbits.{point_at}
 use Rattle.definitions.specs.Vectors.{Vec}
-use Rattle.laws.specs.Parts.{rows}
-use Rattle.laws.specs.Segments.{onto}
-use Rattle.laws.specs.Sets.{vertices_from}
-use Rattle.vectors.specs.Meaning.{zeros}
-use Rattle.space.specs.Counts.{at_long, points_length, holds_points}
-use Rattle.sets.proofs.Laws.{point_few, point_joins, points_turn, points_end, points_whole}
+use Rattle.vectors.specs.Meaning.{vector_of, five}
+use Rattle.space.specs.declared.Points.{Points}
+use Rattle.space.specs.Meaning.{points_of}
+use Rattle.space.specs.Counts.{points_length, point_means, point_own, holds_points, one_more}
+use Rattle.sets.proofs.Laws.{points_from, points_joins, points_stays, points_end, points_whole}
 use Rattle.sets.proofs.chosen_points.Goals as goal
+use Rattle.sets.proofs.chosen_points.Goals.{then-left-eq1, else-left-eq1}
 
-pub loop-v-init : goal.loop-v-init
-unfolding points_of rows in_rows joined onto zeros
-loop-v-init c = (omega arith, record { n_fits = omega arith; d_fits = c.requires.d_fits; at_is = refl }, omega arith, refl)
-
-pub put_chosen-count-requires : goal.put_chosen-count-requires
-put_chosen-count-requires c =
+pub push-requires : goal.push-requires
+push-requires c =
+    let flat = c.args.flat.now in
     let l = c.loop-v in
-    (omega (arith, at_long c.args.flat c.requires, c.requires.n_fits), omega (arith, l.invariant.2, c.requires.n_fits))
-
-pub overflow_add-v : goal.overflow_add-v
-overflow_add-v c = omega (arith, c.requires.n_fits)
+    let own : c.point.result ≡ five (vector_of flat.d c.point.result) = point_own flat l.v (omega arith) _ c.point.ensures in
+    (omega (arith, l.invariant.2, flat.fits.n_fits), cc (own, l.invariant.1))
 
 pub loop-v-preserved : goal.loop-v-preserved
 loop-v-preserved c =
+    let flat = c.args.flat.now in
+    let ps = points_of flat in
     let l = c.loop-v in
-    let flat = c.args.flat in
-    let old = borrowed l.chosen l.count flat.d in
-    let more = map (point_at (points_of flat)) (vertices_from l.v 1 l.rest) in
     let below : l.v < flat.n = omega arith in
-    let room : l.count < 20 = omega (arith, l.invariant.2, c.requires.n_fits, below) in
-    let held : HoldsPoints (borrowed c.put_chosen-count.new.chosen c.put_chosen-count.result flat.d) flat.d (points_of old ++ more) = rw (c.put_chosen-count.ensures.count, c.put_chosen-count.ensures.points) (point_joins flat c.requires l.v below l.chosen l.count l.rest l.invariant.1 room) in
-    let few = point_few (points_of flat) l.v l.rest in
-    let count = length-append (points_of old) more in
-    (omega (arith, below), held.fits, omega (arith, held.n_is, count, few, points_length old, l.invariant.2), rw (held.means, append_assoc, ← (points_turn (points_of flat) flat.n l.v l.rest below)) l.invariant.3)
+    let rest = points_from ps flat.n (l.v + 1) (l.left / 2) in
+    let all = points_from ps flat.n 0 c.args.set in
+    let Chosen : Points → Type 0 = λ q. (q.d ≡ flat.d) × (q.n ≤ l.v + 1) × (points_of q ++ rest ≡ all) in
+    let chosen : Chosen c.if-left-eq1.chosen = elim c.if-left-eq1.branch [
+      | then-left-eq1 w ↦
+          let joined = one_more l.chosen _ flat.d (points_of l.chosen) w.point.result (point_at ps l.v) (holds_points l.chosen flat.d _ l.invariant.1 refl) (point_means flat l.v below _ w.point.ensures) w.push.ensures.0 in
+          let parts = ap (λ (qs : List Vec). qs ++ rest) joined.means ∙ (append_assoc (points_of l.chosen) (point_at ps l.v ∷ []) rest ∙ (ap (λ (qs : List Vec). points_of l.chosen ++ qs) (sym (points_joins ps flat.n l.v l.left below w.if-left-eq1.true)) ∙ l.invariant.3)) in
+          subst Chosen (sym w.chosen-is) (joined.d_is, omega (arith, w.push.ensures.1, l.invariant.2), parts)
+      | else-left-eq1 w ↦ subst Chosen (sym w.chosen-is) (l.invariant.1, omega (arith, l.invariant.2), ap (λ (qs : List Vec). points_of l.chosen ++ qs) (sym (points_stays ps flat.n l.v l.left below w.if-left-eq1.false)) ∙ l.invariant.3)
+    ] in
+    (omega arith, chosen.0, chosen.1, chosen.2)
 
 pub returns : goal.returns
 returns c =
     let l = c.loop-v in
-    let flat = c.args.flat in
-    let held = borrowed l.chosen l.count flat.d in
-    let end = points_end (points_of flat) flat.n l.v l.rest (omega arith) in
-    holds_points held flat.d _ l.invariant.1 refl (sym (append-nil (points_of held)) ∙ (ap (λ (r : List Vec). points_of held ++ r) (sym end) ∙ (l.invariant.3 ∙ points_whole (points_of flat) flat.n c.args.set)))
+    let flat = c.args.flat.now in
+    let ps = points_of flat in
+    let end = points_end ps flat.n l.v l.left (omega arith) in
+    holds_points l.chosen flat.d _ l.invariant.1 (sym (append-nil (points_of l.chosen)) ∙ (ap (λ (qs : List Vec). points_of l.chosen ++ qs) (sym end) ∙ (l.invariant.3 ∙ points_whole ps flat.n c.args.set)))

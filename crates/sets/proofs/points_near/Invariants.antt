@@ -6,7 +6,4 @@ use Rattle.sets.proofs.Laws.{near_from}
 use Rattle.sets.proofs.points_near.Given as goal
 
 abbrev pub invariant-loop-v : goal.invariant-loop-v
-invariant-loop-v l = (l.v ≤ l.n) × (l.sum + near_from l.tolerance (subspace_of l.plane) (points_of l.flat) l.v ≡ near_from l.tolerance (subspace_of l.plane) (points_of l.flat) 0)
-
-abbrev pub decreases-loop-v : goal.decreases-loop-v
-decreases-loop-v l = l.n - l.v
+invariant-loop-v l = (l.v ≤ l.flat.n) × (l.sum + near_from l.tolerance (subspace_of l.plane) (points_of l.flat) l.v ≡ near_from l.tolerance (subspace_of l.plane) (points_of l.flat) 0)

@@ -6,6 +6,3 @@ use Rattle.sets.proofs.set_image.Given as goal
 
 abbrev pub invariant-loop-v : goal.invariant-loop-v
 invariant-loop-v l = (l.v ≤ l.n) × (l.sum + image_from l.rows l.i l.n l.v l.rest ≡ image_from l.rows l.i l.n 0 l.set)
-
-abbrev pub decreases-loop-v : goal.decreases-loop-v
-decreases-loop-v l = l.n - l.v
