@@ -3,7 +3,7 @@ use Rattle.std.specs.Prelude.{◌≡◌, length}
 use Rattle.std.proofs.Math.Path.{ap}
 use Rattle.std.proofs.Common.{subst, arith}
 use mathlib.Core.List.{List, [], map}
-use Rattle.std.proofs.Math.Option.{Option}
+use Rattle.std.specs.Prelude.{Option}
 use Prim.Native.Nat.{ℕ, ◌≤◌}
 use Rattle.definitions.specs.Lists.{Pair}
 use Rattle.definitions.specs.Orbits.{Row}

@@ -3,7 +3,7 @@ use Rattle.std.specs.Prelude.{◌≡◌, ℕ, ◌+◌, ◌≤◌, ◌<◌, lengt
 use Rattle.std.proofs.Math.Path.{refl, ap, subst}
 use Rattle.std.proofs.Common.{sym, ◌∙◌}
 use mathlib.Core.List.{List, [], ◌∷◌, map, flat_map, Memᴰ}
-use Rattle.std.proofs.Math.Option.{Option, some, none}
+use Rattle.std.specs.Prelude.{Option, Some, None}
 use native.Mathlib.Omega.{arith}
 use Rattle.std.proofs.Math.ListN.{get_or}
 use Rattle.definitions.specs.Lists.{Pair}
@@ -71,8 +71,8 @@ module _ (kept : List Kept) (each : (k : Kept) → Mem k kept → Splittable k) 
     within_raised = go o e
       where
         go : (o : Option Pair) → components_of (kept_in kept orbit).compounds f ≡ o → o ≡ within to (raised (0 + start_of kept orbit) o)
-        go none q = refl
-        go (some p) q =
+        go None q = refl
+        go (Some p) q =
             let z : 0 + start_of kept orbit ≡ start_of kept orbit = omega arith in
             let b = components_below (kept_in kept orbit) (own kept each orbit h) f p q in
             let x = (numbered kept orbit p.0 h b.0).1 in
@@ -85,7 +85,7 @@ module _ (kept : List Kept) (each : (k : Kept) → Mem k kept → Splittable k) 
       its : (a : ℕ) (r : Located 0 kept a) → (to a).0 ≡ orbit → r.orbit ≡ orbit
       its a r e = sym (ap (λ (g : Facet). g.0) (to_located a r)) ∙ e
 
-      same : (a : ℕ) → Of to bound orbit a → components_of (kept_in kept orbit).compounds (to a).1 ≡ within to (get_or table a none)
+      same : (a : ℕ) → Of to bound orbit a → components_of (kept_in kept orbit).compounds (to a).1 ≡ within to (get_or table a None)
       same a h =
           let r = located kept a h.0 in
           let cs : ℕ → List Compound = λ o. (kept_in kept o).compounds in
@@ -93,7 +93,7 @@ module _ (kept : List Kept) (each : (k : Kept) → Mem k kept → Splittable k) 
           ∙ (ap (λ (g : Facet). components_of (cs r.orbit) g.1) (to_located a r)
           ∙ (within_raised r.orbit r.inside r.facet (components_of (cs r.orbit) r.facet) refl ∙ ap (within to) (sym r.label)))
 
-      stays : (a : ℕ) → Of to bound orbit a → (p : Pair) → get_or table a none ≡ some p → Of to bound orbit p.0 × Of to bound orbit p.1
+      stays : (a : ℕ) → Of to bound orbit a → (p : Pair) → get_or table a None ≡ Some p → Of to bound orbit p.0 × Of to bound orbit p.1
       stays a h p e =
           let r = located kept a h.0 in
           subst (λ (o : ℕ). Of to bound o p.0 × Of to bound o p.1) (its a r h.1)

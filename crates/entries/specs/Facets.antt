@@ -4,7 +4,7 @@ use Rattle.std.specs.Prelude.{◌≡◌, refl, ◌⊎◌, length, get_or}
 use Rattle.std.proofs.Common.{sym, ◌∙◌, subst, inl, inr, length-append, get_or-append-add}
 use Rattle.std.proofs.Math.Path.{ap}
 use mathlib.Core.List.{List, [], ◌∷◌, ◌++◌, map, flat_map}
-use Rattle.std.proofs.Math.Option.{Option, none}
+use Rattle.std.specs.Prelude.{Option, None}
 use Prim.Native.Nat.{ℕ, zero, suc, ◌+◌, ◌-◌, ◌≤◌, ◌<◌, compare, Ordering}
 use native.Mathlib.Omega.{arith}
 use Rattle.std.proofs.lemmas.List.{length-map}
@@ -119,7 +119,7 @@ pub record Located (first : ℕ) (kept : List Kept) (x : ℕ) : Type 0 where
   pub inside : orbit < length kept
   pub below : facet < facets_in (kept_in kept orbit)
   pub number : x ≡ start_of kept orbit + facet
-  pub label : get_or (labels_from first kept) x none ≡ raised (first + start_of kept orbit) (components_of (kept_in kept orbit).compounds facet)
+  pub label : get_or (labels_from first kept) x None ≡ raised (first + start_of kept orbit) (components_of (kept_in kept orbit).compounds facet)
 
 -- the labels of one orbit
 unfoldable own_labels : ℕ → Kept → List (Option Pair)
@@ -133,12 +133,12 @@ own_labels_holds : (first : ℕ) (k : Kept) → length (own_labels first k) ≡ 
 unfolding own_labels
 own_labels_holds first k = length-map (count_from 0 (facets_in k)) (λ (f : ℕ). raised first (components_of k.compounds f)) ∙ count_length 0 (facets_in k)
 
-own_label : (first : ℕ) (k : Kept) (f : ℕ) → f < facets_in k → get_or (own_labels first k) f none ≡ raised first (components_of k.compounds f)
+own_label : (first : ℕ) (k : Kept) (f : ℕ) → f < facets_in k → get_or (own_labels first k) f None ≡ raised first (components_of k.compounds f)
 unfolding own_labels
 own_label first k f g =
     let c = count_length 0 (facets_in k) in
     let z : 0 + f ≡ f = omega arith in
-    map_at_holds (λ (f : ℕ). raised first (components_of k.compounds f)) (count_from 0 (facets_in k)) f none 0 (omega arith)
+    map_at_holds (λ (f : ℕ). raised first (components_of k.compounds f)) (count_from 0 (facets_in k)) f None 0 (omega arith)
     ∙ ap (λ (i : ℕ). raised first (components_of k.compounds i)) (count_at 0 (facets_in k) f 0 g ∙ z)
 
 labels_many : (orbit first : ℕ) (kept : List Kept) → length (labels_from first kept) ≡ length (facets_from orbit kept)
@@ -162,8 +162,8 @@ in_first first k kept x l =
       below = l;
       number = omega arith;
       label =
-          ap (λ (os : List (Option Pair)). get_or os x none) (labels_cons first k kept)
-          ∙ (get_or-append (own_labels first k) (labels_from (first + facets_in k) kept) none x (omega arith)
+          ap (λ (os : List (Option Pair)). get_or os x None) (labels_cons first k kept)
+          ∙ (get_or-append (own_labels first k) (labels_from (first + facets_in k) kept) None x (omega arith)
           ∙ (own_label first k x l ∙ ap (λ (n : ℕ). raised n (components_of k.compounds x)) z));
     }
 
@@ -180,9 +180,9 @@ in_later first k kept x r =
       below = r.below;
       number = omega (arith, r.number);
       label =
-          ap (λ (n : ℕ). get_or (labels_from first (k ∷ kept)) n none) e
-          ∙ (ap (λ (os : List (Option Pair)). get_or os (length (own_labels first k) + x) none) (labels_cons first k kept)
-          ∙ (get_or-append-add (own_labels first k) (labels_from (first + facets_in k) kept) x none
+          ap (λ (n : ℕ). get_or (labels_from first (k ∷ kept)) n None) e
+          ∙ (ap (λ (os : List (Option Pair)). get_or os (length (own_labels first k) + x) None) (labels_cons first k kept)
+          ∙ (get_or-append-add (own_labels first k) (labels_from (first + facets_in k) kept) x None
           ∙ (r.label ∙ ap (λ (n : ℕ). raised n (components_of (kept_in kept r.orbit).compounds r.facet)) z)));
     }
 

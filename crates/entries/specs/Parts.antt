@@ -4,7 +4,7 @@ use Rattle.std.specs.Prelude.{◌≡◌, ◌⊎◌, ℕ, ◌+◌, ◌≤◌, ◌
 use Rattle.std.proofs.Math.Path.{refl, ap, subst}
 use Rattle.std.proofs.Common.{sym, ◌∙◌, inl, inr}
 use mathlib.Core.List.{List, [], ◌∷◌, map, flat_map, Memᴰ}
-use Rattle.std.proofs.Math.Option.{Option, some, none}
+use Rattle.std.specs.Prelude.{Option, Some, None}
 use native.Mathlib.Omega.{arith}
 use Rattle.std.proofs.Math.ListN.{get_or, get_or-eq_default}
 use Rattle.std.proofs.lemmas.List.{length-map}
@@ -58,7 +58,7 @@ module _ (k : Kept) (h : Splittable k) where
   lists_many = sym (length-map h.lists length) ∙ (ap length h.lengths ∙ length-map k.places length)
 
   -- components are facets of the orbit
-  pub components_below : (f : ℕ) (p : Pair) → components_of k.compounds f ≡ some p → (p.0 < facets_in k) × (p.1 < facets_in k)
+  pub components_below : (f : ℕ) (p : Pair) → components_of k.compounds f ≡ Some p → (p.0 < facets_in k) × (p.1 < facets_in k)
   components_below f p e =
       let c = h.compounds _ (components_of_holds k.compounds f p e) in
       let m = lists_many in
@@ -81,7 +81,7 @@ module _ (kept : List Kept) (each : (k : Kept) → Mem k kept → Splittable k) 
 
   -- the numbers of the components
   module _ (orbit : ℕ) (h : orbit < length kept) (f : ℕ) (o : Option Pair) (e : components_of (kept_in kept orbit).compounds f ≡ o) where
-    pub raised_in : (p : Pair) → raised (0 + start_of kept orbit) o ≡ some p → Of to bound orbit p.0 × Of to bound orbit p.1
+    pub raised_in : (p : Pair) → raised (0 + start_of kept orbit) o ≡ Some p → Of to bound orbit p.0 × Of to bound orbit p.1
     unfolding raised
     raised_in = go o e
       where
@@ -91,9 +91,9 @@ module _ (kept : List Kept) (each : (k : Kept) → Mem k kept → Splittable k) 
             let z : start_of kept orbit + x ≡ y = omega arith in
             subst (Of to bound orbit) z (n.0, ap (λ (g : Facet). g.0) n.1)
 
-        go : (o : Option Pair) → components_of (kept_in kept orbit).compounds f ≡ o → (p : Pair) → raised (0 + start_of kept orbit) o ≡ some p → Of to bound orbit p.0 × Of to bound orbit p.1
-        go none q p r = absurd (none_is_not_some p r)
-        go (some parts) q p r =
+        go : (o : Option Pair) → components_of (kept_in kept orbit).compounds f ≡ o → (p : Pair) → raised (0 + start_of kept orbit) o ≡ Some p → Of to bound orbit p.0 × Of to bound orbit p.1
+        go None q p r = absurd (none_is_not_some p r)
+        go (Some parts) q p r =
             let b = components_below (kept_in kept orbit) (own orbit h) f parts q in
             let s = some_equal (0 + start_of kept orbit + parts.0, 0 + start_of kept orbit + parts.1) p r in
             (one parts.0 b.0 p.0 (ap (λ (x : Pair). x.0) s), one parts.1 b.1 p.1 (ap (λ (x : Pair). x.1) s))
@@ -101,11 +101,11 @@ module _ (kept : List Kept) (each : (k : Kept) → Mem k kept → Splittable k) 
   -- ---- what is left of a facet and of a list
 
   -- every number of the table is a facet's
-  table_below : (a : ℕ) (p : Pair) → get_or table a none ≡ some p → (p.0 < bound) × (p.1 < bound)
+  table_below : (a : ℕ) (p : Pair) → get_or table a None ≡ Some p → (p.0 < bound) × (p.1 < bound)
   table_below a p e = go (le_or_lt bound a)
     where
       go : (bound ≤ a) ⊎ (a < bound) → (p.0 < bound) × (p.1 < bound)
-      go (inl h) = absurd (none_is_not_some p (sym (get_or-eq_default table none (omega (arith, labels_length kept))) ∙ e))
+      go (inl h) = absurd (none_is_not_some p (sym (get_or-eq_default table None (omega (arith, labels_length kept))) ∙ e))
       go (inr h) =
           let r = located kept a h in
           let b = raised_in r.orbit r.inside r.facet (components_of (kept_in kept r.orbit).compounds r.facet) refl p (sym r.label ∙ e) in

@@ -54,18 +54,17 @@ pub fn split_entries(ws: &mut [u8], shelf: Shelf, from: usize, bytes: usize) -> 
     requires { Splits shelf from bytes ws.old }
     ensures { Listed shelf (shelf.owners + 2048) (shelf.owners + 2048) bytes (shelf.owners + 2048 + bytes) 2101260 (closed_lists 2 1024 (part from bytes ws.old)) (map (split_on shelf ws.old) (closed_lists 2 1024 (part from bytes ws.old))) ws.old result ws.new }
 {
-    let labels = shelf.labels;
     let at = shelf.owners + 2048;
     let to = at + bytes;
     let layout = Layout {
         facets: shelf.facets,
-        from: at - labels,
-        to: at - labels + bytes,
+        from: at - shelf.labels,
+        to: at - shelf.labels + bytes,
         most: 1024,
         steps: 380,
     };
-    words::copy_within(ws, from, at, bytes);
-    splitting::split_lists(&mut ws[labels..to + 2101260], layout);
+    ws.copy_within(from..from + bytes, at);
+    splitting::split_lists(&mut ws[shelf.labels..to + 2101260], layout);
     let sorted = sort_entries(ws, shelf, to, 2101260);
     Level {
         shelf: shelf,

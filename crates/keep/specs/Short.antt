@@ -1,49 +1,49 @@
--- A list of one or two items, stored in the pool of an area: the steps of `store_u16` and `store_u32`. And vertices that join a struct. Leans on Storing.
-use Rattle.std.specs.Prelude.{◌≡◌, refl, Bool, true, false, cond, List, [], ◌∷◌, ℕ, ◌+◌, ◌*◌, ◌%◌, ◌^◌, ◌≤◌, ◌<◌, eqb, length}
+-- A list of one or two items, and numbers that fit in so many bytes. And vertices that join a struct. Leans on the openers.
+use Rattle.std.specs.Prelude.{◌≡◌, refl, Bool, true, false, cond, not, List, [], ◌∷◌, map, ℕ, zero, suc, ◌%◌, ◌^◌, ◌≤◌, ◌<◌, eqb, length, get_or, take}
 use Rattle.std.proofs.Common.{sym, ap, ◌∙◌, arith, eq-eqb, ne_eqb, length-take-le}
-use Rattle.laws.specs.Segments.{part, placed}
 use Rattle.laws.specs.Sets.{vertices_from}
-use Rattle.pool.specs.Pool.{base, used, pushed}
 use Rattle.openers.specs.Meaning.{vertices_in, HoldsVertices}
 use Rattle.openers.specs.declared.Vertices.{Vertices}
-use Rattle.keep.specs.Storing.{ListRoom, Growing, growing_none, growing_room, growing_push}
 
 -- a list of one item, or of two
 unfoldable pub one_or_two : Bool → ℕ → ℕ → List ℕ
 one_or_two two a b = cond two (a ∷ b ∷ []) (a ∷ [])
 
-some_items : (two : Bool) (a b : ℕ) → 0 < length (one_or_two two a b)
-unfolding one_or_two
-some_items true a b = omega arith
-some_items false a b = omega arith
+-- each of these numbers fits in so many bytes
+abbrev pub Fitting : ℕ → List ℕ → Type 0
+Fitting w list = (k : ℕ) → k < length list → get_or list k 0 < 256 ^ w
 
-pub short_few : (two : Bool) (a b : ℕ) → length (one_or_two two a b) ≤ 2
-unfolding one_or_two
-short_few true a b = omega arith
-short_few false a b = omega arith
+pub one_fitting : (w a : ℕ) → a < 256 ^ w → Fitting w (a ∷ [])
+one_fitting w a h zero k = h
+one_fitting w a h (suc i) k = absurd (omega arith)
 
-module _ {w most a n : ℕ} {s : List ℕ} (two : Bool) (first second : ℕ) (room : ListRoom w most a n s (length (one_or_two two first second))) where
-  pub first_room : (base most + w * (used (part a n s) + 1) ≤ length (part a n s)) × (used (part a n s) + 1 < 4294967296)
-  first_room = growing_room room (growing_none w most a n s) (some_items two first second)
+two_fitting : (w a b : ℕ) → a < 256 ^ w → b < 256 ^ w → Fitting w (a ∷ b ∷ [])
+two_fitting w a b f g zero k = f
+two_fitting w a b f g (suc i) k = one_fitting w b g i (omega arith)
 
-  pub first_pushed : (p : List ℕ) → first < 256 ^ w → p ≡ pushed w most (part a n s) first → Growing w most a n s (placed a n s p) (first ∷ [])
-  first_pushed p small e = growing_push room (growing_none w most a n s) (some_items two first second) first p small e
+-- the first or both of two numbers
+module _ (swapped : Bool) (many a b : ℕ) (e : many ≡ cond swapped 1 2) where
+  pub first_or_both : map (λ (v : ℕ). v) (take many (a ∷ b ∷ [])) ≡ one_or_two (not swapped) a b
+  unfolding one_or_two
+  first_or_both = rw e (go swapped)
+    where
+      go : (s : Bool) → map (λ (v : ℕ). v) (take (cond s 1 2) (a ∷ b ∷ [])) ≡ cond (not s) (a ∷ b ∷ []) (a ∷ [])
+      go true = refl
+      go false = refl
 
-  module _ {t : List ℕ} (g : Growing w most a n s t (first ∷ [])) where
-    both : two ≡ true → 1 < length (one_or_two two first second)
-    unfolding one_or_two
-    both e = rw e (omega arith)
+  pub first_or_both_few : length (take many (a ∷ b ∷ [])) ≤ 2
+  first_or_both_few = rw e (go swapped)
+    where
+      go : (s : Bool) → length (take (cond s 1 2) (a ∷ b ∷ [])) ≤ 2
+      go true = omega arith
+      go false = omega arith
 
-    pub second_room : two ≡ true → (base most + w * (used (part a n t) + 1) ≤ length (part a n t)) × (used (part a n t) + 1 < 4294967296)
-    second_room e = growing_room room g (both e)
-
-    pub second_pushed : two ≡ true → (p : List ℕ) → second < 256 ^ w → p ≡ pushed w most (part a n t) second → Growing w most a n s (placed a n t p) (one_or_two two first second)
-    unfolding one_or_two
-    second_pushed e p small q = rw e (growing_push room g (both e) second p small q)
-
-    pub second_left : two ≡ false → Growing w most a n s t (one_or_two two first second)
-    unfolding one_or_two
-    second_left e = rw e g
+  pub first_or_both_fitting : (w : ℕ) → a < 256 ^ w → b < 256 ^ w → Fitting w (map (λ (v : ℕ). v) (take many (a ∷ b ∷ [])))
+  first_or_both_fitting w f g = rw e (go swapped)
+    where
+      go : (s : Bool) → Fitting w (map (λ (v : ℕ). v) (take (cond s 1 2) (a ∷ b ∷ [])))
+      go true = one_fitting w a f
+      go false = two_fitting w a b f g
 
 -- ---- vertices
 
@@ -54,20 +54,3 @@ one_vertex v rest e = rw (eq-eqb (rest % 2) 1 e) refl
 pub no_vertex : (v rest : ℕ) → (rest % 2 ≡ 1 → ⊥) → vertices_from v 1 rest ≡ []
 unfolding vertices_from
 no_vertex v rest e = rw (ne_eqb (rest % 2) 1 e) refl
-
-pub few_vertices : (v rest : ℕ) → length (vertices_from v 1 rest) ≤ 1
-unfolding vertices_from
-few_vertices v rest = go (eqb (rest % 2) 1)
-  where
-    go : (b : Bool) → length (cond b (v ∷ []) []) ≤ 1
-    go true = omega arith
-    go false = omega arith
-
--- the struct as it is
-pub holds_vertices : (r : Vertices) (l : List ℕ) → r.count ≤ 20 → length r.at ≡ 20 → vertices_in r ≡ l → HoldsVertices r l
-unfolding vertices_in
-holds_vertices r l fits long e = record {
-  fits = fits;
-  count_is = sym (length-take-le r.count r.at (omega arith)) ∙ ap length e;
-  means = e;
-}

@@ -4,16 +4,17 @@
 
 #![tactic(auto)]
 
-ghost use Rattle.std.specs.Prelude.{◌≡◌, [], ◌++◌, ℕ, ◌+◌, ◌*◌, ◌≤◌, ◌<◌, length};
-ghost use Rattle.laws.specs.Sets.{vertices_from, vertices_of};
+ghost use Rattle.std.specs.Prelude.{◌≡◌, [], ℕ, ◌+◌, ◌*◌, ◌≤◌, ◌<◌, length};
+ghost use Rattle.laws.specs.Sets.{vertices_of};
 ghost use Rattle.words.specs.Words.{put};
-ghost use Rattle.openers.specs.Meaning.{vertices_in, HoldsVertices};
+ghost use Rattle.openers.specs.Meaning.{HoldsVertices};
 ghost use Rattle.shelf.specs.Keeps.{Keeps, Ridges, ShelfFits};
 ghost use Rattle.keep.specs.Stocked.{ShelfWritten};
 ghost use Rattle.keep.specs.Adding.{with_facets};
 
 use openers::Vertices;
 use shelf::Shelf;
+use words::Word;
 
 // ---- a shelf with nothing on it
 
@@ -23,29 +24,12 @@ pub fn clear_shelf(ws: &mut [u8], shelf: Shelf)
     ensures within { ShelfWritten shelf ws.old ws.new }
     ensures keeps { (n : ℕ) → shelf.orbits ≡ 0 → shelf.facets ≡ 0 → Keeps n shelf [] ws.new × Ridges shelf [] ws.new }
 {
-    let edges = shelf.edges;
-    let labels = shelf.labels;
-    let ridges = shelf.ridges;
-    let places = shelf.places;
-    let end = shelf.end;
-    pool::clear(&mut ws[edges..labels]);
-    pool::clear(&mut ws[ridges..places]);
-    pool::clear(&mut ws[places..end]);
+    pool::clear(&mut ws[shelf.edges..shelf.labels]);
+    pool::clear(&mut ws[shelf.ridges..shelf.places]);
+    pool::clear(&mut ws[shelf.places..shelf.end]);
 }
 
 // ---- a set's vertices
-
-// Vertex v joins if `rest` begins with a bit that is set.
-fn with_vertex(v: usize, rest: u32, found: Vertices) -> Vertices
-    requires { found.count < 20 }
-    ensures { HoldsVertices result (vertices_in found ++ vertices_from v 1 rest) }
-{
-    if rest % 2 == 1 {
-        found.with_vertex(v)
-    } else {
-        found
-    }
-}
 
 // The vertices of a set, ascending.
 pub fn vertices_of(set: u32, n: usize) -> Vertices
@@ -54,12 +38,11 @@ pub fn vertices_of(set: u32, n: usize) -> Vertices
 {
     let mut found = Vertices::new();
     let mut rest = set;
-    let mut v = 0;
-    while v < n {
-        let more = with_vertex(v, rest, found);
-        found = more;
+    for v in 0..n {
+        if rest % 2 == 1 {
+            found.push(v);
+        }
         rest = rest / 2;
-        v += 1;
     }
     found
 }
@@ -69,8 +52,8 @@ pub fn store_facet(ws: &mut [u8], shelf: Shelf, x: usize, label: u32, owner: u16
     requires { ShelfFits shelf (length ws.old) × (x < 1024) }
     ensures { ws.new ≡ put 2 (put 4 ws.old (shelf.labels + 4 * x) label) (shelf.owners + 2 * x) owner }
 {
-    words::put_u32(ws, shelf.labels + 4 * x, label);
-    words::put_u16(ws, shelf.owners + 2 * x, owner);
+    u32::put(ws, shelf.labels + 4 * x, label);
+    u16::put(ws, shelf.owners + 2 * x, owner);
 }
 
 // The shelf with one orbit more, of so many facets.
@@ -81,11 +64,6 @@ pub fn one_more(shelf: Shelf, facets: usize) -> Shelf
     Shelf {
         orbits: shelf.orbits + 1,
         facets: shelf.facets + facets,
-        edges: shelf.edges,
-        labels: shelf.labels,
-        owners: shelf.owners,
-        ridges: shelf.ridges,
-        places: shelf.places,
-        end: shelf.end,
+        ..shelf
     }
 }

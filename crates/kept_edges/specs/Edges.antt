@@ -3,7 +3,7 @@ use Rattle.std.specs.Prelude.{◌≡◌, refl, Bool, true, false, cond, not, ℕ
 use Rattle.std.proofs.Common.{sym, ◌∙◌, arith}
 use Rattle.std.proofs.Math.Path.{ap}
 use mathlib.Core.List.{List, [], ◌∷◌, ◌++◌, map, zip_with}
-use Rattle.std.proofs.Math.Option.{Option, none}
+use Rattle.std.specs.Prelude.{Option, None}
 use Rattle.std.proofs.lemmas.List.{length-map}
 use Rattle.definitions.specs.Lists.{Pair, count_from}
 use Rattle.definitions.specs.Job.{number_at}
@@ -100,7 +100,7 @@ ends_stored shelf swapped v w s t u f r p =
 -- what the areas hold with an edge more
 abbrev WithEdge : Shelf → List Kept → Bool → ℕ → ℕ → List ℕ → Type 0
 WithEdge shelf kept swapped v w s =
-    Stocked shelf (map (map pair_code) (edges_of kept) ++ (((20 * v + w) ∷ []) ∷ [])) (labels_from 0 kept ++ (none ∷ [])) (owners_of kept ++ (length kept ∷ [])) (map ridge_codes kept ++ (end_ridges swapped v w ∷ []))
+    Stocked shelf (map (map pair_code) (edges_of kept) ++ (((20 * v + w) ∷ []) ∷ [])) (labels_from 0 kept ++ (None ∷ [])) (owners_of kept ++ (length kept ∷ [])) (map ridge_codes kept ++ (end_ridges swapped v w ∷ []))
     (places_of kept ++ (one_or_two (not swapped) 0 1 ∷ [])) s
 
 edge_stocked : (shelf : Shelf) (kept : List Kept) (swapped : Bool) (o : Orbit) (t : List ℕ) → WithEdge shelf kept swapped (vertex_of o 0) (vertex_of o 1) t → StockedWith shelf (kept ++ (edge_kept swapped o ∷ [])) t
@@ -108,14 +108,13 @@ unfolding edge_kept orbit_labels components_of raised count_from pair_code
 edge_stocked shelf kept swapped o t stock = stocked_more kept (edge_kept swapped o) (rw (edge_ridges swapped o (cond swapped 2 1) refl) stock)
 
 -- the steps of `keep_edge`: the ends, the edge, then label and owner
-module _ (shelf : Shelf) (swapped : Bool) (v w : ℕ) (s t u : List ℕ) (one : EndsStored shelf swapped v w s t) (two : Stored 2 1024 shelf.edges (shelf.labels - shelf.edges) t u (one_or_two false (20 * v + w) 0)) where
+module _ (shelf : Shelf) (swapped : Bool) (v w : ℕ) (s t u : List ℕ) (one : EndsStored shelf swapped v w s t) (two : Stored 2 1024 shelf.edges (shelf.labels - shelf.edges) t u ((20 * v + w) ∷ [])) where
   -- the label and the owner of the edge
   abbrev last : ℕ → List ℕ
   last owner = put 2 (put 4 u (shelf.labels + 4 * shelf.facets) 0) (shelf.owners + 2 * shelf.facets) owner
 
   module _ {n : ℕ} {kept : List Kept} (keeps : Keeps n shelf kept s) (ridges : Ridges shelf kept s) (few : shelf.orbits < 256) (room : shelf.facets + 1 ≤ 1024) where
     edge_listed : Stocked shelf (map (map pair_code) (edges_of kept) ++ (((20 * v + w) ∷ []) ∷ [])) (labels_from 0 kept) (owners_of kept) (map ridge_codes kept ++ (end_ridges swapped v w ∷ [])) (places_of kept ++ (one_or_two (not swapped) 0 1 ∷ [])) u
-    unfolding one_or_two
     edge_listed = stocked_edges (one.stocked _ _ _ _ _ (stocked_with keeps ridges)) two
 
     labels_there : length (labels_from 0 kept) ≡ shelf.facets

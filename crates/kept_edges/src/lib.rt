@@ -4,7 +4,7 @@
 
 #![tactic(auto)]
 
-ghost use Rattle.std.specs.Prelude.{◌≡◌, cond, List, ◌∷◌, [], ◌++◌, ℕ, ◌+◌, ◌*◌, ◌-◌, ◌≤◌, ◌<◌, length, get_or, take};
+ghost use Rattle.std.specs.Prelude.{◌≡◌, cond, map, List, ◌∷◌, [], ◌++◌, ℕ, ◌+◌, ◌*◌, ◌-◌, ◌≤◌, ◌<◌, length, get_or, take};
 ghost use Rattle.definitions.specs.Job.{number_at};
 ghost use Rattle.definitions.specs.Recursion.{Inner};
 ghost use Rattle.laws.specs.Sets.{vertices_of};
@@ -15,11 +15,12 @@ ghost use Rattle.keep.specs.Storing.{ListRoom, Stored};
 ghost use Rattle.keep.specs.Stocked.{ShelfWritten};
 ghost use Rattle.keep.specs.Adding.{with_facets, orbit_at};
 ghost use Rattle.keep.specs.Rooms.{RoomFor};
-ghost use Rattle.keep.specs.Short.{one_or_two};
+ghost use Rattle.keep.specs.Short.{Fitting};
 ghost use Rattle.kept_edges.specs.Edges.{edge_answer, EndsStored};
 
 use openers::Vertices;
 use shelf::Shelf;
+use words::Word;
 
 // The second vertex: a line may have more points, and its edge ends at the second.
 fn second(vertices: Vertices) -> usize
@@ -31,26 +32,13 @@ fn second(vertices: Vertices) -> usize
 
 // ---- one list, label and owner
 
-// A list of one or two items, in a pool of u16 items.
-fn store_u16(ws: &mut [u8], from: usize, to: usize, first: u16, second: u16, two: bool)
-    requires { (from ≤ to) × ListRoom 2 1024 from (to - from) ws.old (length (one_or_two two first second)) }
-    ensures { Stored 2 1024 from (to - from) ws.old ws.new (one_or_two two first second) }
+// These items, as one list more in the pool of an area.
+fn store<T: Word>(ws: &mut [u8], from: usize, to: usize, most: usize, items: &[T])
+    requires { (from ≤ to) × ListRoom T.BYTES most from (to - from) ws.old (length items.now) × Fitting T.BYTES (map T.number items.now) }
+    ensures { Stored T.BYTES most from (to - from) ws.old ws.new (map T.number items.now) }
 {
-    pool::push_u16(&mut ws[from..to], 1024, first);
-    if two {
-        pool::push_u16(&mut ws[from..to], 1024, second);
-    }
-    pool::end_list(&mut ws[from..to]);
-}
-
-// The same in a pool of u32 items.
-fn store_u32(ws: &mut [u8], from: usize, to: usize, first: u32, second: u32, two: bool)
-    requires { (from ≤ to) × ListRoom 4 256 from (to - from) ws.old (length (one_or_two two first second)) }
-    ensures { Stored 4 256 from (to - from) ws.old ws.new (one_or_two two first second) }
-{
-    pool::push_u32(&mut ws[from..to], 256, first);
-    if two {
-        pool::push_u32(&mut ws[from..to], 256, second);
+    for v in items {
+        pool::push(&mut ws[from..to], most, *v);
     }
     pool::end_list(&mut ws[from..to]);
 }
@@ -73,13 +61,11 @@ fn keep_ends(ws: &mut [u8], shelf: Shelf, v: usize, w: usize, swapped: bool)
     requires { (v < 20) × (w < 20) × ShelfFits shelf (length ws.old) × ListRoom 4 256 shelf.ridges (shelf.places - shelf.ridges) ws.old 2 × ListRoom 2 1024 shelf.places (shelf.end - shelf.places) ws.old 2 }
     ensures { EndsStored shelf swapped v w ws.old ws.new }
 {
-    let ridges = shelf.ridges;
-    let places = shelf.places;
-    let end = shelf.end;
-    let first = end_code(v, swapped);
-    let second = end_code(w, swapped);
-    store_u32(ws, ridges, places, first, second, !swapped);
-    store_u16(ws, places, end, 0, 1, !swapped);
+    let many = if swapped { 1 } else { 2 };
+    let codes = [end_code(v, swapped), end_code(w, swapped)];
+    let numbers: [u16; 2] = [0, 1];
+    store(ws, shelf.ridges, shelf.places, 256, &codes[..many]);
+    store(ws, shelf.places, shelf.end, 1024, &numbers[..many]);
 }
 
 // The edge between the first two vertices of the next orbit's set, of which the inner call of rank 2 has answered whether some row swaps them.
@@ -90,13 +76,11 @@ pub fn keep_edge(ws: &mut [u8], shelf: Shelf, n: usize, swapped: bool) -> Shelf
     ensures keeps { (kept : List Kept) (i : Inner) (left : ℕ) → Keeps n shelf kept ws.old → Ridges shelf kept ws.old → i.orbit ≡ orbit_of n (orbit_at ws.old shelf.orbits) → i.answer ≡ edge_answer swapped left → Keeps n result (kept ++ (kept_of i ∷ [])) ws.new × Ridges result (kept ++ (kept_of i ∷ [])) ws.new }
 {
     let i = shelf.orbits;
-    let edges = shelf.edges;
-    let labels = shelf.labels;
-    let vertices = keep::vertices_of(words::get_u32(ws, 8 * i), n);
+    let vertices = keep::vertices_of(u32::get(ws, 8 * i), n);
     let v = vertices.at[0];
     let w = second(vertices);
     keep_ends(ws, shelf, v, w, swapped);
-    store_u16(ws, edges, labels, (20 * v + w) as u16, 0, false);
+    store(ws, shelf.edges, shelf.labels, 1024, &[(20 * v + w) as u16]);
     keep::store_facet(ws, shelf, shelf.facets, 0, i as u16);
     keep::one_more(shelf, 1)
 }

@@ -3,7 +3,7 @@ use Rattle.std.specs.Prelude.{◌≡◌, refl, Bool, true, false, ℕ, zero, suc
 use Rattle.std.proofs.Math.Path.{sym, ap}
 use Rattle.std.proofs.Common.{◌∙◌, subst, length-append, take_all, length-take-le}
 use mathlib.Core.List.{List, [], ◌∷◌, ◌++◌, map, flat_map, append-nil, append_assoc, map-append}
-use Rattle.std.proofs.Math.Option.{Option, none}
+use Rattle.std.specs.Prelude.{Option, None}
 use native.Mathlib.Omega.{arith}
 use Rattle.std.proofs.Math.ListN.{length, drop, length-map}
 use Rattle.definitions.specs.Lists.{Pair, count_from}
@@ -76,13 +76,13 @@ module _ {n m : ℕ} {inner : List Kept} {level : Level} {rows : List ℕ} {at :
         (src.small (c / 20) r.0, src.small (c % 20) r.1)
 
     -- the entry's label, read
-    pub label_read : (label : ℕ) → label ≡ number_at (drop at s) (level.lists + (level.bytes + 2048 + 4 * k)) 4 → get_or (labels_left level at s) k none ≡ label_of label
+    pub label_read : (label : ℕ) → label ≡ number_at (drop at s) (level.lists + (level.bytes + 2048 + 4 * k)) 4 → get_or (labels_left level at s) k None ≡ label_of label
     unfolding labels_in
     label_read label e =
         let from = level.bytes + 2048 in
         let area = drop level.lists (drop at s) in
         let n = words_length 4 (drop from area) level.count in
-        map_at_holds label_of (words 4 (drop from area) level.count) k none 0 (omega arith)
+        map_at_holds label_of (words 4 (drop from area) level.count) k None 0 (omega arith)
         ∙ ap label_of (get_d_words 4 (drop from area) level.count k h ∙ (number_at_drop area from (4 * k) 4 ∙ (number_at_drop (drop at s) level.lists (from + 4 * k) 4 ∙ sym e)))
 
     pub label_room_holds : level.lists + (level.bytes + 2048 + 4 * k) + 4 ≤ length (drop at s)
@@ -93,7 +93,7 @@ module _ {n m : ℕ} {inner : List Kept} {level : Level} {rows : List ℕ} {at :
     unfolding labels_in
     label_small label e few g =
         let long : length (labels_left level at s) ≡ level.count = length-map (words 4 (drop (level.bytes + 2048) (drop level.lists (drop at s))) level.count) label_of ∙ words_length 4 (drop (level.bytes + 2048) (drop level.lists (drop at s))) level.count in
-        let m = member_at (labels_left level at s) k none (omega arith) in
+        let m = member_at (labels_left level at s) k None (omega arith) in
         let r = src.left.labelled (label % 65536, label / 65536) (subst (λ (o : Option Pair). Mem o (labels_left level at s)) (label_read label e ∙ label_some label g) m) in
         let low = r.0 in
         let high = r.1 in
@@ -145,7 +145,7 @@ owner_more : (shelf : Shelf) (k : ℕ) → map (λ (f : ℕ). shelf.orbits) (cou
 owner_more shelf k = ap (map (λ (f : ℕ). shelf.orbits)) (count_append 0 k 1) ∙ (map-append (λ (f : ℕ). shelf.orbits) (count_from 0 k) (count_from (0 + k) 1) ∙ ap (λ (l : List ℕ). map (λ (f : ℕ). shelf.orbits) (count_from 0 k) ++ l) (one_owner shelf.orbits (0 + k)))
 
 module _ (shelf : Shelf) (k : ℕ) (codes : List (List ℕ)) (new : List (Option Pair)) (lists : List (List ℕ)) (s t u : List ℕ) where
-  pub facets_next : k < length codes → k < length new → k < length lists → FacetsStored shelf k (take k codes) (take k new) (take k lists) s t → FacetStored shelf k (get_or codes k []) (get_or new k none) (get_or lists k []) t u
+  pub facets_next : k < length codes → k < length new → k < length lists → FacetsStored shelf k (take k codes) (take k new) (take k lists) s t → FacetStored shelf k (get_or codes k []) (get_or new k None) (get_or lists k []) t u
       → FacetsStored shelf (k + 1) (take (k + 1) codes) (take (k + 1) new) (take (k + 1) lists) s u
   facets_next a b c g one = record {
     within = within_both shelf g.within one.within;
@@ -154,7 +154,7 @@ module _ (shelf : Shelf) (k : ℕ) (codes : List (List ℕ)) (new : List (Option
         let m : length (labels ++ take k new) ≡ shelf.facets + k = omega (arith, length-append labels (take k new), length-take-le k new (omega arith)) in
         let o : length (owners ++ map (λ (f : ℕ). shelf.orbits) (count_from 0 k)) ≡ shelf.facets + k = omega (arith, length-append owners (map (λ (f : ℕ). shelf.orbits) (count_from 0 k)), length-map (count_from 0 k) (λ (f : ℕ). shelf.orbits), count_length 0 k) in
         rw
-        (take_more codes k [] a, take_more new k none b, take_more lists k [] c, owner_more shelf k, ← (append_assoc edges (take k codes) (get_or codes k [] ∷ [])), ← (append_assoc labels (take k new) (get_or new k none ∷ [])), ← (append_assoc owners (map (λ (f : ℕ). shelf.orbits) (count_from 0 k)) (shelf.orbits ∷ [])), ← (append_assoc places (take k lists) (get_or lists k [] ∷ [])))
+        (take_more codes k [] a, take_more new k None b, take_more lists k [] c, owner_more shelf k, ← (append_assoc edges (take k codes) (get_or codes k [] ∷ [])), ← (append_assoc labels (take k new) (get_or new k None ∷ [])), ← (append_assoc owners (map (λ (f : ℕ). shelf.orbits) (count_from 0 k)) (shelf.orbits ∷ [])), ← (append_assoc places (take k lists) (get_or lists k [] ∷ [])))
         (one.stocked _ _ _ _ _ before m o);
   }
 
@@ -248,15 +248,15 @@ module _ (shelf : Shelf) (n m : ℕ) (inner : List Kept) (level : Level) (rows :
     lists_there : get_or all_lists k [] ≡ entry_at level at t k
     lists_there = ap (λ (r : List ℕ). get_or (lists_left level r) k []) (sym same)
 
-    label_there : get_or all_labels k none ≡ raised shelf.facets (get_or (labels_left level at t) k none)
+    label_there : get_or all_labels k None ≡ raised shelf.facets (get_or (labels_left level at t) k None)
     label_there =
-        map_at_holds (raised shelf.facets) (labels_left level at s) k none none (omega (arith, labels_long))
-        ∙ ap (λ (r : List ℕ). raised shelf.facets (get_or (labels_in (level.bytes + 2048) level.count (drop level.lists r)) k none)) (sym same)
+        map_at_holds (raised shelf.facets) (labels_left level at s) k None None (omega (arith, labels_long))
+        ∙ ap (λ (r : List ℕ). raised shelf.facets (get_or (labels_in (level.bytes + 2048) level.count (drop level.lists r)) k None)) (sym same)
 
     pub so_far_next : {u : List ℕ}
-        → FacetStored shelf k (codes_of n m rows inner vertices (entry_at level at t k)) (raised shelf.facets (get_or (labels_left level at t) k none)) (entry_at level at t k) t u → SoFar (k + 1) u
+        → FacetStored shelf k (codes_of n m rows inner vertices (entry_at level at t k)) (raised shelf.facets (get_or (labels_left level at t) k None)) (entry_at level at t k) t u → SoFar (k + 1) u
     so_far_next {u} one =
-        let one' : FacetStored shelf k (get_or all_codes k []) (get_or all_labels k none) (get_or all_lists k []) t u = rw (codes_there, label_there, lists_there) one in
+        let one' : FacetStored shelf k (get_or all_codes k []) (get_or all_labels k None) (get_or all_lists k []) t u = rw (codes_there, label_there, lists_there) one in
         record { stored = facets_next shelf k all_codes all_labels all_lists s t u (omega (arith, codes_long)) (omega (arith, raised_long)) (omega (arith, lists_long)) g.stored one' }
 
     pub so_far_rooms : FacetsRoom

@@ -5,7 +5,7 @@
 #![tactic(auto)]
 
 ghost use Rattle.std.specs.Prelude.{◌≡◌, List, ◌∷◌, [], ◌++◌, ℕ, ◌+◌, ◌-◌, ◌/◌, ◌%◌, ◌≤◌, ◌<◌, length, get_or, take, drop};
-ghost use Rattle.std.proofs.Math.Option.{none};
+ghost use Rattle.std.specs.Prelude.{None};
 ghost use Rattle.definitions.specs.Recursion.{Inner};
 ghost use Rattle.orbits.specs.Numbers.{orbit_of};
 ghost use Rattle.order.specs.Areas.{HoldsOrder};
@@ -23,6 +23,7 @@ ghost use Rattle.kept_polygons.specs.Whole.{InnerLeft, PolygonRoom, inner_answer
 
 use openers::Vertices;
 use shelf::{Level, Shelf};
+use words::Word;
 
 // ---- a facet's places and label, and the ridges
 
@@ -32,11 +33,9 @@ fn store_places(ws: &mut [u8], at: usize, level: Level, k: usize, from: usize, t
     ensures { Stored 2 1024 from (to - from) ws.old ws.new (get_or (lists_left level (drop at ws.old)) k []) }
 {
     let items = left_edges::facets_of(&ws[at..], level, k);
-    let mut i = 0;
-    while i < items {
+    for i in 0..items {
         let x = left_edges::facet_at(&ws[at..], level, k, i);
-        pool::push_u16(&mut ws[from..to], 1024, x);
-        i += 1;
+        pool::push(&mut ws[from..to], 1024, x);
     }
     pool::end_list(&mut ws[from..to]);
 }
@@ -47,20 +46,19 @@ fn store_ridges(ws: &mut [u8], at: usize, level: Level, from: usize, to: usize, 
     ensures { (n m : ℕ) (rows : List ℕ) (inner : List Kept) → EdgesLeft n m inner level rows (drop at ws.old) → Stored 4 256 from (to - from) ws.old ws.new (ridges_moved vertices.at inner) }
 {
     let orbits = level.shelf.orbits;
-    let mut a = 0;
-    while a < orbits {
+    for a in 0..orbits {
         let code = left_edges::moved(
             left_edges::edge_at(&ws[at..], level.shelf, a),
             vertices,
         ) as u32;
-        let count = words::get_u32(&ws[at..], 8 * a + 4);
-        pool::push_u32(&mut ws[from..to], 256, code + 65536 * count);
-        a += 1;
+        let count = u32::get(&ws[at..], 8 * a + 4);
+        pool::push(&mut ws[from..to], 256, code + 65536 * count);
     }
     pool::end_list(&mut ws[from..to]);
 }
 
-// A facet's label, its components raised by the number of facets kept before.
+// A facet's label, its components raised by the number of facets kept before. The label stays one packed number, as the bytes of its area hold it:
+// to unpack it into an Option of a pair, only to pack it again, would be longer.
 fn raise(label: u32, first: usize) -> u32
     requires { (first ≤ 1024) × (65536 ≤ label → (label / 65536 < 1024) × (label % 65536 < 1024)) }
     ensures { label_of result ≡ raised first (label_of label) }
@@ -85,16 +83,14 @@ fn keep_facet(
     vertices: Vertices,
 )
     requires { ShelfFits shelf (length ws.old) × (shelf.end ≤ at) × (shelf.orbits < 256) × (shelf.facets + level.count ≤ 1024) × (k < level.count) × ((n : ℕ) × (inner : List Kept) × Source n m inner level rows.now at vertices.at ws.old × ListRoom 2 1024 shelf.edges (shelf.labels - shelf.edges) ws.old (length (codes_of n m rows.now inner vertices.at (entry_at level at ws.old k))) × ListRoom 2 1024 shelf.places (shelf.end - shelf.places) ws.old (length (entry_at level at ws.old k))) }
-    ensures { (n : ℕ) (inner : List Kept) → Source n m inner level rows.now at vertices.at ws.old → FacetStored shelf k (codes_of n m rows.now inner vertices.at (entry_at level at ws.old k)) (raised shelf.facets (get_or (labels_left level at ws.old) k none)) (entry_at level at ws.old k) ws.old ws.new }
+    ensures { (n : ℕ) (inner : List Kept) → Source n m inner level rows.now at vertices.at ws.old → FacetStored shelf k (codes_of n m rows.now inner vertices.at (entry_at level at ws.old k)) (raised shelf.facets (get_or (labels_left level at ws.old) k None)) (entry_at level at ws.old k) ws.old ws.new }
 {
-    let edges = shelf.edges;
-    let labels = shelf.labels;
     let mut marks = [false; 400];
     left_edges::mark_entry(&ws[at..], level, k, rows, m, &mut marks);
-    left_edges::store_edges(ws, edges, labels, &marks, vertices);
+    left_edges::store_edges(ws, shelf.edges, shelf.labels, &marks, vertices);
     store_places(ws, at, level, k, shelf.places, shelf.end);
     let place = level.lists + (level.bytes + 2048 + 4 * k);
-    let label = raise(words::get_u32(&ws[at..], place), shelf.facets);
+    let label = raise(u32::get(&ws[at..], place), shelf.facets);
     keep::store_facet(ws, shelf, shelf.facets + k, label, shelf.orbits as u16);
 }
 
@@ -111,11 +107,8 @@ fn keep_facets(
     requires { (shelf.end ≤ at) × (shelf.orbits < 256) × (shelf.facets + level.count ≤ 1024) × ((n : ℕ) × (inner : List Kept) × Source n m inner level rows.now at vertices.at ws.old × FacetsRoom shelf n m inner level rows.now at vertices.at ws.old) }
     ensures { (n : ℕ) (inner : List Kept) → Source n m inner level rows.now at vertices.at ws.old → FacetsStored shelf level.count (all_codes shelf n m inner level rows.now at vertices.at ws.old) (all_labels shelf n m inner level rows.now at vertices.at ws.old) (all_lists shelf n m inner level rows.now at vertices.at ws.old) ws.old ws.new }
 {
-    let count = level.count;
-    let mut k = 0;
-    while k < count {
+    for k in 0..level.count {
         keep_facet(ws, shelf, at, level, k, rows, m, vertices);
-        k += 1;
     }
 }
 
@@ -134,8 +127,7 @@ pub fn keep_polygons(
     ensures within { (take 2048 ws.new ≡ take 2048 ws.old) × ShelfWritten shelf ws.old ws.new }
     ensures keeps { (kept inner : List Kept) (i : Inner) (left : ℕ) → Keeps n shelf kept ws.old → Ridges shelf kept ws.old → InnerLeft n shelf at m inner level rows.now ws.old → i.orbit ≡ orbit_of n (orbit_at ws.old shelf.orbits) → i.answer ≡ inner_answer n shelf at m inner level rows.now ws.old left → Keeps n result (kept ++ (kept_of i ∷ [])) ws.new × Ridges result (kept ++ (kept_of i ∷ [])) ws.new }
 {
-    let i = shelf.orbits;
-    let vertices = keep::vertices_of(words::get_u32(ws, 8 * i), n);
+    let vertices = keep::vertices_of(u32::get(ws, 8 * shelf.orbits), n);
     store_ridges(ws, at, level, shelf.ridges, shelf.places, vertices);
     keep_facets(ws, shelf, at, level, rows, m, vertices);
     keep::one_more(shelf, level.count)

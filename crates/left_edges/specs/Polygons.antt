@@ -4,7 +4,7 @@ use Rattle.std.specs.Prelude.{◌≡◌, refl, length, get_or, drop}
 use Rattle.std.proofs.Common.{sym, ◌∙◌, subst}
 use Rattle.std.proofs.Math.Path.{ap}
 use mathlib.Core.List.{List, [], ◌∷◌, ◌++◌, map, flat_map, append-nil, map-map}
-use Rattle.std.proofs.Math.Option.{Option, some}
+use Rattle.std.specs.Prelude.{Option, Some}
 use Prim.Native.Nat.{ℕ, suc, ◌+◌, ◌<◌, min, max}
 use native.Mathlib.Omega.{arith}
 use Rattle.std.proofs.lemmas.List.{length-map}
@@ -58,7 +58,7 @@ pub record EdgesLeft (n m : ℕ) (inner : List Kept) (level : Level) (rows s : L
   pub leaves : Leaves 0 n (rows_in n m rows) inner level s
   pub each : (k : Kept) → Mem k inner → OneEdge n k
   pub rows_fit : RowsFit n m rows
-  pub labelled : (p : Pair) → Mem (some p) (labels_in (level.bytes + 2048) level.count (drop level.lists s)) → (p.0 < p.1) × (p.1 < level.count)
+  pub labelled : (p : Pair) → Mem (Some p) (labels_in (level.bytes + 2048) level.count (drop level.lists s)) → (p.0 < p.1) × (p.1 < level.count)
 
 -- ---- its facets
 

@@ -18,7 +18,6 @@ ghost use Rattle.left_edges.specs.Polygons.{edge_at, images_of, EdgesLeft};
 ghost use Rattle.left_edges.specs.Reading.{moved_code};
 
 use openers::Vertices;
-use order::Area;
 use shelf::{Level, Shelf};
 
 // ---- what an inner call of rank 3 has left
@@ -28,13 +27,7 @@ pub fn facets_of(s: &[u8], level: Level, k: usize) -> usize
     requires { (level.lists ≤ length s.now) × HoldsOrder 1024 level.bytes level.count (drop level.lists s.now) × (k < level.count) }
     ensures { result ≡ length (get_or (lists_left level s.now) k []) }
 {
-    let lists = level.lists;
-    let area = Area {
-        most: 1024,
-        bytes: level.bytes,
-        count: level.count,
-    };
-    order::length_at(&s[lists..], area, k)
+    order::length_at(&s[level.lists..], level.area(), k)
 }
 
 // Facet i of entry k.
@@ -42,13 +35,7 @@ pub fn facet_at(s: &[u8], level: Level, k: usize, i: usize) -> u16
     requires { (level.lists ≤ length s.now) × HoldsOrder 1024 level.bytes level.count (drop level.lists s.now) × (k < level.count) × (i < length (get_or (lists_left level s.now) k [])) }
     ensures { result ≡ get_or (get_or (lists_left level s.now) k []) i 0 }
 {
-    let lists = level.lists;
-    let area = Area {
-        most: 1024,
-        bytes: level.bytes,
-        count: level.count,
-    };
-    order::item_at(&s[lists..], area, k, i)
+    order::item_at(&s[level.lists..], level.area(), k, i)
 }
 
 // The first edge of facet x, as its code.
@@ -56,9 +43,7 @@ pub fn edge_at(s: &[u8], shelf: Shelf, x: usize) -> usize
     requires { ShelfFits shelf (length s.now) × ((lists : List (List ℕ)) × Lists 2 1024 (edges_part shelf s.now) lists × (x < length lists) × (0 < length (get_or lists x []))) }
     ensures { (lists : List (List ℕ)) → Lists 2 1024 (edges_part shelf s.now) lists → x < length lists → 0 < length (get_or lists x []) → result ≡ get_or (get_or lists x []) 0 0 }
 {
-    let from = shelf.edges;
-    let to = shelf.labels;
-    pool::item_u16(&s[from..to], 1024, x, 0) as usize
+    pool::item::<u16>(&s[shelf.edges..shelf.labels], 1024, x, 0) as usize
 }
 
 // ---- a facet's edges
@@ -78,11 +63,9 @@ pub fn mark_entry(s: &[u8], level: Level, k: usize, rows: &[u8], m: usize, marks
     ensures { (n : ℕ) (inner : List Kept) → EdgesLeft n m inner level rows.now s.now → marks.new ≡ marked marks.old (map pair_code (images_of (rows_in n m rows.now) inner (get_or (lists_left level s.now) k []))) }
 {
     let items = facets_of(s, level, k);
-    let mut i = 0;
-    while i < items {
+    for i in 0..items {
         let x = facet_at(s, level, k, i) as usize;
         mark_facet(s, level, x, rows, m, marks);
-        i += 1;
     }
 }
 
@@ -99,13 +82,11 @@ pub fn store_edges(ws: &mut [u8], from: usize, to: usize, marks: &[bool; 400], v
     requires { (from ≤ to) × ListRoom 2 1024 from (to - from) ws.old (length (marked_codes marks.now)) × ((c : ℕ) → c < 400 → get_or marks.now c false ≡ true → (get_or vertices.at (c / 20) 0 < 20) × (get_or vertices.at (c % 20) 0 < 20)) }
     ensures { Stored 2 1024 from (to - from) ws.old ws.new (map (moved_code vertices.at) (marked_codes marks.now)) }
 {
-    let mut c = 0;
-    while c < 400 {
-        if marks[c] {
+    for (c, marked) in marks.iter().enumerate() {
+        if *marked {
             let code = moved(c, vertices) as u16;
-            pool::push_u16(&mut ws[from..to], 1024, code);
+            pool::push(&mut ws[from..to], 1024, code);
         }
-        c += 1;
     }
     pool::end_list(&mut ws[from..to]);
 }

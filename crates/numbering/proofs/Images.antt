@@ -1,11 +1,12 @@
 -- The images of a ridge, one row more. Leans on the codes of pairs.
 use mathlib.Core.Path.{◌≡◌, refl, sym, ap, subst, ◌∙◌}
-use mathlib.Core.Bool.{cond}
+use mathlib.Core.Bool.{cond, true, false}
+use Rattle.std.specs.Prelude.{Option, Some, None}
+use Rattle.std.specs.Option.{is_none}
 use mathlib.Core.List.{List, [], ◌∷◌, ◌++◌, map}
-use Prim.Native.Nat.{ℕ, suc, ◌+◌, ◌*◌, ◌/◌, ◌%◌, ◌-◌, ◌≤◌, ◌<◌, min, max}
+use Prim.Native.Nat.{ℕ, ◌+◌, ◌*◌, ◌/◌, ◌%◌, ◌≤◌, ◌<◌, min, max}
 use native.Mathlib.Omega.{arith}
 use lib.ListN.{length, get_or, set, length-set, length-append, length-map}
-use native.Mathlib.Numerals.{add-one}
 use Rattle.definitions.specs.Lists.{Pair, compare_pair, fresh}
 use Rattle.definitions.specs.Orbits.{Row, image, pair_image}
 use Rattle.laws.specs.Parts.{rows, length_rows}
@@ -14,7 +15,7 @@ use Rattle.openers.specs.Meaning.{pair_code, pair_of, pair_codes}
 use Rattle.shapes.specs.Polygons.{edge_via}
 use Rattle.shapes.specs.Ridges.{KnownKeys, open_key_orbit}
 use Rattle.shapes.specs.Kept.{number_ends}
-use Rattle.numbering.specs.Numbering.{Sent, MarksStand, number_held, number_opened, opened_stands, many_few, unmarked, is_unmarked, is_marked, marked_at, marks_joined, many_joined, marks_more, many_more}
+use Rattle.numbering.specs.Numbering.{Sent, MarksStand, number_held, number_opened, opened_stands, many_few, marked_at, marks_joined, many_joined, marks_more, many_more}
 use Rattle.openers.specs.Codes.{code_at, codes_more}
 use Rattle.laws.specs.Parts as parts
 
@@ -42,14 +43,14 @@ code_of_key key = omega arith
 -- ---- the turns of `open_ridge`
 
 -- the images under the first i rows have joined
-pub record Opening (rows : List ℕ) (m key mark : ℕ) (marks₀ marks : List ℕ) (count i : ℕ) : Type 0 where
+pub record Opening (rows : List ℕ) (m key mark : ℕ) (marks₀ marks : List (Option ℕ)) (count i : ℕ) : Type 0 where
   pub within : i ≤ m
   pub few : count ≤ i
   pub long : length marks ≡ length marks₀
   pub marks_are : marks ≡ marks_joined marks₀ mark (pair_codes (rows_in 32 i rows) (pair_of key))
   pub count_is : count ≡ many_joined marks₀ mark (pair_codes (rows_in 32 i rows) (pair_of key))
 
-pub opening_start : (rows : List ℕ) (m key mark : ℕ) (marks : List ℕ) → Opening rows m key mark marks marks 0 0
+pub opening_start : (rows : List ℕ) (m key mark : ℕ) (marks : List (Option ℕ)) → Opening rows m key mark marks marks 0 0
 unfolding marks_joined many_joined
 opening_start rows m key mark marks = record {
   within = omega arith;
@@ -59,7 +60,7 @@ opening_start rows m key mark marks = record {
   count_is = rw keys_none refl;
 }
 
-module _ {rows : List ℕ} {m key mark : ℕ} {marks₀ marks : List ℕ} {count i : ℕ} (o : Opening rows m key mark marks₀ marks count i) (h : i < m) (k : key < 400) (at : ℕ) (e : at ≡ pair_code (pair_image (pair_of key) (row_at 32 i rows))) where
+module _ {rows : List ℕ} {m key mark : ℕ} {marks₀ marks : List (Option ℕ)} {count i : ℕ} (o : Opening rows m key mark marks₀ marks count i) (h : i < m) (k : key < 400) (at : ℕ) (e : at ≡ pair_code (pair_image (pair_of key) (row_at 32 i rows))) where
   before : List ℕ
   before = pair_codes (rows_in 32 i rows) (pair_of key)
 
@@ -69,33 +70,33 @@ module _ {rows : List ℕ} {m key mark : ℕ} {marks₀ marks : List ℕ} {count
 
   marks_then : marks_joined marks₀ mark (pair_codes (rows_in 32 (i + 1) rows) (pair_of key)) ≡ marked_at marks mark at
   unfolding before
-  marks_then = ap (marks_joined marks₀ mark) more ∙ (marks_more marks₀ mark before at ∙ ap (λ (l : List ℕ). marked_at l mark at) (sym o.marks_are))
+  marks_then = ap (marks_joined marks₀ mark) more ∙ (marks_more marks₀ mark before at ∙ ap (λ (l : List (Option ℕ)). marked_at l mark at) (sym o.marks_are))
 
-  count_then : many_joined marks₀ mark (pair_codes (rows_in 32 (i + 1) rows) (pair_of key)) ≡ count + cond (unmarked (get_or marks at 0)) 1 0
+  count_then : many_joined marks₀ mark (pair_codes (rows_in 32 (i + 1) rows) (pair_of key)) ≡ count + cond (is_none (get_or marks at None)) 1 0
   unfolding before
   count_then =
       ap (many_joined marks₀ mark) more
       ∙ (many_more marks₀ mark before at
-      ∙ (λ t. sym o.count_is t + cond (unmarked (get_or (sym o.marks_are t) at 0)) 1 0))
+      ∙ (λ t. sym o.count_is t + cond (is_none (get_or (sym o.marks_are t) at None)) 1 0))
 
-  pub opening_joins : get_or marks at 0 ≡ 0 → Opening rows m key mark marks₀ (set marks at mark) (count + 1) (i + 1)
+  pub opening_joins : is_none (get_or marks at None) ≡ true → Opening rows m key mark marks₀ (set marks at (Some mark)) (count + 1) (i + 1)
   unfolding marked_at
   opening_joins z = record {
     within = omega arith;
     few = omega (arith, o.few);
-    long = length-set marks at mark ∙ o.long;
-    marks_are = sym (marks_then ∙ rw (is_unmarked (get_or marks at 0) z) refl);
-    count_is = sym (count_then ∙ rw (is_unmarked (get_or marks at 0) z) refl);
+    long = length-set marks at (Some mark) ∙ o.long;
+    marks_are = sym (marks_then ∙ rw z refl);
+    count_is = sym (count_then ∙ rw z refl);
   }
 
-  pub opening_stays : (get_or marks at 0 ≡ 0 → ⊥) → Opening rows m key mark marks₀ marks count (i + 1)
+  pub opening_stays : is_none (get_or marks at None) ≡ false → Opening rows m key mark marks₀ marks count (i + 1)
   unfolding marked_at
   opening_stays z = record {
     within = omega arith;
     few = omega (arith, o.few);
     long = o.long;
-    marks_are = sym (marks_then ∙ rw (is_marked (get_or marks at 0) z) refl);
-    count_is = sym (count_then ∙ (rw (is_marked (get_or marks at 0) z) (omega arith)));
+    marks_are = sym (marks_then ∙ rw z refl);
+    count_is = sym (count_then ∙ (rw z (omega arith)));
   }
 
 -- an image's code is a place among the marks
@@ -109,40 +110,40 @@ sent_below key sent i h = (sent.first.below i h, sent.second.below i h)
 
 -- ---- the number of a ridge
 
-module _ (key : ℕ) {rows : List ℕ} {m : ℕ} {marks counts : List ℕ} {known : ℕ} {keys : KnownKeys Pair} (sent : Sent m rows (pair_of key)) (st : MarksStand marks counts known keys) where
-  same_mark : get_or marks (pair_code (pair_of key)) 0 ≡ get_or marks key 0
-  same_mark = ap (λ (k : ℕ). get_or marks k 0) (code_of_key key)
+module _ (key : ℕ) {rows : List ℕ} {m : ℕ} {marks : List (Option ℕ)} {counts : List ℕ} {known : ℕ} {keys : KnownKeys Pair} (sent : Sent m rows (pair_of key)) (st : MarksStand marks counts known keys) where
+  same_mark : get_or marks (pair_code (pair_of key)) None ≡ get_or marks key None
+  same_mark = ap (λ (k : ℕ). get_or marks k None) (code_of_key key)
 
-  pub ridge_held : 0 < get_or marks key 0 → (get_or marks key 0 - 1 ≡ (number_ends (rows_in 32 m rows) keys (pair_of key)).0) × MarksStand marks counts known (number_ends (rows_in 32 m rows) keys (pair_of key)).1
-  ridge_held h =
-      let e = number_held m rows (pair_of key) sent marks counts known keys st (rw same_mark h) in
-      (sym (ap (λ (r : ℕ × KnownKeys Pair). r.0) e ∙ ap (λ (k : ℕ). k - 1) same_mark), subst (λ (r : ℕ × KnownKeys Pair). MarksStand marks counts known r.1) (sym e) st)
+  pub ridge_held : (number : ℕ) → get_or marks key None ≡ Some number → (number ≡ (number_ends (rows_in 32 m rows) keys (pair_of key)).0) × MarksStand marks counts known (number_ends (rows_in 32 m rows) keys (pair_of key)).1
+  ridge_held number h =
+      let e = number_held m rows (pair_of key) sent marks counts known keys st number (same_mark ∙ h) in
+      (sym (ap (λ (r : ℕ × KnownKeys Pair). r.0) e), subst (λ (r : ℕ × KnownKeys Pair). MarksStand marks counts known r.1) (sym e) st)
 
-  opens : get_or marks key 0 ≡ 0 → number_ends (rows_in 32 m rows) keys (pair_of key) ≡ (known, open_key_orbit compare_pair edge_via (rows_in 32 m rows) keys (pair_of key))
+  opens : get_or marks key None ≡ None → number_ends (rows_in 32 m rows) keys (pair_of key) ≡ (known, open_key_orbit compare_pair edge_via (rows_in 32 m rows) keys (pair_of key))
   opens z = number_opened m rows (pair_of key) sent marks counts known keys st (same_mark ∙ z)
 
-  pub ridge_opens : get_or marks key 0 ≡ 0 → length (number_ends (rows_in 32 m rows) keys (pair_of key)).1.counts ≤ 190 → known < 190
+  pub ridge_opens : get_or marks key None ≡ None → length (number_ends (rows_in 32 m rows) keys (pair_of key)).1.counts ≤ 190 → known < 190
   unfolding open_key_orbit
   ridge_opens z h =
       let e = ap (λ (r : ℕ × KnownKeys Pair). length r.1.counts) (opens z) in
       let f = length-append keys.counts (length (fresh compare_pair (map (λ (h : Pair × ℕ). h.0) keys.held) (map (λ (row : Row). edge_via (image row) (pair_of key)) (rows_in 32 m rows))) ∷ []) in
       omega (arith, st.known_is)
 
-  pub ridge_opened : get_or marks key 0 ≡ 0 → known < length counts → (number : ℕ) → number ≡ known → (joined : List ℕ) (many : ℕ)
-      → joined ≡ marks_joined marks (known + 1) (pair_codes (rows_in 32 m rows) (pair_of key)) → many ≡ many_joined marks (known + 1) (pair_codes (rows_in 32 m rows) (pair_of key))
+  pub ridge_opened : get_or marks key None ≡ None → known < length counts → (number : ℕ) → number ≡ known → (joined : List (Option ℕ)) (many : ℕ)
+      → joined ≡ marks_joined marks known (pair_codes (rows_in 32 m rows) (pair_of key)) → many ≡ many_joined marks known (pair_codes (rows_in 32 m rows) (pair_of key))
       → (number ≡ (number_ends (rows_in 32 m rows) keys (pair_of key)).0) × MarksStand joined (set counts known many) (known + 1) (number_ends (rows_in 32 m rows) keys (pair_of key)).1
   ridge_opened z h number n joined many e f =
       let o = opens z in (
         n ∙ sym (ap (λ (r : ℕ × KnownKeys Pair). r.0) o),
-        rw (e, f, add-one known) (subst (λ (r : ℕ × KnownKeys Pair). MarksStand (marks_joined marks (suc known) (pair_codes (rows_in 32 m rows) (pair_of key))) (set counts known (many_joined marks (suc known) (pair_codes (rows_in 32 m rows) (pair_of key)))) (suc known) r.1) (sym o)
-            (rw add-one at (opened_stands m rows (pair_of key) sent marks counts known keys st h))),
+        rw (e, f) (subst (λ (r : ℕ × KnownKeys Pair). MarksStand (marks_joined marks known (pair_codes (rows_in 32 m rows) (pair_of key))) (set counts known (many_joined marks known (pair_codes (rows_in 32 m rows) (pair_of key)))) (known + 1) r.1) (sym o)
+            (opened_stands m rows (pair_of key) sent marks counts known keys st h)),
       )
 
-  pub many_small : (many : ℕ) → m ≤ 120 → many ≡ many_joined marks (known + 1) (pair_codes (rows_in 32 m rows) (pair_of key)) → many ≤ 120
+  pub many_small : (many : ℕ) → m ≤ 120 → many ≡ many_joined marks known (pair_codes (rows_in 32 m rows) (pair_of key)) → many ≤ 120
   unfolding pair_codes rows_in
   many_small many h e =
       let l = length-map (parts.rows 32 32 m rows) (λ (row : Row). pair_code (pair_image (pair_of key) row)) in
-      omega (arith, many_few marks (known + 1) (pair_codes (rows_in 32 m rows) (pair_of key)), length_rows 32 32 m rows)
+      omega (arith, many_few marks known (pair_codes (rows_in 32 m rows) (pair_of key)), length_rows 32 32 m rows)
 
 pub sent_small : {m : ℕ} {s : List ℕ} (key : ℕ) → Sent m s (pair_of key) → key < 400
 unfolding pair_of

@@ -9,9 +9,10 @@ ghost use Rattle.definitions.specs.Lists.{Pair};
 ghost use Rattle.definitions.specs.Orbits.{pair_image};
 ghost use Rattle.openers.specs.Rows.{rows_in, row_at};
 ghost use Rattle.openers.specs.Meaning.{pair_code, pair_of, pair_codes};
-ghost use Rattle.shapes.specs.Ridges.{KnownKeys};
+ghost use Rattle.shapes.specs.Ridges.{KnownKeys, no_keys};
 ghost use Rattle.shapes.specs.Kept.{number_ends};
-ghost use Rattle.numbering.specs.Numbering.{Sent, MarksStand, marks_joined, many_joined};
+ghost use Rattle.numbering.specs.Numbering.{Sent, marks_joined, many_joined};
+ghost use Rattle.numbering.specs.Standing.{Standing};
 
 // ---- ridge orbits
 
@@ -26,55 +27,63 @@ fn image_key(rows: &[u8], i: usize, key: usize) -> usize
     )
 }
 
-// The images of a ridge that have no mark get this one; returns how many they are.
-fn open_ridge(rows: &[u8], m: usize, key: usize, mark: u16, marks: &mut [u16; 400]) -> usize
+// The images of a ridge that have no mark get this number as theirs; returns how many they are.
+fn open_ridge(
+    rows: &[u8],
+    m: usize,
+    key: usize,
+    number: u16,
+    marks: &mut [Option<u16>; 400],
+) -> usize
     requires { (32 * m ≤ length rows.now) × (key < 400) × Sent m rows.now (pair_of key) }
-    ensures counts { result ≡ many_joined marks.old mark (pair_codes (rows_in 32 m rows.now) (pair_of key)) }
-    ensures marks { marks.new ≡ marks_joined marks.old mark (pair_codes (rows_in 32 m rows.now) (pair_of key)) }
+    ensures counts { result ≡ many_joined marks.old number (pair_codes (rows_in 32 m rows.now) (pair_of key)) }
+    ensures marks { marks.new ≡ marks_joined marks.old number (pair_codes (rows_in 32 m rows.now) (pair_of key)) }
 {
     let mut count = 0;
-    let mut i = 0;
-    while i < m {
+    for i in 0..m {
         let at = image_key(rows, i, key);
-        if marks[at] == 0 {
-            marks[at] = mark;
+        if marks[at].is_none() {
+            marks[at] = Some(number);
             count += 1;
         }
-        i += 1;
     }
     count
 }
 
-// A ridge's number, and how many ridge orbits there are then.
+// The ridge orbits opened so far: for each code of two ends the number of the ridge orbit that holds it, how many ridges each ridge orbit has, and how many ridge orbits there are.
 #[derive(Clone, Copy)]
-pub struct Numbered {
-    pub number: u16,
+pub struct RidgeOrbits {
+    pub marks: [Option<u16>; 400],
+    pub counts: [u32; 190],
     pub known: usize,
 }
 
-// The number of the ridge orbit that holds a ridge; where there is none, one is opened and its count noted.
-pub fn number_ridge(
-    rows: &[u8],
-    m: usize,
-    key: usize,
-    marks: &mut [u16; 400],
-    counts: &mut [u32; 190],
-    known: usize,
-) -> Numbered
-    requires { (32 * m ≤ length rows.now) × (m ≤ 120) × (key < 400) × Sent m rows.now (pair_of key) × ((keys : KnownKeys Pair) × MarksStand marks.old counts.old known keys × (length (number_ends (rows_in 32 m rows.now) keys (pair_of key)).1.counts ≤ 190)) }
-    ensures { (keys : KnownKeys Pair) → MarksStand marks.old counts.old known keys → (result.number ≡ (number_ends (rows_in 32 m rows.now) keys (pair_of key)).0) × MarksStand marks.new counts.new result.known (number_ends (rows_in 32 m rows.now) keys (pair_of key)).1 }
-{
-    let mark = marks[key];
-    if 0 < mark {
-        return Numbered {
-            number: mark - 1,
-            known: known,
-        };
+impl RidgeOrbits {
+    // None is opened.
+    pub fn new() -> RidgeOrbits
+        ensures { Standing result (no_keys Pair) }
+    {
+        RidgeOrbits {
+            marks: [None; 400],
+            counts: [0; 190],
+            known: 0,
+        }
     }
-    let count = open_ridge(rows, m, key, known as u16 + 1, marks);
-    counts[known] = count as u32;
-    Numbered {
-        number: known as u16,
-        known: known + 1,
+
+    // The number of the ridge orbit that holds a ridge; where there is none, one is opened and its count noted.
+    pub fn number(&mut self, rows: &[u8], m: usize, key: usize) -> u16
+        requires { (32 * m ≤ length rows.now) × (m ≤ 120) × (key < 400) × Sent m rows.now (pair_of key) × ((keys : KnownKeys Pair) × Standing self.old keys × (length (number_ends (rows_in 32 m rows.now) keys (pair_of key)).1.counts ≤ 190)) }
+        ensures { (keys : KnownKeys Pair) → Standing self.old keys → (result ≡ (number_ends (rows_in 32 m rows.now) keys (pair_of key)).0) × Standing self.new (number_ends (rows_in 32 m rows.now) keys (pair_of key)).1 }
+    {
+        match self.marks[key] {
+            Some(number) => number,
+            None => {
+                let number = self.known as u16;
+                let count = open_ridge(rows, m, key, number, &mut self.marks);
+                self.counts[self.known] = count as u32;
+                self.known += 1;
+                number
+            }
+        }
     }
 }

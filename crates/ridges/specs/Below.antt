@@ -3,7 +3,7 @@ use Rattle.std.specs.Prelude.{◌≡◌, Bool, cond, get_or}
 use Rattle.std.proofs.Math.Path.{refl}
 use Rattle.std.proofs.Common.{sym, ap, subst, ◌∙◌}
 use Rattle.std.proofs.Math.Bool.{true, false}
-use Rattle.std.proofs.Math.Option.{Option, some, none}
+use Rattle.std.specs.Prelude.{Option, Some, None}
 use mathlib.Core.List.{List, [], ◌∷◌, map, Memᴰ}
 use Prim.Native.Nat.{ℕ, zero, suc, ◌+◌, ◌≤◌, ◌<◌}
 use native.Mathlib.Omega.{arith}
@@ -21,10 +21,10 @@ use Rattle.shapes.specs.Kept.{Kept, number_ends, numbers_kept}
 use Rattle.shares.specs.Ends.{counts_up, number_up, with_length}
 
 record HeldNumbered (keys : KnownKeys Pair) : Type 0 where
-  pub held : (p : Pair) (number : ℕ) → key_held_by compare_pair edge_via p keys.held ≡ some number → number < length keys.counts
+  pub held : (p : Pair) (number : ℕ) → key_held_by compare_pair edge_via p keys.held ≡ Some number → number < length keys.counts
 
-some_same : (a b : ℕ) → some a ≡ some b → a ≡ b
-some_same a b e = ap (λ (o : Option ℕ). elim o [ none ↦ 0 | some x ↦ x ]) e
+some_same : (a b : ℕ) → Some a ≡ Some b → a ≡ b
+some_same a b e = ap (λ (o : Option ℕ). elim o [ None ↦ 0 | Some x ↦ x ]) e
 
 module _ (rows : List Row) where
   opened_below : (keys : KnownKeys Pair) (k : Pair) → HeldNumbered keys → HeldNumbered (open_key_orbit compare_pair edge_via rows keys k)
@@ -36,13 +36,13 @@ module _ (rows : List Row) where
   }
     where
       either : (p : Pair) (number : ℕ) (o : Option ℕ) → key_held_by compare_pair edge_via p keys.held ≡ o → (seen : Bool)
-          → or_else (key_held_by compare_pair edge_via p keys.held) (cond seen (some (length keys.counts)) none) ≡ some number → number < length keys.counts + 1
-      either p number o q seen e = go o q seen (ap (λ (h : Option ℕ). or_else h (cond seen (some (length keys.counts)) none)) (sym q) ∙ e)
+          → or_else (key_held_by compare_pair edge_via p keys.held) (cond seen (Some (length keys.counts)) None) ≡ Some number → number < length keys.counts + 1
+      either p number o q seen e = go o q seen (ap (λ (h : Option ℕ). or_else h (cond seen (Some (length keys.counts)) None)) (sym q) ∙ e)
         where
-          go : (o : Option ℕ) → key_held_by compare_pair edge_via p keys.held ≡ o → (seen : Bool) → or_else o (cond seen (some (length keys.counts)) none) ≡ some number → number < length keys.counts + 1
-          go (some old) q seen e = let s = some_same old number e in omega (arith, b.held p old q)
-          go none q true e = let s = some_same (length keys.counts) number e in omega arith
-          go none q false e = absurd (none_is_not_some number e)
+          go : (o : Option ℕ) → key_held_by compare_pair edge_via p keys.held ≡ o → (seen : Bool) → or_else o (cond seen (Some (length keys.counts)) None) ≡ Some number → number < length keys.counts + 1
+          go (Some old) q seen e = let s = some_same old number e in omega (arith, b.held p old q)
+          go None q true e = let s = some_same (length keys.counts) number e in omega arith
+          go None q false e = absurd (none_is_not_some number e)
 
   -- the number given, and what is held then
   number_below : (keys : KnownKeys Pair) (p : Pair) → HeldNumbered keys → ((number_ends rows keys p).0 < length (number_ends rows keys p).1.counts) × HeldNumbered (number_ends rows keys p).1
@@ -51,8 +51,8 @@ module _ (rows : List Row) where
     where
       go : (o : Option ℕ) → key_held_by compare_pair edge_via p keys.held ≡ o
           → ((number_or_open_key compare_pair edge_via rows keys p o).0 < length (number_or_open_key compare_pair edge_via rows keys p o).1.counts) × HeldNumbered (number_or_open_key compare_pair edge_via rows keys p o).1
-      go (some number) e = (b.held p number e, b)
-      go none e = (opened_longer, opened_below keys p b)
+      go (Some number) e = (b.held p number e, b)
+      go None e = (opened_longer, opened_below keys p b)
         where
           opened_longer : length keys.counts < length (open_key_orbit compare_pair edge_via rows keys p).counts
           opened_longer = omega (arith, length-append keys.counts (length (fresh compare_pair (map (λ (h : Pair × ℕ). h.0) keys.held) (map (λ (row : Row). edge_via (image row) p) rows)) ∷ []))

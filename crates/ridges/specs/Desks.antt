@@ -33,7 +33,6 @@ use Rattle.shares.specs.Shares.{sources_of, count_of, owner_of, facet_codes, Ord
 use Rattle.ridges.specs.Facets.{At, item_at_holds, at_map, zip_at, zip_long}
 use Rattle.ridges.specs.Small.{Small, ends_of_code, numbers_are}
 use Rattle.ridges.specs.Shared.{Holding, facets_many, sources_fit}
-use Rattle.facets.specs.Layout as layout
 use Rattle.ridges.specs.Codes as made
 
 -- the areas behind the shelf, with room for 256 orbits of so many ridges, 1,024 facets of so many places, so many ridge orbits, and 1,024 emitted lists

@@ -4,7 +4,7 @@ use Rattle.std.specs.Prelude.{◌≡◌}
 use Rattle.std.proofs.Math.Path.{refl, ap}
 use Rattle.std.proofs.Common.{◌∙◌, arith}
 use mathlib.Core.List.{List, [], ◌∷◌, ◌++◌, map, zip_with}
-use Rattle.std.proofs.Math.Option.{Option, some, none}
+use Rattle.std.specs.Prelude.{Option, Some, None}
 use Prim.Native.Nat.{ℕ, ◌+◌, ◌*◌, ◌/◌, ◌%◌, ◌≤◌, ◌<◌}
 use Rattle.std.proofs.Math.ListN.{length}
 use Rattle.definitions.specs.Lists.{Pair, compare_pair, map_with, fresh}
@@ -70,8 +70,8 @@ module _ (n m : ℕ) (s : List ℕ) (fits : RowsFit n m s) where
           record { held = map (λ (x : Pair). (x, length keys.counts)) joining ++ keys.held; counts = keys.counts ++ (length joining ∷ []) }
 
       go : (o : Option ℕ) → number_or_open_key compare_pair edge_via (rows_in 32 m s) keys e o ≡ number_or_open_key compare_pair edge_via (rows_in n m s) keys e o
-      go (some number) = refl
-      go none = ap (λ (l : List Pair). (length keys.counts, made l)) (images_wide e h k)
+      go (Some number) = refl
+      go None = ap (λ (l : List Pair). (length keys.counts, made l)) (images_wide e h k)
 
   ends_wide : (keys : KnownKeys Pair) (ends : List Pair) → ((e : Pair) → Mem e ends → (e.0 < n) × (e.1 < n)) → map_with (number_ends (rows_in 32 m s)) keys ends ≡ map_with (number_ends (rows_in n m s)) keys ends
   unfolding map_with

@@ -32,15 +32,13 @@ fn count_places(
     ensures { PlacesCounted ridges (get_or (closed_lists 4 1024 shares.now) x []) places.new last.new }
 {
     let n = pool::list_length(shares, x) as usize;
-    let mut i = 0;
-    while i < n {
-        let code = pool::item_u32(shares, 1024, x, i);
+    for i in 0..n {
+        let code = pool::item::<u32>(shares, 1024, x, i);
         let ridge = (code % 65536) as usize;
         if ridge < ridges {
             places[ridge] += 1;
             last[ridge] = code / 65536;
         }
-        i += 1;
     }
 }
 
@@ -48,8 +46,7 @@ fn count_places(
 fn amount(last: u32, places: u32) -> usize
     ensures { result ≡ min (last * places) 3 }
 {
-    let total = last as usize * places as usize;
-    if 3 < total { 3 } else { total }
+    (last as usize * places as usize).min(3)
 }
 
 // What facet x adds, as one list more: 4 × ridge orbit + amount for each ridge orbit where it adds something.
@@ -57,21 +54,26 @@ fn touch_facet(ws: &mut [u8], desk: Desk, facets: usize, ridges: usize, x: usize
     requires { (desk.shares ≤ desk.touched) × Sound 4 1024 (area desk.shares desk.touched ws.old) × (x < count (area desk.shares desk.touched ws.old)) × (ridges ≤ 190) × AreaEmpty desk.touched desk.ones 2 facets ws.old ridges 1 }
     ensures { AreaGrown desk.touched desk.ones 2 facets ws.old ws.new (touched_to ridges (get_or (closed_lists 4 1024 (area desk.shares desk.touched ws.old)) x []) ∷ []) }
 {
-    let shares = desk.shares;
-    let touched = desk.touched;
-    let ones = desk.ones;
     let mut places: [u32; 190] = [0; 190];
     let mut last: [u32; 190] = [0; 190];
-    count_places(&ws[shares..touched], x, ridges, &mut places, &mut last);
-    let mut ridge = 0;
-    while ridge < ridges {
+    count_places(
+        &ws[desk.shares..desk.touched],
+        x,
+        ridges,
+        &mut places,
+        &mut last,
+    );
+    for ridge in 0..ridges {
         let added = amount(last[ridge], places[ridge]);
         if 0 < added {
-            pool::push_u16(&mut ws[touched..ones], facets, (4 * ridge + added) as u16);
+            pool::push(
+                &mut ws[desk.touched..desk.ones],
+                facets,
+                (4 * ridge + added) as u16,
+            );
         }
-        ridge += 1;
     }
-    pool::end_list(&mut ws[touched..ones]);
+    pool::end_list(&mut ws[desk.touched..desk.ones]);
 }
 
 // What each facet adds. A facet's places are looked at once.
@@ -79,13 +81,9 @@ fn touch_facets(ws: &mut [u8], desk: Desk, facets: usize, ridges: usize)
     requires { (desk.shares ≤ desk.touched) × Sound 4 1024 (area desk.shares desk.touched ws.old) × (facets ≡ count (area desk.shares desk.touched ws.old)) × (ridges ≤ 190) × Space desk.touched desk.ones 2 facets (length ws.old) (facets * ridges) facets }
     ensures { Made desk.touched desk.ones 2 facets ws.old ws.new (lists_to (touched_of ridges (closed_lists 4 1024 (area desk.shares desk.touched ws.old))) facets) }
 {
-    let touched = desk.touched;
-    let ones = desk.ones;
-    pool::clear(&mut ws[touched..ones]);
-    let mut x = 0;
-    while x < facets {
+    pool::clear(&mut ws[desk.touched..desk.ones]);
+    for x in 0..facets {
         touch_facet(ws, desk, facets, ridges, x);
-        x += 1;
     }
 }
 
@@ -94,18 +92,12 @@ fn ones_of_facet(ws: &mut [u8], desk: Desk, ridges: usize, ridge: usize, x: usiz
     requires { (desk.shares ≤ desk.touched) × (desk.touched ≤ desk.ones) × Sound 4 1024 (area desk.shares desk.touched ws.old) × (x < count (area desk.shares desk.touched ws.old)) × (ridge < 65536) × (x < 65536) × AreaRoom desk.ones desk.frames 2 ridges ws.old (length (ones_in ridge x (get_or (closed_lists 4 1024 (area desk.shares desk.touched ws.old)) x []))) 1 }
     ensures { Joined desk.ones desk.frames 2 ridges ws.old ws.new (ones_in ridge x (get_or (closed_lists 4 1024 (area desk.shares desk.touched ws.old)) x [])) }
 {
-    let shares = desk.shares;
-    let touched = desk.touched;
-    let ones = desk.ones;
-    let frames = desk.frames;
-    let n = pool::list_length(&ws[shares..touched], x) as usize;
-    let mut i = 0;
-    while i < n {
-        let code = pool::item_u32(&ws[shares..touched], 1024, x, i) as usize;
+    let n = pool::list_length(&ws[desk.shares..desk.touched], x) as usize;
+    for i in 0..n {
+        let code = pool::item::<u32>(&ws[desk.shares..desk.touched], 1024, x, i) as usize;
         if 65536 + ridge == code {
-            pool::push_u16(&mut ws[ones..frames], ridges, x as u16);
+            pool::push(&mut ws[desk.ones..desk.frames], ridges, x as u16);
         }
-        i += 1;
     }
 }
 
@@ -114,14 +106,10 @@ fn ones_of_ridge(ws: &mut [u8], desk: Desk, facets: usize, ridges: usize, ridge:
     requires { (desk.shares ≤ desk.touched) × (desk.touched ≤ desk.ones) × Sound 4 1024 (area desk.shares desk.touched ws.old) × (facets ≡ count (area desk.shares desk.touched ws.old)) × (ridge < 65536) × (facets ≤ 1024) × AreaEmpty desk.ones desk.frames 2 ridges ws.old (length (ones_to ridge (closed_lists 4 1024 (area desk.shares desk.touched ws.old)) facets)) 1 }
     ensures { AreaGrown desk.ones desk.frames 2 ridges ws.old ws.new (ones_to ridge (closed_lists 4 1024 (area desk.shares desk.touched ws.old)) facets ∷ []) }
 {
-    let ones = desk.ones;
-    let frames = desk.frames;
-    let mut x = 0;
-    while x < facets {
+    for x in 0..facets {
         ones_of_facet(ws, desk, ridges, ridge, x);
-        x += 1;
     }
-    pool::end_list(&mut ws[ones..frames]);
+    pool::end_list(&mut ws[desk.ones..desk.frames]);
 }
 
 // For each ridge orbit the facets with shares of 1 in it. Every place is looked at once for each ridge orbit.
@@ -129,13 +117,9 @@ fn lay_ones(ws: &mut [u8], desk: Desk, facets: usize, ridges: usize)
     requires { (desk.shares ≤ desk.touched) × (desk.touched ≤ desk.ones) × Sound 4 1024 (area desk.shares desk.touched ws.old) × (facets ≡ count (area desk.shares desk.touched ws.old)) × (ridges ≤ 190) × Space desk.ones desk.frames 2 ridges (length ws.old) (length (flat (closed_lists 4 1024 (area desk.shares desk.touched ws.old)))) ridges }
     ensures { Made desk.ones desk.frames 2 ridges ws.old ws.new (lists_to (ones_of (closed_lists 4 1024 (area desk.shares desk.touched ws.old)) facets) ridges) }
 {
-    let ones = desk.ones;
-    let frames = desk.frames;
-    pool::clear(&mut ws[ones..frames]);
-    let mut ridge = 0;
-    while ridge < ridges {
+    pool::clear(&mut ws[desk.ones..desk.frames]);
+    for ridge in 0..ridges {
         ones_of_ridge(ws, desk, facets, ridges, ridge);
-        ridge += 1;
     }
 }
 
@@ -168,10 +152,9 @@ pub fn lay_tables(rows: &[u8], m: usize, shelf: Shelf, desk: Desk, ws: &mut [u8]
     requires { (n : ℕ) × (most : ℕ) × (ridges : ℕ) × (kept : List Kept) × Given n most ridges m rows.now kept shelf desk ws.old }
     ensures { (result ≡ areas_of shelf desk result.ridges) × ((n : ℕ) (most : ℕ) (ridges : ℕ) (kept : List Kept) → Given n most ridges m rows.now kept shelf desk ws.old → Inputs (kept_table (rows_in n m rows.now) kept) result (drop shelf.owners ws.new) × (take shelf.end ws.new ≡ take shelf.end ws.old)) }
 {
-    let mut counts: [u32; 190] = [0; 190];
-    let known = shares::number_ridges(rows, m, shelf, desk, &mut counts, ws);
-    shares::share_facets(ws, shelf, desk, &counts);
-    touch_facets(ws, desk, shelf.facets, known);
-    lay_ones(ws, desk, shelf.facets, known);
-    areas_from(shelf, desk, known)
+    let opened = shares::number_ridges(rows, m, shelf, desk, ws);
+    shares::share_facets(ws, shelf, desk, &opened.counts);
+    touch_facets(ws, desk, shelf.facets, opened.known);
+    lay_ones(ws, desk, shelf.facets, opened.known);
+    areas_from(shelf, desk, opened.known)
 }

@@ -3,7 +3,7 @@ use mathlib.Core.Path.{◌≡◌, refl, sym, ap, subst, ◌∙◌}
 use mathlib.Core.List.{List, [], ◌∷◌, ◌++◌, map-append}
 use Prim.Native.Nat.{ℕ, ◌+◌, ◌*◌, ◌-◌, ◌%◌, ◌≤◌, ◌<◌}
 use native.Mathlib.Omega.{arith}
-use lib.ListN.{length, get_or, take, drop, length-map, replicate, take-append-drop}
+use lib.ListN.{length, get_or, take, drop, length-map, take-append-drop}
 use lib.Seq.{length-take-le, take_all}
 use Rattle.definitions.specs.Lists.{Pair, map_with}
 use Rattle.definitions.specs.Orbits.{Row}
@@ -18,7 +18,8 @@ use Rattle.shapes.specs.Kept.{number_ends}
 use Rattle.shelf.specs.declared.Shelf.{Shelf}
 use Rattle.shelf.specs.Keeps.{ridges_part}
 use Rattle.shares.specs.Areas.{area, flat, Space, clear_kept, clear_ready, area_kept, flat_more, grown_none, grown_ready, grown_more, grown_all, AreaEmpty, Joined, AreaGrown, joined_none, push_asks, joined_push, end_asks, joined_end}
-use Rattle.numbering.specs.Numbering.{MarksStand, stands_none}
+use Rattle.numbering.specs.declared.RidgeOrbits.{RidgeOrbits}
+use Rattle.numbering.specs.Standing.{Standing}
 use Rattle.shares.specs.Ends.{Reads, reads_kept, ridges_at, all_numbered, AllNumbered, all_more, all_few, all_long, all_count, ends_in, numbered, with_more, with_append, with_length, counts_up, number_up}
 
 -- ---- one orbit
@@ -48,41 +49,41 @@ module _ (rows : List Row) (keys : KnownKeys Pair) where
       omega (arith, counts_up (number_ends rows) (number_up rows) (map_with (number_ends rows) keys (ends_in (take i codes))).1 (ends_in (drop i codes)))
 
 -- the first i ridges of an orbit are numbered
-pub record Turn (m : ℕ) (rows : List ℕ) (from to : ℕ) (codes ws₀ : List ℕ) (keys : KnownKeys Pair) (marks counts ws : List ℕ) (reached i : ℕ) : Type 0 where
-  pub stands : MarksStand marks counts reached (numbered (rows_in 32 m rows) keys (take i codes)).1
+pub record Turn (m : ℕ) (rows : List ℕ) (from to : ℕ) (codes ws₀ : List ℕ) (keys : KnownKeys Pair) (opened : RidgeOrbits) (ws : List ℕ) (i : ℕ) : Type 0 where
+  pub stands : Standing opened (numbered (rows_in 32 m rows) keys (take i codes)).1
   pub joined : Joined from to 2 256 ws₀ ws (numbered (rows_in 32 m rows) keys (take i codes)).0
 
-pub record Numbers (m : ℕ) (rows : List ℕ) (from to : ℕ) (codes marks₀ counts₀ : List ℕ) (known : ℕ) (ws₀ marks counts ws : List ℕ) (reached i : ℕ) : Type 0 where
+pub record Numbers (m : ℕ) (rows : List ℕ) (from to : ℕ) (codes : List ℕ) (opened₀ : RidgeOrbits) (ws₀ : List ℕ) (opened : RidgeOrbits) (ws : List ℕ) (i : ℕ) : Type 0 where
   pub within : i ≤ length codes
   pub long : length ws ≡ length ws₀
   pub front : take from ws ≡ take from ws₀
-  pub each : (keys : KnownKeys Pair) → MarksStand marks₀ counts₀ known keys → Turn m rows from to codes ws₀ keys marks counts ws reached i
+  pub each : (keys : KnownKeys Pair) → Standing opened₀ keys → Turn m rows from to codes ws₀ keys opened ws i
 
 module _ {m : ℕ} {rows : List ℕ} {from to : ℕ} {codes ws₀ : List ℕ} (ready : AreaEmpty from to 2 256 ws₀ (length codes) 1) where
-  pub numbers_start : (marks counts : List ℕ) (known : ℕ) → Numbers m rows from to codes marks counts known ws₀ marks counts ws₀ known 0
+  pub numbers_start : (opened : RidgeOrbits) → Numbers m rows from to codes opened ws₀ opened ws₀ 0
   unfolding numbered ends_in map_with
-  numbers_start marks counts known = record { within = omega arith; long = refl; front = refl; each = λ keys st. record { stands = st; joined = joined_none ready.space } }
+  numbers_start opened = record { within = omega arith; long = refl; front = refl; each = λ keys st. record { stands = st; joined = joined_none ready.space } }
 
-  module _ {marks₀ counts₀ : List ℕ} {known : ℕ} {marks counts ws : List ℕ} {reached i : ℕ} (t : Numbers m rows from to codes marks₀ counts₀ known ws₀ marks counts ws reached i) where
+  module _ {opened₀ opened : RidgeOrbits} {ws : List ℕ} {i : ℕ} (t : Numbers m rows from to codes opened₀ ws₀ opened ws i) where
     new_length : (keys : KnownKeys Pair) → length (numbered (rows_in 32 m rows) keys (take i codes)).0 ≡ i
     new_length keys = numbered_length (rows_in 32 m rows) keys (take i codes) ∙ length-take-le i codes t.within
 
     module _ (h : i < length codes) where
-      -- what `number_ridge` and `push_u16` ask
-      pub turn_asks : (key : ℕ) → key ≡ get_or codes i 0 % 65536 → (keys : KnownKeys Pair) → MarksStand marks₀ counts₀ known keys → length (numbered (rows_in 32 m rows) keys codes).1.counts ≤ 190
-          → (keys : KnownKeys Pair) × MarksStand marks counts reached keys × (length (number_ends (rows_in 32 m rows) keys (pair_of key)).1.counts ≤ 190)
+      -- what `number_ridge` and `push` ask
+      pub turn_asks : (key : ℕ) → key ≡ get_or codes i 0 % 65536 → (keys : KnownKeys Pair) → Standing opened₀ keys → length (numbered (rows_in 32 m rows) keys codes).1.counts ≤ 190
+          → (keys : KnownKeys Pair) × Standing opened keys × (length (number_ends (rows_in 32 m rows) keys (pair_of key)).1.counts ≤ 190)
       turn_asks key e keys st few =
           let n = ap (λ (r : List ℕ × KnownKeys Pair). length r.1.counts) (numbered_more (rows_in 32 m rows) keys codes i h) in
           ((numbered (rows_in 32 m rows) keys (take i codes)).1, (t.each keys st).stands, rw e (omega (arith, numbered_few (rows_in 32 m rows) keys codes (i + 1))))
 
-      pub turn_push : (keys : KnownKeys Pair) → MarksStand marks₀ counts₀ known keys → (base 256 + 2 * (used (area from to ws) + 1) ≤ length (area from to ws)) × (used (area from to ws) + 1 < 4294967296)
+      pub turn_push : (keys : KnownKeys Pair) → Standing opened₀ keys → (base 256 + 2 * (used (area from to ws) + 1) ≤ length (area from to ws)) × (used (area from to ws) + 1 < 4294967296)
       turn_push keys st = push_asks ready.space (t.each keys st).joined (omega (arith, new_length keys))
 
-      pub turn_more : (key : ℕ) → key ≡ get_or codes i 0 % 65536 → (number : ℕ) → number < 65536 → (marks' counts' : List ℕ) (reached' : ℕ)
-          → ((keys : KnownKeys Pair) → MarksStand marks counts reached keys → (number ≡ (number_ends (rows_in 32 m rows) keys (pair_of key)).0) × MarksStand marks' counts' reached' (number_ends (rows_in 32 m rows) keys (pair_of key)).1)
-          → (p : List ℕ) → p ≡ pushed 2 256 (area from to ws) number → (keys : KnownKeys Pair) → MarksStand marks₀ counts₀ known keys
-          → Numbers m rows from to codes marks₀ counts₀ known ws₀ marks' counts' (placed from (to - from) ws p) reached' (i + 1)
-      turn_more key e number small marks' counts' reached' f p q keys₀ st₀ = let j = joined_push ready.space (t.each keys₀ st₀).joined (omega (arith, new_length keys₀)) number p (omega arith) q in record {
+      pub turn_more : (key : ℕ) → key ≡ get_or codes i 0 % 65536 → (number : ℕ) → number < 65536 → (opened' : RidgeOrbits)
+          → ((keys : KnownKeys Pair) → Standing opened keys → (number ≡ (number_ends (rows_in 32 m rows) keys (pair_of key)).0) × Standing opened' (number_ends (rows_in 32 m rows) keys (pair_of key)).1)
+          → (p : List ℕ) → p ≡ pushed 2 256 (area from to ws) number → (keys : KnownKeys Pair) → Standing opened₀ keys
+          → Numbers m rows from to codes opened₀ ws₀ opened' (placed from (to - from) ws p) (i + 1)
+      turn_more key e number small opened' f p q keys₀ st₀ = let j = joined_push ready.space (t.each keys₀ st₀).joined (omega (arith, new_length keys₀)) number p (omega arith) q in record {
         within = omega arith;
         long = j.long;
         front = j.front;
@@ -92,7 +93,7 @@ module _ {m : ℕ} {rows : List ℕ} {from to : ℕ} {codes ws₀ : List ℕ} (r
             let more : numbered (rows_in 32 m rows) keys (take (i + 1) codes) ≡ (before.0 ++ (number ∷ []), (number_ends (rows_in 32 m rows) before.1 (pair_of key)).1) =
             numbered_more (rows_in 32 m rows) keys codes i h ∙ (rw (g.0, e) refl) in
             record {
-              stands = subst (λ (r : List ℕ × KnownKeys Pair). MarksStand marks' counts' reached' r.1) (sym more) g.1;
+              stands = subst (λ (r : List ℕ × KnownKeys Pair). Standing opened' r.1) (sym more) g.1;
               joined = subst (λ (r : List ℕ × KnownKeys Pair). Joined from to 2 256 ws₀ (placed from (to - from) ws p) r.0) (sym more) (joined_push ready.space (t.each keys st).joined (omega (arith, new_length keys)) number p (omega arith) q);
             };
       }
@@ -101,14 +102,14 @@ module _ {m : ℕ} {rows : List ℕ} {from to : ℕ} {codes ws₀ : List ℕ} (r
       all_taken : take i codes ≡ codes
       all_taken = take_all i codes h
 
-      pub turn_end_asks : (keys : KnownKeys Pair) → MarksStand marks₀ counts₀ known keys → (16 + 4 * count (area from to ws) ≤ length (area from to ws)) × (count (area from to ws) + 1 < 4294967296)
+      pub turn_end_asks : (keys : KnownKeys Pair) → Standing opened₀ keys → (16 + 4 * count (area from to ws) ≤ length (area from to ws)) × (count (area from to ws) + 1 < 4294967296)
       turn_end_asks keys st = end_asks ready (t.each keys st).joined (omega arith)
 
-      pub turn_end : (p : List ℕ) → p ≡ ended (area from to ws) → (keys : KnownKeys Pair) → MarksStand marks₀ counts₀ known keys
-          → MarksStand marks counts reached (numbered (rows_in 32 m rows) keys codes).1 × AreaGrown from to 2 256 ws₀ (placed from (to - from) ws p) ((numbered (rows_in 32 m rows) keys codes).0 ∷ [])
+      pub turn_end : (p : List ℕ) → p ≡ ended (area from to ws) → (keys : KnownKeys Pair) → Standing opened₀ keys
+          → Standing opened (numbered (rows_in 32 m rows) keys codes).1 × AreaGrown from to 2 256 ws₀ (placed from (to - from) ws p) ((numbered (rows_in 32 m rows) keys codes).0 ∷ [])
       turn_end p q keys st =
           let r = t.each keys st in (
-            subst (λ (l : List ℕ). MarksStand marks counts reached (numbered (rows_in 32 m rows) keys l).1) all_taken r.stands,
+            subst (λ (l : List ℕ). Standing opened (numbered (rows_in 32 m rows) keys l).1) all_taken r.stands,
             subst (λ (l : List ℕ). AreaGrown from to 2 256 ws₀ (placed from (to - from) ws p) ((numbered (rows_in 32 m rows) keys l).0 ∷ [])) all_taken (joined_end ready r.joined (omega arith) p q),
           )
 
@@ -122,8 +123,8 @@ pub record Begun (m : ℕ) (rows : List ℕ) (shelf : Shelf) (from to : ℕ) (ws
   pub few : length (all_numbered (rows_in 32 m rows) (no_keys Pair) (closed_lists 4 256 (ridges_part shelf ws₀))).1.counts ≤ 190
 
 -- the first o orbits are numbered
-pub record Orbits (m : ℕ) (rows : List ℕ) (shelf : Shelf) (from to : ℕ) (ws₀ counts ws marks : List ℕ) (known o : ℕ) : Type 0 where
-  pub stands : MarksStand marks counts known (all_numbered (rows_in 32 m rows) (no_keys Pair) (take o (closed_lists 4 256 (ridges_part shelf ws₀)))).1
+pub record Orbits (m : ℕ) (rows : List ℕ) (shelf : Shelf) (from to : ℕ) (ws₀ ws : List ℕ) (opened : RidgeOrbits) (o : ℕ) : Type 0 where
+  pub stands : Standing opened (all_numbered (rows_in 32 m rows) (no_keys Pair) (take o (closed_lists 4 256 (ridges_part shelf ws₀)))).1
   pub grown : AreaGrown from to 2 256 ws₀ ws (all_numbered (rows_in 32 m rows) (no_keys Pair) (take o (closed_lists 4 256 (ridges_part shelf ws₀)))).0
 
 module _ {m : ℕ} {rows : List ℕ} {shelf : Shelf} {from to : ℕ} {ws₀ : List ℕ} {orbits : ℕ} (b : Begun m rows shelf from to ws₀ orbits) where
@@ -137,11 +138,11 @@ module _ {m : ℕ} {rows : List ℕ} {shelf : Shelf} {from to : ℕ} {ws₀ : Li
   unfolding lists
   lists_long = closed_length 4 256 (ridges_part shelf ws₀) ∙ sym b.many
 
-  pub orbits_start : (counts : List ℕ) → length counts ≡ 190 → Orbits m rows shelf from to ws₀ counts ws₀ (replicate 400 0) 0 0
+  pub orbits_start : (opened : RidgeOrbits) → Standing opened (no_keys Pair) → Orbits m rows shelf from to ws₀ ws₀ opened 0
   unfolding all_numbered map_with
-  orbits_start counts h = record { stands = stands_none counts h; grown = grown_none b.ready }
+  orbits_start opened h = record { stands = h; grown = grown_none b.ready }
 
-  module _ {counts ws marks : List ℕ} {known o : ℕ} (r : Orbits m rows shelf from to ws₀ counts ws marks known o) where
+  module _ {ws : List ℕ} {opened : RidgeOrbits} {o : ℕ} (r : Orbits m rows shelf from to ws₀ ws opened o) where
     module _ (h : o < orbits) where
       same : ridges_part shelf ws ≡ ridges_part shelf ws₀
       same = area_kept from shelf.ridges shelf.places ws₀ ws r.grown.front b.reads.order b.reads.before
@@ -164,7 +165,7 @@ module _ {m : ℕ} {rows : List ℕ} {shelf : Shelf} {from to : ℕ} {ws₀ : Li
           omega (arith, all_few (rows_in 32 m rows) (no_keys Pair) lists (o + 1), b.few)
 
       pub orbit_asks : Reads m rows shelf ws from × (o < count (ridges_part shelf ws)) × AreaEmpty from to 2 256 ws (length (ridges_at shelf ws o)) 1
-          × ((keys : KnownKeys Pair) × MarksStand marks counts known keys × (length (numbered (rows_in 32 m rows) keys (ridges_at shelf ws o)).1.counts ≤ 190))
+          × ((keys : KnownKeys Pair) × Standing opened keys × (length (numbered (rows_in 32 m rows) keys (ridges_at shelf ws o)).1.counts ≤ 190))
       unfolding all lists
       orbit_asks = (
         reads_kept m rows shelf ws₀ ws from r.grown.front r.grown.long b.reads,
@@ -173,26 +174,26 @@ module _ {m : ℕ} {rows : List ℕ} {shelf : Shelf} {from to : ℕ} {ws₀ : Li
         ((all o).1, r.stands, rw same few_then),
       )
 
-      pub orbits_more : {counts' ws' marks' : List ℕ} {known' : ℕ}
-          → ((keys : KnownKeys Pair) → MarksStand marks counts known keys → length (numbered (rows_in 32 m rows) keys (ridges_at shelf ws o)).1.counts ≤ 190
-          → MarksStand marks' counts' known' (numbered (rows_in 32 m rows) keys (ridges_at shelf ws o)).1 × AreaGrown from to 2 256 ws ws' ((numbered (rows_in 32 m rows) keys (ridges_at shelf ws o)).0 ∷ []))
-          → Orbits m rows shelf from to ws₀ counts' ws' marks' known' (o + 1)
+      pub orbits_more : {ws' : List ℕ} {opened' : RidgeOrbits}
+          → ((keys : KnownKeys Pair) → Standing opened keys → length (numbered (rows_in 32 m rows) keys (ridges_at shelf ws o)).1.counts ≤ 190
+          → Standing opened' (numbered (rows_in 32 m rows) keys (ridges_at shelf ws o)).1 × AreaGrown from to 2 256 ws ws' ((numbered (rows_in 32 m rows) keys (ridges_at shelf ws o)).0 ∷ []))
+          → Orbits m rows shelf from to ws₀ ws' opened' (o + 1)
       unfolding all lists
-      orbits_more {counts'} {ws'} {marks'} {known'} f =
+      orbits_more {ws'} {opened'} f =
           let g = rw same at (f (all o).1 r.stands (rw same few_then)) in
           let e = all_more (rows_in 32 m rows) (no_keys Pair) lists o inside_lists in
           record {
-            stands = subst (λ (q : List (List ℕ) × KnownKeys Pair). MarksStand marks' counts' known' q.1) (sym e) g.0;
+            stands = subst (λ (q : List (List ℕ) × KnownKeys Pair). Standing opened' q.1) (sym e) g.0;
             grown = subst (λ (q : List (List ℕ) × KnownKeys Pair). AreaGrown from to 2 256 ws₀ ws' q.0) (sym e) (grown_more b.ready r.grown g.1);
           }
 
     pub orbits_end : orbits ≤ o → Holds 2 256 (area from to ws₀) [] [] 0 → (s : List ℕ) → length ws₀ ≡ length s → take from ws₀ ≡ take from s
-        → AllNumbered m rows from to (closed_lists 4 256 (ridges_part shelf s)) s ws counts known
+        → AllNumbered m rows from to (closed_lists 4 256 (ridges_part shelf s)) s ws opened.counts opened.known
     unfolding all lists
     orbits_end h none s long front =
         let e : take o lists ≡ lists = take_all o lists (omega (arith, lists_long)) in
         let p : ridges_part shelf s ≡ ridges_part shelf ws₀ = sym (area_kept from shelf.ridges shelf.places s ws₀ front b.reads.order b.reads.before) in
-        let st = subst (λ (l : List (List ℕ)). MarksStand marks counts known (all_numbered (rows_in 32 m rows) (no_keys Pair) l).1) e r.stands in
+        let st = subst (λ (l : List (List ℕ)). Standing opened (all_numbered (rows_in 32 m rows) (no_keys Pair) l).1) e r.stands in
         let g = subst (λ (l : List (List ℕ)). AreaGrown from to 2 256 ws₀ ws (all_numbered (rows_in 32 m rows) (no_keys Pair) l).0) e r.grown in
         let a = grown_all none g in
         let n = all_long (rows_in 32 m rows) (no_keys Pair) lists in

@@ -3,7 +3,7 @@
 use Rattle.std.specs.Prelude.{◌≡◌, get_or, take, drop}
 use Rattle.std.proofs.Math.Path.{refl, ap}
 use Rattle.std.proofs.Common.{sym, ◌∙◌, length-append, take-append-drop}
-use Rattle.std.proofs.Math.Option.{Option, some, none}
+use Rattle.std.specs.Prelude.{Option, Some, None}
 use mathlib.Core.List.{List, [], ◌∷◌, ◌++◌, map, flat_map}
 use Prim.Native.Nat.{ℕ, suc, ◌+◌, ◌*◌, ◌%◌, ◌≤◌, ◌<◌}
 use native.Mathlib.Omega.{arith}
@@ -91,8 +91,8 @@ unfolding number_ends number_or_open_key open_key_orbit
 number_up rows k p = go (key_held_by compare_pair edge_via p k.held)
   where
     go : (o : Option ℕ) → length k.counts ≤ length (number_or_open_key compare_pair edge_via rows k p o).1.counts
-    go (some number) = omega arith
-    go none = rw length-append (omega arith)
+    go (Some number) = omega arith
+    go None = rw length-append (omega arith)
 
 pub numbered_up : (rows : List Row) (k : KnownKeys Pair) (codes : List ℕ) → length k.counts ≤ length (numbered rows k codes).1.counts
 unfolding numbered

@@ -2,7 +2,7 @@
 -- Leans on what is kept, on pools, on labels and on the orbits found.
 use Rattle.std.specs.Prelude.{◌≡◌, ℕ, ◌+◌, ◌*◌, ◌-◌, ◌≤◌, length}
 use mathlib.Core.List.{List, [], ◌∷◌, ◌++◌, map, flat_map, zip_with}
-use Rattle.std.proofs.Math.Option.{Option, some, none}
+use Rattle.std.specs.Prelude.{Option, Some, None}
 use Rattle.definitions.specs.Lists.{Pair, map_at, count_from}
 use Rattle.definitions.specs.Figures.{components_of}
 use Rattle.definitions.specs.Search.{Facet}
@@ -45,8 +45,8 @@ edges_of kept = flat_map (λ (k : Kept). k.edges) kept
 
 -- a facet's components as facets of the call, its orbit's first facet having this number
 unfoldable pub raised : ℕ → Option Pair → Option Pair
-raised first none = none
-raised first (some p) = some (first + p.0, first + p.1)
+raised first None = None
+raised first (Some p) = Some (first + p.0, first + p.1)
 
 -- the components of each facet, from the facet with this number on
 unfoldable pub labels_from : ℕ → List Kept → List (Option Pair)

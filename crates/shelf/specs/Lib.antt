@@ -2,3 +2,4 @@
 pub mod Keeps
 pub mod Leaves
 pub mod Front
+pub mod Areas

@@ -4,6 +4,11 @@
 
 #![tactic(auto)]
 
+ghost use Rattle.std.specs.Prelude.{◌≡◌};
+ghost use Rattle.shelf.specs.Areas.{area_of};
+
+use order::Area;
+
 // Where the areas begin, and how many orbits and facets are kept.
 #[derive(Clone, Copy)]
 pub struct Shelf {
@@ -27,4 +32,17 @@ pub struct Level {
     pub lists: usize,
     pub bytes: usize,
     pub count: usize,
+}
+
+impl Level {
+    // The lists of the entries in their order, as the crate `order` reads them.
+    pub fn area(self) -> Area
+        ensures { result ≡ area_of self }
+    {
+        Area {
+            most: 1024,
+            bytes: self.bytes,
+            count: self.count,
+        }
+    }
 }

@@ -1,13 +1,13 @@
 -- `keep::clear_shelf` meets its contract. Assumes nothing.
 use Rattle.keep.specs.Cleared.{cleared_within, cleared_keeps}
-use Rattle.laws.specs.Clauses.{of_two}
 use Rattle.keep.proofs.clear_shelf.Goals as goal
 
 pub returns : goal.returns
-returns c = of_two (λ x0 x1. record { within = x0; keeps = x1 })
-    (let e1 = c.clear in
+returns c =
+    let e1 = c.clear in
     let e2 = c.clear-2 in
-    let e3 = c.clear-3 in (
-      cleared_within c.args.shelf c.args.ws.now e1.new.s e2.new.s e3.new.s c.requires e1.ensures e2.ensures e3.ensures,
-      cleared_keeps c.args.shelf c.args.ws.now e1.new.s e2.new.s e3.new.s c.requires e1.ensures e2.ensures e3.ensures,
-    ))
+    let e3 = c.clear-3 in
+    record {
+      within = cleared_within c.args.shelf c.args.ws.now e1.new.s e2.new.s e3.new.s c.requires e1.ensures e2.ensures e3.ensures;
+      keeps = cleared_keeps c.args.shelf c.args.ws.now e1.new.s e2.new.s e3.new.s c.requires e1.ensures e2.ensures e3.ensures;
+    }

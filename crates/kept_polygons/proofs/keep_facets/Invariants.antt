@@ -1,12 +1,9 @@
 -- `kept_polygons::keep_facets` meets its contract. Assumes nothing.
 use mathlib.Core.List.{List}
-use Prim.Native.Nat.{ℕ, ◌-◌, ◌≤◌}
+use Prim.Native.Nat.{ℕ, ◌≤◌}
 use Rattle.shapes.specs.Kept.{Kept}
 use Rattle.kept_polygons.specs.Facets.{Source, SoFar}
 use Rattle.kept_polygons.proofs.keep_facets.Given as goal
 
 abbrev pub invariant-loop-k : goal.invariant-loop-k
-invariant-loop-k l = (l.k ≤ l.count) × ((n : ℕ) (inner : List Kept) → Source n l.m inner l.level l.rows l.at l.vertices.at l.initial.ws → SoFar l.shelf n l.m inner l.level l.rows l.at l.vertices.at l.initial.ws l.k l.ws)
-
-abbrev pub decreases-loop-k : goal.decreases-loop-k
-decreases-loop-k l = l.count - l.k
+invariant-loop-k l = (l.k ≤ l.level.count) × ((n : ℕ) (inner : List Kept) → Source n l.m inner l.level l.rows l.at l.vertices.at l.initial.ws → SoFar l.shelf n l.m inner l.level l.rows l.at l.vertices.at l.initial.ws l.k l.ws)

@@ -19,8 +19,8 @@ facet_at-x-requires c = let p = c.loop-i in let tail = behind_lent p.invariant.1
     let many = rw (lent_tail c.args.at c.args.ws.now) at c.facets_of-items.ensures in
     rw tail (omega (arith, length-drop c.args.at c.args.ws.now, c.requires.2), c.requires.3, c.requires.4, omega (arith, many))
 
-pub push_u16-requires : goal.push_u16-requires
-push_u16-requires c = let p = c.loop-i in
+pub push-requires : goal.push-requires
+push-requires c = let p = c.loop-i in
     let many = rw (lent_tail c.args.at c.args.ws.now) at c.facets_of-items.ensures in
     taking_room c.requires.5 (get_or (lists_left c.args.level (drop c.args.at c.args.ws.now)) c.args.k []) p.i p.invariant.1 (omega (arith, many)) (omega arith)
 
@@ -28,7 +28,7 @@ pub loop-i-preserved : goal.loop-i-preserved
 loop-i-preserved c = let p = c.loop-i in let tail = behind_lent p.invariant.1 c.args.at (omega (arith, c.requires.0, c.requires.1)) in
     let many = rw (lent_tail c.args.at c.args.ws.now) at c.facets_of-items.ensures in
     let x = rw tail at c.facet_at-x.ensures in
-    (omega arith, taking_push c.requires.5 (get_or (lists_left c.args.level (drop c.args.at c.args.ws.now)) c.args.k []) p.i p.invariant.1 (omega (arith, many)) (omega arith) c.facet_at-x.result c.push_u16.new.s x (omega arith) c.push_u16.ensures)
+    (omega arith, taking_push c.requires.5 (get_or (lists_left c.args.level (drop c.args.at c.args.ws.now)) c.args.k []) p.i p.invariant.1 (omega (arith, many)) (omega arith) c.facet_at-x.result c.push.new.s x (omega arith) c.push.ensures)
 
 pub end_list-requires : goal.end_list-requires
 end_list-requires c = let p = c.loop-i in growing_end_room c.requires.5 p.invariant.1

@@ -31,12 +31,12 @@ moved-code-requires c = let p = c.loop-a in let n = c.requires.3.0 in let inner 
     let e = edge_code_holds l p.a a-few c.edge_at.result ((rw tail at c.edge_at.ensures) (map (map pair_code) (edges_of inner)) l.leaves.keeps.edges known.0 known.1) in let apart = code_apart l p.a a-few c.edge_at.result e in
     (apart.2, c.requires.3.6 _ apart.3, c.requires.3.6 _ apart.4)
 
-pub slice_bounds-get_u32-count : goal.slice_bounds-get_u32-count
-slice_bounds-get_u32-count c = let p = c.loop-a in let n = c.requires.3.0 in let inner = c.requires.3.3 in let l = c.requires.3.4 in let g = p.invariant.1 n c.requires.3.1 c.requires.3.2 inner l in
+pub slice_bounds-get-count : goal.slice_bounds-get-count
+slice_bounds-get-count c = let p = c.loop-a in let n = c.requires.3.0 in let inner = c.requires.3.3 in let l = c.requires.3.4 in let g = p.invariant.1 n c.requires.3.1 c.requires.3.2 inner l in
     omega (arith, g.beside.long, c.requires.2)
 
-pub slice_bounds-get_u32-start : goal.slice_bounds-get_u32-start
-slice_bounds-get_u32-start c = let p = c.loop-a in let n = c.requires.3.0 in let inner = c.requires.3.3 in let l = c.requires.3.4 in let g = p.invariant.1 n c.requires.3.1 c.requires.3.2 inner l in let tail = behind_lent g c.args.at (omega (arith, c.requires.0, c.requires.1)) in
+pub slice_bounds-get-start : goal.slice_bounds-get-start
+slice_bounds-get-start c = let p = c.loop-a in let n = c.requires.3.0 in let inner = c.requires.3.3 in let l = c.requires.3.4 in let g = p.invariant.1 n c.requires.3.1 c.requires.3.2 inner l in let tail = behind_lent g c.args.at (omega (arith, c.requires.0, c.requires.1)) in
     omega (arith, g.beside.long, c.requires.2)
 
 pub overflow_mul-a : goal.overflow_mul-a
@@ -45,27 +45,27 @@ overflow_mul-a c = let p = c.loop-a in let l = c.requires.3.4 in omega (arith, l
 pub overflow_add-a : goal.overflow_add-a
 overflow_add-a c = let p = c.loop-a in let l = c.requires.3.4 in omega (arith, l.leaves.keeps.few_orbits)
 
-pub get_u32-count-requires : goal.get_u32-count-requires
-get_u32-count-requires c = let p = c.loop-a in let n = c.requires.3.0 in let inner = c.requires.3.3 in let l = c.requires.3.4 in let g = p.invariant.1 n c.requires.3.1 c.requires.3.2 inner l in let tail = behind_lent g c.args.at (omega (arith, c.requires.0, c.requires.1)) in
+pub get-count-requires : goal.get-count-requires
+get-count-requires c = let p = c.loop-a in let n = c.requires.3.0 in let inner = c.requires.3.3 in let l = c.requires.3.4 in let g = p.invariant.1 n c.requires.3.1 c.requires.3.2 inner l in let tail = behind_lent g c.args.at (omega (arith, c.requires.0, c.requires.1)) in
     let f = l.leaves.keeps.fits in
     rw tail (omega (arith, l.leaves.keeps.few_orbits, f.orbit_room, f.edge_room, f.label_room, f.owner_room, f.ridge_room, f.place_room, f.ends))
 
-pub slice_bounds-push_u32-end : goal.slice_bounds-push_u32-end
-slice_bounds-push_u32-end c = let p = c.loop-a in let n = c.requires.3.0 in let inner = c.requires.3.3 in let l = c.requires.3.4 in let g = p.invariant.1 n c.requires.3.1 c.requires.3.2 inner l in
+pub slice_bounds-push-end : goal.slice_bounds-push-end
+slice_bounds-push-end c = let p = c.loop-a in let n = c.requires.3.0 in let inner = c.requires.3.3 in let l = c.requires.3.4 in let g = p.invariant.1 n c.requires.3.1 c.requires.3.2 inner l in
     omega (arith, g.beside.long, c.requires.1, c.requires.2)
 
 pub overflow_mul-count : goal.overflow_mul-count
 overflow_mul-count c = let p = c.loop-a in let n = c.requires.3.0 in let inner = c.requires.3.3 in let l = c.requires.3.4 in let g = p.invariant.1 n c.requires.3.1 c.requires.3.2 inner l in let tail = behind_lent g c.args.at (omega (arith, c.requires.0, c.requires.1)) in
     let a-few : p.a < length inner = omega (arith, orbits_many l) in let known = edge_known l p.a a-few in
-    omega (arith, rw tail at c.get_u32-count.ensures, count_few l p.a a-few)
+    omega (arith, rw tail at c.get-count.ensures, count_few l p.a a-few)
 
 pub overflow_add-code : goal.overflow_add-code
 overflow_add-code c = let p = c.loop-a in let n = c.requires.3.0 in let inner = c.requires.3.3 in let l = c.requires.3.4 in let g = p.invariant.1 n c.requires.3.1 c.requires.3.2 inner l in let tail = behind_lent g c.args.at (omega (arith, c.requires.0, c.requires.1)) in
     let a-few : p.a < length inner = omega (arith, orbits_many l) in let known = edge_known l p.a a-few in
-    omega (arith, rw tail at c.get_u32-count.ensures, count_few l p.a a-few, c.moved-code.ensures.1)
+    omega (arith, rw tail at c.get-count.ensures, count_few l p.a a-few, c.moved-code.ensures.1)
 
-pub push_u32-requires : goal.push_u32-requires
-push_u32-requires c = let p = c.loop-a in let n = c.requires.3.0 in let inner = c.requires.3.3 in let l = c.requires.3.4 in let g = p.invariant.1 n c.requires.3.1 c.requires.3.2 inner l in let tail = behind_lent g c.args.at (omega (arith, c.requires.0, c.requires.1)) in
+pub push-requires : goal.push-requires
+push-requires c = let p = c.loop-a in let n = c.requires.3.0 in let inner = c.requires.3.3 in let l = c.requires.3.4 in let g = p.invariant.1 n c.requires.3.1 c.requires.3.2 inner l in let tail = behind_lent g c.args.at (omega (arith, c.requires.0, c.requires.1)) in
     let a-few : p.a < length inner = omega (arith, orbits_many l) in let known = edge_known l p.a a-few in
     taking_room c.requires.3.5 (ridges_moved c.args.vertices.at inner) p.a g (omega (arith, ridges_many c.args.vertices.at inner)) (omega (arith, ridges_many c.args.vertices.at inner))
 
@@ -77,11 +77,11 @@ loop-a-preserved c = let p = c.loop-a in (
       let tail = behind_lent g c.args.at (omega (arith, c.requires.0, c.requires.1)) in
       let a-few : p.a < length inner = omega (arith, c.loop-a-test.true, orbits_many l) in let known = edge_known l p.a a-few in
       let e = edge_code_holds l p.a a-few c.edge_at.result ((rw tail at c.edge_at.ensures) (map (map pair_code) (edges_of inner)) l.leaves.keeps.edges known.0 known.1) in let apart = code_apart l p.a a-few c.edge_at.result e in
-      let count = rw tail at c.get_u32-count.ensures in
+      let count = rw tail at c.get-count.ensures in
       let many = ridges_many c.args.vertices.at inner in
-      taking_push c.requires.3.5 (ridges_moved c.args.vertices.at inner) p.a g (omega (arith, many)) (omega (arith, many, orbits_many l, orbits_many c.requires.3.4)) _ c.push_u32.new.s
-      (ap (λ (x : ℕ). x + 65536 * c.get_u32-count.result) c.moved-code.ensures.0 ∙ ridge_next l p.a a-few c.args.vertices.at c.edge_at.result c.get_u32-count.result e count)
-      (omega (arith, count, count_few l p.a a-few, c.moved-code.ensures.1)) c.push_u32.ensures,
+      taking_push c.requires.3.5 (ridges_moved c.args.vertices.at inner) p.a g (omega (arith, many)) (omega (arith, many, orbits_many l, orbits_many c.requires.3.4)) _ c.push.new.s
+      (ap (λ (x : ℕ). x + 65536 * c.get-count.result) c.moved-code.ensures.0 ∙ ridge_next l p.a a-few c.args.vertices.at c.edge_at.result c.get-count.result e count)
+      (omega (arith, count, count_few l p.a a-few, c.moved-code.ensures.1)) c.push.ensures,
 )
 
 pub slice_bounds-end_list-end : goal.slice_bounds-end_list-end

@@ -1,7 +1,7 @@
 -- `left_edges::mark_entry` meets its contract. Assumes nothing.
 use mathlib.Core.Path.{◌≡◌}
 use mathlib.Core.List.{List, [], map}
-use Prim.Native.Nat.{ℕ, ◌-◌, ◌≤◌}
+use Prim.Native.Nat.{ℕ, ◌≤◌}
 use lib.ListN.{get_or, take}
 use Rattle.openers.specs.Rows.{rows_in}
 use Rattle.openers.specs.Marks.{marked}
@@ -13,6 +13,3 @@ use Rattle.left_edges.proofs.mark_entry.Given as goal
 
 abbrev pub invariant-loop-i : goal.invariant-loop-i
 invariant-loop-i l = (l.i ≤ l.items) × ((n : ℕ) (inner : List Kept) → EdgesLeft n l.m inner l.level l.rows l.s → l.marks ≡ marked l.initial.marks (map pair_code (images_of (rows_in n l.m l.rows) inner (take l.i (get_or (lists_left l.level l.s) l.k [])))))
-
-abbrev pub decreases-loop-i : goal.decreases-loop-i
-decreases-loop-i l = l.items - l.i

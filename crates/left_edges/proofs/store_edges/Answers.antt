@@ -5,19 +5,19 @@ use native.Mathlib.Omega.{arith}
 use Rattle.keep.specs.Storing.{Growing, growing_none, growing_room, growing_push, growing_end, growing_end_room}
 use Rattle.left_edges.specs.Reading.{moved_below, below_none, below_all, below_marked, below_left, below_room}
 use Rattle.left_edges.proofs.store_edges.Goals as goal
-use Rattle.left_edges.proofs.store_edges.Goals.{then-marks-c, else-marks-c}
+use Rattle.left_edges.proofs.store_edges.Goals.{then-marked, else-marked}
 
 pub loop-c-init : goal.loop-c-init
 loop-c-init c = (omega arith, rw (below_none c.args.vertices.at c.args.marks.now) (growing_none 2 1024 c.args.from (c.args.to - c.args.from) c.args.ws.now))
 
 pub moved-code-requires : goal.moved-code-requires
-moved-code-requires c = let p = c.loop-c in let r = c.requires.2 p.c (omega arith) c.if-marks-c.true in (omega arith, r.0, r.1)
+moved-code-requires c = let p = c.loop-c in let r = c.requires.2 p.c (omega arith) c.if-marked.true in (omega arith, r.0, r.1)
 
 pub overflow_cast-code : goal.overflow_cast-code
 overflow_cast-code c = record { fits = omega (arith, c.moved-code.ensures.1) }
 
-pub push_u16-requires : goal.push_u16-requires
-push_u16-requires c = let p = c.loop-c in growing_room c.requires.1 p.invariant.1 (below_room c.args.vertices.at c.args.marks.now p.c (omega arith) c.if-marks-c.true)
+pub push-requires : goal.push-requires
+push-requires c = let p = c.loop-c in growing_room c.requires.1 p.invariant.1 (below_room c.args.vertices.at c.args.marks.now p.c (omega arith) c.if-marked.true)
 
 pub loop-c-preserved : goal.loop-c-preserved
 loop-c-preserved c =
@@ -26,11 +26,11 @@ loop-c-preserved c =
     let marks = c.args.marks.now in
     let now : List ℕ → Type 0 = λ (t : List ℕ). Growing 2 1024 c.args.from (c.args.to - c.args.from) c.args.ws.now t (moved_below vs marks (p.c + 1)) in (
       omega arith,
-      elim c.if-marks-c.branch [
-        | then-marks-c w ↦ subst now (sym w.ws-is)
-            (rw (below_marked vs marks p.c w.if-marks-c.true, ← w.moved-code.ensures.0)
-            (growing_push c.requires.1 p.invariant.1 (below_room vs marks p.c (omega arith) w.if-marks-c.true) w.moved-code.result w.push_u16.new.s (omega (arith, w.moved-code.ensures.1)) w.push_u16.ensures))
-        | else-marks-c w ↦ subst now (sym w.ws-is) (rw (below_left vs marks p.c w.if-marks-c.false) p.invariant.1)
+      elim c.if-marked.branch [
+        | then-marked w ↦ subst now (sym w.ws-is)
+            (rw (below_marked vs marks p.c w.if-marked.true, ← w.moved-code.ensures.0)
+            (growing_push c.requires.1 p.invariant.1 (below_room vs marks p.c (omega arith) w.if-marked.true) w.moved-code.result w.push.new.s (omega (arith, w.moved-code.ensures.1)) w.push.ensures))
+        | else-marked w ↦ subst now (sym w.ws-is) (rw (below_left vs marks p.c w.if-marked.false) p.invariant.1)
       ],
     )
 

@@ -6,6 +6,3 @@ use Rattle.left_edges.proofs.store_edges.Given as goal
 
 abbrev pub invariant-loop-c : goal.invariant-loop-c
 invariant-loop-c l = (l.c ≤ 400) × Growing 2 1024 l.from (l.to - l.from) l.initial.ws l.ws (moved_below l.vertices.at l.marks l.c)
-
-abbrev pub decreases-loop-c : goal.decreases-loop-c
-decreases-loop-c l = 400 - l.c

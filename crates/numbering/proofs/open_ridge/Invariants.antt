@@ -1,10 +1,6 @@
 -- `open_ridge` meets its contract. The loop's invariant: the images under the first i rows have joined. The measure is what is left of the rows.
 use Rattle.numbering.proofs.Images.{Opening}
-use Prim.Native.Nat.{◌-◌}
 use Rattle.numbering.proofs.open_ridge.Given as goal
 
 abbrev pub invariant-loop-i : goal.invariant-loop-i
-invariant-loop-i l = Opening l.rows l.m l.key l.mark l.initial.marks l.marks l.count l.i
-
-abbrev pub decreases-loop-i : goal.decreases-loop-i
-decreases-loop-i l = l.m - l.i
+invariant-loop-i l = Opening l.rows l.m l.key l.number l.initial.marks l.marks l.count l.i

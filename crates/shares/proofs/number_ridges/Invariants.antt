@@ -1,12 +1,8 @@
 -- `number_ridges` meets its contract. The loop's invariant: the first o orbits are numbered. The measure is what is left of them.
 use Rattle.shares.proofs.Numbers.{Begun, Orbits}
 use mathlib.Core.Path.{◌≡◌}
-use Prim.Native.Nat.{◌-◌}
 use lib.ListN.{length}
 use Rattle.shares.proofs.number_ridges.Given as goal
 
 abbrev pub invariant-loop-o : goal.invariant-loop-o
-invariant-loop-o l = Begun l.m l.rows l.shelf l.numbers l.shares l.initial.ws l.orbits × Orbits l.m l.rows l.shelf l.numbers l.shares l.initial.ws l.counts l.ws l.marks l.known l.o × (length l.ws ≡ length l.initial.ws)
-
-abbrev pub decreases-loop-o : goal.decreases-loop-o
-decreases-loop-o l = l.orbits - l.o
+invariant-loop-o l = Begun l.m l.rows l.shelf l.desk.numbers l.desk.shares l.initial.ws l.shelf.orbits × Orbits l.m l.rows l.shelf l.desk.numbers l.desk.shares l.initial.ws l.ws l.opened l.o × (length l.ws ≡ length l.initial.ws)

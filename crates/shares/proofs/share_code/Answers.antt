@@ -11,29 +11,29 @@ overflow_mul-o c = omega (arith, orbit_few c.args.shelf c.args.desk c.args.ws.no
 pub overflow_add-o : goal.overflow_add-o
 overflow_add-o c = omega (arith, orbit_few c.args.shelf c.args.desk c.args.ws.now c.args.counts.now c.requires.0 c.requires.1 c.args.o c.requires.2)
 
-pub get_u32-own-requires : goal.get_u32-own-requires
-get_u32-own-requires c = orbit_asks c.args.shelf c.args.desk c.args.ws.now c.args.counts.now c.requires.0 c.requires.1 c.args.o c.requires.2
+pub get-own-requires : goal.get-own-requires
+get-own-requires c = orbit_asks c.args.shelf c.args.desk c.args.ws.now c.args.counts.now c.requires.0 c.requires.1 c.args.o c.requires.2
 
-pub item_u32-inner-requires : goal.item_u32-inner-requires
-item_u32-inner-requires c = ridge_asks c.args.shelf c.args.desk c.args.ws.now c.args.counts.now c.requires.0 c.requires.1 c.args.o c.requires.2 c.args.a c.requires.3
+pub item-inner-requires : goal.item-inner-requires
+item-inner-requires c = ridge_asks c.args.shelf c.args.desk c.args.ws.now c.args.counts.now c.requires.0 c.requires.1 c.args.o c.requires.2 c.args.a c.requires.3
 
-pub item_u16-ridge-requires : goal.item_u16-ridge-requires
-item_u16-ridge-requires c = number_asks c.args.shelf c.args.desk c.args.ws.now c.args.counts.now c.requires.0 c.requires.1 c.args.o c.requires.2 c.args.a c.requires.3
+pub item-ridge-requires : goal.item-ridge-requires
+item-ridge-requires c = number_asks c.args.shelf c.args.desk c.args.ws.now c.args.counts.now c.requires.0 c.requires.1 c.args.o c.requires.2 c.args.a c.requires.3
 
 pub bounds-counts-ridge : goal.bounds-counts-ridge
-bounds-counts-ridge c = omega (arith, ridge_inside c.args.shelf c.args.desk c.args.ws.now c.args.counts.now c.requires.0 c.requires.1 c.args.o c.requires.2 c.args.a c.requires.3 _ _ _ c.get_u32-own.ensures c.item_u32-inner.ensures c.item_u16-ridge.ensures)
+bounds-counts-ridge c = omega (arith, ridge_inside c.args.shelf c.args.desk c.args.ws.now c.args.counts.now c.requires.0 c.requires.1 c.args.o c.requires.2 c.args.a c.requires.3 _ _ _ c.get-own.ensures c.item-inner.ensures c.item-ridge.ensures)
 
 pub returns-then-all-eq0 : goal.returns-then-all-eq0
-returns-then-all-eq0 c = code_none c.args.shelf c.args.desk c.args.ws.now c.args.counts.now c.requires.0 c.requires.1 c.args.o c.requires.2 c.args.a c.requires.3 _ _ _ c.get_u32-own.ensures c.item_u32-inner.ensures c.item_u16-ridge.ensures _ refl c.if-all-eq0.true
+returns-then-all-eq0 c = code_none c.args.shelf c.args.desk c.args.ws.now c.args.counts.now c.requires.0 c.requires.1 c.args.o c.requires.2 c.args.a c.requires.3 _ _ _ c.get-own.ensures c.item-inner.ensures c.item-ridge.ensures _ refl c.if-all-eq0.true
 
 pub overflow_mul-result : goal.overflow_mul-result
-overflow_mul-result c = omega (arith, product_small c.args.shelf c.args.desk c.args.ws.now c.args.counts.now c.requires.0 c.requires.1 c.args.o c.requires.2 c.args.a c.requires.3 _ _ _ c.get_u32-own.ensures c.item_u32-inner.ensures c.item_u16-ridge.ensures)
+overflow_mul-result c = omega (arith, product_small c.args.shelf c.args.desk c.args.ws.now c.args.counts.now c.requires.0 c.requires.1 c.args.o c.requires.2 c.args.a c.requires.3 _ _ _ c.get-own.ensures c.item-inner.ensures c.item-ridge.ensures)
 
 pub overflow_mul-result-2 : goal.overflow_mul-result-2
-overflow_mul-result-2 c = omega (arith, part_small c.args.shelf c.args.desk c.args.ws.now c.args.counts.now c.requires.0 c.requires.1 c.args.o c.requires.2 c.args.a c.requires.3 _ _ _ c.get_u32-own.ensures c.item_u32-inner.ensures c.item_u16-ridge.ensures (get_or c.args.counts.now c.item_u16-ridge.result 0))
+overflow_mul-result-2 c = omega (arith, part_small c.args.shelf c.args.desk c.args.ws.now c.args.counts.now c.requires.0 c.requires.1 c.args.o c.requires.2 c.args.a c.requires.3 _ _ _ c.get-own.ensures c.item-inner.ensures c.item-ridge.ensures (get_or c.args.counts.now c.item-ridge.result 0))
 
 pub overflow_add-result : goal.overflow_add-result
-overflow_add-result c = omega (arith, c.item_u16-ridge.type_inv, part_small c.args.shelf c.args.desk c.args.ws.now c.args.counts.now c.requires.0 c.requires.1 c.args.o c.requires.2 c.args.a c.requires.3 _ _ _ c.get_u32-own.ensures c.item_u32-inner.ensures c.item_u16-ridge.ensures (get_or c.args.counts.now c.item_u16-ridge.result 0))
+overflow_add-result c = omega (arith, c.item-ridge.type_inv, part_small c.args.shelf c.args.desk c.args.ws.now c.args.counts.now c.requires.0 c.requires.1 c.args.o c.requires.2 c.args.a c.requires.3 _ _ _ c.get-own.ensures c.item-inner.ensures c.item-ridge.ensures (get_or c.args.counts.now c.item-ridge.result 0))
 
 pub returns : goal.returns
-returns c = code_made c.args.shelf c.args.desk c.args.ws.now c.args.counts.now c.requires.0 c.requires.1 c.args.o c.requires.2 c.args.a c.requires.3 _ _ _ c.get_u32-own.ensures c.item_u32-inner.ensures c.item_u16-ridge.ensures _ refl
+returns c = code_made c.args.shelf c.args.desk c.args.ws.now c.args.counts.now c.requires.0 c.requires.1 c.args.o c.requires.2 c.args.a c.requires.3 _ _ _ c.get-own.ensures c.item-inner.ensures c.item-ridge.ensures _ refl

@@ -1,13 +1,10 @@
 -- `share_facets` meets its contract. The loop's invariant: the first x facets have their lists. The measure is what is left of them.
 use mathlib.Core.Path.{◌≡◌}
-use Prim.Native.Nat.{◌-◌, ◌≤◌}
+use Prim.Native.Nat.{◌≤◌}
 use lib.ListN.{length}
 use Rattle.shares.specs.Areas.{AreaGrown, lists_to}
 use Rattle.shares.specs.Shares.{sources_of, facet_codes}
 use Rattle.shares.proofs.share_facets.Given as goal
 
 abbrev pub invariant-loop-x : goal.invariant-loop-x
-invariant-loop-x l = (length l.ws ≡ length l.initial.ws) × (l.x ≤ l.facets) × AreaGrown l.shares l.touched 4 1024 l.initial.ws l.ws (lists_to (facet_codes (sources_of l.shelf l.desk l.initial.ws) l.counts) l.x)
-
-abbrev pub decreases-loop-x : goal.decreases-loop-x
-decreases-loop-x l = l.facets - l.x
+invariant-loop-x l = (length l.ws ≡ length l.initial.ws) × (l.x ≤ l.shelf.facets) × AreaGrown l.desk.shares l.desk.touched 4 1024 l.initial.ws l.ws (lists_to (facet_codes (sources_of l.shelf l.desk l.initial.ws) l.counts) l.x)
