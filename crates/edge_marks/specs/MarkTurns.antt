@@ -4,7 +4,10 @@ use Rattle.std.proofs.Math.Path.{refl, sym, ap}
 use Rattle.std.proofs.Common.{◌∙◌}
 use Rattle.std.proofs.Math.Bool.{true, false, cond}
 use mathlib.Core.List.{List, [], ◌∷◌, ◌++◌, map, flat_map, map-append}
-use Prim.Native.Nat.{ℕ, ◌+◌, ◌≤◌, ◌<◌}
+use Prim.Native.Nat.{ℕ, suc, ◌+◌, ◌≤◌, ◌<◌}
+use Rattle.std.specs.Int.{from_bool}
+use Rattle.std.specs.List.{filter}
+use Rattle.std.proofs.lemmas.List.Sums.{length-filter, count_by-le-length}
 use native.Mathlib.Omega.{arith}
 use Rattle.std.proofs.Math.ListN.{length, get_or, length-append}
 use Rattle.definitions.specs.Lists.{Pair, keep, count_from}
@@ -12,7 +15,7 @@ use Rattle.laws.specs.Lists.{flat_map_append, keep_append}
 use Rattle.openers.specs.Marks.{marked}
 use Rattle.openers.specs.Meaning.{pair_of}
 use Rattle.shapes.specs.FigureWords.{edge_words}
-use Rattle.edge_marks.specs.Marks.{codes_marked, mark_at, mark_words}
+use Rattle.edge_marks.specs.Marks.{codes_marked, mark_words}
 use Rattle.figure_words.specs.Laws.{count_more, flat_more}
 
 -- ---- marks
@@ -22,13 +25,13 @@ module _ (marks : List Bool) where
   unfolding codes_marked keep
   codes_more c = ap (keep (λ (code : ℕ). get_or marks code false)) (count_more c) ∙ keep_append (λ (code : ℕ). get_or marks code false) (count_from 0 c) (c ∷ [])
 
-  pub marks_count : (c many one : ℕ) → one ≡ mark_at marks c → many ≡ length (codes_marked marks c) → (many + one ≡ length (codes_marked marks (c + 1))) × (one ≤ 1)
-  unfolding mark_at keep
+  pub marks_count : (c many one : ℕ) → one ≡ from_bool (get_or marks c false) → many ≡ length (codes_marked marks c) → (many + one ≡ length (codes_marked marks (c + 1))) × (one ≤ 1)
+  unfolding keep
   marks_count c many one e f =
       let n = length-append (codes_marked marks c) (keep (λ (code : ℕ). get_or marks code false) (c ∷ [])) in
       go (get_or marks c false) e (ap length (codes_more c) ∙ n)
     where
-      go : (b : Bool) → one ≡ cond b 1 0 → length (codes_marked marks (c + 1)) ≡ length (codes_marked marks c) + length (cond b (c ∷ []) []) → (many + one ≡ length (codes_marked marks (c + 1))) × (one ≤ 1)
+      go : (b : Bool) → one ≡ from_bool b → length (codes_marked marks (c + 1)) ≡ length (codes_marked marks c) + length (cond b (c ∷ []) []) → (many + one ≡ length (codes_marked marks (c + 1))) × (one ≤ 1)
       go true p q = (omega arith, omega arith)
       go false p q = (omega arith, omega arith)
 
@@ -56,13 +59,32 @@ module _ (marks : List Bool) where
   unfolding codes_marked keep count_from edge_words flat_map
   mark_words_none = refl
 
-  pub at_marked : (c : ℕ) → get_or marks c false ≡ true → (1 ≡ mark_at marks c) × (edge_words (pair_of c ∷ []) ≡ mark_words marks c)
-  unfolding mark_at mark_words
-  at_marked c e = (rw e refl, rw e refl)
+  pub at_marked : (c : ℕ) → get_or marks c false ≡ true → edge_words (pair_of c ∷ []) ≡ mark_words marks c
+  unfolding mark_words
+  at_marked c e = rw e refl
 
-  pub at_unmarked : (c : ℕ) → get_or marks c false ≡ false → (0 ≡ mark_at marks c) × ([] ≡ mark_words marks c)
-  unfolding mark_at mark_words
-  at_unmarked c e = (rw e refl, rw e refl)
+  pub at_unmarked : (c : ℕ) → get_or marks c false ≡ false → [] ≡ mark_words marks c
+  unfolding mark_words
+  at_unmarked c e = rw e refl
+
+-- there are as many marks as codes that are marked
+pub marks_held : (marks : List Bool) → length marks ≡ 400 → length (filter (λ (mark : Bool). mark) marks) ≡ length (codes_marked marks 400)
+unfolding codes_marked keep count_from
+marks_held marks h = go marks 0 (λ c. get_or marks c false) (λ i. let e : 0 + i ≡ i = omega arith in rw e refl) ∙ ap (λ (n : ℕ). length (codes_marked marks n)) h
+  where
+    go : (l : List Bool) (a : ℕ) (f : ℕ → Bool) → ((i : ℕ) → f (a + i) ≡ get_or l i false) → length (filter (λ (mark : Bool). mark) l) ≡ length (keep f (count_from a (length l)))
+    go [] a f h = refl
+    go (mark ∷ l) a f h =
+        let e : a + 0 ≡ a = omega arith in
+        let here : f a ≡ mark = ap f (sym e) ∙ h 0 in
+        rw here (one mark (filter (λ (mark : Bool). mark) l) (keep f (count_from (suc a) (length l))) (go l (suc a) f (λ i. let g : suc a + i ≡ a + suc i = omega arith in ap f g ∙ h (suc i))))
+      where
+        one : (b : Bool) (r : List Bool) (q : List ℕ) → length r ≡ length q → length (cond b (mark ∷ r) r) ≡ length (cond b (a ∷ q) q)
+        one true r q g = ap suc g
+        one false r q g = g
+
+pub marks_few : (marks : List Bool) → length (filter (λ (mark : Bool). mark) marks) ≤ length marks
+marks_few marks = omega (arith, length-filter (λ (mark : Bool). mark) marks, count_by-le-length (λ (mark : Bool). mark) marks)
 
 pub marked_append : (marks : List Bool) (xs ys : List ℕ) → marked (marked marks xs) ys ≡ marked marks (xs ++ ys)
 unfolding marked

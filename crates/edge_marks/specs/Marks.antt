@@ -48,9 +48,6 @@ marks_of rows edges numbers = marked (replicate 400 false) (facet_codes rows edg
 unfoldable pub edges_marked : List Bool → List Pair
 edges_marked marks = map pair_of (codes_marked marks 400)
 
-unfoldable pub mark_at : List Bool → ℕ → ℕ
-mark_at marks code = cond (get_or marks code false) 1 0
-
 unfoldable pub mark_words : List Bool → ℕ → List ℕ
 mark_words marks code = cond (get_or marks code false) (edge_words (pair_of code ∷ [])) []
 

@@ -1,129 +1,103 @@
 -- The summary of a figure from its marked edges, at every rank; and which vertices are their ends, mark by mark. Leans on
 -- Marks, and on the points that a summary counts.
 use Rattle.std.specs.Prelude.{◌≡◌, ◌||◌, List, [], ◌∷◌, eqb}
-use Rattle.std.proofs.Math.Path.{refl, ap, subst}
-use Rattle.std.proofs.Common.{sym, ◌∙◌}
-use Rattle.std.proofs.Math.Bool.{Bool, true, false, cond}
+use Rattle.std.proofs.lemmas.List.Sums.{length-filter, count_by-le-length}
+use Rattle.std.proofs.lemmas.List.FromFn.{length-range_with_len}
+use Rattle.std.specs.List.{filter, list_any, range_with_len}
+use Rattle.std.proofs.Math.Path.{ap, subst}
+use Rattle.std.proofs.Common.{◌∙◌}
+use Rattle.std.proofs.Math.Bool.{Bool, false}
 use Rattle.std.proofs.Math.Logic.{⊎_elim}
 use Prim.Native.Nat.{ℕ, ◌+◌, ◌*◌, ◌/◌, ◌%◌, ◌≤◌, ◌<◌}
 use native.Mathlib.Omega.{arith}
 use Rattle.std.proofs.Math.Dec.{T, eqb→eq, eqb_refl}
-use Rattle.std.proofs.Math.ListN.{length, get_or, length-append}
-use Rattle.definitions.specs.Lists.{Pair, any_of, keep, count_from, member_nat}
-use Rattle.laws.specs.Bools.{holds→true, true→holds, fails→false, either, left_of, right_of, decide}
-use Rattle.laws.specs.Lists.{in_keep, kept, in_map, of_map, any_of_holds, any_witness, in_count, of_count, keep_append}
-use Rattle.laws.specs.Segments.{le_or_lt}
+use Rattle.std.proofs.Math.ListN.{length, get_or}
+use Rattle.definitions.specs.Lists.{Pair, any_of, count_from, member_nat}
+use Rattle.laws.specs.Bools.{either, left_of, right_of, same_test}
+use Rattle.laws.specs.Lists.{in_keep, kept, in_map, of_map, any_of_holds, any_witness, in_count, of_count}
 use Rattle.openers.specs.Meaning.{pair_of}
 use Rattle.shapes.specs.EdgeSets.{ends}
 use Rattle.shapes.specs.UsedPoints.{end_of, ends_used}
-use Rattle.figure_words.specs.Laws.{count_more}
+use Rattle.figure_words.specs.Laws.{range_is, any_is, filter_is}
 use Rattle.edge_marks.specs.Marks.{codes_marked, edges_marked}
 
 -- the points that are an end of a marked edge, the marked edges, the facets
 unfoldable pub summary_marked : ℕ → List Bool → ℕ → List ℕ
 summary_marked n marks facets = ends_used n (edges_marked marks) ∷ length (codes_marked marks 400) ∷ facets ∷ []
 
--- 1 for an end of a marked edge, 0 for any other vertex
-unfoldable pub end_at : List Bool → ℕ → ℕ
-end_at marks v = cond (end_of (edges_marked marks) v) 1 0
-
 -- ---- an end by the marks of its row and its column
 
 module _ (marks : List Bool) (v : ℕ) where
-  -- no marked edge joins the vertex and one below w
-  pub record NoneBelow (w : ℕ) : Type 0 where
-    pub first : (u : ℕ) → u < w → get_or marks (20 * v + u) false ≡ false
-    pub second : (u : ℕ) → u < w → get_or marks (20 * u + v) false ≡ false
+  -- a marked edge joins the vertex and another, in one order or the other
+  abbrev pub joins : ℕ → Bool
+  joins w = get_or marks (20 * v + w) false || get_or marks (20 * w + v) false
 
-  pub none_yet : NoneBelow 0
-  none_yet = record { first = λ u h. absurd (omega arith); second = λ u h. absurd (omega arith) }
-
-  pub none_more : (w : ℕ) → NoneBelow w → get_or marks (20 * v + w) false ≡ false → get_or marks (20 * w + v) false ≡ false → NoneBelow (w + 1)
-  none_more w h a b = record {
-    first = λ u l. ⊎_elim (λ (k : w ≤ u). let e : w ≡ u = omega arith in subst (λ (z : ℕ). get_or marks (20 * v + z) false ≡ false) e a) (h.first u) (le_or_lt w u);
-    second = λ u l. ⊎_elim (λ (k : w ≤ u). let e : w ≡ u = omega arith in subst (λ (z : ℕ). get_or marks (20 * z + v) false ≡ false) e b) (h.second u) (le_or_lt w u);
-  }
+  abbrev has : Pair → Bool
+  has e = member_nat v (ends e)
 
   -- a marked edge's ends
-  is_end_holds : (c : ℕ) → c < 400 → get_or marks c false ≡ true → T (member_nat v (ends (pair_of c))) → 1 ≡ end_at marks v
-  unfolding end_at end_of edges_marked codes_marked
+  is_end_holds : (c : ℕ) → c < 400 → T (get_or marks c false) → T (has (pair_of c)) → T (end_of (edges_marked marks) v)
+  unfolding end_of edges_marked codes_marked
   is_end_holds c h m x =
-      let here = in_keep (λ (code : ℕ). get_or marks code false) c (count_from 0 400) (in_count 0 400 c (omega arith) (omega arith)) (true→holds m) in
-      let test : Pair → Bool = λ e. member_nat v (ends e) in
-      ap (λ (b : Bool). cond b 1 0) (sym (holds→true (end_of (edges_marked marks) v) (any_of_holds test (pair_of c) (edges_marked marks) (in_map pair_of c (codes_marked marks 400) here) x)))
+      let here = in_keep (λ (code : ℕ). get_or marks code false) c (count_from 0 400) (in_count 0 400 c (omega arith) (omega arith)) m in
+      any_of_holds has (pair_of c) (edges_marked marks) (in_map pair_of c (codes_marked marks 400) here) x
 
-  pub first_end : (w : ℕ) → v < 20 → w < 20 → get_or marks (20 * v + w) false ≡ true → 1 ≡ end_at marks v
+  joined_ends : v < 20 → (w : ℕ) → w < 20 → T (joins w) → T (end_of (edges_marked marks) v)
   unfolding member_nat any_of ends pair_of
-  first_end w h k m =
+  joined_ends h w k t =
+      ⊎_elim
+      (λ (m : T (get_or marks (20 * v + w) false)).
       let c = 20 * v + w in
       let e : v ≡ c / 20 = omega arith in
-      is_end_holds c (omega arith) m (left_of (eqb v (c / 20)) (eqb v (c % 20) || false) (subst (λ (z : ℕ). T (eqb v z)) e (eqb_refl v)))
-
-  pub second_end : (w : ℕ) → v < 20 → w < 20 → get_or marks (20 * w + v) false ≡ true → 1 ≡ end_at marks v
-  unfolding member_nat any_of ends pair_of
-  second_end w h k m =
+      is_end_holds c (omega arith) m (left_of (eqb v (c / 20)) (eqb v (c % 20) || false) (subst (λ (z : ℕ). T (eqb v z)) e (eqb_refl v))))
+      (λ (m : T (get_or marks (20 * w + v) false)).
       let c = 20 * w + v in
       let e : v ≡ c % 20 = omega arith in
-      is_end_holds c (omega arith) m (right_of (eqb v (c / 20)) (eqb v (c % 20) || false) (left_of (eqb v (c % 20)) false (subst (λ (z : ℕ). T (eqb v z)) e (eqb_refl v))))
+      is_end_holds c (omega arith) m (right_of (eqb v (c / 20)) (eqb v (c % 20) || false) (left_of (eqb v (c % 20)) false (subst (λ (z : ℕ). T (eqb v z)) e (eqb_refl v)))))
+      (either (get_or marks (20 * v + w) false) (get_or marks (20 * w + v) false) t)
 
-  -- a vertex with no mark in its row and column is no end
-  no_end : NoneBelow 20 → T (end_of (edges_marked marks) v) → ⊥
+  -- an end of a marked edge is joined to the other end
+  end_joined : T (end_of (edges_marked marks) v) → T (any_of joins (count_from 0 20))
   unfolding end_of edges_marked codes_marked member_nat any_of ends pair_of
-  no_end n t =
-      let test : Pair → Bool = λ e. member_nat v (ends e) in
-      let x = any_witness test (edges_marked marks) t in
+  end_joined t =
+      let x = any_witness has (edges_marked marks) t in
       let y = of_map pair_of x.0 (codes_marked marks 400) x.1 in
       let c = y.0 in
       let k = kept (λ (code : ℕ). get_or marks code false) c (count_from 0 400) y.1 in
       let small = (of_count 0 400 c k.0).1 in
-      let marked : get_or marks c false ≡ true = holds→true (get_or marks c false) k.1 in
-      let is : T (test (pair_of c)) = subst (λ (p : Pair). T (test p)) y.2 x.2 in
+      let is : T (has (pair_of c)) = subst (λ (p : Pair). T (has p)) y.2 x.2 in
       ⊎_elim
       (λ (a : T (eqb v (c / 20))).
       let e = eqb→eq v (c / 20) a in
-      let s : 20 * v + c % 20 ≡ c = omega arith in
-      true_false (sym marked ∙ (ap (λ (z : ℕ). get_or marks z false) (sym s) ∙ n.first (c % 20) (omega arith))))
+      let s : c ≡ 20 * v + c % 20 = omega arith in
+      at (c % 20) (omega arith) (left_of (get_or marks (20 * v + c % 20) false) (get_or marks (20 * (c % 20) + v) false) (subst (λ (z : ℕ). T (get_or marks z false)) s k.1)))
       (λ (b : T (eqb v (c % 20) || false)).
       ⊎_elim
       (λ (a : T (eqb v (c % 20))).
       let e = eqb→eq v (c % 20) a in
-      let s : 20 * (c / 20) + v ≡ c = omega arith in
-      true_false (sym marked ∙ (ap (λ (z : ℕ). get_or marks z false) (sym s) ∙ n.second (c / 20) (omega arith))))
-      (λ f. f)
+      let s : c ≡ 20 * (c / 20) + v = omega arith in
+      at (c / 20) (omega arith) (right_of (get_or marks (20 * v + c / 20) false) (get_or marks (20 * (c / 20) + v) false) (subst (λ (z : ℕ). T (get_or marks z false)) s k.1)))
+      (λ f. absurd f)
       (either (eqb v (c % 20)) false b))
       (either (eqb v (c / 20)) (eqb v (c % 20) || false) is)
     where
-      true_false : true ≡ false → ⊥
-      true_false e = subst T e tt
+      at : (w : ℕ) → w < 20 → T (joins w) → T (any_of joins (count_from 0 20))
+      at w h j = any_of_holds joins w (count_from 0 20) (in_count 0 20 w (omega arith) (omega arith)) j
 
-  pub none_end : NoneBelow 20 → 0 ≡ end_at marks v
-  unfolding end_at
-  none_end n =
-      let b = end_of (edges_marked marks) v in
-      ap (λ (z : Bool). cond z 1 0) (sym (⊎_elim (λ (t : T b). absurd (no_end n t)) (fails→false b) (decide b)))
+  pub end_is : v < 20 → list_any joins (range_with_len 0 20) ≡ end_of (edges_marked marks) v
+  end_is h =
+      ap (list_any joins) (range_is 0 20)
+      ∙ (any_is joins (count_from 0 20)
+      ∙ same_test (any_of joins (count_from 0 20)) (end_of (edges_marked marks) v)
+      (λ t. let x = any_witness joins (count_from 0 20) t in let low = of_count 0 20 x.0 x.1 in joined_ends h x.0 (omega (arith, low.1)) x.2)
+      end_joined)
 
--- ---- one vertex more
+-- ---- the vertices that are ends
 
-module _ (marks : List Bool) where
-  abbrev edges : List Pair
-  edges = edges_marked marks
+pub ends_counted : (marks : List Bool) (n : ℕ) → length (filter (end_of (edges_marked marks)) (range_with_len 0 n)) ≡ ends_used n (edges_marked marks)
+unfolding ends_used
+ends_counted marks n = ap (λ (l : List ℕ). length (filter (end_of (edges_marked marks)) l)) (range_is 0 n) ∙ ap length (filter_is (end_of (edges_marked marks)) (count_from 0 n))
 
-  pub ends_none : 0 ≡ ends_used 0 edges
-  unfolding ends_used keep count_from
-  ends_none = refl
-
-  pub ends_count : (v many one : ℕ) → one ≡ end_at marks v → many ≡ ends_used v edges → (many + one ≡ ends_used (v + 1) edges) × (one ≤ 1)
-  unfolding ends_used end_at keep
-  ends_count v many one e f =
-      let more = ap (keep (end_of edges)) (count_more v) ∙ keep_append (end_of edges) (count_from 0 v) (v ∷ []) in
-      go (end_of edges v) e (ap length more ∙ length-append (keep (end_of edges) (count_from 0 v)) (keep (end_of edges) (v ∷ [])))
-    where
-      before : ℕ
-      before = length (keep (end_of edges) (count_from 0 v))
-
-      after : ℕ
-      after = length (keep (end_of edges) (count_from 0 (v + 1)))
-
-      go : (b : Bool) → one ≡ cond b 1 0 → after ≡ before + length (cond b (v ∷ []) []) → (many + one ≡ after) × (one ≤ 1)
-      go true p q = (omega arith, omega arith)
-      go false p q = (omega arith, omega arith)
+pub ends_few : (marks : List Bool) (n : ℕ) → length (filter (end_of (edges_marked marks)) (range_with_len 0 n)) ≤ n
+ends_few marks n =
+    omega (arith, length-filter (end_of (edges_marked marks)) (range_with_len 0 n), count_by-le-length (end_of (edges_marked marks)) (range_with_len 0 n), length-range_with_len 0 n)

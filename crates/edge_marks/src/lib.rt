@@ -12,9 +12,9 @@ ghost use Rattle.openers.specs.Rows.{rows_in};
 ghost use Rattle.shapes.specs.EdgeSets.{polygon};
 ghost use Rattle.shapes.specs.FigureWords.{edge_words};
 ghost use Rattle.figure_words.specs.Wrote.{Wrote};
-ghost use Rattle.shapes.specs.UsedPoints.{ends_used};
-ghost use Rattle.edge_marks.specs.Summaries.{end_at, summary_marked};
-ghost use Rattle.edge_marks.specs.Marks.{EdgesFit, image_codes, marks_of, codes_marked, edges_marked, mark_at, mark_words};
+ghost use Rattle.shapes.specs.UsedPoints.{end_of, ends_used};
+ghost use Rattle.edge_marks.specs.Summaries.{summary_marked};
+ghost use Rattle.edge_marks.specs.Marks.{EdgesFit, image_codes, marks_of, codes_marked, edges_marked};
 
 use order::Area;
 
@@ -26,11 +26,9 @@ pub fn mark_facet(edges: &[u8], x: usize, rows: &[u8], m: usize, marks: &mut [bo
     ensures { marks.new ≡ marked marks.old (image_codes (rows_in 32 m rows.now) (list_at 1024 edges.now x)) }
 {
     let n = order::length_of(edges, 1024, x);
-    let mut i = 0;
-    while i < n {
+    for i in 0..n {
         let code = order::item_of(edges, 1024, x, i) as usize;
         openers::mark_pair_images(rows, m, code / 20, code % 20, marks);
-        i += 1;
     }
 }
 
@@ -48,43 +46,18 @@ pub fn mark_list(
 {
     let mut marks = [false; 400];
     let n = order::length_at(lists, area, k);
-    let mut i = 0;
-    while i < n {
+    for i in 0..n {
         let x = order::item_at(lists, area, k, i) as usize;
         mark_facet(edges, x, rows, m, &mut marks);
-        i += 1;
     }
     marks
-}
-
-pub fn mark_at(marks: &[bool; 400], code: usize) -> usize
-    requires { code < 400 }
-    ensures { result ≡ mark_at marks.now code }
-{
-    if marks[code] { 1 } else { 0 }
 }
 
 // How many edges are marked.
 pub fn count_marks(marks: &[bool; 400]) -> usize
     ensures { (result ≡ length (codes_marked marks.now 400)) × (result ≤ 400) }
 {
-    let mut many = 0;
-    let mut code = 0;
-    while code < 400 {
-        many += mark_at(marks, code);
-        code += 1;
-    }
-    many
-}
-
-fn write_mark(answer: &mut [u8], at: usize, marks: &[bool; 400], code: usize) -> usize
-    requires { code < 400 }
-    ensures { Wrote answer.old at answer.new result (mark_words marks.now code) }
-{
-    if marks[code] {
-        return figure_words::write_edge(answer, at, code);
-    }
-    at
+    marks.iter().filter(|marked| **marked).count()
 }
 
 // The marked edges, upward.
@@ -92,10 +65,10 @@ pub fn write_marks(answer: &mut [u8], at: usize, marks: &[bool; 400]) -> usize
     ensures { Wrote answer.old at answer.new result (edge_words (edges_marked marks.now)) }
 {
     let mut cursor = at;
-    let mut code = 0;
-    while code < 400 {
-        cursor = write_mark(answer, cursor, marks, code);
-        code += 1;
+    for (code, marked) in marks.iter().enumerate() {
+        if *marked {
+            cursor = figure_words::write_edge(answer, cursor, code);
+        }
     }
     cursor
 }
@@ -114,22 +87,12 @@ pub fn write_marked(answer: &mut [u8], at: usize, n: usize, marks: &[bool; 400])
 
 // ---- summaries
 
-// 1 for a vertex that is an end of some marked edge, 0 for any other.
-fn end_at(marks: &[bool; 400], v: usize) -> usize
+// Whether a vertex is an end of some marked edge.
+fn is_end(marks: &[bool; 400], v: usize) -> bool
     requires { v < 20 }
-    ensures { result ≡ end_at marks.now v }
+    ensures { result ≡ end_of (edges_marked marks.now) v }
 {
-    let mut w = 0;
-    while w < 20 {
-        if marks[20 * v + w] {
-            return 1;
-        }
-        if marks[20 * w + v] {
-            return 1;
-        }
-        w += 1;
-    }
-    0
+    (0..20).any(|w| marks[20 * v + w] || marks[20 * w + v])
 }
 
 // How many of n vertices are an end of some marked edge.
@@ -137,13 +100,7 @@ fn count_ends(marks: &[bool; 400], n: usize) -> usize
     requires { n ≤ 20 }
     ensures { (result ≡ ends_used n (edges_marked marks.now)) × (result ≤ n) }
 {
-    let mut many = 0;
-    let mut v = 0;
-    while v < n {
-        many += end_at(marks, v);
-        v += 1;
-    }
-    many
+    (0..n).filter(|v| is_end(marks, *v)).count()
 }
 
 // The summary of a figure over n points, with the marked edges, which are so many, and with so many facets, at every

@@ -3,7 +3,9 @@ use mathlib.Core.Path.{◌≡◌, refl, sym, ap, ◌∙◌, subst}
 use mathlib.Core.Bool.{Bool, true, false, cond}
 use mathlib.Core.List.{List, [], ◌∷◌, ◌++◌, map, flat_map, append-nil, append_assoc, map-append}
 use mathlib.Core.Logic.{⊎_elim}
-use mathlib.Core.Option.{Option, some, none}
+use Rattle.std.specs.Prelude.{Option, Some, None}
+use Rattle.std.specs.Option.{is_some}
+use Rattle.std.specs.Int.{from_bool}
 use Prim.Native.Nat.{ℕ, zero, suc, ◌+◌, ◌*◌, ◌/◌, ◌%◌, ◌≤◌, ◌<◌}
 use native.Mathlib.Numerals.{add-one}
 use native.Mathlib.Decide.{ℕ_discrete}
@@ -97,8 +99,8 @@ compounds_none at s = refl
 
 compound_length : (a : ℕ) (o : Option Pair) → (length (compound_at a o) ≡ length (compound_at 0 o)) × (length (compound_at 0 o) ≤ 1)
 unfolding compound_at
-compound_length a none = (refl, omega arith)
-compound_length a (some p) = (refl, omega arith)
+compound_length a None = (refl, omega arith)
+compound_length a (Some p) = (refl, omega arith)
 
 pub compounds_count : (at i : ℕ) (s : List ℕ) (many one : ℕ) → one ≡ length (compound_at 0 (label_of (number_at s (at + 4 * i) 4))) → many ≡ length (compounds_from 0 (labels_in at i s))
     → (many + one ≡ length (compounds_from 0 (labels_in at (i + 1) s))) × (one ≤ 1)
@@ -114,21 +116,28 @@ pub words_none : (at : ℕ) (s : List ℕ) → [] ≡ flat_map compound_words (c
 unfolding flat_map
 words_none at s = ap (flat_map compound_words) (sym (compounds_none at s))
 
-pub count_label_none : (n : ℕ) → n < 65536 → 0 ≡ length (compound_at 0 (label_of n))
-unfolding compound_at label_of
-count_label_none n h = rw (eq-eqb (n / 65536) 0 (omega arith)) refl
+-- ---- a label
 
-pub count_label_some : (n : ℕ) → 65536 ≤ n → 1 ≡ length (compound_at 0 (label_of n))
-unfolding compound_at label_of
-count_label_some n h = rw (ne_eqb (n / 65536) 0 (λ e. let z : n / 65536 ≡ 0 = e in omega arith)) refl
+pub label_none : (n : ℕ) → n < 65536 → None ≡ label_of n
+unfolding label_of
+label_none n h = rw (eq-eqb (n / 65536) 0 (omega arith)) refl
 
-pub label_words_none : (a n : ℕ) → n < 65536 → [] ≡ flat_map compound_words (compound_at a (label_of n))
-unfolding compound_at label_of flat_map
-label_words_none a n h = rw (eq-eqb (n / 65536) 0 (omega arith)) refl
+pub label_some : (n : ℕ) → 65536 ≤ n → Some (n % 65536, n / 65536) ≡ label_of n
+unfolding label_of
+label_some n h = rw (ne_eqb (n / 65536) 0 (λ e. let z : n / 65536 ≡ 0 = e in omega arith)) refl
 
-pub label_words_some : (a n : ℕ) → 65536 ≤ n → a ∷ n % 65536 ∷ n / 65536 ∷ [] ≡ flat_map compound_words (compound_at a (label_of n))
-unfolding compound_at label_of flat_map compound_words
-label_words_some a n h = rw (ne_eqb (n / 65536) 0 (λ e. let z : n / 65536 ≡ 0 = e in omega arith)) refl
+pub compound_some : (o : Option Pair) → from_bool (is_some o) ≡ length (compound_at 0 o)
+unfolding compound_at
+compound_some None = refl
+compound_some (Some p) = refl
+
+pub none_written : (a : ℕ) → [] ≡ flat_map compound_words (compound_at a None)
+unfolding compound_at flat_map
+none_written a = refl
+
+pub some_written : (a : ℕ) (p : Pair) → a ∷ p.0 ∷ p.1 ∷ [] ≡ flat_map compound_words (compound_at a (Some p))
+unfolding compound_at flat_map compound_words
+some_written a p = refl
 
 -- ---- the first facet of a facet's orbit is no later than it
 

@@ -16,6 +16,8 @@ ghost use Rattle.figure_words.specs.Wrote.{Wrote};
 ghost use Rattle.possible_facets.specs.Facets.{item_words, list_words, OwnersBelow, Firsts};
 ghost use Rattle.entry_lists.specs.Counts.{count_words};
 
+use words::Word;
+
 // ---- orbits and split lists
 
 // How many orbits there are, and how many sets each has.
@@ -24,10 +26,8 @@ pub fn write_counts(answer: &mut [u8], at: usize, ws: &[u8], orbits: usize) -> u
     ensures { Wrote answer.old at answer.new result (count_words (orbits_in ws.now orbits)) }
 {
     let mut cursor = figure_words::push(answer, at, orbits as u32);
-    let mut i = 0;
-    while i < orbits {
-        cursor = figure_words::push(answer, cursor, words::get_u32(ws, 8 * i + 4));
-        i += 1;
+    for i in 0..orbits {
+        cursor = figure_words::push(answer, cursor, u32::get(ws, 8 * i + 4));
     }
     cursor
 }
@@ -38,10 +38,8 @@ pub fn first_facets(owners: &[u8], facets: usize) -> [usize; 256]
     ensures { Firsts (words 2 owners.now facets) result }
 {
     let mut firsts = [0; 256];
-    let mut x = facets;
-    while 0 < x {
-        x -= 1;
-        let orbit = words::get_u16(owners, 2 * x) as usize;
+    for x in (0..facets).rev() {
+        let orbit = u16::get(owners, 2 * x) as usize;
         firsts[orbit] = x;
     }
     firsts
@@ -59,7 +57,7 @@ fn write_item(
     requires { (2 * facets ≤ length owners.now) × (facets < 4294967296) × OwnersBelow 256 (words 2 owners.now facets) × Firsts (words 2 owners.now facets) firsts.now × (x < facets) }
     ensures { Wrote answer.old at answer.new result (item_words (words 2 owners.now facets) x) }
 {
-    let orbit = words::get_u16(owners, 2 * x) as usize;
+    let orbit = u16::get(owners, 2 * x) as usize;
     let first = firsts[orbit];
     let number = figure_words::push(answer, at, orbit as u32);
     figure_words::push(answer, number, (x - first) as u32)
@@ -80,22 +78,23 @@ pub fn write_list(
 {
     let n = order::length_of(lists, 1024, k);
     let mut cursor = figure_words::push(answer, at, n as u32);
-    let mut i = 0;
-    while i < n {
+    for i in 0..n {
         let x = order::item_of(lists, 1024, k, i) as usize;
         cursor = write_item(answer, cursor, owners, facets, firsts, x);
-        i += 1;
     }
     cursor
 }
 
 // ---- compounds
 
-// 1 for a label that names two lists, 0 for one that names none.
-fn is_compound(label: u32) -> usize
-    ensures { result ≡ length (compound_at 0 (label_of label)) }
+// The two lists whose union is the list with a label, or none: a label of four bytes holds the first in its lower half, the second in its upper one, and 0 where there are none.
+fn components(label: u32) -> Option<(u32, u32)>
+    ensures { result ≡ label_of label }
 {
-    if label < 65536 { 0 } else { 1 }
+    if label < 65536 {
+        return None;
+    }
+    Some((label % 65536, label / 65536))
 }
 
 fn count_compounds(s: &[u8], at: usize, n: usize) -> usize
@@ -103,10 +102,8 @@ fn count_compounds(s: &[u8], at: usize, n: usize) -> usize
     ensures { (result ≡ length (compounds_from 0 (labels_in at n s.now))) × (result ≤ n) }
 {
     let mut many = 0;
-    let mut i = 0;
-    while i < n {
-        many += is_compound(words::get_u32(s, at + 4 * i));
-        i += 1;
+    for i in 0..n {
+        many += usize::from(components(u32::get(s, at + 4 * i)).is_some());
     }
     many
 }
@@ -115,10 +112,12 @@ fn write_compound(answer: &mut [u8], at: usize, whole: usize, label: u32) -> usi
     requires { whole < 4294967296 }
     ensures { Wrote answer.old at answer.new result (flat_map compound_words (compound_at whole (label_of label))) }
 {
-    if label < 65536 {
-        return at;
+    match components(label) {
+        None => at,
+        Some((first, second)) => {
+            figure_words::push_three(answer, at, whole as u32, first, second)
+        }
     }
-    figure_words::push_three(answer, at, whole as u32, label % 65536, label / 65536)
 }
 
 // How many compounds a table of n labels has, and each, ascending.
@@ -128,10 +127,8 @@ pub fn write_compounds(answer: &mut [u8], at: usize, s: &[u8], labels: usize, n:
 {
     let many = count_compounds(s, labels, n);
     let mut cursor = figure_words::push(answer, at, many as u32);
-    let mut i = 0;
-    while i < n {
-        cursor = write_compound(answer, cursor, i, words::get_u32(s, labels + 4 * i));
-        i += 1;
+    for i in 0..n {
+        cursor = write_compound(answer, cursor, i, u32::get(s, labels + 4 * i));
     }
     cursor
 }

@@ -1,13 +1,12 @@
 -- The turns of the loops over images and over the edges of an image. Leans on Images.
 use mathlib.Core.Path.{◌≡◌, refl, sym, ap, ◌∙◌}
-use mathlib.Core.Bool.{Bool, true, false, cond, not, ◌&&◌}
+use mathlib.Core.Bool.{Bool, true, false, cond, ◌&&◌}
 use mathlib.Core.List.{List, [], ◌∷◌, ◌++◌, map, flat_map, append-nil, append_assoc, map-append}
 use mathlib.Core.Logic.{⊎_elim}
 use Prim.Native.Nat.{ℕ, suc, ◌+◌, ◌*◌, ◌%◌, ◌≤◌, ◌<◌}
 use native.Mathlib.Numerals.{add-one}
 use native.Mathlib.Omega.{arith}
-use borrow.Author.Tests.{le-leb, lt-leb}
-use lib.Dec.{eqb, leb}
+use lib.Dec.{leb}
 use lib.ListN.{length, get_or, take, drop, set, replicate, length-set, drop_of_length-le}
 use lib.Seq.{drop-cons, get_or-drop, get_or-set_same, get_or-set_other}
 use Rattle.definitions.specs.Lists.{keep, count_from}
@@ -17,7 +16,10 @@ use Rattle.openers.specs.Marks.{marked, marked_more}
 use Rattle.openers.specs.Rows.{ImagesBelow}
 use Rattle.figure_words.specs.Wrote.{Wrote, wrote_none, wrote_then, wrote_as}
 use Rattle.edge_marks.specs.Marks.{codes_marked, EdgesFit}
-use Rattle.facet_images.specs.Images.{NumbersOf, number_words, facet_words, next_choice, chosen_from}
+use Rattle.facet_images.specs.Images.{NumbersOf, facet_words, is_wanted, is_chosen, next_choice, chosen_from}
+use Rattle.facet_images.specs.declared.Choice.{Choice}
+use Rattle.facet_images.specs.declared.Choice.TheVariants.{Left, Chosen, Repeated}
+use Rattle.std.specs.Int.{from_bool}
 use Rattle.edge_marks.specs.MarkTurns.{codes_more}
 
 -- ---- edge numbers
@@ -80,16 +82,9 @@ row_fits m row rows edges h f = record {
 -- ---- the edges of an image
 
 module _ (image : List Bool) (numbers : List ℕ) where
-  pub number_some : (c : ℕ) → get_or image c false ≡ true → get_or numbers c 0 ∷ [] ≡ number_words image numbers c
-  unfolding number_words
-  number_some c e = rw e refl
-
-  pub number_none : (c : ℕ) → get_or image c false ≡ false → [] ≡ number_words image numbers c
-  unfolding number_words
-  number_none c e = rw e refl
-
-  pub numbers_turn : (c : ℕ) → map (λ (code : ℕ). get_or numbers code 0) (codes_marked image c) ++ number_words image numbers c ≡ map (λ (code : ℕ). get_or numbers code 0) (codes_marked image (c + 1))
-  unfolding number_words keep
+  -- a mark that is set adds a number, and one that is not adds none
+  numbers_turn : (c : ℕ) → map (λ (code : ℕ). get_or numbers code 0) (codes_marked image c) ++ cond (get_or image c false) (get_or numbers c 0 ∷ []) [] ≡ map (λ (code : ℕ). get_or numbers code 0) (codes_marked image (c + 1))
+  unfolding keep
   numbers_turn c =
       go (get_or image c false)
       ∙ sym (ap (map (λ (code : ℕ). get_or numbers code 0)) (codes_more image c) ∙ map-append (λ (code : ℕ). get_or numbers code 0) (codes_marked image c) (keep (λ (code : ℕ). get_or image code false) (c ∷ [])))
@@ -101,6 +96,14 @@ module _ (image : List Bool) (numbers : List ℕ) where
       go true = refl
       go false = refl
 
+  pub number_more : (c : ℕ) → get_or image c false ≡ true → map (λ (code : ℕ). get_or numbers code 0) (codes_marked image c) ++ (get_or numbers c 0 ∷ []) ≡ map (λ (code : ℕ). get_or numbers code 0) (codes_marked image (c + 1))
+  number_more c e = ap (λ (b : Bool). map (λ (code : ℕ). get_or numbers code 0) (codes_marked image c) ++ cond b (get_or numbers c 0 ∷ []) []) (sym e) ∙ numbers_turn c
+
+  pub number_passed : (c : ℕ) → get_or image c false ≡ false → map (λ (code : ℕ). get_or numbers code 0) (codes_marked image c) ≡ map (λ (code : ℕ). get_or numbers code 0) (codes_marked image (c + 1))
+  number_passed c e =
+      sym (append-nil (map (λ (code : ℕ). get_or numbers code 0) (codes_marked image c)))
+      ∙ (ap (λ (b : Bool). map (λ (code : ℕ). get_or numbers code 0) (codes_marked image c) ++ cond b (get_or numbers c 0 ∷ []) []) (sym e) ∙ numbers_turn c)
+
   pub numbers_start : [] ≡ map (λ (code : ℕ). get_or numbers code 0) (codes_marked image 0)
   unfolding codes_marked keep count_from
   numbers_start = refl
@@ -111,66 +114,60 @@ module _ (image : List Bool) (numbers : List ℕ) where
 
 -- ---- choosing
 
-pub was_flagged : (before id : ℕ) → 131072 ≤ id → (b : Bool) → b ≡ not (eqb before 0) → b ≡ (leb 131072 id && not (eqb before 0))
-was_flagged before id h b e = rw (le-leb 131072 id h) e
-
-pub not_flagged : (before id : ℕ) → id < 131072 → false ≡ (leb 131072 id && not (eqb before 0))
-not_flagged before id h = rw (lt-leb 131072 id h) refl
-
 module _ (inside : List Bool) where
-  pub choice_two : (before id : ℕ) → (leb 131072 id && not (eqb before 0)) ≡ true → 2 ≡ next_choice inside before id
+  pub choice_repeated : (before : Choice) (id : ℕ) → (leb 131072 id && is_wanted before) ≡ true → Repeated ≡ next_choice inside before id
   unfolding next_choice
-  choice_two before id e = rw e refl
+  choice_repeated before id e = rw e refl
 
-  pub choice_one : (before id : ℕ) → (leb 131072 id && not (eqb before 0)) ≡ false → get_or inside (id % 1024) false ≡ true → 1 ≡ next_choice inside before id
+  pub choice_first : (before : Choice) (id : ℕ) → (leb 131072 id && is_wanted before) ≡ false → get_or inside (id % 1024) false ≡ true → Chosen ≡ next_choice inside before id
   unfolding next_choice
-  choice_one before id e f = rw (e, f) refl
+  choice_first before id e f = rw (e, f) refl
 
-  pub choice_none : (before id : ℕ) → (leb 131072 id && not (eqb before 0)) ≡ false → get_or inside (id % 1024) false ≡ false → 0 ≡ next_choice inside before id
+  pub choice_none : (before : Choice) (id : ℕ) → (leb 131072 id && is_wanted before) ≡ false → get_or inside (id % 1024) false ≡ false → Left ≡ next_choice inside before id
   unfolding next_choice
   choice_none before id e f = rw (e, f) refl
 
   module _ (ids : List ℕ) where
-    pub chosen_count : (i before choice one total whole : ℕ) → i < length ids → choice ≡ next_choice inside before (get_or ids i 0) → one ≡ cond (eqb choice 1) 1 0
+    pub chosen_count : (i : ℕ) (before choice : Choice) (one total whole : ℕ) → i < length ids → choice ≡ next_choice inside before (get_or ids i 0) → one ≡ from_bool (is_chosen choice)
         → total + length (chosen_from inside before (drop i ids)) ≡ whole → (total + one + length (chosen_from inside choice (drop (i + 1) ids)) ≡ whole) × (one ≤ 1)
     unfolding chosen_from
     chosen_count i before choice one total whole h c e f =
         let d : drop i ids ≡ get_or ids i 0 ∷ drop (suc i) ids = drop-cons ids i 0 h in
         let later = chosen_from inside choice (drop (suc i) ids) in
-        let next : length (chosen_from inside before (drop i ids)) ≡ length (cond (eqb choice 1) (get_or ids i 0 ∷ later) later) = rw (d, ← c) refl in
+        let next : length (chosen_from inside before (drop i ids)) ≡ length (cond (is_chosen choice) (get_or ids i 0 ∷ later) later) = rw (d, ← c) refl in
         let g = ap (λ (j : ℕ). length (chosen_from inside choice (drop j ids))) (add-one i) in
-        go (eqb choice 1) e next g
+        go (is_chosen choice) e next g
       where
-        go : (b : Bool) → one ≡ cond b 1 0
+        go : (b : Bool) → one ≡ from_bool b
             → length (chosen_from inside before (drop i ids)) ≡ length (cond b (get_or ids i 0 ∷ chosen_from inside choice (drop (suc i) ids)) (chosen_from inside choice (drop (suc i) ids)))
             → length (chosen_from inside choice (drop (i + 1) ids)) ≡ length (chosen_from inside choice (drop (suc i) ids))
             → (total + one + length (chosen_from inside choice (drop (i + 1) ids)) ≡ whole) × (one ≤ 1)
         go true p q r = (omega (arith, p, q, r, f), omega (arith, p))
         go false p q r = (omega (arith, p, q, r, f), omega (arith, p))
 
-    pub chosen_end : (i before : ℕ) → length ids ≤ i → chosen_from inside before (drop i ids) ≡ []
+    pub chosen_end : (i : ℕ) (before : Choice) → length ids ≤ i → chosen_from inside before (drop i ids) ≡ []
     unfolding chosen_from
     chosen_end i before h = rw (drop_of_length-le ids h) refl
 
     -- what is written and what is left are the whole
     module _ (f : ℕ → List ℕ) where
-      pub record Partly (i choice : ℕ) (before : List ℕ) (at : ℕ) (after : List ℕ) (r : ℕ) : Type 0 where
+      pub record Partly (i : ℕ) (choice : Choice) (before : List ℕ) (at : ℕ) (after : List ℕ) (r : ℕ) : Type 0 where
         pub words : List ℕ
         pub wrote : Wrote before at after r words
-        pub rest : words ++ flat_map f (chosen_from inside choice (drop i ids)) ≡ flat_map f (chosen_from inside 0 ids)
+        pub rest : words ++ flat_map f (chosen_from inside choice (drop i ids)) ≡ flat_map f (chosen_from inside Left ids)
 
-      pub partly_none : (s : List ℕ) (at : ℕ) → Partly 0 0 s at s at
+      pub partly_none : (s : List ℕ) (at : ℕ) → Partly 0 Left s at s at
       partly_none s at = record { words = []; wrote = wrote_none s at; rest = refl }
 
-      pub partly_more : {i choice : ℕ} {s t u : List ℕ} {at q r : ℕ} → Partly i choice s at t q → (next : ℕ) → i < length ids → next ≡ next_choice inside choice (get_or ids i 0)
-          → Wrote t q u r (cond (eqb next 1) (f (get_or ids i 0)) []) → Partly (i + 1) next s at u r
+      pub partly_more : {i : ℕ} {choice : Choice} {s t u : List ℕ} {at q r : ℕ} → Partly i choice s at t q → (next : Choice) → i < length ids → next ≡ next_choice inside choice (get_or ids i 0)
+          → Wrote t q u r (cond (is_chosen next) (f (get_or ids i 0)) []) → Partly (i + 1) next s at u r
       unfolding chosen_from flat_map
       partly_more {i} {choice} {s} {t} {u} {at} {q} {r} p next h c w =
           let d : drop i ids ≡ get_or ids i 0 ∷ drop (suc i) ids = drop-cons ids i 0 h in
           let later = chosen_from inside next (drop (suc i) ids) in
-          let step : flat_map f (chosen_from inside choice (drop i ids)) ≡ flat_map f (cond (eqb next 1) (get_or ids i 0 ∷ later) later) = rw (d, ← c) refl in
-          let one = cond (eqb next 1) (f (get_or ids i 0)) [] in
-          let split : flat_map f (cond (eqb next 1) (get_or ids i 0 ∷ later) later) ≡ one ++ flat_map f later = go (eqb next 1) in
+          let step : flat_map f (chosen_from inside choice (drop i ids)) ≡ flat_map f (cond (is_chosen next) (get_or ids i 0 ∷ later) later) = rw (d, ← c) refl in
+          let one = cond (is_chosen next) (f (get_or ids i 0)) [] in
+          let split : flat_map f (cond (is_chosen next) (get_or ids i 0 ∷ later) later) ≡ one ++ flat_map f later = go (is_chosen next) in
           record {
             words = p.words ++ one;
             wrote = wrote_then p.wrote w;
@@ -183,7 +180,7 @@ module _ (inside : List Bool) where
           go true = refl
           go false = refl
 
-      pub partly_all : {i choice : ℕ} {s t : List ℕ} {at q : ℕ} → Partly i choice s at t q → length ids ≤ i → Wrote s at t q (flat_map f (chosen_from inside 0 ids))
+      pub partly_all : {i : ℕ} {choice : Choice} {s t : List ℕ} {at q : ℕ} → Partly i choice s at t q → length ids ≤ i → Wrote s at t q (flat_map f (chosen_from inside Left ids))
       unfolding flat_map
       partly_all {i} {choice} p h =
           wrote_as p.wrote (sym (append-nil p.words) ∙ (ap (λ (l : List ℕ). p.words ++ flat_map f l) (sym (chosen_end i choice h)) ∙ p.rest))

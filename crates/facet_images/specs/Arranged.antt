@@ -1,9 +1,9 @@
 -- The images of all facets under all rows as ids in the order of their edges, equal ones side by side and flagged: what the order means, and that choosing the first of each run of equal
 -- images, among those of some facets, gives those facets' images in order, each once. Leans on Images and on the laws of ascending lists.
-use Rattle.std.specs.Prelude.{◌≡◌, ◌&&◌, ◌⊎◌, T, eqb, leb, get_or}
+use Rattle.std.specs.Prelude.{◌≡◌, ◌&&◌, ◌⊎◌, T, leb, get_or}
 use Rattle.std.proofs.Math.Path.{refl, ap}
 use Rattle.std.proofs.Common.{sym, ◌∙◌, subst, inl, inr}
-use Rattle.std.proofs.Math.Bool.{Bool, true, false, cond, not}
+use Rattle.std.proofs.Math.Bool.{Bool, true, false, cond}
 use mathlib.Core.List.{List, [], ◌∷◌, map, Memᴰ}
 use Rattle.std.proofs.Math.Logic.{⊎_elim}
 use Prim.Native.Nat.{Ordering}
@@ -13,7 +13,9 @@ use Rattle.laws.specs.Lists.{Mem, here, there}
 use Rattle.laws.specs.Orders.{pair_lists}
 use Rattle.laws.specs.Ascending.{Ascends, same_ascending, in_order_ascends, in_in_order, of_in_order}
 use Rattle.shapes.specs.EdgeSets.{polygons_in_order}
-use Rattle.facet_images.specs.Images.{next_choice, chosen_from}
+use Rattle.facet_images.specs.declared.Choice.{Choice}
+use Rattle.facet_images.specs.declared.Choice.TheVariants.{Left, Chosen, Repeated}
+use Rattle.facet_images.specs.Images.{is_wanted, is_chosen, next_choice, chosen_from}
 
 -- an id of an image that equals the one before it
 abbrev pub flagged : ℕ → Bool
@@ -55,13 +57,13 @@ module _ (image : ℕ → List Pair) where
         let other = chosen_by false ids in
         cond (flagged id && done) passed (cond (wanted id) (id ∷ passed) other)
 
-    chosen_by_holds : (before : ℕ) (ids : List ℕ) → chosen_from inside before ids ≡ chosen_by (not (eqb before 0)) ids
+    chosen_by_holds : (before : Choice) (ids : List ℕ) → chosen_from inside before ids ≡ chosen_by (is_wanted before) ids
     unfolding chosen_from next_choice chosen_by
     chosen_by_holds before [] = refl
-    chosen_by_holds before (id ∷ ids) = go (flagged id && not (eqb before 0)) (wanted id) (chosen_by_holds 2 ids) (chosen_by_holds 1 ids) (chosen_by_holds 0 ids)
+    chosen_by_holds before (id ∷ ids) = go (flagged id && is_wanted before) (wanted id) (chosen_by_holds Repeated ids) (chosen_by_holds Chosen ids) (chosen_by_holds Left ids)
       where
-        go : (b p : Bool) → chosen_from inside 2 ids ≡ chosen_by true ids → chosen_from inside 1 ids ≡ chosen_by true ids → chosen_from inside 0 ids ≡ chosen_by false ids
-            → cond (eqb (cond b 2 (cond p 1 0)) 1) (id ∷ chosen_from inside (cond b 2 (cond p 1 0)) ids) (chosen_from inside (cond b 2 (cond p 1 0)) ids)
+        go : (b p : Bool) → chosen_from inside Repeated ids ≡ chosen_by true ids → chosen_from inside Chosen ids ≡ chosen_by true ids → chosen_from inside Left ids ≡ chosen_by false ids
+            → cond (is_chosen (cond b Repeated (cond p Chosen Left))) (id ∷ chosen_from inside (cond b Repeated (cond p Chosen Left)) ids) (chosen_from inside (cond b Repeated (cond p Chosen Left)) ids)
             ≡ cond b (chosen_by true ids) (cond p (id ∷ chosen_by true ids) (chosen_by false ids))
         go true p two one none = two
         go false true two one none = ap (λ (l : List ℕ). id ∷ l) one
@@ -193,9 +195,9 @@ module _ (image : ℕ → List Pair) where
     -- the images chosen are those of the facets wanted, in order, each once
     pub chosen_in_order : (ids : List ℕ) → Runs ids → (l : List (List Pair))
         → ((x : ℕ) → Mem x ids → wanted x ≡ true → Mem (image x) l) → ((y : List Pair) → Mem y l → From ids y)
-        → map image (chosen_from inside 0 ids) ≡ polygons_in_order l
+        → map image (chosen_from inside Left ids) ≡ polygons_in_order l
     chosen_in_order ids runs l into back =
-        ap (map image) (chosen_by_holds 0 ids)
+        ap (map image) (chosen_by_holds Left ids)
         ∙ same_ascending compare_pairs pair_lists (map image (chosen_by false ids)) (polygons_in_order l) (all_ascend ids runs) (in_order_ascends compare_pairs pair_lists l)
         (record {
           into = λ y i. let r = of_chosen false ids y i in in_in_order compare_pairs pair_lists y l (subst (λ (z : List Pair). Mem z l) (sym r.3) (into r.0 r.1 r.2));

@@ -2,7 +2,7 @@
 
 #![tactic(auto)]
 
-ghost use Rattle.std.specs.Prelude.{◌≡◌, ◌+◌, ◌*◌, ◌-◌, ◌/◌, ◌%◌, ◌≤◌, ◌<◌, false, cond, not, ◌&&◌, eqb, leb, length, replicate};
+ghost use Rattle.std.specs.Prelude.{◌≡◌, ◌+◌, ◌*◌, ◌-◌, ◌/◌, ◌%◌, ◌≤◌, ◌<◌, false, cond, ◌&&◌, leb, length, replicate};
 ghost use mathlib.Core.List.{[], flat_map};
 ghost use Rattle.words.specs.Words.{words};
 ghost use Rattle.pool.specs.Pool.{count};
@@ -11,9 +11,11 @@ ghost use Rattle.order.specs.Numbers.{ItemsBelow};
 ghost use Rattle.openers.specs.Marks.{marked};
 ghost use Rattle.figure_words.specs.Wrote.{Wrote};
 ghost use Rattle.edge_marks.specs.Marks.{EdgesFit};
-ghost use Rattle.facet_images.specs.Images.{NumbersOf, NumbersBelow, image_marks, number_words, facet_words, id_words, IdsBelow, next_choice, chosen_from};
+ghost use Rattle.facet_images.specs.Images.{NumbersOf, NumbersBelow, image_marks, facet_words, id_words, IdsBelow, is_wanted, is_chosen, next_choice, chosen_from};
+ghost use Rattle.facet_images.specs.declared.Choice.TheVariants.{Left};
 
 use order::Area;
+use words::Word;
 
 // ---- the facets of a polyhedron
 
@@ -23,11 +25,9 @@ pub fn edge_numbers(marks: &[bool; 400]) -> [usize; 400]
 {
     let mut numbers = [0; 400];
     let mut many = 0;
-    let mut code = 0;
-    while code < 400 {
+    for (code, marked) in marks.iter().enumerate() {
         numbers[code] = many;
-        many += edge_marks::mark_at(marks, code);
-        code += 1;
+        many += usize::from(*marked);
     }
     numbers
 }
@@ -39,11 +39,9 @@ pub fn list_marks(lists: &[u8], area: Area, k: usize) -> [bool; 1024]
 {
     let mut marks = [false; 1024];
     let n = order::length_at(lists, area, k);
-    let mut i = 0;
-    while i < n {
+    for i in 0..n {
         let x = order::item_at(lists, area, k, i) as usize;
         marks[x] = true;
-        i += 1;
     }
     marks
 }
@@ -59,23 +57,6 @@ pub fn image_marks(edges: &[u8], x: usize, rows: &[u8], m: usize, row: usize) ->
     marks
 }
 
-// The number of a marked edge.
-fn write_number(
-    answer: &mut [u8],
-    at: usize,
-    image: &[bool; 400],
-    numbers: &[usize; 400],
-    code: usize,
-) -> usize
-    requires { (code < 400) × NumbersBelow numbers.now }
-    ensures { Wrote answer.old at answer.new result (number_words image.now numbers.now code) }
-{
-    if image[code] {
-        return figure_words::push(answer, at, numbers[code] as u32);
-    }
-    at
-}
-
 // A facet: how many edges it has, and their numbers.
 fn write_facet(answer: &mut [u8], at: usize, image: &[bool; 400], numbers: &[usize; 400]) -> usize
     requires { NumbersBelow numbers.now }
@@ -83,55 +64,69 @@ fn write_facet(answer: &mut [u8], at: usize, image: &[bool; 400], numbers: &[usi
 {
     let many = edge_marks::count_marks(image);
     let mut cursor = figure_words::push(answer, at, many as u32);
-    let mut code = 0;
-    while code < 400 {
-        cursor = write_number(answer, cursor, image, numbers, code);
-        code += 1;
+    for (code, marked) in image.iter().enumerate() {
+        if *marked {
+            cursor = figure_words::push(answer, cursor, numbers[code] as u32);
+        }
     }
     cursor
 }
 
 // ---- images in order
 
-// Whether an image equals one that was chosen: it equals the one before it, of which that is known.
-fn was_chosen(before: usize, id: usize) -> bool
-    ensures { result ≡ (leb 131072 id && not (eqb before 0)) }
-{
-    if id < 131072 {
-        return false;
-    }
-    before != 0
+// What comes of an image, of all images of facets in order.
+#[derive(Clone, Copy, PartialEq, Eq)]
+pub enum Choice {
+    // It is not wanted.
+    Left,
+
+    // It is wanted, and the first of those that equal it.
+    Chosen,
+
+    // It equals one that was chosen before.
+    Repeated,
 }
 
-// What comes of an image, from what came of the one before it: 1 for one that is chosen, 2 for one that equals one chosen before, 0 for any other.
-pub fn next_choice(inside: &[bool; 1024], before: usize, id: usize) -> usize
+impl Choice {
+    pub fn is_chosen(self) -> bool
+        ensures { result ≡ is_chosen self }
+    {
+        self == Choice::Chosen
+    }
+}
+
+// Whether an image equals one that was chosen: it equals the one before it, of which that is known.
+fn was_chosen(before: Choice, id: usize) -> bool
+    ensures { result ≡ (leb 131072 id && is_wanted before) }
+{
+    131072 <= id && before != Choice::Left
+}
+
+// What comes of an image, from what came of the one before it.
+pub fn next_choice(inside: &[bool; 1024], before: Choice, id: usize) -> Choice
     ensures { result ≡ next_choice inside.now before id }
 {
     if was_chosen(before, id) {
-        return 2;
+        return Choice::Repeated;
     }
-    if inside[id % 1024] { 1 } else { 0 }
-}
-
-fn is_chosen(choice: usize) -> usize
-    ensures { result ≡ cond (eqb choice 1) 1 0 }
-{
-    if choice == 1 { 1 } else { 0 }
+    if inside[id % 1024] {
+        Choice::Chosen
+    } else {
+        Choice::Left
+    }
 }
 
 // How many images are chosen.
 pub fn count_chosen(ids: &[u8], many: usize, inside: &[bool; 1024]) -> usize
     requires { 4 * many ≤ length ids.now }
-    ensures { (result ≡ length (chosen_from inside.now 0 (words 4 ids.now many))) × (result ≤ many) }
+    ensures { (result ≡ length (chosen_from inside.now Left (words 4 ids.now many))) × (result ≤ many) }
 {
     let mut total = 0;
-    let mut choice = 0;
-    let mut i = 0;
-    while i < many {
-        let id = words::get_u32(ids, 4 * i) as usize;
+    let mut choice = Choice::Left;
+    for i in 0..many {
+        let id = u32::get(ids, 4 * i) as usize;
         choice = next_choice(inside, choice, id);
-        total += is_chosen(choice);
-        i += 1;
+        total += usize::from(choice.is_chosen());
     }
     total
 }
@@ -140,7 +135,7 @@ pub fn count_chosen(ids: &[u8], many: usize, inside: &[bool; 1024]) -> usize
 fn write_chosen(
     answer: &mut [u8],
     at: usize,
-    choice: usize,
+    choice: Choice,
     edges: &[u8],
     rows: &[u8],
     m: usize,
@@ -148,9 +143,9 @@ fn write_chosen(
     numbers: &[usize; 400],
 ) -> usize
     requires { (32 * m ≤ length rows.now) × EdgesFit m rows.now edges.now × (id % 1024 < count edges.now) × (id % 131072 / 1024 < m) × NumbersBelow numbers.now }
-    ensures { Wrote answer.old at answer.new result (cond (eqb choice 1) (id_words edges.now rows.now numbers.now id) []) }
+    ensures { Wrote answer.old at answer.new result (cond (is_chosen choice) (id_words edges.now rows.now numbers.now id) []) }
 {
-    if choice != 1 {
+    if !choice.is_chosen() {
         return at;
     }
     let image = image_marks(edges, id % 1024, rows, m, id % 131072 / 1024);
@@ -170,16 +165,14 @@ pub fn write_images(
     numbers: &[usize; 400],
 ) -> usize
     requires { (4 * many ≤ length ids.now) × (32 * m ≤ length rows.now) × EdgesFit m rows.now edges.now × IdsBelow (count edges.now) m (words 4 ids.now many) × NumbersBelow numbers.now }
-    ensures { Wrote answer.old at answer.new result (flat_map (id_words edges.now rows.now numbers.now) (chosen_from inside.now 0 (words 4 ids.now many))) }
+    ensures { Wrote answer.old at answer.new result (flat_map (id_words edges.now rows.now numbers.now) (chosen_from inside.now Left (words 4 ids.now many))) }
 {
     let mut cursor = at;
-    let mut choice = 0;
-    let mut i = 0;
-    while i < many {
-        let id = words::get_u32(ids, 4 * i) as usize;
+    let mut choice = Choice::Left;
+    for i in 0..many {
+        let id = u32::get(ids, 4 * i) as usize;
         choice = next_choice(inside, choice, id);
         cursor = write_chosen(answer, cursor, choice, edges, rows, m, id, numbers);
-        i += 1;
     }
     cursor
 }

@@ -1,9 +1,10 @@
 -- The turns of loops that write: the words of one item more. Leans on the lists of the laws.
-use Rattle.std.specs.Prelude.{◌≡◌, refl, ℕ, zero, suc, ◌+◌, ◌-◌, ◌/◌, ◌%◌, ◌<◌, length, get_or, take, drop}
+use Rattle.std.specs.List.{filter, list_any, range_with_len}
+use Rattle.std.specs.Prelude.{◌≡◌, Bool, ◌||◌, cond, refl, ℕ, zero, suc, ◌+◌, ◌-◌, ◌/◌, ◌%◌, ◌<◌, length, get_or, take, drop}
 use Rattle.std.proofs.Common.{sym, ap, ◌∙◌, add-one, arith, length-drop, take_all}
 use mathlib.Core.List.{List, [], ◌∷◌, ◌++◌, map, flat_map, append-nil, map-append}
 use Rattle.std.proofs.lemmas.List.{length-map}
-use Rattle.definitions.specs.Lists.{Pair, count_from}
+use Rattle.definitions.specs.Lists.{Pair, count_from, any_of, keep}
 use Rattle.definitions.specs.Job.{figure_words}
 use Rattle.laws.specs.Lists as counted
 use Rattle.laws.specs.Lists.{flat_map_append}
@@ -57,6 +58,24 @@ edge_alone code = refl
 pub body_is : (i n : ℕ) → i ≡ n → 1 ∷ n ∷ count_from 0 i ≡ body_words n
 unfolding body_words
 body_is i n e = rw e refl
+
+-- ---- the library's words for lists, and those of the definitions
+
+pub range_is : (a n : ℕ) → range_with_len a n ≡ count_from a n
+unfolding count_from
+range_is a zero = refl
+range_is a (suc n) = rw (add-one a) (ap (λ (l : List ℕ). a ∷ l) (range_is (suc a) n))
+
+module _ {A : Type 0} (p : A → Bool) where
+  pub any_is : (l : List A) → list_any p l ≡ any_of p l
+  unfolding any_of
+  any_is [] = refl
+  any_is (x ∷ l) = ap (λ (b : Bool). p x || b) (any_is l)
+
+  pub filter_is : (l : List A) → filter p l ≡ keep p l
+  unfolding keep
+  filter_is [] = refl
+  filter_is (x ∷ l) = ap (λ (r : List A). cond (p x) (x ∷ r) r) (filter_is l)
 
 -- ---- figures
 

@@ -37,11 +37,9 @@ fn write_points(answer: &mut [u8], at: usize, n: usize) -> usize
     ensures { Wrote answer.old at answer.new result (point_words n) }
 {
     let mut cursor = at;
-    let mut i = 0;
-    while i < n {
+    for i in 0..n {
         cursor = push(answer, cursor, 1);
         cursor = push(answer, cursor, 0);
-        i += 1;
     }
     cursor
 }
@@ -71,11 +69,9 @@ fn write_edges(answer: &mut [u8], at: usize, pool: &[u8], most: usize, k: usize)
 {
     let n = order::length_of(pool, most, k);
     let mut cursor = at;
-    let mut i = 0;
-    while i < n {
+    for i in 0..n {
         let code = order::item_of(pool, most, k, i) as usize;
         cursor = write_edge(answer, cursor, code);
-        i += 1;
     }
     cursor
 }
@@ -87,10 +83,8 @@ pub fn write_body(answer: &mut [u8], at: usize, n: usize) -> usize
 {
     let one = push(answer, at, 1);
     let mut cursor = push(answer, one, n as u32);
-    let mut facet = 0;
-    while facet < n {
+    for facet in 0..n {
         cursor = push(answer, cursor, facet as u32);
-        facet += 1;
     }
     cursor
 }

@@ -1,5 +1,5 @@
 -- The words of an answer of rank 4 are the definition's: the figure of an entry is the polyhedron of its edges and its facets' images in order. Leans on Written, Solids and Arranged.
-use Rattle.std.specs.Prelude.{◌≡◌, refl, Bool, true, cond, not, ◌&&◌, eqb, leb, drop, replicate}
+use Rattle.std.specs.Prelude.{◌≡◌, refl, Bool, true, cond, ◌&&◌, eqb, leb, drop, replicate}
 use Rattle.std.proofs.Math.Path.{sym, ap, subst}
 use Rattle.std.proofs.Common.{◌∙◌, add-one, arith, eqb→eq, length-drop, length-append, get_or-drop}
 use Rattle.std.proofs.Math.Bool.{false}
@@ -42,7 +42,9 @@ use Rattle.possible_facets.specs.Facets.{edges_at}
 use Rattle.shapes.specs.UsedPoints.{ends_used}
 use Rattle.edge_marks.specs.Summaries.{summary_marked}
 use Rattle.edge_marks.specs.Marks.{codes_up, Ends, image_codes, codes_marked, edges_marked, edge_images, image_ends, marked_in_order, pair_code_holds}
-use Rattle.facet_images.specs.Images.{image_marks, next_choice, chosen_from}
+use Rattle.facet_images.specs.declared.Choice.{Choice}
+use Rattle.facet_images.specs.declared.Choice.TheVariants.{Left, Chosen, Repeated}
+use Rattle.facet_images.specs.Images.{image_marks, is_wanted, is_chosen, next_choice, chosen_from}
 use Rattle.facet_images.specs.Arranged.{Arranged, chosen_in_order}
 use Rattle.writing.specs.Standing.{owners_in, edges_in}
 use Rattle.polyhedra.specs.Solids.{ImagesStand, facet_from, image_of, polyhedron_from, lines_of, inside_of, solid_from, solid_entry_from, solid_summary_from, solid_answer_from}
@@ -145,20 +147,20 @@ module _ {n m : ℕ} {bytes : List ℕ} (fits : RowsFit n m bytes) (row : ℕ) (
       ∙ (sym (flat_map_map (λ (p : Pair). p ∷ []) (λ (e : Pair). pair_image e (get_or (rows_in n m bytes) row [])) es) ∙ flat_singles (map (λ (e : Pair). pair_image e (get_or (rows_in n m bytes) row [])) es))))
 
 -- an image that is chosen is wanted
-choice_wanted : (inside : List Bool) (before id : ℕ) → eqb (next_choice inside before id) 1 ≡ true → get_or inside (id % 1024) false ≡ true
+choice_wanted : (inside : List Bool) (before : Choice) (id : ℕ) → is_chosen (next_choice inside before id) ≡ true → get_or inside (id % 1024) false ≡ true
 unfolding next_choice
-choice_wanted inside before id e = go (leb 131072 id && not (eqb before 0)) (get_or inside (id % 1024) false) e
+choice_wanted inside before id e = go (leb 131072 id && is_wanted before) (get_or inside (id % 1024) false) e
   where
-    go : (b p : Bool) → eqb (cond b 2 (cond p 1 0)) 1 ≡ true → p ≡ true
+    go : (b p : Bool) → is_chosen (cond b Repeated (cond p Chosen Left)) ≡ true → p ≡ true
     go true p q = absurd (subst T (sym q) tt)
     go false true q = refl
     go false false q = absurd (subst T (sym q) tt)
 
 -- the images chosen are among all, and wanted
-of_chosen : (inside : List Bool) (before : ℕ) (ids : List ℕ) (id : ℕ) → Mem id (chosen_from inside before ids) → Mem id ids × (get_or inside (id % 1024) false ≡ true)
+of_chosen : (inside : List Bool) (before : Choice) (ids : List ℕ) (id : ℕ) → Mem id (chosen_from inside before ids) → Mem id ids × (get_or inside (id % 1024) false ≡ true)
 unfolding chosen_from
 of_chosen inside before [] id i = elim i [ ]
-of_chosen inside before (x ∷ ids) id i = go (eqb (next_choice inside before x) 1) refl i (of_chosen inside (next_choice inside before x) ids id)
+of_chosen inside before (x ∷ ids) id i = go (is_chosen (next_choice inside before x)) refl i (of_chosen inside (next_choice inside before x) ids id)
   where
     rest : List ℕ
     rest = chosen_from inside (next_choice inside before x) ids
@@ -169,11 +171,11 @@ of_chosen inside before (x ∷ ids) id i = go (eqb (next_choice inside before x)
     later : Both ids → Both (x ∷ ids)
     later r = (there r.0, r.1)
 
-    first_or : eqb (next_choice inside before x) 1 ≡ true → Mem id (x ∷ rest) → (Mem id rest → Both ids) → Both (x ∷ ids)
+    first_or : is_chosen (next_choice inside before x) ≡ true → Mem id (x ∷ rest) → (Mem id rest → Both ids) → Both (x ∷ ids)
     first_or q (Memᴰ.head e) ih = (here e, ap (λ (z : ℕ). get_or inside (z % 1024) false) e ∙ choice_wanted inside before x q)
     first_or q (Memᴰ.tail k) ih = later (ih k)
 
-    go : (b : Bool) → eqb (next_choice inside before x) 1 ≡ b → Mem id (cond b (x ∷ rest) rest) → (Mem id rest → Both ids) → Both (x ∷ ids)
+    go : (b : Bool) → is_chosen (next_choice inside before x) ≡ b → Mem id (cond b (x ∷ rest) rest) → (Mem id rest → Both ids) → Both (x ∷ ids)
     go true q k ih = first_or q k ih
     go false q k ih = later (ih k)
 
@@ -258,7 +260,7 @@ module _ {n m : ℕ} {bytes : List ℕ} {kept-all : List Kept} {level : Level} {
     marks = lines_of n m bytes level s ids numbers
 
     abbrev pub chosen : List ℕ
-    chosen = chosen_from (inside_of n m bytes level s ids numbers) 0 ids
+    chosen = chosen_from (inside_of n m bytes level s ids numbers) Left ids
 
     abbrev pub lines : List Pair
     lines = edges_in_order (flat_map (kept_edge_images sends kept-all) facets)
@@ -304,7 +306,7 @@ module _ {n m : ℕ} {bytes : List ℕ} {kept-all : List Kept} {level : Level} {
 
     pub polygons_are : map (λ (id : ℕ). edges_marked (drawn id)) chosen ≡ polygons
     polygons_are =
-        map_same (λ (id : ℕ). edges_marked (drawn id)) image chosen (λ id i. image_written id (of_chosen (inside_of n m bytes level s ids numbers) 0 ids id i).0)
+        map_same (λ (id : ℕ). edges_marked (drawn id)) image chosen (λ id i. image_written id (of_chosen (inside_of n m bytes level s ids numbers) Left ids id i).0)
         ∙ chosen_in_order image (inside_of n m bytes level s ids numbers) ids arranged.runs (flat_map (kept_polygons sends kept-all) facets) into back
 
     -- every edge of a chosen image is marked
@@ -332,7 +334,7 @@ module _ {n m : ℕ} {bytes : List ℕ} {kept-all : List Kept} {level : Level} {
     facet_words_holds : (id : ℕ) → Mem id chosen → facet_from marks (drawn id) ≡ length (edges_marked (drawn id)) ∷ map (edge_number (edges_marked marks)) (edges_marked (drawn id))
     unfolding facet_from edges_marked codes_marked
     facet_words_holds id i =
-        let r = of_chosen (inside_of n m bytes level s ids numbers) 0 ids id i in
+        let r = of_chosen (inside_of n m bytes level s ids numbers) Left ids id i in
         let codes = codes_marked (drawn id) 400 in
         let each =
         map_same (λ (c : ℕ). length (codes_marked marks c)) (λ (c : ℕ). edge_number (edges_marked marks) (pair_of c)) codes (λ c j.

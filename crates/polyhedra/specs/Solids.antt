@@ -15,6 +15,7 @@ use Rattle.shelf.specs.Leaves.{lists_left, both_left}
 use Rattle.shelf.specs.declared.Level.{Level}
 use Rattle.edge_marks.specs.Summaries.{summary_marked}
 use Rattle.edge_marks.specs.Marks.{marks_of, codes_marked, edges_marked}
+use Rattle.facet_images.specs.declared.Choice.TheVariants.{Left}
 use Rattle.facet_images.specs.Images.{image_marks, IdsBelow, chosen_from}
 use Rattle.entry_lists.specs.Counts.{count_words}
 use Rattle.possible_facets.specs.Possible.{polygon_words, size_in, possible_from}
@@ -30,7 +31,7 @@ image_of edges rows id = image_marks edges rows (id % 1024) (id % 131072 / 1024)
 
 unfoldable pub polyhedron_from : ℕ → List Bool → List Bool → List ℕ → List ℕ → List ℕ → List ℕ
 polyhedron_from n marks inside ids edges rows =
-    let chosen = chosen_from inside 0 ids in
+    let chosen = chosen_from inside Left ids in
     5 ∷ 1 ∷ 0 ∷ n ∷ point_words n
     ++ (length (codes_marked marks 400) ∷ edge_words (edges_marked marks)
     ++ (length chosen ∷ flat_map (λ (id : ℕ). facet_from marks (image_of edges rows id)) chosen ++ body_words (length chosen)))
@@ -56,7 +57,7 @@ module _ (n m : ℕ) (rows : List ℕ) (level : Level) (s ids : List ℕ) where
   solid_entry_from both = both_words (owners_in level s) both ++ solid_from both.0
 
   unfoldable pub solid_summary_from : List ℕ → List ℕ
-  solid_summary_from numbers = summary_marked n (lines_of numbers) (length (chosen_from (inside_of numbers) 0 ids))
+  solid_summary_from numbers = summary_marked n (lines_of numbers) (length (chosen_from (inside_of numbers) Left ids))
 
   unfoldable pub solid_answer_from : ℕ → ℕ → List ℕ
   solid_answer_from budget left =

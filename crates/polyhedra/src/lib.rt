@@ -6,18 +6,18 @@ ghost use Rattle.std.specs.Prelude.{◌≡◌, ◌+◌, ◌*◌, ◌-◌, ◌/�
 ghost use mathlib.Core.List.{[], flat_map};
 ghost use Rattle.words.specs.Words.{words};
 ghost use Rattle.pool.specs.Pool.{count};
-ghost use Rattle.definitions.specs.Job.{counted};
 ghost use Rattle.openers.specs.Marks.{marked};
 ghost use Rattle.figure_words.specs.Wrote.{Wrote};
 ghost use Rattle.edge_marks.specs.Marks.{EdgesFit};
-ghost use Rattle.shelf.specs.Leaves.{lists_left, both_left};
+ghost use Rattle.shelf.specs.Leaves.{lists_left};
 ghost use Rattle.facet_images.specs.Images.{IdsBelow};
-ghost use Rattle.polyhedra.specs.Solids.{polyhedron_from, ImagesStand, solid_from, solid_entry_from, solid_summary_from};
+ghost use Rattle.polyhedra.specs.Solids.{polyhedron_from, ImagesStand, solid_from, solid_summary_from};
 ghost use Rattle.polyhedra.specs.SolidWritten.{WroteSolidAnswer};
 ghost use Rattle.writing.specs.Standing.{ListsStanding, Standing};
 
-use order::Area;
+use possible_facets::Polygons;
 use shelf::Level;
+use writing::EntryFigure;
 
 // ---- rank 4
 
@@ -55,108 +55,66 @@ pub fn entry_facets(ws: &[u8], level: Level, k: usize) -> [bool; 1024]
     requires { ListsStanding level ws.now × (k < level.count) }
     ensures { result ≡ marked (replicate 1024 false) (get_or (lists_left level ws.now) k []) }
 {
-    let lists = level.lists;
-    facet_images::list_marks(
-        &ws[lists..],
-        Area {
-            most: 1024,
-            bytes: level.bytes,
-            count: level.count,
-        },
-        k,
-    )
+    facet_images::list_marks(&ws[level.lists..], level.area(), k)
 }
 
-// The figure of entry k.
-fn write_solid(
-    answer: &mut [u8],
-    at: usize,
-    ws: &[u8],
-    level: Level,
-    rows: &[u8],
+// Entries of rank 4: polyhedra over n points, of all images of their facets under m rows. All images of facets, in order, are as many ids.
+#[derive(Drop)]
+struct Solids<'a> {
+    rows: &'a [u8],
     m: usize,
     n: usize,
-    ids: &[u8],
+    ids: &'a [u8],
     many: usize,
-    k: usize,
-) -> usize
-    requires { Standing m rows.now level ws.now × ImagesStand m level ws.now ids.now many × (n < 4294967296) × (k < level.count) }
-    ensures { Wrote answer.old at answer.new result (solid_from n m rows.now level ws.now (words 4 ids.now many) (get_or (lists_left level ws.now) k [])) }
-{
-    let edges = level.shelf.edges;
-    let labels = level.shelf.labels;
-    let marks = writing::entry_marks(ws, level, rows, m, k);
-    let inside = entry_facets(ws, level, k);
-    write_polyhedron(
-        answer,
-        at,
-        n,
-        &marks,
-        &inside,
-        ids,
-        many,
-        &ws[edges..labels],
-        rows,
-        m,
-    )
 }
 
-// How many entries there are, and each: its split list, the list before splitting, and its polyhedron.
-fn write_solids(
-    answer: &mut [u8],
-    at: usize,
-    ws: &[u8],
-    level: Level,
-    rows: &[u8],
-    m: usize,
-    n: usize,
-    ids: &[u8],
-    many: usize,
-) -> usize
-    requires { Standing m rows.now level ws.now × ImagesStand m level ws.now ids.now many × (n < 4294967296) }
-    ensures { Wrote answer.old at answer.new result (counted (solid_entry_from n m rows.now level ws.now (words 4 ids.now many)) (both_left level ws.now)) }
-{
-    let owners = level.shelf.owners;
-    let ridges = level.shelf.ridges;
-    let firsts = entry_lists::first_facets(&ws[owners..ridges], level.shelf.facets);
-    let count = level.count;
-    let mut cursor = figure_words::push(answer, at, count as u32);
-    let mut k = 0;
-    while k < count {
-        cursor = writing::write_entry_lists(answer, cursor, ws, level, &firsts, k);
-        cursor = write_solid(answer, cursor, ws, level, rows, m, n, ids, many, k);
-        k += 1;
+impl<'a> EntryFigure for Solids<'a> {
+    ghost stands = { λ it level s. Standing it.m it.rows.now level s × ImagesStand it.m level s it.ids.now it.many × (it.n ≤ 20) };
+
+    ghost figure = { λ it level s. solid_from it.n it.m it.rows.now level s (words 4 it.ids.now it.many) };
+
+    ghost summary = { λ it level s. solid_summary_from it.n it.m it.rows.now level s (words 4 it.ids.now it.many) };
+
+    fn write_figure(
+        &self,
+        answer: &mut [u8],
+        at: usize,
+        ws: &[u8],
+        level: Level,
+        k: usize,
+    ) -> usize {
+        let edges = level.shelf.edges;
+        let labels = level.shelf.labels;
+        let marks = writing::entry_marks(ws, level, self.rows, self.m, k);
+        let inside = entry_facets(ws, level, k);
+        write_polyhedron(
+            answer,
+            at,
+            self.n,
+            &marks,
+            &inside,
+            self.ids,
+            self.many,
+            &ws[edges..labels],
+            self.rows,
+            self.m,
+        )
     }
-    cursor
-}
 
-// A summary of each entry.
-fn write_solid_summaries(
-    answer: &mut [u8],
-    at: usize,
-    ws: &[u8],
-    level: Level,
-    rows: &[u8],
-    m: usize,
-    n: usize,
-    ids: &[u8],
-    many: usize,
-) -> usize
-    requires { Standing m rows.now level ws.now × ImagesStand m level ws.now ids.now many × (n ≤ 20) }
-    ensures { Wrote answer.old at answer.new result (flat_map (solid_summary_from n m rows.now level ws.now (words 4 ids.now many)) (lists_left level ws.now)) }
-{
-    let count = level.count;
-    let mut cursor = at;
-    let mut k = 0;
-    while k < count {
-        let marks = writing::entry_marks(ws, level, rows, m, k);
+    fn write_summary(
+        &self,
+        answer: &mut [u8],
+        at: usize,
+        ws: &[u8],
+        level: Level,
+        k: usize,
+    ) -> usize {
+        let marks = writing::entry_marks(ws, level, self.rows, self.m, k);
         let inside = entry_facets(ws, level, k);
         let lines = edge_marks::count_marks(&marks);
-        let facets = facet_images::count_chosen(ids, many, &inside);
-        cursor = edge_marks::write_summary(answer, cursor, &marks, n, lines, facets);
-        k += 1;
+        let facets = facet_images::count_chosen(self.ids, self.many, &inside);
+        edge_marks::write_summary(answer, at, &marks, self.n, lines, facets)
     }
-    cursor
 }
 
 // The answer of a call of rank 4 from what it leaves and from its facets' images in order. `standing` (specs/Written) and `images_stand` (specs/SolidWritten) say that these are what is
@@ -177,24 +135,21 @@ pub fn write_solid_answer(
     requires { Standing m rows.now level ws.now × ImagesStand m level ws.now ids.now many × (n ≤ 20) × (left ≤ budget) }
     ensures { WroteSolidAnswer n m rows.now level ws.now (words 4 ids.now many) budget left answer.old at answer.new result }
 {
-    let owners = level.shelf.owners;
-    let ridges = level.shelf.ridges;
-    let edges = level.shelf.edges;
-    let labels = level.shelf.labels;
-    let facets = level.shelf.facets;
-    let orbits = level.shelf.orbits;
-    let counts = writing::write_front(answer, at, ws, orbits, budget, left);
-    let entries = write_solids(answer, counts, ws, level, rows, m, n, ids, many);
-    let possible = possible_facets::write_possible_polygons(
-        answer,
-        entries,
-        ws,
+    let figures = Solids {
+        rows,
+        m,
         n,
-        &ws[owners..ridges],
-        facets,
-        orbits,
-        &ws[edges..labels],
-    );
-    let compounds = writing::write_labels(answer, possible, ws, level);
-    write_solid_summaries(answer, compounds, ws, level, rows, m, n, ids, many)
+        ids,
+        many,
+    };
+    writing::write_parts(
+        answer,
+        at,
+        ws,
+        level,
+        &figures,
+        &Polygons { ws, n },
+        budget,
+        left,
+    )
 }

@@ -6,7 +6,7 @@ use Rattle.definitions.specs.Job.{counted, figure_words, compound_words}
 use Rattle.definitions.specs.Orbits.{Row}
 use Rattle.definitions.specs.Figures.{compounds_from}
 use Rattle.words.specs.Words.{words}
-use Rattle.pool.specs.Pool.{count, closed_lists}
+use Rattle.pool.specs.Pool.{count, closed_lists, Sound}
 use Rattle.orbits.specs.Workspace.{orbits_in}
 use Rattle.order.specs.Areas.{HoldsOrder}
 use Rattle.labels.specs.Labels.{labels_in}
@@ -39,7 +39,14 @@ pub record ListsStanding (level : Level) (s : List ℕ) : Type 0 where
   pub numbers : AllBelow level.shelf.facets (lists_left level s)
   pub emitted : EmittedStand level s
 
--- and the edges of the facets, and what the rows do to them
+-- and the orbits, and the edges of the facets
+pub record PartsStanding (level : Level) (s : List ℕ) : Type 0 where
+  pub listed : ListsStanding level s
+  pub few_orbits : level.shelf.orbits ≤ 256
+  pub edges : Sound 2 1024 (edges_part level.shelf s)
+  pub each : level.shelf.facets ≤ count (edges_part level.shelf s)
+
+-- and what the rows do to those edges
 pub record Standing (m : ℕ) (rows : List ℕ) (level : Level) (s : List ℕ) : Type 0 where
   pub listed : ListsStanding level s
   pub few_orbits : level.shelf.orbits ≤ 256
@@ -53,11 +60,29 @@ pub record Standing (m : ℕ) (rows : List ℕ) (level : Level) (s : List ℕ) :
 unfoldable pub both_words : List ℕ → List ℕ × List ℕ → List ℕ
 both_words owners both = list_words owners both.0 ++ list_words owners both.1
 
+-- an entry: both lists, and a figure from the split one
+unfoldable pub figured : List ℕ → (List ℕ → List ℕ) → List ℕ × List ℕ → List ℕ
+figured owners figure both = both_words owners both ++ figure both.0
+
+-- the polygon of all row images of a list's edges
+unfoldable pub polygon_from : ℕ → List Row → List (List ℕ) → List ℕ → List ℕ
+polygon_from n rows edges numbers = figure_words (polygon n (edges_marked (marks_of rows edges numbers)))
+
 unfoldable pub entry_from : ℕ → List Row → List ℕ → List (List ℕ) → List ℕ × List ℕ → List ℕ
 entry_from n rows owners edges both = both_words owners both ++ figure_words (polygon n (edges_marked (marks_of rows edges both.0)))
 
 unfoldable pub summary_from : ℕ → List Row → List (List ℕ) → List ℕ → List ℕ
 summary_from n rows edges numbers = let marks = marks_of rows edges numbers in summary_marked n marks (length (codes_marked marks 400))
+
+-- an answer's parts, where a figure and a summary are written of each entry's split list, and a figure of each facet's edges
+unfoldable pub parts_from : (List ℕ → List ℕ) → (List ℕ → List ℕ) → (ℕ → List ℕ → List ℕ) → Level → List ℕ → ℕ → ℕ → List ℕ
+parts_from figure summary facet level s budget left =
+    (budget - left)
+    ∷ count_words (orbits_in s level.shelf.orbits)
+    ++ counted (figured (owners_in level s) figure) (both_left level s)
+    ++ possible_from facet level.shelf.orbits 0 (owners_in level s) (edges_in level s)
+    ++ counted compound_words (compounds_from 0 (labels_in (level.bytes + 2048) level.count (drop level.lists s)))
+    ++ flat_map summary (lists_left level s)
 
 unfoldable pub answer_from : ℕ → List Row → Level → List ℕ → ℕ → ℕ → List ℕ
 answer_from n rows level s budget left =

@@ -3,7 +3,7 @@
 
 #![tactic(auto)]
 
-ghost use Rattle.std.specs.Prelude.{◌≡◌, ◌+◌, ◌*◌, ◌-◌, ◌/◌, ◌≤◌, ◌<◌, length, get_or, drop};
+ghost use Rattle.std.specs.Prelude.{◌≡◌, List, ℕ, ◌+◌, ◌*◌, ◌-◌, ◌/◌, ◌≤◌, ◌<◌, length, get_or, drop};
 ghost use mathlib.Core.List.{◌∷◌, [], flat_map};
 ghost use Rattle.laws.specs.Segments.{part};
 ghost use Rattle.pool.specs.Pool.{count, Sound};
@@ -15,17 +15,18 @@ ghost use Rattle.definitions.specs.Recursion.{vertex_ridge, swapped_ends, separa
 ghost use Rattle.orbits.specs.Workspace.{orbits_in};
 ghost use Rattle.labels.specs.Labels.{labels_in};
 ghost use Rattle.openers.specs.Rows.{rows_in};
-ghost use Rattle.shapes.specs.EdgeSets.{polygon};
 ghost use Rattle.figure_words.specs.Wrote.{Wrote};
 ghost use Rattle.possible_facets.specs.Facets.{list_words, Firsts};
 ghost use Rattle.edge_marks.specs.Marks.{marks_of};
 ghost use Rattle.shelf.specs.Leaves.{lists_left, both_left};
-ghost use Rattle.writing.specs.Standing.{ListsStanding, Standing, owners_in, edges_in, both_words, entry_from, summary_from};
+ghost use Rattle.shelf.specs.declared.Level.{Level};
+ghost use Rattle.writing.specs.Standing.{ListsStanding, PartsStanding, Standing, parts_from, owners_in, edges_in, both_words, figured, polygon_from, summary_from};
 ghost use Rattle.writing.specs.Written.{WroteAnswer};
 ghost use Rattle.entry_lists.specs.Counts.{count_words};
 
-use order::Area;
+use possible_facets::{Edges, FacetFigure};
 use shelf::Level;
+use words::Word;
 
 // ---- rank 3
 
@@ -34,16 +35,11 @@ pub fn entry_marks(ws: &[u8], level: Level, rows: &[u8], m: usize, k: usize) -> 
     requires { Standing m rows.now level ws.now × (k < level.count) }
     ensures { result ≡ marks_of (rows_in 32 m rows.now) (edges_in level ws.now) (get_or (lists_left level ws.now) k []) }
 {
-    let lists = level.lists;
     let edges = level.shelf.edges;
     let labels = level.shelf.labels;
     edge_marks::mark_list(
-        &ws[lists..],
-        Area {
-            most: 1024,
-            bytes: level.bytes,
-            count: level.count,
-        },
+        &ws[level.lists..],
+        level.area(),
         k,
         &ws[edges..labels],
         rows,
@@ -94,60 +90,119 @@ pub fn write_entry_lists(
     let bytes = level.bytes;
     let emitted = level.emitted;
     let extent = level.extent;
-    let number = words::get_u16(ws, lists + bytes + 2 * k) as usize;
+    let number = u16::get(ws, lists + bytes + 2 * k) as usize;
     let before = write_pool_list(answer, at, ws, level, firsts, lists, bytes, number);
     write_pool_list(answer, before, ws, level, firsts, emitted, extent, number)
 }
 
-// How many entries there are, and each: its split list, the list before splitting, and the polygon of all row images of its facets' edges.
-fn write_entries(
+// What is written of the entries of a call: a figure of each, and its summary.
+pub trait EntryFigure {
+    // what the words of an entry lean on, in the workspace that the call leaves
+    ghost stands: { Self → Level → List ℕ → Type 0 };
+
+    // the words for an entry, from its split list
+    ghost figure: { Self → Level → List ℕ → List ℕ → List ℕ };
+
+    ghost summary: { Self → Level → List ℕ → List ℕ → List ℕ };
+
+    // The figure of entry k.
+    fn write_figure(&self, answer: &mut [u8], at: usize, ws: &[u8], level: Level, k: usize) -> usize
+        requires { stands self.now level ws.now × (k < level.count) }
+        ensures { Wrote answer.old at answer.new result (figure self.now level ws.now (get_or (lists_left level ws.now) k [])) };
+
+    // The summary of entry k.
+    fn write_summary(
+        &self,
+        answer: &mut [u8],
+        at: usize,
+        ws: &[u8],
+        level: Level,
+        k: usize,
+    ) -> usize
+        requires { stands self.now level ws.now × (k < level.count) }
+        ensures { Wrote answer.old at answer.new result (summary self.now level ws.now (get_or (lists_left level ws.now) k [])) };
+}
+
+// Entries of rank 3: polygons over n points, of all images of their facets' edges under m rows.
+#[derive(Drop)]
+pub struct Polygons<'a> {
+    pub rows: &'a [u8],
+    pub m: usize,
+    pub n: usize,
+}
+
+impl<'a> EntryFigure for Polygons<'a> {
+    ghost stands = { λ it level s. Standing it.m it.rows.now level s × (it.n ≤ 20) };
+
+    ghost figure = { λ it level s. polygon_from it.n (rows_in 32 it.m it.rows.now) (edges_in level s) };
+
+    ghost summary = { λ it level s. summary_from it.n (rows_in 32 it.m it.rows.now) (edges_in level s) };
+
+    fn write_figure(
+        &self,
+        answer: &mut [u8],
+        at: usize,
+        ws: &[u8],
+        level: Level,
+        k: usize,
+    ) -> usize {
+        let marks = entry_marks(ws, level, self.rows, self.m, k);
+        edge_marks::write_marked(answer, at, self.n, &marks)
+    }
+
+    // The edges are the facets.
+    fn write_summary(
+        &self,
+        answer: &mut [u8],
+        at: usize,
+        ws: &[u8],
+        level: Level,
+        k: usize,
+    ) -> usize {
+        let marks = entry_marks(ws, level, self.rows, self.m, k);
+        let edges = edge_marks::count_marks(&marks);
+        edge_marks::write_summary(answer, at, &marks, self.n, edges, edges)
+    }
+}
+
+// How many entries there are, and each: its split list, the list before splitting, and its figure.
+pub fn write_entries<T: EntryFigure>(
     answer: &mut [u8],
     at: usize,
     ws: &[u8],
     level: Level,
-    rows: &[u8],
-    m: usize,
-    n: usize,
+    figures: &T,
 ) -> usize
-    requires { Standing m rows.now level ws.now × (n < 4294967296) }
-    ensures { Wrote answer.old at answer.new result (counted (entry_from n (rows_in 32 m rows.now) (owners_in level ws.now) (edges_in level ws.now)) (both_left level ws.now)) }
+    requires { ListsStanding level ws.now × T.stands figures.now level ws.now }
+    ensures { Wrote answer.old at answer.new result (counted (figured (owners_in level ws.now) (T.figure figures.now level ws.now)) (both_left level ws.now)) }
 {
     let owners = level.shelf.owners;
     let ridges = level.shelf.ridges;
     let firsts = entry_lists::first_facets(&ws[owners..ridges], level.shelf.facets);
     let count = level.count;
     let mut cursor = figure_words::push(answer, at, count as u32);
-    let mut k = 0;
-    while k < count {
-        let marks = entry_marks(ws, level, rows, m, k);
+    for k in 0..count {
         cursor = write_entry_lists(answer, cursor, ws, level, &firsts, k);
-        cursor = edge_marks::write_marked(answer, cursor, n, &marks);
-        k += 1;
+        cursor = figures.write_figure(answer, cursor, ws, level, k);
     }
     cursor
 }
 
-// A summary of each entry; at rank 3 the edges are the facets.
-fn write_summaries(
+// A summary of each entry.
+pub fn write_summaries<T: EntryFigure>(
     answer: &mut [u8],
     at: usize,
     ws: &[u8],
     level: Level,
-    rows: &[u8],
-    m: usize,
-    n: usize,
+    figures: &T,
 ) -> usize
-    requires { Standing m rows.now level ws.now × (n ≤ 20) }
-    ensures { Wrote answer.old at answer.new result (flat_map (summary_from n (rows_in 32 m rows.now) (edges_in level ws.now)) (lists_left level ws.now)) }
+    requires { ListsStanding level ws.now × T.stands figures.now level ws.now }
+    ensures { Wrote answer.old at answer.new result (flat_map (T.summary figures.now level ws.now) (lists_left level ws.now)) }
 {
     let count = level.count;
     let mut cursor = at;
-    let mut k = 0;
-    while k < count {
-        let marks = entry_marks(ws, level, rows, m, k);
-        let edges = edge_marks::count_marks(&marks);
-        cursor = edge_marks::write_summary(answer, cursor, &marks, n, edges, edges);
-        k += 1;
+    for k in 0..count {
+        cursor = figures.write_summary(answer, cursor, ws, level, k);
     }
     cursor
 }
@@ -177,6 +232,41 @@ pub fn write_labels(answer: &mut [u8], at: usize, ws: &[u8], level: Level) -> us
     entry_lists::write_compounds(answer, at, &ws[lists..], level.bytes + 2048, level.count)
 }
 
+// The parts of an answer, one behind the other: what was examined and the counts, the entries, the possible facets, the compounds, the summaries.
+pub fn write_parts<T: EntryFigure, F: FacetFigure>(
+    answer: &mut [u8],
+    at: usize,
+    ws: &[u8],
+    level: Level,
+    entries: &T,
+    facets: &F,
+    budget: u32,
+    left: u32,
+) -> usize
+    requires { PartsStanding level ws.now × T.stands entries.now level ws.now × ((orbit : ℕ) → orbit < level.shelf.orbits → F.knows facets.now orbit) × (left ≤ budget) }
+    ensures { Wrote answer.old at answer.new result (parts_from (T.figure entries.now level ws.now) (T.summary entries.now level ws.now) (λ (orbit : ℕ). F.words (F.size facets.now orbit)) level ws.now budget left) }
+{
+    let owners = level.shelf.owners;
+    let ridges = level.shelf.ridges;
+    let edges = level.shelf.edges;
+    let labels = level.shelf.labels;
+    let many = level.shelf.facets;
+    let orbits = level.shelf.orbits;
+    let counts = write_front(answer, at, ws, orbits, budget, left);
+    let figures = write_entries(answer, counts, ws, level, entries);
+    let possible = possible_facets::write_possible(
+        answer,
+        figures,
+        facets,
+        &ws[owners..ridges],
+        many,
+        orbits,
+        &ws[edges..labels],
+    );
+    let compounds = write_labels(answer, possible, ws, level);
+    write_summaries(answer, compounds, ws, level, entries)
+}
+
 // The answer of a call of rank 3 from what it leaves. `standing` (specs/Written) says that what it leaves is what is asked for here.
 pub fn write_answer(
     answer: &mut [u8],
@@ -192,24 +282,16 @@ pub fn write_answer(
     requires { Standing m rows.now level ws.now × (n ≤ 20) × (left ≤ budget) }
     ensures { WroteAnswer n m rows.now level ws.now budget left answer.old at answer.new result }
 {
-    let owners = level.shelf.owners;
-    let ridges = level.shelf.ridges;
-    let edges = level.shelf.edges;
-    let labels = level.shelf.labels;
-    let facets = level.shelf.facets;
-    let orbits = level.shelf.orbits;
-    let counts = write_front(answer, at, ws, orbits, budget, left);
-    let entries = write_entries(answer, counts, ws, level, rows, m, n);
-    let possible = possible_facets::write_possible(
+    write_parts(
         answer,
-        entries,
-        &ws[owners..ridges],
-        facets,
-        orbits,
-        &ws[edges..labels],
-    );
-    let compounds = write_labels(answer, possible, ws, level);
-    write_summaries(answer, compounds, ws, level, rows, m, n)
+        at,
+        ws,
+        level,
+        &Polygons { rows, m, n },
+        &Edges,
+        budget,
+        left,
+    )
 }
 
 // ---- rank 2

@@ -1,22 +1,21 @@
-use mathlib.Core.Path.{◌≡◌, ap, ◌∙◌}
-use Prim.Native.Nat.{ℕ}
+-- `edge_marks::count_ends` meets its contract.
+use mathlib.Core.Path.{◌≡◌, ◌∙◌}
 use native.Mathlib.Omega.{arith}
-use Rattle.shapes.specs.UsedPoints.{ends_used}
+use Rattle.std.proofs.Common.{rules}
+use borrow.Author.Tests.{tests}
+use lib.ListN.{length}
+use Rattle.std.specs.List.{filter, range_with_len}
+use Rattle.std.proofs.lemmas.Iterator.{YieldsList-from_range}
+use Rattle.std.proofs.lemmas.Iterator.Consumers.{YieldsList-from_filter, count_from_yields_List}
+use Rattle.shapes.specs.UsedPoints.{end_of}
 use Rattle.edge_marks.specs.Marks.{edges_marked}
-use Rattle.edge_marks.specs.Summaries.{ends_none, ends_count}
+use Rattle.edge_marks.specs.Summaries.{ends_counted, ends_few}
 use Rattle.edge_marks.proofs.count_ends.Goals as goal
 
-pub loop-v-init : goal.loop-v-init
-loop-v-init c = (omega arith, ends_none _, omega arith)
-
-pub overflow_add-many : goal.overflow_add-many
-overflow_add-many c = let l = c.loop-v in let r = ends_count _ l.v l.many _ c.end_at-many.ensures l.invariant.1 in omega (arith, r.1)
-
-pub loop-v-preserved : goal.loop-v-preserved
-loop-v-preserved c = let l = c.loop-v in
-    let r = ends_count _ l.v l.many _ c.end_at-many.ensures l.invariant.1 in
-    (omega arith, r.0, omega (arith, r.1))
-
 pub returns : goal.returns
-returns c = let l = c.loop-v in let e : l.v ≡ c.args.n = omega arith in
-    (l.invariant.1 ∙ ap (λ (k : ℕ). ends_used k (edges_marked c.args.marks.now)) e, omega arith)
+returns c =
+    let n = c.args.n in
+    let is = end_of (edges_marked c.args.marks.now) in
+    let e : c.count.result ≡ length (filter is (range_with_len 0 n)) =
+    count_from_yields_List _ _ c.count.ensures.ran (YieldsList-from_filter _ is (YieldsList-from_range 0 n n c.filter.ensures.source (omega arith)) c.filter.ensures.closure (λ x b q k. search (rules, tests))) in
+    (e ∙ ends_counted c.args.marks.now n, omega (arith, e, ends_few c.args.marks.now n))

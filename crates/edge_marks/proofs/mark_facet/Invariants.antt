@@ -1,6 +1,6 @@
 -- `edge_marks::mark_facet` meets its contract.
 use mathlib.Core.Path.{◌≡◌}
-use Prim.Native.Nat.{◌-◌, ◌≤◌}
+use Prim.Native.Nat.{◌≤◌}
 use lib.ListN.{take}
 use Rattle.openers.specs.Rows.{rows_in}
 use Rattle.openers.specs.Marks.{marked}
@@ -10,6 +10,3 @@ use Rattle.edge_marks.proofs.mark_facet.Given as goal
 
 abbrev pub invariant-loop-i : goal.invariant-loop-i
 invariant-loop-i l = (l.i ≤ l.n) × (l.marks ≡ marked l.initial.marks (image_codes (rows_in 32 l.m l.rows) (take l.i (list_at 1024 l.edges l.x))))
-
-abbrev pub decreases-loop-i : goal.decreases-loop-i
-decreases-loop-i l = l.n - l.i

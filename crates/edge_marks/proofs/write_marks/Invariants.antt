@@ -1,6 +1,6 @@
 -- `edge_marks::write_marks` meets its contract.
 use mathlib.Core.List.{map}
-use Prim.Native.Nat.{◌-◌, ◌≤◌}
+use Prim.Native.Nat.{◌≤◌}
 use Rattle.openers.specs.Meaning.{pair_of}
 use Rattle.shapes.specs.FigureWords.{edge_words}
 use Rattle.edge_marks.specs.Marks.{codes_marked}
@@ -9,6 +9,3 @@ use Rattle.edge_marks.proofs.write_marks.Given as goal
 
 abbrev pub invariant-loop-code : goal.invariant-loop-code
 invariant-loop-code l = (l.code ≤ 400) × Wrote l.initial.answer l.initial.cursor l.answer l.cursor (edge_words (map pair_of (codes_marked l.marks l.code)))
-
-abbrev pub decreases-loop-code : goal.decreases-loop-code
-decreases-loop-code l = 400 - l.code

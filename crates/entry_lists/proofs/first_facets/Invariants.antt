@@ -8,6 +8,3 @@ use Rattle.entry_lists.proofs.first_facets.Given as goal
 
 abbrev pub invariant-loop-x : goal.invariant-loop-x
 invariant-loop-x l = (l.x ≤ l.facets) × (length l.firsts ≡ 256) × FirstsFrom (words 2 l.owners l.facets) l.firsts l.x
-
-abbrev pub decreases-loop-x : goal.decreases-loop-x
-decreases-loop-x l = l.x

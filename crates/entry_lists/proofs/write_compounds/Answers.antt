@@ -13,7 +13,7 @@ pub loop-i-init : goal.loop-i-init
 loop-i-init c = (omega arith, wrote_as (wrote_none _ _) (words_none _ _))
 
 pub loop-i-preserved : goal.loop-i-preserved
-loop-i-preserved c = let l = c.loop-i in (omega arith, wrote_as (wrote_then l.invariant.1 c.write_compound-cursor.ensures) (ap (λ (v : ℕ). flat_map compound_words (compounds_from 0 (labels_in c.args.labels l.i c.args.s.now)) ++ flat_map compound_words (compound_at l.i (label_of v))) c.get_u32.ensures ∙ compound_words_holds c.args.labels l.i c.args.s.now))
+loop-i-preserved c = let l = c.loop-i in (omega arith, wrote_as (wrote_then l.invariant.1 c.write_compound-cursor.ensures) (ap (λ (v : ℕ). flat_map compound_words (compounds_from 0 (labels_in c.args.labels l.i c.args.s.now)) ++ flat_map compound_words (compound_at l.i (label_of v))) c.get.ensures ∙ compound_words_holds c.args.labels l.i c.args.s.now))
 
 pub shape_of-answer : goal.shape_of-answer
 shape_of-answer c = c.loop-i.invariant.1.long ∙ c.push-cursor.ensures.long

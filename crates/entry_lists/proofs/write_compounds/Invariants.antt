@@ -1,6 +1,6 @@
 -- `entry_lists::write_compounds` meets its contract.
 use mathlib.Core.List.{flat_map}
-use Prim.Native.Nat.{◌-◌, ◌≤◌}
+use Prim.Native.Nat.{◌≤◌}
 use Rattle.definitions.specs.Job.{compound_words}
 use Rattle.definitions.specs.Figures.{compounds_from}
 use Rattle.labels.specs.Labels.{labels_in}
@@ -9,6 +9,3 @@ use Rattle.entry_lists.proofs.write_compounds.Given as goal
 
 abbrev pub invariant-loop-i : goal.invariant-loop-i
 invariant-loop-i l = (l.i ≤ l.n) × Wrote l.initial.answer l.initial.cursor l.answer l.cursor (flat_map compound_words (compounds_from 0 (labels_in l.labels l.i l.s)))
-
-abbrev pub decreases-loop-i : goal.decreases-loop-i
-decreases-loop-i l = l.n - l.i

@@ -12,7 +12,7 @@ pub loop-i-init : goal.loop-i-init
 loop-i-init c = (omega arith, wrote_as (wrote_none _ _) (counts_none _))
 
 pub loop-i-preserved : goal.loop-i-preserved
-loop-i-preserved c = let l = c.loop-i in (omega arith, wrote_as (wrote_then l.invariant.1 c.push-cursor-in-loop-i.ensures) (ap (λ (v : ℕ). map (λ (p : Pair). p.1) (orbits_in c.args.ws.now l.i) ++ (v ∷ [])) c.get_u32.ensures ∙ counts_more c.args.ws.now l.i))
+loop-i-preserved c = let l = c.loop-i in (omega arith, wrote_as (wrote_then l.invariant.1 c.push-cursor-in-loop-i.ensures) (ap (λ (v : ℕ). map (λ (p : Pair). p.1) (orbits_in c.args.ws.now l.i) ++ (v ∷ [])) c.get.ensures ∙ counts_more c.args.ws.now l.i))
 
 pub shape_of-answer : goal.shape_of-answer
 shape_of-answer c = c.loop-i.invariant.1.long ∙ c.push-cursor.ensures.long

@@ -12,12 +12,12 @@ use Rattle.entry_lists.proofs.write_item.Goals as goal
 
 pub bounds-firsts-orbit : goal.bounds-firsts-orbit
 bounds-firsts-orbit c = let n = words_length 2 c.args.owners.now c.args.facets in
-    omega (arith, c.get_u16-orbit.ensures, get_d_words 2 c.args.owners.now c.args.facets c.args.x c.requires.4, c.requires.2.below c.args.x (omega arith))
+    omega (arith, c.get-orbit.ensures, get_d_words 2 c.args.owners.now c.args.facets c.args.x c.requires.4, c.requires.2.below c.args.x (omega arith))
 
 pub overflow_sub-x : goal.overflow_sub-x
 overflow_sub-x c = let owners = words 2 c.args.owners.now c.args.facets in
     let n = words_length 2 c.args.owners.now c.args.facets in
-    let g : c.get_u16-orbit.result ≡ get_or owners c.args.x 0 = c.get_u16-orbit.ensures ∙ sym (get_d_words 2 c.args.owners.now c.args.facets c.args.x c.requires.4) in
+    let g : c.get-orbit.result ≡ get_or owners c.args.x 0 = c.get-orbit.ensures ∙ sym (get_d_words 2 c.args.owners.now c.args.facets c.args.x c.requires.4) in
     let f = ap (λ (o : ℕ). get_or c.args.firsts.now o 0) g ∙ c.requires.3.at c.args.x (omega arith) in
     omega (arith, f, first_le owners c.args.x (omega arith))
 
@@ -25,6 +25,6 @@ pub returns : goal.returns
 unfolding item_words item_of
 returns c = let owners = words 2 c.args.owners.now c.args.facets in
     let n = words_length 2 c.args.owners.now c.args.facets in
-    let g : c.get_u16-orbit.result ≡ get_or owners c.args.x 0 = c.get_u16-orbit.ensures ∙ sym (get_d_words 2 c.args.owners.now c.args.facets c.args.x c.requires.4) in
-    let f : get_or c.args.firsts.now c.get_u16-orbit.result 0 ≡ first_one_of owners (get_or owners c.args.x 0) = ap (λ (o : ℕ). get_or c.args.firsts.now o 0) g ∙ c.requires.3.at c.args.x (omega arith) in
+    let g : c.get-orbit.result ≡ get_or owners c.args.x 0 = c.get-orbit.ensures ∙ sym (get_d_words 2 c.args.owners.now c.args.facets c.args.x c.requires.4) in
+    let f : get_or c.args.firsts.now c.get-orbit.result 0 ≡ first_one_of owners (get_or owners c.args.x 0) = ap (λ (o : ℕ). get_or c.args.firsts.now o 0) g ∙ c.requires.3.at c.args.x (omega arith) in
     wrote_as (wrote_then c.push-number.ensures c.push.ensures) (λ t. g t ∷ (c.args.x - f t) ∷ [])

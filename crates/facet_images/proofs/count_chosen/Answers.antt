@@ -3,6 +3,7 @@ use native.Mathlib.Omega.{arith}
 use lib.ListN.{length}
 use Rattle.words.specs.Words.{get_d_words, words_length, words}
 use Rattle.facet_images.specs.Images.{next_choice}
+use Rattle.std.specs.Int.{from_bool}
 use Rattle.facet_images.proofs.Choosing.{chosen_count, chosen_end}
 use Rattle.facet_images.proofs.count_chosen.Goals as goal
 
@@ -11,14 +12,14 @@ loop-i-init c = (omega arith, omega arith, omega arith)
 
 pub overflow_add-total : goal.overflow_add-total
 overflow_add-total c = let l = c.loop-i in let n = words_length 4 c.args.ids.now c.args.many in
-    let e = c.next_choice-choice.ensures ∙ ap (next_choice c.args.inside.now l.choice) (c.get_u32-id.ensures ∙ sym (get_d_words 4 c.args.ids.now c.args.many l.i (omega arith))) in
-    let r = chosen_count c.args.inside.now (words 4 c.args.ids.now c.args.many) l.i l.choice _ _ l.total _ (omega arith) e c.is_chosen-total.ensures l.invariant.2 in
+    let e = c.next_choice-choice.ensures ∙ ap (next_choice c.args.inside.now l.choice) (c.get-id.ensures ∙ sym (get_d_words 4 c.args.ids.now c.args.many l.i (omega arith))) in
+    let r = chosen_count c.args.inside.now (words 4 c.args.ids.now c.args.many) l.i l.choice _ _ l.total _ (omega arith) e (c.from-total.ensures ∙ ap from_bool c.is_chosen.ensures) l.invariant.2 in
     omega (arith, r.1)
 
 pub loop-i-preserved : goal.loop-i-preserved
 loop-i-preserved c = let l = c.loop-i in let n = words_length 4 c.args.ids.now c.args.many in
-    let e = c.next_choice-choice.ensures ∙ ap (next_choice c.args.inside.now l.choice) (c.get_u32-id.ensures ∙ sym (get_d_words 4 c.args.ids.now c.args.many l.i (omega arith))) in
-    let r = chosen_count c.args.inside.now (words 4 c.args.ids.now c.args.many) l.i l.choice _ _ l.total _ (omega arith) e c.is_chosen-total.ensures l.invariant.2 in
+    let e = c.next_choice-choice.ensures ∙ ap (next_choice c.args.inside.now l.choice) (c.get-id.ensures ∙ sym (get_d_words 4 c.args.ids.now c.args.many l.i (omega arith))) in
+    let r = chosen_count c.args.inside.now (words 4 c.args.ids.now c.args.many) l.i l.choice _ _ l.total _ (omega arith) e (c.from-total.ensures ∙ ap from_bool c.is_chosen.ensures) l.invariant.2 in
     (omega arith, omega (arith, r.1), r.0)
 
 pub returns : goal.returns

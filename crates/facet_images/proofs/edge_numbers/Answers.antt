@@ -7,11 +7,11 @@ pub loop-code-init : goal.loop-code-init
 loop-code-init c = (omega arith, omega arith, marks_none _, numbers_none _)
 
 pub overflow_add-many : goal.overflow_add-many
-overflow_add-many c = let l = c.loop-code in let r = marks_count _ l.code l.many _ c.mark_at-many.ensures l.invariant.2 in omega (arith, r.1)
+overflow_add-many c = let l = c.loop-code in let r = marks_count _ l.code l.many _ c.from-many.ensures l.invariant.2 in omega (arith, r.1)
 
 pub loop-code-preserved : goal.loop-code-preserved
 loop-code-preserved c = let l = c.loop-code in
-    let r = marks_count _ l.code l.many _ c.mark_at-many.ensures l.invariant.2 in
+    let r = marks_count _ l.code l.many _ c.from-many.ensures l.invariant.2 in
     (omega arith, omega (arith, r.1), r.0, numbers_more _ _ l.code l.many (omega arith) l.invariant.2 l.invariant.1 l.invariant.3)
 
 pub returns : goal.returns

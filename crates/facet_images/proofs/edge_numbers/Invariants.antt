@@ -1,6 +1,6 @@
 -- `facet_images::edge_numbers` meets its contract.
 use mathlib.Core.Path.{◌≡◌}
-use Prim.Native.Nat.{◌-◌, ◌≤◌}
+use Prim.Native.Nat.{◌≤◌}
 use lib.ListN.{length}
 use Rattle.edge_marks.specs.Marks.{codes_marked}
 use Rattle.facet_images.proofs.Choosing.{NumbersTo}
@@ -8,6 +8,3 @@ use Rattle.facet_images.proofs.edge_numbers.Given as goal
 
 abbrev pub invariant-loop-code : goal.invariant-loop-code
 invariant-loop-code l = (l.code ≤ 400) × (l.many ≤ l.code) × (l.many ≡ length (codes_marked l.marks l.code)) × NumbersTo l.marks l.numbers l.code
-
-abbrev pub decreases-loop-code : goal.decreases-loop-code
-decreases-loop-code l = 400 - l.code

@@ -1,6 +1,6 @@
 -- `facet_images::write_facet` meets its contract.
 use mathlib.Core.List.{map}
-use Prim.Native.Nat.{ℕ, ◌-◌, ◌≤◌}
+use Prim.Native.Nat.{ℕ, ◌≤◌}
 use lib.ListN.{get_or}
 use Rattle.figure_words.specs.Wrote.{Wrote}
 use Rattle.edge_marks.specs.Marks.{codes_marked}
@@ -8,6 +8,3 @@ use Rattle.facet_images.proofs.write_facet.Given as goal
 
 abbrev pub invariant-loop-code : goal.invariant-loop-code
 invariant-loop-code l = (l.code ≤ 400) × Wrote l.initial.answer l.initial.cursor l.answer l.cursor (map (λ (c : ℕ). get_or l.numbers c 0) (codes_marked l.image l.code))
-
-abbrev pub decreases-loop-code : goal.decreases-loop-code
-decreases-loop-code l = 400 - l.code

@@ -1,6 +1,6 @@
 -- `figure_words::write_edges` meets its contract.
 use mathlib.Core.List.{map}
-use Prim.Native.Nat.{◌-◌, ◌≤◌}
+use Prim.Native.Nat.{◌≤◌}
 use lib.ListN.{take}
 use Rattle.openers.specs.Meaning.{pair_of}
 use Rattle.order.specs.Areas.{list_at}
@@ -10,6 +10,3 @@ use Rattle.figure_words.proofs.write_edges.Given as goal
 
 abbrev pub invariant-loop-i : goal.invariant-loop-i
 invariant-loop-i l = (l.i ≤ l.n) × Wrote l.initial.answer l.initial.cursor l.answer l.cursor (edge_words (map pair_of (take l.i (list_at l.most l.pool l.k))))
-
-abbrev pub decreases-loop-i : goal.decreases-loop-i
-decreases-loop-i l = l.n - l.i

@@ -7,6 +7,3 @@ use Rattle.possible_facets.proofs.set_size.Given as goal
 
 abbrev pub invariant-loop-v : goal.invariant-loop-v
 invariant-loop-v l = (l.v ≤ l.n) × (l.many ≤ l.v) × (l.many + length (vertices_from l.v (l.n - l.v) l.rest) ≡ length (vertices_of l.n l.set))
-
-abbrev pub decreases-loop-v : goal.decreases-loop-v
-decreases-loop-v l = l.n - l.v

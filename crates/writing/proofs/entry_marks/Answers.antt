@@ -11,7 +11,7 @@ use Rattle.writing.proofs.entry_marks.Goals as goal
 
 pub mark_list-requires : goal.mark_list-requires
 mark_list-requires c = let h = c.requires.0 in
-    (h.rows_fit, h.edges, area_asked h.listed, c.requires.1, numbers_asked h.listed _ c.args.k h.each c.requires.1)
+    rw c.area.ensures (h.rows_fit, h.edges, area_asked h.listed, c.requires.1, numbers_asked h.listed _ c.args.k h.each c.requires.1)
 
 pub returns : goal.returns
-returns c = c.mark_list.ensures ∙ ap (λ (ls : List (List ℕ)). marks_of (rows_in 32 c.args.m c.args.rows.now) (edges_in c.args.level c.args.ws.now) (get_or ls c.args.k [])) (lists_are c.requires.0.listed)
+returns c = rw c.area.ensures at c.mark_list.ensures ∙ ap (λ (ls : List (List ℕ)). marks_of (rows_in 32 c.args.m c.args.rows.now) (edges_in c.args.level c.args.ws.now) (get_or ls c.args.k [])) (lists_are c.requires.0.listed)
