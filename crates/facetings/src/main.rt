@@ -6,12 +6,10 @@ use std::io;
 
 // Says which refusal a return code is; their numbers are below 28.
 fn tell_refusal(rt: &impl Eprint, code: i64) -> io::Result<()> {
-    let mut number: u8 = 1;
-    while number < 28 {
+    for number in 1..28 {
         if code == register::refusal(number) {
             eprintln!(rt; "facetings: refused {number}")?;
         }
-        number += 1;
     }
     Ok(())
 }

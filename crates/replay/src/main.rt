@@ -7,21 +7,20 @@ ghost use Rattle.std.specs.Prelude.{◌≤◌, IfOk};
 
 use std::io;
 use std::io::Read;
+use words::Word;
 
 // The next number of the input; 0 where it has ended.
 fn next_number(input: &mut impl Read) -> io::Result<u32> {
     let mut bytes = [0; 4];
     buffers::read_full(input, &mut bytes)?;
-    Ok(words::get_u32(&bytes, 0))
+    Ok(u32::get(&bytes, 0))
 }
 
 // From 0, each byte takes the hash to (hash × 16,777,619 + byte + 1) modulo the largest prime below 2^32, so that no step passes 2^57.
 fn hash(bytes: &[u8]) -> u64 {
     let mut sum: u64 = 0;
-    let mut i = 0;
-    while i < bytes.len() {
-        sum = (sum * 16777619 + bytes[i] as u64 + 1) % 4294967291;
-        i += 1;
+    for b in bytes {
+        sum = (sum * 16777619 + u64::from(*b) + 1) % 4294967291;
     }
     sum
 }
@@ -55,10 +54,7 @@ fn replay_job(
     let length = next_number(input)?;
     let sum = next_number(input)? as u64;
     let code = code_of(refused, length);
-    if workspace.len() < size {
-        return Ok(false);
-    }
-    if answer.len() < room {
+    if workspace.len() < size || answer.len() < room {
         return Ok(false);
     }
     Ok(has_result(job, &mut workspace[..size], &mut answer[..room], code, sum))
@@ -99,10 +95,8 @@ fn replay_all(
     answer: &mut [u8],
 ) -> io::Result<u32> {
     let mut same = 0;
-    let mut i = 0;
-    while i < count {
+    for i in 0..count {
         same += tell(rt, replay(input, job, workspace, answer)?, i)?;
-        i += 1;
     }
     Ok(same)
 }
