@@ -1,56 +1,29 @@
 -- Whether some row sends 0 to 1, read row by row. Leans on the rows in bytes.
-use Rattle.std.specs.Prelude.{◌≡◌, refl, Bool, true, false, List, [], ℕ, ◌+◌, ◌*◌, ◌≤◌, ◌<◌, T, eqb, length, get_or, take, drop}
-use Rattle.std.proofs.Common.{sym, ap, ◌∙◌, subst, ⊎_elim, arith, eqb→eq}
-use Rattle.std.proofs.Math.Dec.{eqb_refl}
+use Rattle.std.specs.Prelude.{◌≡◌, refl, Bool, ◌||◌, List, ℕ, zero, suc, ◌+◌, ◌*◌, ◌<◌, eqb, get_or, take, drop}
+use Rattle.std.specs.List.{list_any, range_with_len}
+use Rattle.std.proofs.Common.{sym, ap, ◌∙◌, arith, drop-drop, add-one}
 use Rattle.definitions.specs.Lists.{any_of}
 use Rattle.definitions.specs.Orbits.{Row, image}
-use Rattle.laws.specs.Bools.{holds→true, true→holds}
-use Rattle.laws.specs.Lists.{any_of_holds, any_witness, member_at, at_member}
-use Rattle.laws.specs.Parts.{get_d_rows, length_rows}
-use Rattle.laws.specs.Segments.{le_or_lt}
+use Rattle.laws.specs.Parts.{rows}
 use Rattle.openers.specs.Rows.{rows_in, image_at_holds}
 
 -- a row that sends 0 to 1
 abbrev pub swaps : Row → Bool
 swaps row = eqb 1 (image row 0)
 
--- none of the first i rows does
-pub record NoneSwaps (s : List ℕ) (m i : ℕ) : Type 0 where
-  pub turns : i ≤ m
-  pub none : (j : ℕ) → j < i → (get_or s (32 * j + 0) 0 ≡ 1) → ⊥
+-- whether the row at a place does
+abbrev pub swaps_at : List ℕ → ℕ → Bool
+swaps_at s i = eqb 1 (get_or s (32 * i + 0) 0)
 
-module _ (s : List ℕ) (m n : ℕ) (some : 0 < n) where
-  row_is : (j : ℕ) → j < m → get_or (rows_in n m s) j [] ≡ take n (drop (32 * j) s)
-  unfolding rows_in
-  row_is j h = get_d_rows 32 n m s j h
-
-  many : length (rows_in n m s) ≡ m
-  unfolding rows_in
-  many = length_rows 32 n m s
-
-  first_at : (j : ℕ) → j < m → image (get_or (rows_in n m s) j []) 0 ≡ get_or s (32 * j + 0) 0
-  first_at j h = ap (λ (row : Row). image row 0) (row_is j h) ∙ image_at_holds n j s 0 some
-
-  pub one_swaps : (j : ℕ) → j < m → get_or s (32 * j + 0) 0 ≡ 1 → true ≡ any_of swaps (rows_in n m s)
-  one_swaps j h e =
-      let row = get_or (rows_in n m s) j [] in
-      sym (holds→true (any_of swaps (rows_in n m s)) (any_of_holds swaps row (rows_in n m s) (member_at (rows_in n m s) j [] (omega (arith, many))) (subst (λ (x : ℕ). T (eqb 1 x)) (sym (first_at j h ∙ e)) (eqb_refl 1))))
-
-  pub none_swaps : (i : ℕ) → m ≤ i → NoneSwaps s m i → false ≡ any_of swaps (rows_in n m s)
-  none_swaps i h c = go (any_of swaps (rows_in n m s)) refl
-    where
-      go : (b : Bool) → any_of swaps (rows_in n m s) ≡ b → false ≡ b
-      go false e = refl
-      go true e =
-          let r = any_witness swaps (rows_in n m s) (true→holds e) in
-          let a = at_member r.0 (rows_in n m s) [] r.1 in
-          let j = a.0 in
-          let below : j < m = omega (arith, a.1, many) in
-          absurd (c.none j (omega arith) (sym (first_at j below) ∙ (ap (λ (row : Row). image row 0) a.2 ∙ sym (eqb→eq 1 (image r.0 0) r.2))))
-
--- one row more that does not
-pub none_more : (s : List ℕ) (m i : ℕ) → NoneSwaps s m i → i < m → (get_or s (32 * i + 0) 0 ≡ 1 → ⊥) → NoneSwaps s m (i + 1)
-none_more s m i c h e = record { turns = omega arith; none = λ j k q. ⊎_elim (λ l. e (ap (λ (x : ℕ). get_or s (32 * x + 0) 0) (at j k l) ∙ q)) (λ l. c.none j l q) (le_or_lt i j) }
+-- Some row of m that lie 32 apart does, if one does at some place below m.
+pub some_swaps : (s : List ℕ) (m n : ℕ) → 0 < n → list_any (swaps_at s) (range_with_len 0 m) ≡ any_of swaps (rows_in n m s)
+unfolding rows_in rows any_of
+some_swaps s m n some = from 0 m
   where
-    at : (j : ℕ) → j < i + 1 → i ≤ j → i ≡ j
-    at j k l = omega arith
+    from : (i many : ℕ) → list_any (swaps_at s) (range_with_len i many) ≡ any_of swaps (rows 32 n many (drop (32 * i) s))
+    from i zero = refl
+    from i (suc many) =
+        let here : swaps_at s i ≡ swaps (take n (drop (32 * i) s)) = ap (eqb 1) (sym (image_at_holds n i s 0 some)) in
+        let next : 32 * i + 32 ≡ 32 * suc i = omega arith in
+        let behind : drop (32 * suc i) s ≡ drop 32 (drop (32 * i) s) = ap (λ (k : ℕ). drop k s) (sym next) ∙ sym (drop-drop 32 (32 * i) s) in
+        rw (here, add-one i, ← behind) (ap (λ (b : Bool). swaps (take n (drop (32 * i) s)) || b) (from (suc i) many))

@@ -2,12 +2,13 @@
 
 #![tactic(auto)]
 
-ghost use Rattle.std.specs.Prelude.{◌≡◌, ℕ, ◌*◌, ◌≤◌, ◌<◌, eqb, length};
+ghost use Rattle.std.specs.Prelude.{◌≡◌, ℕ, ◌≤◌, ◌<◌, eqb};
 ghost use Rattle.definitions.specs.Lists.{any_of};
 ghost use Rattle.definitions.specs.Orbits.{Row, image};
 ghost use Rattle.openers.specs.Rows.{rows_in};
 ghost use Rattle.calls.specs.Layouts.{shelf_for};
 
+use openers::Rows;
 use shelf::{Level, Shelf};
 use space::Limits;
 
@@ -23,7 +24,7 @@ pub struct Rules {
     pub rule: usize,
 }
 
-// What a call answers. At rank 2: whether some row swaps the ends. Above: where its answer stands in the workspace. Both with what is left of the budget.
+// What a call answers. At rank 2: whether some row swaps the ends. Above: where its answer stands in the workspace. Both with what is left of the budget. Both are answers, so that neither an Option nor a Result says it.
 #[derive(Clone, Copy)]
 pub enum Called {
     Ends(bool, u32),
@@ -31,19 +32,14 @@ pub enum Called {
 }
 
 // Whether some row sends 0 to 1: all that a call of rank 2 asks.
-pub fn swaps_ends(rows: &[u8], m: usize) -> bool
-    requires { 32 * m ≤ length rows.now }
-    ensures { (n : ℕ) → 0 < n → n ≤ 32 → result ≡ any_of (λ (row : Row). eqb 1 (image row 0)) (rows_in n m rows.now) }
+pub fn swaps_ends(rows: Rows) -> bool
+    ensures { (n : ℕ) → 0 < n → n ≤ 32 → result ≡ any_of (λ (row : Row). eqb 1 (image row 0)) (rows_in n rows.entry.count rows.entry.bytes.now) }
 {
-    for i in 0..m {
-        if openers::image(rows, i, 0) == 1 {
-            return true;
-        }
-    }
-    false
+    (0..rows.count).any(|i| rows.image(i, 0) == 1)
 }
 
 // An empty shelf for a call of rank 3, or of rank 4: its areas have room for what such a call can keep.
+// Told apart by the rank, a number that `faceting` lowers by one: what is chosen are numbers, no step, so that a closure would say no more.
 pub fn shelf_for(rank: usize) -> Shelf
     ensures { result ≡ shelf_for rank }
 {

@@ -80,8 +80,9 @@ fn tolerance_good(tolerance: f64) -> bool
 fn limits_good(fields: Fields) -> bool
     ensures { result ≡ (limit_good fields.limits.shortest && limit_good fields.limits.longest && is_finite fields.tolerance) }
 {
-    let limits = fields.limits;
-    limit_good(limits.shortest) && limit_good(limits.longest) && is_finite(fields.tolerance)
+    limit_good(fields.limits.shortest)
+        && limit_good(fields.limits.longest)
+        && is_finite(fields.tolerance)
 }
 
 // So many numbers from a place on.
@@ -102,22 +103,18 @@ fn floats_good(job: &[u8], fields: Fields) -> bool
     requires { Exact job.now × (fields ≡ fields_of job.now) }
     ensures { result ≡ floats_good (read_job job.now) }
 {
-    let d = fields.d;
-    let in_basis = d * (fields.rank - 1);
-    let in_points = d * fields.n;
-    let offset = fields.offset;
-    let basis = fields.basis;
-    let points = fields.points;
+    let in_basis = fields.d * (fields.rank - 1);
+    let in_points = fields.d * fields.n;
     if !limits_good(fields) {
         return false;
     }
-    if !all_within(job, offset, d, 65536.0) {
+    if !all_within(job, fields.offset, fields.d, 65536.0) {
         return false;
     }
-    if !all_within(job, basis, in_basis, 1.0) {
+    if !all_within(job, fields.basis, in_basis, 1.0) {
         return false;
     }
-    all_within(job, points, in_points, 65536.0)
+    all_within(job, fields.points, in_points, 65536.0)
 }
 
 // ---- rows
@@ -168,6 +165,7 @@ pub fn rows_good(job: &[u8], at: usize, n: usize, count: usize) -> bool
 
 // ---- workspace
 
+// [11.3] By the rank, as the page has it: three numbers, no step is chosen.
 pub fn workspace_for(rank: usize) -> usize
     ensures { result ≡ workspace_for rank }
 {

@@ -1,10 +1,9 @@
--- What the proofs of the functions cite: a flag that is set or not, a float that was read, and the room that a job of its exact length has for each field. Assumes nothing.
+-- What the proofs of the functions cite: a field that may be absent, a float that was read, and the room that a job of its exact length has for each field. Assumes nothing.
 use mathlib.Core.Path.{◌≡◌, refl, sym, ap, ◌∙◌}
-use mathlib.Core.Bool.{true, false, cond}
+use mathlib.Core.Bool.{Bool, true, false, cond}
 use mathlib.Core.List.{List, [], ◌∷◌, ◌++◌}
 use Prim.Native.Nat.{ℕ, ◌+◌, ◌-◌, ◌*◌, ◌/◌, ◌%◌, ◌≤◌, ◌<◌}
 use native.Mathlib.Omega.{arith}
-use borrow.Author.Tests.{eq-eqb, ne_eqb, le-leb, lt-leb}
 use lib.Dec.{leb}
 use lib.ListN.{length, get_or, take, drop, length-drop, length-map}
 use Rattle.std.proofs.lemmas.List.{drop-drop}
@@ -13,7 +12,7 @@ use lib.Seq.{paste, length-paste, length-take-le, take_all, sets, sets-eq}
 use lib.Ieee.{Float, nan, inf, fin, binary64, of_bits, div}
 use Rattle.definitions.specs.Job.{Bytes, tolerance1, flag_set, present, float_at, floats_at, vectors_at, number_at, read_job, plane_of}
 use Rattle.words.specs.Floats.{read_of}
-use Rattle.std.specs.Prelude.{Option, Some, None}
+use Rattle.std.specs.Prelude.{Option, Some, None, is_some, IfSome}
 use Rattle.std.specs.Option.{unwrap_or}
 use Rattle.load.specs.declared.Header.{Header}
 use Rattle.load.specs.declared.Places.{Places}
@@ -31,48 +30,26 @@ use Rattle.laws.specs.Lists.{count_length}
 use Rattle.laws.specs.Tests.{product_at_most, spaced, spaced_more, rows_paste}
 use Rattle.laws.specs.Parts.{rows, length_rows}
 
--- ---- versions
+-- ---- fields that may be absent
 
--- a field that is there from a version on, and what stands for it before
-module _ (first version : ℕ) {A : Type 0} (field instead : A) where
-  pub from_version : first ≤ version → field ≡ cond (leb first version) field instead
-  from_version h = rw (le-leb first version h) refl
-
-  pub before_version : version < first → instead ≡ cond (leb first version) field instead
-  before_version h = rw (lt-leb first version h) refl
-
--- ---- flags
-
-module _ (flags weight : ℕ) where
-  pub flag_set_holds : 1 ≡ flags / weight % 2 → flag_set flags weight ≡ true
-  unfolding flag_set
-  flag_set_holds e = eq-eqb 1 (flags / weight % 2) e
-
-  pub flag_clear : (1 ≡ flags / weight % 2 → ⊥) → flag_set flags weight ≡ false
-  unfolding flag_set
-  flag_clear e = ne_eqb 1 (flags / weight % 2) e
-
-  pub room_set : (bytes : ℕ) → 1 ≡ flags / weight % 2 → bytes ≡ cond (flag_set flags weight) bytes 0
-  room_set bytes e = rw (flag_set_holds e) refl
-
-  pub room_clear : (bytes : ℕ) → (1 ≡ flags / weight % 2 → ⊥) → 0 ≡ cond (flag_set flags weight) bytes 0
-  room_clear bytes e = rw (flag_clear e) refl
-
-  pub limit_set : (x y : Float) → 1 ≡ flags / weight % 2 → x ≡ y → Some x ≡ (present (flag_set flags weight) y)
+module _ {A : Type 0} (there : Bool) (field : A) (r : Option A) where
+  -- what is read only where the field is there
+  pub present_read : {P : A → Type 0} → is_some r ≡ there → IfSome r P → ((x : A) → P x → x ≡ field) → r ≡ present there field
   unfolding present
-  limit_set x y e p = rw (flag_set_holds e, p) refl
+  present_read {P} e h f = go r h ∙ ap (λ (b : Bool). present b field) e
+    where
+      go : (o : Option A) → IfSome o P → o ≡ present (is_some o) field
+      go (Some x) h = ap Some (f x h)
+      go None h = refl
 
-  pub limit_clear : (y : Float) → (1 ≡ flags / weight % 2 → ⊥) → None ≡ (present (flag_set flags weight) y)
+  -- and what stands for it elsewhere
+  pub instead_read : (instead : A) → r ≡ present there field → unwrap_or r instead ≡ cond there field instead
   unfolding present
-  limit_clear y e = rw (flag_clear e) refl
-
-  pub entries_set : (x y : ℕ) → 1 ≡ flags / weight % 2 → x ≡ y → Some x ≡ (present (flag_set flags weight) y)
-  unfolding present
-  entries_set x y e p = rw (flag_set_holds e, p) refl
-
-  pub entries_clear : (y : ℕ) → (1 ≡ flags / weight % 2 → ⊥) → None ≡ (present (flag_set flags weight) y)
-  unfolding present
-  entries_clear y e = rw (flag_clear e) refl
+  instead_read instead e = rw e (go there)
+    where
+      go : (b : Bool) → unwrap_or (present b field) instead ≡ cond b field instead
+      go true = refl
+      go false = refl
 
 -- ---- floats
 
@@ -83,19 +60,6 @@ value_read (inf s) = refl
 value_read (fin s m d) = refl
 
 -- ---- room
-
--- the products of a header's counts
-pub record Bounded (h : Header) : Type 0 where
-  pub basis : 8 * h.d * (h.rank - 1) ≤ 96
-  pub points : 8 * h.d * h.n ≤ 640
-  pub rows : h.n * h.count ≤ 2400
-
-pub bounded : (h : Header) → Counted h → Bounded h
-bounded h k = record {
-  basis = product_at_most (8 * h.d) (h.rank - 1) 32 3 (omega arith) (omega arith);
-  points = product_at_most (8 * h.d) h.n 32 20 (omega arith) (omega arith);
-  rows = product_at_most h.n h.count 20 120 (omega arith) (omega arith);
-}
 
 -- where each field lies in a job of its exact length
 pub record Fitting (bytes : Bytes) (h : Header) (p : Places) : Type 0 where
@@ -203,9 +167,6 @@ lent_is bytes from n = let e : from + n - from ≡ n = omega arith in ap (λ (k 
 
 pub lent_length : (bytes : Bytes) (from n : ℕ) → from + n ≤ length bytes → length (lent bytes from n) ≡ n
 lent_length bytes from n h = ap length (lent_is bytes from n) ∙ length-take-le n (drop from bytes) (rw length-drop (omega arith))
-
-pub copy_fits : (region bytes : Bytes) (from n i count : ℕ) → n ≤ 32 → from + n ≤ length bytes → i < count → 32 * count ≤ length region → 32 * i + length (lent bytes from n) ≤ length region
-copy_fits region bytes from n i count h k below fits = let e = lent_length bytes from n k in omega arith
 
 -- what is copied is written number by number
 copied_sets : (l row : Bytes) (at n : ℕ) → length row ≡ n → at + n ≤ length l → paste l at row n ≡ sets l at row

@@ -1,5 +1,7 @@
 // A job's fields, read from its bytes: counts, limits, and the places of what is longer; the plane, the points and the rows in the form that the calls want. Each function equals the
 // definition's `read_job`, whatever the numbers are: which jobs are refused is told elsewhere. A `requires` here is that the bytes are there.
+// A place in the bytes and a number of fields go side by side, here and where a job, a package or numbers in the workspace are read: the definitions read bytes so, and a slice would be cut
+// with the same two numbers.
 
 #![tactic(auto)]
 
@@ -58,31 +60,30 @@ pub struct Places {
     pub size: usize,
 }
 
-// The bytes of a field that is there only where its flag, of that weight, is set.
-fn room(flags: usize, weight: usize, bytes: usize) -> usize
+// Whether the flag of a weight, which is a power of two, is set.
+fn has_flag(flags: usize, weight: usize) -> bool
     requires { 0 < weight }
-    ensures { (result ≡ cond (flag_set flags weight) bytes 0) × (result ≤ bytes) }
+    ensures { result ≡ flag_set flags weight }
 {
-    if 1 == flags / weight % 2 { bytes } else { 0 }
+    flags / weight % 2 == 1
 }
 
-// The bytes of a field that is there from a version on.
-fn room_from(version: usize, first: usize, bytes: usize) -> usize
-    ensures { (result ≡ cond (leb first version) bytes 0) × (result ≤ bytes) }
+// The bytes of a field: none where it is absent.
+fn room(present: bool, bytes: usize) -> usize
+    ensures { (result ≡ cond present bytes 0) × (result ≤ bytes) }
 {
-    if first <= version { bytes } else { 0 }
+    if present { bytes } else { 0 }
 }
 
 pub fn places_of(h: Header) -> Places
     requires { Counted h }
     ensures { result ≡ places_of h }
 {
-    let flags = h.flags;
-    let max = 11 + room(flags, 1, 8);
-    let limit = max + room(flags, 2, 8);
-    let tolerance = limit + room(flags, 4, 4);
-    let rule = tolerance + room_from(h.version, 2, 8);
-    let budget = rule + room_from(h.version, 3, 1);
+    let max = 11 + room(has_flag(h.flags, 1), 8);
+    let limit = max + room(has_flag(h.flags, 2), 8);
+    let tolerance = limit + room(has_flag(h.flags, 4), 4);
+    let rule = tolerance + room(2 <= h.version, 8);
+    let budget = rule + room(3 <= h.version, 1);
     let offset = budget + 4;
     let vector = 8 * h.d;
     let basis = offset + vector;
@@ -112,54 +113,6 @@ pub fn float_at(job: &[u8], at: usize) -> f64
     words::get_f64(job, at).unwrap_or(0.0 / 0.0)
 }
 
-// A limit on lengths that is there only where its flag is set.
-fn limit_at(job: &[u8], flags: usize, weight: usize, at: usize) -> Option<f64>
-    requires { (0 < weight) × (at + 8 ≤ length job.now) }
-    ensures { result ≡ present (flag_set flags weight) (float_at job.now at) }
-{
-    if 1 == flags / weight % 2 {
-        Some(float_at(job, at))
-    } else {
-        None
-    }
-}
-
-// The entry limit is absent or a number.
-fn entry_limit_at(job: &[u8], flags: usize, at: usize) -> Option<u32>
-    requires { at + 4 ≤ length job.now }
-    ensures { result ≡ present (flag_set flags 4) (number_at job.now at 4) }
-{
-    if 1 == flags / 4 % 2 {
-        Some(u32::get(job, at))
-    } else {
-        None
-    }
-}
-
-// The tolerance is 1e-7 where the version has no field for it.
-fn tolerance_at(job: &[u8], version: usize, at: usize) -> f64
-    requires { at + 8 ≤ length job.now }
-    ensures { result ≡ cond (leb 2 version) (float_at job.now at) tolerance1 }
-{
-    if 2 <= version {
-        float_at(job, at)
-    } else {
-        0.0000001
-    }
-}
-
-// The rule of crowded lines is 1 where the version has no field for it.
-fn rule_at(job: &[u8], version: usize, at: usize) -> usize
-    requires { at < length job.now }
-    ensures { result ≡ cond (leb 3 version) (get_or job.now at 0) 1 }
-{
-    if 3 <= version {
-        usize::from(job[at])
-    } else {
-        1
-    }
-}
-
 // ---- all fields
 
 // The counts, the limits, the tolerance, the rule and the budget by value; the last four are the places in the job where offset, basis, points and rows begin.
@@ -180,25 +133,27 @@ pub struct Fields {
     pub rows: usize,
 }
 
+// A version without a field for the tolerance has 1e-7, one without a field for the rule of crowded lines the rule 1.
 pub fn fields_of(job: &[u8]) -> Fields
     requires { Exact job.now }
     ensures { result ≡ fields_of job.now }
 {
     let h = header_of(job);
     let p = places_of(h);
-    let flags = h.flags;
+    let tolerance = (2 <= h.version).then(|| float_at(job, p.tolerance));
+    let rule = (3 <= h.version).then(|| usize::from(job[p.rule]));
     Fields {
         rank: h.rank,
         d: h.d,
         n: h.n,
         count: h.count,
         limits: Limits {
-            shortest: limit_at(job, flags, 1, 11),
-            longest: limit_at(job, flags, 2, p.max),
+            shortest: has_flag(h.flags, 1).then(|| float_at(job, 11)),
+            longest: has_flag(h.flags, 2).then(|| float_at(job, p.max)),
         },
-        entries: entry_limit_at(job, flags, p.limit),
-        tolerance: tolerance_at(job, h.version, p.tolerance),
-        rule: rule_at(job, h.version, p.rule),
+        entries: has_flag(h.flags, 4).then(|| u32::get(job, p.limit)),
+        tolerance: tolerance.unwrap_or(0.0000001),
+        rule: rule.unwrap_or(1),
         budget: u32::get(job, p.budget),
         offset: p.offset,
         basis: p.basis,
@@ -225,11 +180,10 @@ pub fn plane_of(job: &[u8], fields: Fields) -> Subspace
     requires { Exact job.now × (fields ≡ fields_of job.now) }
     ensures { HoldsSubspace result (plane_of (read_job job.now)) × (result.d ≡ fields.d) × (result.rank ≡ fields.rank - 1) }
 {
-    let d = fields.d;
-    let at = fields.basis;
-    let mut plane = Subspace::new(vector_at(job, fields.offset, d), d);
+    let offset = vector_at(job, fields.offset, fields.d);
+    let mut plane = Subspace::new(offset, fields.d);
     for j in 0..fields.rank - 1 {
-        plane.push(vector_at(job, at + 8 * d * j, d));
+        plane.push(vector_at(job, fields.basis + 8 * fields.d * j, fields.d));
     }
     plane
 }
@@ -238,11 +192,9 @@ pub fn points_of(job: &[u8], fields: Fields) -> Points
     requires { Exact job.now × (fields ≡ fields_of job.now) }
     ensures { HoldsPoints result fields.d (read_job job.now).points × (result.n ≡ fields.n) }
 {
-    let d = fields.d;
-    let at = fields.points;
-    let mut points = Points::new(d);
+    let mut points = Points::new(fields.d);
     for i in 0..fields.n {
-        points.push(vector_at(job, at + 8 * d * i, d));
+        points.push(vector_at(job, fields.points + 8 * fields.d * i, fields.d));
     }
     points
 }

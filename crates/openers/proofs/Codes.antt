@@ -1,5 +1,5 @@
 -- Theorems on the definitions of specs/Codes.
-use Rattle.std.specs.Prelude.{◌≡◌, List, [], map, ℕ, ◌≤◌, ◌<◌, max}
+use Rattle.std.specs.Prelude.{◌≡◌, List, map, ℕ, ◌≤◌, ◌<◌, max}
 use Rattle.std.proofs.Common.{sym, ap, ◌∙◌, arith}
 use Rattle.definitions.specs.Lists.{Pair}
 use Rattle.definitions.specs.Orbits.{Row, image, pair_image}

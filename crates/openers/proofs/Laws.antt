@@ -1,4 +1,4 @@
--- What the proofs of this crate share: a struct's count is the length of what it holds, and marks agree with the definition's list of what was seen. Leans on Marks.
+-- What the proofs of this crate share: marks agree with the definition's list of what was seen. Leans on Marks.
 use mathlib.Core.Path.{◌≡◌, refl, sym, ap, ◌∙◌}
 use mathlib.Core.Bool.{Bool, true, false, cond, ◌||◌, or-false}
 use mathlib.Core.List.{List, [], ◌∷◌, ◌++◌, map, append-nil}
@@ -6,25 +6,13 @@ use Prim.Native.Nat.{ℕ, ◌+◌, ◌*◌, ◌≤◌, ◌<◌}
 use native.Mathlib.Omega.{arith}
 use lib.Dec.{eqb}
 use lib.ListN.{length, get_or, length-replicate, get_or-replicate, replicate}
-use lib.Seq.{length-take-le, get_or-take}
 use Rattle.definitions.specs.Lists.{any_of, member_nat, count_from}
 use Rattle.definitions.specs.Orbits.{Row, image, vertex_openers}
 use Rattle.laws.specs.Lists.{Mem, here, there, count_length, count_more, any_append}
 use Rattle.laws.specs.Parts.{rows, map_rows_more}
 use Rattle.openers.specs.Rows.{rows_in, RowsFit, ImagesBelow, image_at_holds, same_images}
 use Rattle.openers.specs.Marks.{marked, marked_at_holds, marked_length, passed, walked, marks_after, walked_append, marks_append, walked_fewer, one_passed, one_opened}
-use Rattle.openers.specs.Meaning.{vertices_in, HoldsVertices, vertex_images, none_skipped}
-use Rattle.openers.specs.declared.Vertices.{Vertices}
-
--- ---- structs
-
-pub holds_vertices : (r : Vertices) (meaning : List ℕ) → r.count ≤ 20 → length r.at ≡ 20 → vertices_in r ≡ meaning → HoldsVertices r meaning
-unfolding vertices_in
-holds_vertices r meaning fits long e = record {
-  fits = fits;
-  count_is = sym (length-take-le r.count r.at (omega arith)) ∙ ap length e;
-  means = e;
-}
+use Rattle.openers.specs.Meaning.{vertex_images, none_skipped}
 
 -- ---- a walk, one item more
 
@@ -83,20 +71,20 @@ images_none marks v s = refl
 
 -- ---- one vertex
 
-module _ (rows : List Row) (marks : List Bool) (v : ℕ) (found : Vertices) where
+module _ (rows : List Row) (marks : List Bool) (v : ℕ) (found : List ℕ) where
   abbrev joined : List ℕ
-  joined = vertices_in found ++ walked (λ (u : ℕ). u) (vertex_images rows) none_skipped marks (v ∷ [])
+  joined = found ++ walked (λ (u : ℕ). u) (vertex_images rows) none_skipped marks (v ∷ [])
 
   abbrev after : List Bool
   after = marks_after (λ (u : ℕ). u) (vertex_images rows) none_skipped marks (v ∷ [])
 
-  pub vertex_passed : found.count ≤ 20 → length found.at ≡ 20 → get_or marks v false ≡ true → HoldsVertices found joined × (marks ≡ after)
+  pub vertex_passed : get_or marks v false ≡ true → (found ≡ joined) × (marks ≡ after)
   unfolding passed none_skipped
-  vertex_passed fits long e =
+  vertex_passed e =
       let one = one_passed (λ (u : ℕ). u) (vertex_images rows) none_skipped marks v (or-false (get_or marks v false) ∙ e) in
-      (holds_vertices found joined fits long (sym (append-nil (vertices_in found)) ∙ ap (λ (l : List ℕ). vertices_in found ++ l) (sym one.0)), sym one.1)
+      (sym (append-nil found) ∙ ap (λ (l : List ℕ). found ++ l) (sym one.0), sym one.1)
 
-  pub vertex_opened : get_or marks v false ≡ false → (r : Vertices) (t : List Bool) → HoldsVertices r (vertices_in found ++ (v ∷ [])) → t ≡ marked marks (vertex_images rows v) → HoldsVertices r joined × (t ≡ after)
+  pub vertex_opened : get_or marks v false ≡ false → (r : List ℕ) (t : List Bool) → r ≡ found ++ (v ∷ []) → t ≡ marked marks (vertex_images rows v) → (r ≡ joined) × (t ≡ after)
   unfolding passed none_skipped
   vertex_opened e r t h f =
       let one = one_opened (λ (u : ℕ). u) (vertex_images rows) none_skipped marks v (or-false (get_or marks v false) ∙ e) in
@@ -129,8 +117,3 @@ module _ (images : ℕ → List ℕ) (marks : List Bool) where
 
 pub images_under : {n m : ℕ} {s : List ℕ} → RowsFit n m s → (v : ℕ) → v < n → ImagesBelow 20 v m s
 images_under fits v h = record { below = λ i l. omega (arith, (fits.images v h).below i l, fits.n_fits) }
-
--- a vertex of a struct, read in its array
-pub opener_at : (r : Vertices) (k : ℕ) → k < r.count → get_or (vertices_in r) k 0 ≡ get_or r.at k 0
-unfolding vertices_in
-opener_at r k h = get_or-take r.count r.at k 0 h

@@ -2,54 +2,39 @@
 use mathlib.Core.Path.{◌≡◌, refl, sym, ap, ◌∙◌}
 use mathlib.Core.Bool.{Bool, true, false, cond, ◌||◌}
 use mathlib.Core.List.{List, [], ◌∷◌, ◌++◌, map, flat_map, append-nil, map-append}
-use Prim.Native.Nat.{ℕ, zero, suc, ◌+◌, ◌*◌, ◌-◌, ◌≤◌, ◌<◌}
+use Prim.Native.Nat.{ℕ, zero, suc, ◌+◌, ◌*◌, ◌-◌, ◌≤◌, ◌<◌, min, max}
 use native.Mathlib.Omega.{arith}
 use lib.Dec.{compare_is_eq}
-use lib.ListN.{length, get_or, take, set, length-set, length-append, length-take, length-map, length-replicate, get_or-replicate, replicate}
-use lib.Seq.{length-take-le, take-suc}
+use lib.ListN.{length, get_or, take, set, length-append, length-map, length-replicate, get_or-replicate, replicate}
+use lib.Seq.{take-suc}
 use Rattle.definitions.specs.Lists.{Pair, any_of, member_nat, member_pair, compare_pair, count_from}
 use Rattle.definitions.specs.Orbits.{Row, image, pair_image, vertex_openers, pair_openers, pairs_from, above}
 use Rattle.laws.specs.Lists.{Mem, here, there, of_map, of_flat_map, at_member, count_length, of_count, flat_map_append, count_more, any_append}
-use Rattle.laws.specs.Parts.{rows, take_more, take_more_set}
+use Rattle.laws.specs.Parts.{rows, take_more}
 use Rattle.openers.specs.Rows.{rows_in, RowsFit}
-use Rattle.openers.specs.Marks.{marked, marked_at_holds, marked_length, passed, walked, marks_after, walked_append, marks_append, walked_fewer, one_passed, one_opened}
-use Rattle.openers.specs.Codes.{pair_of_code, code_small, member_codes, map_codes}
+use Rattle.openers.specs.Marks.{marked, marked_more, marked_at_holds, marked_length, passed, walked, marks_after, walked_append, marks_append, walked_fewer, one_passed, one_opened}
+use Rattle.openers.specs.Codes.{pair_of_code, codes_more, code_small, member_codes, map_codes}
 use Rattle.openers.proofs.Codes.{codes_wide, image_small}
-use Rattle.openers.specs.Meaning.{pair_code, pair_of, pairs_in, listed, HoldsPairs, HoldsCodes, pair_codes, pairs_above}
-use Rattle.openers.specs.declared.Pairs.{Pairs}
+use Rattle.openers.specs.Meaning.{pair_code, pair_of, pair_codes, pairs_above}
 use Rattle.openers.proofs.Laws.{same_cond}
 
--- ---- structs
+-- ---- codes
 
-pub holds_pairs : (r : Pairs) (meaning : List Pair) → r.count ≤ 190 → length r.codes ≡ 190 → pairs_in r ≡ meaning → HoldsPairs r meaning
-unfolding pairs_in
-holds_pairs r meaning fits long e = record {
-  fits = record { fits = fits };
-  count_is = sym (length-take-le r.count r.codes (omega arith)) ∙ (sym (length-map (take r.count r.codes) pair_of) ∙ ap length e);
-  means = e;
-}
-
-pub pairs_few : (r : Pairs) → length (pairs_in r) ≤ r.count
-unfolding pairs_in
-pairs_few r = let e = length-map (take r.count r.codes) pair_of in let f = length-take r.count r.codes in omega arith
-
-pub pairs_pushed : (codes : List ℕ) (count v w : ℕ) → w < 20 → count < length codes → map pair_of (take (count + 1) (set codes count (20 * v + w))) ≡ map pair_of (take count codes) ++ ((v, w) ∷ [])
-pairs_pushed codes count v w h l =
-    ap (map pair_of) (take_more_set codes count (20 * v + w) l)
-    ∙ (map-append pair_of (take count codes) ((20 * v + w) ∷ []) ∙ ap (λ (p : Pair). map pair_of (take count codes) ++ (p ∷ [])) (pair_of_code v w h))
-
--- a code that is written behind the others is one pair more
-pub pair_put : (codes : List ℕ) (count v w : ℕ) → w < 20 → count < 190 → length codes ≡ 190 → HoldsCodes (set codes count (20 * v + w)) (count + 1) (pairs_in (listed codes count) ++ ((v, w) ∷ []))
-unfolding pairs_in
-pair_put codes count v w small room long =
-    let kept = length-set codes count (20 * v + w) ∙ long in
-    record { long = kept; holds = holds_pairs (listed (set codes count (20 * v + w)) (count + 1)) _ (omega (arith, room)) kept (pairs_pushed codes count v w small (omega (arith, room, long))) }
+-- a code that is pushed behind the others is one pair more
+pub pair_pushed : (codes : List ℕ) (v w : ℕ) → w < 20 → map pair_of (codes ++ ((20 * v + w) ∷ [])) ≡ map pair_of codes ++ ((v, w) ∷ [])
+pair_pushed codes v w h = map-append pair_of codes ((20 * v + w) ∷ []) ∙ ap (λ (p : Pair). map pair_of codes ++ (p ∷ [])) (pair_of_code v w h)
 
 -- ---- images
 
 pub codes_none : (marks : List Bool) (p : Pair) (s : List ℕ) → marks ≡ marked marks (pair_codes (rows_in 32 0 s) p)
 unfolding marked pair_codes rows_in rows
 codes_none marks p s = refl
+
+-- and of one row more
+pub codes_next : (m v w at : ℕ) (s : List ℕ) (marks : List Bool) → v < 32 → w < 32
+    → at ≡ 20 * min (get_or s (32 * m + v) 0) (get_or s (32 * m + w) 0) + max (get_or s (32 * m + v) 0) (get_or s (32 * m + w) 0)
+    → set (marked marks (pair_codes (rows_in 32 m s) (v, w))) at true ≡ marked marks (pair_codes (rows_in 32 (m + 1) s) (v, w))
+codes_next m v w at s marks h k e = rw (codes_more m v w s h k, ← e) (sym (marked_more marks (pair_codes (rows_in 32 m s) (v, w)) at))
 
 -- ---- a pair is its code
 
@@ -215,8 +200,10 @@ module _ (images : Pair → List ℕ) (skip : Pair → Bool) (marks : List Bool)
       let f = count_length (suc v) (w - suc v) in
       omega (arith, walked_fewer pair_code images skip marks (up_to v w))
 
-  pub up_room : (r : Pairs) (before : List Pair) (v w count : ℕ) → HoldsPairs r (before ++ found_up v w) → length before ≤ count → r.count ≤ count + (w - suc v)
-  up_room r before v w count h l = omega (arith, h.count_is, length-append before (found_up v w), up_few v w)
+  pub up_room : (before codes : List ℕ) (v w : ℕ) → map pair_of codes ≡ map pair_of before ++ found_up v w → length codes ≤ length before + (w - suc v)
+  up_room before codes v w e =
+      let same = ap length e in
+      omega (arith, same, length-map codes pair_of, length-map before pair_of, length-append (map pair_of before) (found_up v w), up_few v w)
 
   pub up_all : (n v w : ℕ) → w ≡ n → up_to v w ≡ pairs_above n v
   unfolding pairs_above above
@@ -244,28 +231,28 @@ module _ (images : Pair → List ℕ) (skip : Pair → Bool) (marks : List Bool)
 
 -- ---- one pair
 
-module _ (rows : List Row) (skip : Pair → Bool) (marks : List Bool) (v w : ℕ) (found : Pairs) where
+module _ (rows : List Row) (skip : Pair → Bool) (marks : List Bool) (v w : ℕ) (found : List Pair) where
   abbrev joined : List Pair
-  joined = pairs_in found ++ walked pair_code (pair_codes rows) skip marks ((v, w) ∷ [])
+  joined = found ++ walked pair_code (pair_codes rows) skip marks ((v, w) ∷ [])
 
   abbrev after : List Bool
   after = marks_after pair_code (pair_codes rows) skip marks ((v, w) ∷ [])
 
-  passed_by : found.count ≤ 190 → length found.codes ≡ 190 → passed pair_code (pair_codes rows) skip marks (v, w) ≡ true → HoldsCodes found.codes found.count joined × (marks ≡ after)
-  passed_by fits long e =
+  passed_by : passed pair_code (pair_codes rows) skip marks (v, w) ≡ true → (found ≡ joined) × (marks ≡ after)
+  passed_by e =
       let one = one_passed pair_code (pair_codes rows) skip marks (v, w) e in
-      (record { long = long; holds = holds_pairs found joined fits long (sym (append-nil (pairs_in found)) ∙ ap (λ (l : List Pair). pairs_in found ++ l) (sym one.0)) }, sym one.1)
+      (sym (append-nil found) ∙ ap (λ (l : List Pair). found ++ l) (sym one.0), sym one.1)
 
-  pub pair_marked : found.count ≤ 190 → length found.codes ≡ 190 → get_or marks (20 * v + w) false ≡ true → HoldsCodes found.codes found.count joined × (marks ≡ after)
+  pub pair_marked : get_or marks (20 * v + w) false ≡ true → (found ≡ joined) × (marks ≡ after)
   unfolding passed pair_code
-  pair_marked fits long e = passed_by fits long (rw e refl)
+  pair_marked e = passed_by (rw e refl)
 
-  pub pair_skipped : found.count ≤ 190 → length found.codes ≡ 190 → get_or marks (20 * v + w) false ≡ false → skip (v, w) ≡ true → HoldsCodes found.codes found.count joined × (marks ≡ after)
+  pub pair_skipped : get_or marks (20 * v + w) false ≡ false → skip (v, w) ≡ true → (found ≡ joined) × (marks ≡ after)
   unfolding passed pair_code
-  pair_skipped fits long e f = passed_by fits long (rw (e, f) refl)
+  pair_skipped e f = passed_by (rw (e, f) refl)
 
-  pub pair_opened : get_or marks (20 * v + w) false ≡ false → skip (v, w) ≡ false → (codes : List ℕ) (count : ℕ) (t : List Bool) → HoldsCodes codes count (pairs_in found ++ ((v, w) ∷ [])) → t ≡ marked marks (pair_codes rows (v, w)) → HoldsCodes codes count joined × (t ≡ after)
+  pub pair_opened : get_or marks (20 * v + w) false ≡ false → skip (v, w) ≡ false → (r : List Pair) (t : List Bool) → r ≡ found ++ ((v, w) ∷ []) → t ≡ marked marks (pair_codes rows (v, w)) → (r ≡ joined) × (t ≡ after)
   unfolding passed pair_code
-  pair_opened e f codes count t h g =
+  pair_opened e f r t h g =
       let one = one_opened pair_code (pair_codes rows) skip marks (v, w) (rw (e, f) refl) in
       (rw one.0 h, g ∙ sym one.1)

@@ -1,4 +1,4 @@
--- Rows in bytes, marks in arrays, what the structs of this crate mean, and codes of pairs.
+-- Rows in bytes, marks in arrays, how vertices and pairs are walked, and codes of pairs.
 pub mod Rows
 pub mod Marks
 pub mod Meaning

@@ -9,51 +9,42 @@ ghost use Rattle.definitions.specs.Outcome.{answered};
 ghost use Rattle.stabilizers.specs.Permutations.{Permutations};
 
 use load::Fields;
+use openers::Rows;
 use space::Points;
 use std::io;
 use words::Word;
 
-// ---- words and numbers
-
-fn put(rt: &impl Print, text: &[u8]) -> io::Result<()> {
-    rt.write_all(text)
-}
-
-fn put_number(rt: &impl Print, x: usize) -> io::Result<()> {
-    print!(rt; "{x}")
-}
+// ---- sets and rows
 
 // The vertices of a set, each behind a blank.
-fn put_vertices(rt: &impl Print, n: usize, set: u32) -> io::Result<()> {
-    let mut rest = set;
-    for v in 0..n {
-        if rest % 2 == 1 {
-            put(rt, b" ")?;
-            put_number(rt, v)?;
-        }
-        rest = rest / 2;
+fn put_vertices(rt: &impl Print, n: usize, set: u32) -> io::Result<()>
+    requires { n ≤ 20 }
+{
+    let vertices = sets::vertices_of(set, n);
+    for v in vertices.as_slice() {
+        print!(rt; " {v}")?;
     }
     Ok(())
 }
 
 // The images of row i, each behind a blank.
-fn put_row(rt: &impl Print, rows: &[u8], i: usize, size: usize) -> io::Result<()>
-    requires { 32 * i + size ≤ length rows.now }
+fn put_row(rt: &impl Print, rows: Rows, i: usize, size: usize) -> io::Result<()>
+    requires { 32 * i + size ≤ length rows.bytes.now }
 {
     for v in 0..size {
-        put(rt, b" ")?;
-        put_number(rt, openers::image(rows, i, v))?;
+        let u = rows.image(i, v);
+        print!(rt; " {u}")?;
     }
     Ok(())
 }
 
-// So many rows, a comma between two.
-fn put_rows(rt: &impl Print, rows: &[u8], count: usize, size: usize) -> io::Result<()>
-    requires { (32 * count ≤ length rows.now) × (size ≤ 32) }
+// Rows, a comma between two.
+fn put_rows(rt: &impl Print, rows: Rows, size: usize) -> io::Result<()>
+    requires { size ≤ 32 }
 {
-    for i in 0..count {
+    for i in 0..rows.count {
         if 0 < i {
-            put(rt, b",")?;
+            print!(rt; ",")?;
         }
         put_row(rt, rows, i, size)?;
     }
@@ -66,10 +57,10 @@ fn list_orbits(rt: &impl Print, ws: &[u8], count: usize, n: usize) -> io::Result
     requires { (8 * count ≤ length ws.now) × (n ≤ 20) }
 {
     for k in 0..count {
-        put_number(rt, u32::get(ws, 8 * k + 4) as usize)?;
-        put(rt, b":")?;
+        let size = u32::get(ws, 8 * k + 4);
+        print!(rt; "{size}:")?;
         put_vertices(rt, n, orbits::set_at(ws, k, n))?;
-        put(rt, b"\n")?;
+        println!(rt)?;
     }
     Ok(())
 }
@@ -77,42 +68,38 @@ fn list_orbits(rt: &impl Print, ws: &[u8], count: usize, n: usize) -> io::Result
 // ---- inner calls
 
 // The rows that keep a set of so many vertices.
-fn list_rows(
-    rt: &impl Print,
-    rows: &[u8],
-    m: usize,
-    n: usize,
-    set: u32,
-    size: usize,
-) -> io::Result<()>
-    requires { Permutations n m rows.now × (m ≤ 120) × (set < 2 ^ n) × (size ≤ 20) }
+fn list_rows(rt: &impl Print, rows: Rows, n: usize, set: u32, size: usize) -> io::Result<()>
+    requires { Permutations n rows.count rows.bytes.now × (rows.count ≤ 120) × (set < 2 ^ n) × (size ≤ 20) }
 {
     let mut inner = [0; 3840];
-    let count = stabilizers::rows_within(rows, m, n, set, &mut inner);
-    put_rows(rt, &inner, count, size)?;
-    put(rt, b"\n")
+    let count = stabilizers::rows_within(rows, n, set, &mut inner);
+    let within = Rows {
+        bytes: &inner,
+        count,
+    };
+    put_rows(rt, within, size)?;
+    println!(rt)
 }
 
 // Whether a set's refit was not refused.
 fn list_inner(
     rt: &impl Print,
-    flat: Points,
-    rank: usize,
-    tolerance: f64,
-    rows: &[u8],
-    m: usize,
+    flat: &Points,
+    fields: Fields,
+    rows: Rows,
     set: u32,
 ) -> io::Result<bool>
-    requires { (2 ≤ rank) × Permutations flat.n m rows.now × (m ≤ 120) × (set < 2 ^ flat.n) }
+    requires { (2 ≤ fields.rank) × Permutations flat.now.n rows.count rows.bytes.now × (rows.count ≤ 120) × (set < 2 ^ flat.now.n) }
 {
-    let chosen = sets::chosen_points(&flat, set);
-    match sets::refit(chosen, tolerance, rank - 2) {
+    let chosen = sets::chosen_points(flat, set);
+    let size = chosen.n;
+    match sets::refit(chosen, fields.tolerance, fields.rank - 2) {
         Err(e) => {
             println!(rt; " refused {e}")?;
             Ok(false)
         }
         Ok(_) => {
-            list_rows(rt, rows, m, flat.n, set, chosen.n)?;
+            list_rows(rt, rows, flat.n, set, size)?;
             Ok(true)
         }
     }
@@ -121,22 +108,17 @@ fn list_inner(
 // Orbit by orbit, up to the first refit that is refused.
 fn list_inners(
     rt: &impl Print,
-    flat: Points,
-    rank: usize,
-    tolerance: f64,
-    rows: &[u8],
-    m: usize,
+    flat: &Points,
+    fields: Fields,
+    rows: Rows,
     ws: &[u8],
     count: usize,
 ) -> io::Result<()>
-    requires { (2 ≤ rank) × Permutations flat.n m rows.now × (m ≤ 120) × (8 * count ≤ length ws.now) }
+    requires { (2 ≤ fields.rank) × Permutations flat.now.n rows.count rows.bytes.now × (rows.count ≤ 120) × (8 * count ≤ length ws.now) }
 {
-    let n = flat.n;
     for k in 0..count {
-        put(rt, b"inner ")?;
-        put_number(rt, k)?;
-        put(rt, b":")?;
-        if !list_inner(rt, flat, rank, tolerance, rows, m, orbits::set_at(ws, k, n))? {
+        print!(rt; "inner {k}:")?;
+        if !list_inner(rt, flat, fields, rows, orbits::set_at(ws, k, flat.n))? {
             return Ok(());
         }
     }
@@ -148,21 +130,17 @@ fn list_inners(
 // How many orbits were found, the orbits, and what comes of each.
 fn list_found(
     rt: &impl Print,
-    flat: Points,
-    rank: usize,
-    tolerance: f64,
-    rows: &[u8],
-    m: usize,
+    flat: &Points,
+    fields: Fields,
+    rows: Rows,
     ws: &[u8],
     count: usize,
 ) -> io::Result<()>
-    requires { (2 ≤ rank) × Permutations flat.n m rows.now × (m ≤ 120) × (8 * count ≤ length ws.now) }
+    requires { (2 ≤ fields.rank) × Permutations flat.now.n rows.count rows.bytes.now × (rows.count ≤ 120) × (8 * count ≤ length ws.now) }
 {
-    put(rt, b" ")?;
-    put_number(rt, count)?;
-    put(rt, b" orbits\n")?;
+    println!(rt; " {count} orbits")?;
     list_orbits(rt, ws, count, flat.n)?;
-    list_inners(rt, flat, rank, tolerance, rows, m, ws, count)
+    list_inners(rt, flat, fields, rows, ws, count)
 }
 
 // A job of rank 3 or 4 that passes the refusals before the call.
@@ -171,27 +149,25 @@ fn list_call(rt: &impl Print, job: &[u8], fields: Fields, ws: &mut [u8]) -> io::
 {
     let points = load::points_of(job, fields);
     let flat = points.flatten_all(&load::plane_of(job, fields));
-    let rank = fields.rank;
-    let m = fields.count;
-    let limits = fields.limits;
-    let tolerance = fields.tolerance;
-    let rule = fields.rule;
-    let mut rows = [0; 3840];
-    load::load_rows(job, fields, &mut rows);
+    let mut loaded = [0; 3840];
+    load::load_rows(job, fields, &mut loaded);
+    let rows = Rows {
+        bytes: &loaded,
+        count: fields.count,
+    };
     match orbits::find_orbits(
-        points,
-        flat,
-        rank - 3,
-        &rows,
-        m,
-        limits,
-        tolerance,
-        rule,
+        &points,
+        &flat,
+        fields.rank - 3,
+        rows,
+        fields.limits,
+        fields.tolerance,
+        fields.rule,
         256,
         ws,
     ) {
         Err(e) => println!(rt; " refused {e}"),
-        Ok(count) => list_found(rt, flat, rank, tolerance, &rows, m, ws, count),
+        Ok(count) => list_found(rt, &flat, fields, rows, ws, count),
     }
 }
 
@@ -203,29 +179,26 @@ fn list_job(rt: &impl Print, job: &[u8], ws: &mut [u8]) -> io::Result<()>
         Err(e) => println!(rt; " refused {e}"),
         Ok(fields) => {
             if fields.rank == 2 {
-                return put(rt, b" rank 2\n");
+                return println!(rt; " rank 2");
             }
             list_call(rt, job, fields, ws)
         }
     }
 }
 
-// Each job, up to one that is not there whole.
+// Each job, up to one that is not there whole. No `for`: each step is as long as the job that it reads.
 fn list_jobs(rt: &impl Print, input: &[u8], ws: &mut [u8]) -> io::Result<()>
     requires { 124928 ≤ length ws.old }
 {
-    let end = input.len();
-    let mut number = 0;
+    let mut number: usize = 0;
     let mut at = 0;
-    while at + 2 <= end {
+    while at + 2 <= input.len() {
         let from = at + 2;
         let to = from + u16::get(input, at) as usize;
-        if end < to {
+        if input.len() < to {
             return Ok(());
         }
-        put(rt, b"job ")?;
-        put_number(rt, number)?;
-        put(rt, b":")?;
+        print!(rt; "job {number}:")?;
         list_job(rt, &input[from..to], ws)?;
         number += 1;
         at = to;

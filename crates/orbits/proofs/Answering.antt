@@ -19,7 +19,7 @@ use Rattle.orbits.specs.Workspace.{seen_in}
 use Rattle.orbits.specs.Walks.{Walked}
 use Rattle.orbits.specs.Answers.{answer_in, orbits_or_refusal, counted, at_first, PairsRise, pair_tuples, openers_rise, walk_answers}
 use Rattle.orbits.specs.declared.Progress.{Progress}
-use Rattle.std.specs.Prelude.{Result, Ok, Err}
+use Rattle.std.specs.Prelude.{Result}
 use Rattle.refusals.specs.declared.Refusal.{Refusal}
 
 -- nothing was seen yet

@@ -14,16 +14,14 @@ use Rattle.definitions.specs.Vectors.{Vec}
 use Rattle.definitions.specs.Subspace.{Subspace, from_points, is_hyperplane}
 use Rattle.definitions.specs.Orbits.{Row, set_image, points_near}
 use Rattle.laws.specs.Parts.{rows, map_rows_more}
-use Rattle.laws.specs.Segments.{onto, take_onto}
 use Rattle.laws.specs.Sets.{set_number, vertices_of}
 use Rattle.words.specs.Words.{words, put, put_length, words_take, words_length, take_put, drop_put, number_at_put, number_at_put_off}
-use Rattle.sorted.specs.Ascending.{Ascending, union}
-use Rattle.sorted.specs.Gathering.{added, gathered, gathered_few, Gathering, gathering_none, gathering_more, ascending_added}
+use Rattle.sorted.specs.Ascending.{union}
+use Rattle.sorted.specs.Gathering.{added, Gathering, gathering_none, ascending_added}
 use Rattle.sorted.specs.Merging.{New, Merged}
 use Rattle.openers.specs.Rows.{rows_in, row_at}
-use Rattle.orbits.specs.Numbers.{image_numbers, may_open, near_number, opens_orbit, orbits_from, seen_after}
+use Rattle.orbits.specs.Numbers.{image_numbers, may_open, near_number, opens_orbit}
 use Rattle.orbits.specs.Workspace.{seen_in, orbits_in, OrbitsRoom, Opened, orbits_length, orbits_front}
-use Rattle.orbits.specs.declared.Progress.{Progress}
 use Rattle.std.specs.Prelude.{Ok, Err}
 use Rattle.refusals.specs.declared.Refusal.TheVariants.{Orbits}
 
@@ -34,26 +32,13 @@ seen_part known ws h = words_take 4 (drop 2048 ws) (length ws - 2048) known (ome
 
 -- ---- images gathered
 
-pub images_none : (l : List ℕ) (n set : ℕ) (s new : List ℕ) → Gathering l (image_numbers n set (rows_in n 0 s)) (take 0 new)
+pub images_none : (l : List ℕ) (n set : ℕ) (s : List ℕ) → Gathering l (image_numbers n set (rows_in n 0 s)) []
 unfolding image_numbers rows_in rows
-images_none l n set s new = gathering_none l
+images_none l n set s = gathering_none l
 
 pub images_more : (n set i : ℕ) (s : List ℕ) → image_numbers n set (rows_in n (i + 1) s) ≡ image_numbers n set (rows_in n i s) ++ (set_number (set_image (vertices_of n set) (row_at n i s)) ∷ [])
 unfolding image_numbers rows_in row_at
 images_more n set i s = map_rows_more (λ (row : Row). set_number (set_image (vertices_of n set) row)) 32 n i s
-
--- one image more, as the part that is lent tells it
-module _ (known : ℕ) (ws : List ℕ) (fits : 2048 + 4 * known ≤ length ws) (ascends : Ascending (seen_in known ws)) where
-  abbrev pub lent : List ℕ
-  lent = words 4 (take (length ws - 2048) (drop 2048 ws)) known
-
-  pub gather_step : (xs new after : List ℕ) (k r x : ℕ) → Gathering (seen_in known ws) xs (take k new) → k ≤ length new → r ≡ length (gathered lent (take k new) x) → after ≡ onto (gathered lent (take k new) x) new
-      → Gathering (seen_in known ws) (xs ++ (x ∷ [])) (take r after) × (r ≤ k + 1)
-  gather_step xs new after k r x g wide count buffer =
-      let part = seen_part known ws fits in
-      let front : take r after ≡ gathered lent (take k new) x = ap (take r) buffer ∙ take_onto (gathered lent (take k new) x) new r count in
-      let taken : take r after ≡ gathered (seen_in known ws) (take k new) x = front ∙ ap (λ (l : List ℕ). gathered l (take k new) x) part in
-      (rw taken (gathering_more (seen_in known ws) xs (take k new) x ascends g), omega (arith, count, (gathered_few lent new k x wide).1))
 
 -- ---- an orbit opened
 
@@ -63,29 +48,29 @@ opened_none bound known count ws set images room e = record {
   reached = λ seen orbits h. let n : length orbits ≡ count = ap length (sym h.orbits_are) ∙ orbits_length ws count in (refl, omega (arith, length-append orbits ((set, length (added seen images) - length seen) ∷ [])));
 }
 
-module _ (bound known count : ℕ) (ws : List ℕ) (set : ℕ) (images : List ℕ) (k : ℕ) (new : List ℕ) (room : OrbitsRoom bound known count ws) (few : k ≤ 120) (small : set < 256 ^ 4) (free : count < bound) where
+module _ (bound known count : ℕ) (ws : List ℕ) (set : ℕ) (images new : List ℕ) (room : OrbitsRoom bound known count ws) (few : length new ≤ 120) (small : set < 256 ^ 4) (free : count < bound) where
   abbrev pub first : List ℕ
   first = put 4 ws (8 * count) set
 
   abbrev pub both : List ℕ
-  both = put 4 first (8 * count + 4) k
+  both = put 4 first (8 * count + 4) (length new)
 
   both_long : length both ≡ length ws
-  both_long = put_length 4 first (8 * count + 4) k ∙ put_length 4 ws (8 * count) set
+  both_long = put_length 4 first (8 * count + 4) (length new) ∙ put_length 4 ws (8 * count) set
 
   both_behind : drop 2048 both ≡ drop 2048 ws
-  both_behind = drop_put 4 first (8 * count + 4) k 2048 (omega (arith, room.bound_fits)) ∙ drop_put 4 ws (8 * count) set 2048 (omega (arith, room.bound_fits))
+  both_behind = drop_put 4 first (8 * count + 4) (length new) 2048 (omega (arith, room.bound_fits)) ∙ drop_put 4 ws (8 * count) set 2048 (omega (arith, room.bound_fits))
 
   both_front : take (8 * count) both ≡ take (8 * count) ws
-  both_front = take_put 4 first (8 * count + 4) k (8 * count) (omega arith) ∙ take_put 4 ws (8 * count) set (8 * count) (omega arith)
+  both_front = take_put 4 first (8 * count + 4) (length new) (8 * count) (omega arith) ∙ take_put 4 ws (8 * count) set (8 * count) (omega arith)
 
-  both_orbits : orbits_in both (count + 1) ≡ orbits_in ws count ++ ((set, k) ∷ [])
+  both_orbits : orbits_in both (count + 1) ≡ orbits_in ws count ++ ((set, length new) ∷ [])
   unfolding orbits_in
   both_orbits =
       let before : orbits_in both count ≡ orbits_in ws count = sym (orbits_front both (8 * count) count (omega arith)) ∙ (ap (λ (l : List ℕ). orbits_in l count) both_front ∙ orbits_front ws (8 * count) count (omega arith)) in
       let long = put_length 4 ws (8 * count) set in
-      let a : number_at both (8 * count) 4 ≡ set = number_at_put_off 4 first (8 * count + 4) k (8 * count) 4 (inl (omega arith)) ∙ number_at_put 4 ws (8 * count) set (omega (arith, room.long, room.bound_fits)) small in
-      let b : number_at both (8 * count + 4) 4 ≡ k = number_at_put 4 first (8 * count + 4) k (omega (arith, room.long, room.bound_fits)) (omega arith) in
+      let a : number_at both (8 * count) 4 ≡ set = number_at_put_off 4 first (8 * count + 4) (length new) (8 * count) 4 (inl (omega arith)) ∙ number_at_put 4 ws (8 * count) set (omega (arith, room.long, room.bound_fits)) small in
+      let b : number_at both (8 * count + 4) 4 ≡ length new = number_at_put 4 first (8 * count + 4) (length new) (omega (arith, room.long, room.bound_fits)) (omega arith) in
       ap (orbits_in both) (add-one count) ∙ (rw (before, a, b) refl)
 
   seen_same : words 4 (take (length both - 2048) (drop 2048 both)) known ≡ seen_in known ws
@@ -93,14 +78,14 @@ module _ (bound known count : ℕ) (ws : List ℕ) (set : ℕ) (images : List �
   seen_same = let e = both_long in seen_part known both (omega (arith, room.long, room.known_fits, room.bound_fits)) ∙ ap (λ (l : List ℕ). words 4 l known) both_behind
 
   -- the part that is lent holds the sets seen, and those gathered are new to it
-  pub new_sets : (w₁ w₂ : List ℕ) → w₁ ≡ put 4 ws (8 * count) set → w₂ ≡ put 4 w₁ (8 * count + 4) k → Gathering (seen_in known ws) images (take k new)
-      → New (words 4 (take (length w₂ - 2048) (drop 2048 w₂)) known) (take k new)
+  pub new_sets : (w₁ w₂ : List ℕ) → w₁ ≡ put 4 ws (8 * count) set → w₂ ≡ put 4 w₁ (8 * count + 4) (length new) → Gathering (seen_in known ws) images new
+      → New (words 4 (take (length w₂ - 2048) (drop 2048 w₂)) known) new
   new_sets w₁ w₂ e f gather =
-      let same : w₂ ≡ both = f ∙ ap (λ (l : List ℕ). put 4 l (8 * count + 4) k) e in
-      subst (λ (w : List ℕ). New (words 4 (take (length w - 2048) (drop 2048 w)) known) (take k new)) (sym same)
+      let same : w₂ ≡ both = f ∙ ap (λ (l : List ℕ). put 4 l (8 * count + 4) (length new)) e in
+      subst (λ (w : List ℕ). New (words 4 (take (length w - 2048) (drop 2048 w)) known) new) (sym same)
       (record { old = rw seen_same room.ascends; ascends = gather.ascends; fresh = rw seen_same gather.fresh })
 
-  module _ (part : List ℕ) (merged : Merged (take (length both - 2048) (drop 2048 both)) known (take k new) part) (wide : k ≤ length new) (gather : Gathering (seen_in known ws) images (take k new)) where
+  module _ (part : List ℕ) (merged : Merged (take (length both - 2048) (drop 2048 both)) known new part) (gather : Gathering (seen_in known ws) images new) where
     abbrev pub after : List ℕ
     after = take 2048 both ++ (part ++ drop (length both - 2048) (drop 2048 both))
 
@@ -110,29 +95,27 @@ module _ (bound known count : ℕ) (ws : List ℕ) (set : ℕ) (images : List �
     after_behind : drop 2048 after ≡ part ++ drop (length both - 2048) (drop 2048 both)
     after_behind = let e = both_long in drop_at (take 2048 both) (part ++ drop (length both - 2048) (drop 2048 both)) 2048 (length-take-le 2048 both (omega (arith, room.long)))
 
-    now_seen : seen_in (known + k) after ≡ added (seen_in known ws) images
+    now_seen : seen_in (known + length new) after ≡ added (seen_in known ws) images
     unfolding seen_in
     now_seen =
         let front : take (length part) (part ++ drop (length both - 2048) (drop 2048 both)) ≡ part = take_at part _ (length part) refl in
-        let long : length (take k new) ≡ k = length-take-le k new wide in
-        let fits : 4 * (known + k) ≤ length part = omega (arith, part_long, room.long, room.known_fits, room.bound_fits) in
-        ap (λ (l : List ℕ). words 4 l (known + k)) after_behind
-        ∙ (sym (words_take 4 (part ++ drop (length both - 2048) (drop 2048 both)) (length part) (known + k) fits)
-        ∙ (ap (λ (l : List ℕ). words 4 l (known + k)) front
-        ∙ (ap (λ (j : ℕ). words 4 part (known + j)) (sym long)
+        let fits : 4 * (known + length new) ≤ length part = omega (arith, part_long, room.long, room.known_fits, room.bound_fits) in
+        ap (λ (l : List ℕ). words 4 l (known + length new)) after_behind
+        ∙ (sym (words_take 4 (part ++ drop (length both - 2048) (drop 2048 both)) (length part) (known + length new) fits)
+        ∙ (ap (λ (l : List ℕ). words 4 l (known + length new)) front
         ∙ (merged.numbers
-        ∙ (ap (λ (l : List ℕ). union l (take k new)) seen_same ∙ gather.whole)))))
+        ∙ (ap (λ (l : List ℕ). union l new) seen_same ∙ gather.whole))))
 
-    now_orbits : orbits_in after (count + 1) ≡ orbits_in ws count ++ ((set, k) ∷ [])
+    now_orbits : orbits_in after (count + 1) ≡ orbits_in ws count ++ ((set, length new) ∷ [])
     now_orbits =
         let e = both_long in
         let h : 8 * (count + 1) ≤ 2048 = omega (arith, room.bound_fits) in
         let same : take 2048 after ≡ take 2048 both = take_at (take 2048 both) _ 2048 (length-take-le 2048 both (omega (arith, room.long))) in
         sym (orbits_front after 2048 (count + 1) h) ∙ (ap (λ (l : List ℕ). orbits_in l (count + 1)) same ∙ (orbits_front both 2048 (count + 1) h ∙ both_orbits))
 
-    grown : length (added (seen_in known ws) images) ≡ known + k
+    grown : length (added (seen_in known ws) images) ≡ known + length new
     unfolding seen_in
-    grown = ap length (sym now_seen) ∙ words_length 4 (drop 2048 after) (known + k)
+    grown = ap length (sym now_seen) ∙ words_length 4 (drop 2048 after) (known + length new)
 
     after_long : length after ≡ length ws
     after_long =
@@ -141,7 +124,7 @@ module _ (bound known count : ℕ) (ws : List ℕ) (set : ℕ) (images : List �
         let d : length (drop (length both - 2048) (drop 2048 both)) ≡ 0 = length-drop (length both - 2048) (drop 2048 both) ∙ (omega (arith, length-drop 2048 both)) in
         length-append (take 2048 both) _ ∙ (omega (arith, length-append part (drop (length both - 2048) (drop 2048 both)), part_long, room.long))
 
-    pub opened_one : Opened bound known count ws set images (Ok (record { known = known + k; count = count + 1 })) after
+    pub opened_one : Opened bound known count ws set images (Ok (record { known = known + length new; count = count + 1 })) after
     unfolding seen_in
     opened_one = record {
       room = record {
@@ -153,20 +136,20 @@ module _ (bound known count : ℕ) (ws : List ℕ) (set : ℕ) (images : List �
       };
       reached = λ seen orbits h.
           let n : length seen ≡ known = ap length (sym h.seen_are) ∙ words_length 4 (drop 2048 ws) known in
-          let m : k ≡ length (added seen images) - length seen = omega (arith, grown, ap (λ (l : List ℕ). length (added l images)) h.seen_are) in
+          let m : length new ≡ length (added seen images) - length seen = omega (arith, grown, ap (λ (l : List ℕ). length (added l images)) h.seen_are) in
           record {
             seen_are = now_seen ∙ ap (λ (l : List ℕ). added l images) h.seen_are;
             orbits_are = now_orbits ∙ (rw (h.orbits_are, m) refl);
           };
     }
 
-  pub opened_by : (w₁ w₂ part : List ℕ) → w₁ ≡ put 4 ws (8 * count) set → w₂ ≡ put 4 w₁ (8 * count + 4) k → Merged (take (length w₂ - 2048) (drop 2048 w₂)) known (take k new) part
-      → k ≤ length new → Gathering (seen_in known ws) images (take k new)
-      → Opened bound known count ws set images (Ok (record { known = known + k; count = count + 1 })) (take 2048 w₂ ++ (part ++ drop (length w₂ - 2048) (drop 2048 w₂)))
-  opened_by w₁ w₂ part e f merged wide gather =
-      let same : w₂ ≡ both = f ∙ ap (λ (l : List ℕ). put 4 l (8 * count + 4) k) e in
-      subst (λ (w : List ℕ). Merged (take (length w - 2048) (drop 2048 w)) known (take k new) part → Opened bound known count ws set images (Ok (record { known = known + k; count = count + 1 })) (take 2048 w ++ (part ++ drop (length w - 2048) (drop 2048 w))))
-      (sym same) (λ m. opened_one part m wide gather) merged
+  pub opened_by : (w₁ w₂ part : List ℕ) → w₁ ≡ put 4 ws (8 * count) set → w₂ ≡ put 4 w₁ (8 * count + 4) (length new) → Merged (take (length w₂ - 2048) (drop 2048 w₂)) known new part
+      → Gathering (seen_in known ws) images new
+      → Opened bound known count ws set images (Ok (record { known = known + length new; count = count + 1 })) (take 2048 w₂ ++ (part ++ drop (length w₂ - 2048) (drop 2048 w₂)))
+  opened_by w₁ w₂ part e f merged gather =
+      let same : w₂ ≡ both = f ∙ ap (λ (l : List ℕ). put 4 l (8 * count + 4) (length new)) e in
+      subst (λ (w : List ℕ). Merged (take (length w - 2048) (drop 2048 w)) known new part → Opened bound known count ws set images (Ok (record { known = known + length new; count = count + 1 })) (take 2048 w ++ (part ++ drop (length w - 2048) (drop 2048 w))))
+      (sym same) (λ m. opened_one part m gather) merged
 
 -- the part that is lent has room for the sets seen
 pub lent_room : (known : ℕ) (ws : List ℕ) → 2048 + 4 * known ≤ length ws → 4 * known ≤ length (take (length ws - 2048) (drop 2048 ws))

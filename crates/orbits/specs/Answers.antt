@@ -1,6 +1,6 @@
 -- What the whole answers: the hyperplane orbits of a call [5.7], or refusal 13. Leans on Hyperplanes and Walks.
 use Rattle.std.specs.Prelude.{◌≡◌, Bool, true, false, cond, not, ◌||◌, ℕ, suc, ◌+◌, ◌*◌, ◌-◌, ◌≤◌, ◌<◌, ltb, get_or, take, drop, Float, Result, Ok, Err}
-use Rattle.std.proofs.Math.Path.{refl, sym, ap, subst}
+use Rattle.std.proofs.Math.Path.{refl, sym, ap}
 use Rattle.std.proofs.Common.{◌∙◌, arith, add-one}
 use mathlib.Core.List.{List, [], ◌∷◌, ◌++◌, map, flat_map, map-append, Memᴰ}
 use borrow.Author.Tests.{lt-ltb, le-ltb}

@@ -1,7 +1,7 @@
 -- Hyperplane orbits with sets as numbers and what was seen as an ascending list: what the code keeps. Leans on the sorted sets and on the sets of the laws.
 use Rattle.std.specs.Prelude.{◌≡◌, Bool, not, ◌&&◌, ℕ, ◌-◌, leb, Float}
 use Rattle.std.proofs.Math.Path.{refl}
-use Rattle.std.proofs.Common.{ap}
+use Rattle.std.proofs.Common.{ap, ◌∙◌}
 use Rattle.std.proofs.Math.Bool.{true, false, cond}
 use mathlib.Core.List.{List, [], ◌∷◌, ◌++◌, map}
 use Rattle.std.proofs.Math.ListN.{length}
@@ -10,11 +10,18 @@ use Rattle.definitions.specs.Vectors.{Vec}
 use Rattle.definitions.specs.Subspace.{from_points, is_hyperplane}
 use Rattle.definitions.specs.Orbits.{Row, Orbit, points_near, set_image}
 use Rattle.laws.specs.Sets.{set_number, vertices_of}
+use Rattle.openers.specs.Rows.{row_at}
+use Rattle.sets.specs.Vertices.{Below, vertex_below}
 use Rattle.sorted.specs.Gathering.{added}
 
 -- the numbers of a set's images under the rows
 unfoldable pub image_numbers : ℕ → ℕ → List Row → List ℕ
 image_numbers n set rows = map (λ (row : Row). set_number (set_image (vertices_of n set) row)) rows
+
+-- a row's image of a set, said of the set's vertices as they were listed
+pub image_is : (n set i : ℕ) (s vertices : List ℕ) (x : ℕ) → vertices ≡ vertices_of n set → ((k : ℕ) → Below k vertices → x ≡ set_number (set_image vertices (row_at k i s)))
+    → x ≡ set_number (set_image (vertices_of n set) (row_at n i s))
+image_is n set i s vertices x e h = h n (rw e (vertex_below n set)) ∙ ap (λ (l : List ℕ). set_number (set_image l (row_at n i s))) e
 
 -- an orbit as it is stored: the number of its first set, and how many sets it has
 unfoldable pub orbit_of : ℕ → Pair → Orbit

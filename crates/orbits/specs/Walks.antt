@@ -11,19 +11,10 @@ use Rattle.definitions.specs.Vectors.{Vec}
 use Rattle.definitions.specs.Orbits.{Row, Limits, point_at, breaks_limit}
 use Rattle.laws.specs.Lists.{keep_append}
 use Rattle.laws.specs.Segments.{cons_same}
-use Rattle.space.specs.declared.Points.{Points}
-use Rattle.stabilizers.specs.Permutations.{Permutations}
 use Rattle.orbits.specs.Numbers.{image_numbers, near_number, opens_orbit, with_images, orbits_from, seen_after, orbits_append, seen_append, one_closed, one_opened}
 use Rattle.orbits.specs.Workspace.{seen_in, OrbitsRoom, HoldsOrbits, Reached, KeepsRoom, Opened}
 use Rattle.orbits.specs.declared.Progress.{Progress}
 use Rattle.refusals.specs.declared.Refusal.{Refusal}
-
--- what a step on a tuple asks of its points and of the rows
-pub record TupleFits (flat tuple : Points) (m : ℕ) (rows : List ℕ) : Type 0 where
-  pub some_point : 0 < tuple.n
-  pub same_d : tuple.d ≡ flat.d
-  pub permute : Permutations flat.n m rows
-  pub few : m ≤ 120
 
 -- a walk along tuples of points, from a state on
 pub record Walked (tolerance : Float) (most : ℕ) (flat : List Vec) (rows : List Row) (bound : ℕ) (state : Progress) (ws : List ℕ) (tuples : List (List Vec)) (r : Result Progress Refusal) (after : List ℕ) : Type 0 where

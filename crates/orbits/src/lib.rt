@@ -3,25 +3,26 @@
 
 #![tactic(auto)]
 
-ghost use Rattle.std.specs.Prelude.{◌≡◌, ◌∷◌, [], ◌++◌, map, ℕ, ◌+◌, ◌*◌, ◌-◌, ◌%◌, ◌^◌, ◌≤◌, ◌<◌, length, get_or, take, drop};
-ghost use Rattle.definitions.specs.Lists.{member_nat};
+ghost use Rattle.std.specs.Prelude.{◌≡◌, ◌∷◌, [], map, ◌+◌, ◌*◌, ◌%◌, ◌^◌, ◌≤◌, ◌<◌, length};
 ghost use Rattle.definitions.specs.Job.{number_at};
 ghost use Rattle.definitions.specs.Orbits.{point_at, most_vertices, hyperplane_orbits};
 ghost use Rattle.space.specs.Meaning.{points_of, HoldsPoints, limits_of};
 ghost use Rattle.words.specs.Words.{words};
 ghost use Rattle.sorted.specs.Ascending.{Ascending};
-ghost use Rattle.sorted.specs.Gathering.{added, Gathering};
+ghost use Rattle.sorted.specs.Gathering.{Gathering};
 ghost use Rattle.openers.specs.Rows.{rows_in};
-ghost use Rattle.openers.specs.Meaning.{pairs_in};
+ghost use Rattle.openers.specs.Meaning.{pair_of};
 ghost use Rattle.stabilizers.specs.Permutations.{Permutations};
-ghost use Rattle.orbits.specs.Numbers.{image_numbers, may_open, near_number, orbits_from, seen_after};
+ghost use Rattle.orbits.specs.Numbers.{image_numbers, may_open};
 ghost use Rattle.orbits.specs.Workspace.{seen_in, OrbitsRoom, Opened};
-ghost use Rattle.orbits.specs.Walks.{Walked, TupleFits, extensions, keeps_limits};
+ghost use Rattle.orbits.specs.Walks.{Walked, extensions, keeps_limits};
 ghost use Rattle.orbits.specs.Answers.{CallFits, PairsRise, pair_tuples, answer_in, orbits_or_refusal};
 
-use openers::{Pairs, pair_openers};
+use arrayvec::ArrayVec;
+use openers::{Rows, pair_openers};
 use refusals::Refusal;
-use sets::{points_near, set_image};
+use sets::{points_near, set_image, vertices_of};
+use sorted::Sorted;
 use space::{Limits, Points, Subspace};
 use words::Word;
 
@@ -34,151 +35,126 @@ pub struct Progress {
 
 // ---- sets seen
 
-// Whether a set was seen.
-fn is_seen(ws: &[u8], known: usize, set: u32) -> bool
+// The sets seen, as they lie in the workspace.
+fn seen(ws: &[u8], known: usize) -> Sorted
     requires { (2048 + 4 * known ≤ length ws.now) × Ascending (seen_in known ws.now) }
-    ensures { result ≡ member_nat set (seen_in known ws.now) }
+    ensures { words 4 result.bytes.now result.count ≡ seen_in known ws.now }
 {
-    match sorted::find(&ws[2048..], known, set) {
-        Some(_) => true,
-        None => false,
+    Sorted {
+        bytes: &ws[2048..],
+        count: known,
     }
 }
 
 // [5.7] [5.8] Whether a set opens an orbit: it was not seen, and has not more than so many of n vertices.
-fn may_open(ws: &[u8], known: usize, set: u32, n: usize, most: usize) -> bool
-    requires { (2048 + 4 * known ≤ length ws.now) × Ascending (seen_in known ws.now) × (n ≤ 20) }
-    ensures { result ≡ may_open n most (seen_in known ws.now) set }
+fn may_open(seen: Sorted, set: u32, n: usize, most: usize) -> bool
+    requires { n ≤ 20 }
+    ensures { result ≡ may_open n most (words 4 seen.entry.bytes.now seen.entry.count) set }
 {
-    if is_seen(ws, known, set) {
-        return false;
-    }
-    stabilizers::place_in(set, n) <= most
+    seen.find(set).is_none() && stabilizers::place_in(set, n) <= most
 }
 
-// The images of a set that were not seen, gathered in ascending order; returns how many there are.
-fn gather_images(
-    rows: &[u8],
-    m: usize,
-    n: usize,
-    set: u32,
-    ws: &[u8],
-    known: usize,
-    new: &mut [u32],
-) -> usize
-    requires { Permutations n m rows.now × (m ≤ length new.old) × (2048 + 4 * known ≤ length ws.now) × Ascending (seen_in known ws.now) }
-    ensures few { result ≤ m }
-    ensures gathers { Gathering (seen_in known ws.now) (image_numbers n set (rows_in n m rows.now)) (take result new.new) }
+// The images of a set that were not seen, ascending.
+fn gather_images(rows: Rows, n: usize, set: u32, seen: Sorted) -> ArrayVec<u32, 120>
+    requires { Permutations n rows.count rows.bytes.now × (rows.count ≤ 120) }
+    ensures { Gathering (words 4 seen.entry.bytes.now seen.entry.count) (image_numbers n set (rows_in n rows.entry.count rows.entry.bytes.now)) result.items }
 {
-    let mut k = 0;
-    for i in 0..m {
-        k = sorted::gather(&ws[2048..], known, new, k, set_image(rows, i, n, set));
+    let vertices = vertices_of(set, n);
+    let mut new = ArrayVec::new();
+    for i in 0..rows.count {
+        seen.gather(&mut new, set_image(rows, i, &vertices));
     }
-    k
+    new
 }
 
 // An orbit more, or refusal 13 where there are as many as the bound allows: its first set, how many sets it has, and its sets among those seen.
 fn open_orbit(
-    rows: &[u8],
-    m: usize,
+    rows: Rows,
     n: usize,
     set: u32,
     bound: usize,
-    known: usize,
-    count: usize,
+    state: Progress,
     ws: &mut [u8],
 ) -> Result<Progress, Refusal>
-    requires { Permutations n m rows.now × (m ≤ 120) × OrbitsRoom bound known count ws.old }
-    ensures { Opened bound known count ws.old set (image_numbers n set (rows_in n m rows.now)) result ws.new }
+    requires { Permutations n rows.count rows.bytes.now × (rows.count ≤ 120) × OrbitsRoom bound state.known state.count ws.old }
+    ensures { Opened bound state.known state.count ws.old set (image_numbers n set (rows_in n rows.entry.count rows.entry.bytes.now)) result ws.new }
 {
-    if count == bound {
+    if state.count == bound {
         return Err(Refusal::Orbits);
     }
-    let mut new = [0; 120];
-    let k = gather_images(rows, m, n, set, ws, known, &mut new);
-    u32::put(ws, 8 * count, set);
-    u32::put(ws, 8 * count + 4, k as u32);
-    sorted::merge(&mut ws[2048..], known, &new, k);
+    let new = gather_images(rows, n, set, seen(ws, state.known));
+    let many = new.len();
+    u32::put(ws, 8 * state.count, set);
+    u32::put(ws, 8 * state.count + 4, many as u32);
+    sorted::merge(&mut ws[2048..], state.known, new.as_slice());
     Ok(Progress {
-        known: known + k,
-        count: count + 1,
+        known: state.known + many,
+        count: state.count + 1,
     })
 }
 
 // ---- tuples
 
-// [5.6] [5.7] A tuple opens an orbit where it makes a hyperplane whose set may open one.
-fn fit_tuple(
-    flat: Points,
-    tuple: Points,
-    rows: &[u8],
-    m: usize,
-    tolerance: f64,
-    most: usize,
-    bound: usize,
-    state: Progress,
-    ws: &mut [u8],
-) -> Result<Progress, Refusal>
-    requires { TupleFits flat tuple m rows.now × OrbitsRoom bound state.known state.count ws.old }
-    ensures { Walked tolerance most (points_of flat) (rows_in flat.n m rows.now) bound state ws.old (points_of tuple ∷ []) result ws.new }
-{
-    let plane = Subspace::from_points(&tuple, tolerance);
-    if !plane.is_hyperplane() {
-        return Ok(state);
-    }
-    let set = points_near(&flat, &plane, tolerance);
-    if !may_open(ws, state.known, set, flat.n, most) {
-        return Ok(state);
-    }
-    open_orbit(rows, m, flat.n, set, bound, state.known, state.count, ws)
-}
-
-// A tuple that begins with v is extended by as many vertices as are wanted, ascending from one on [5.5]; a vertex that breaks a limit with v is passed over.
-fn extend(
-    points: Points,
-    flat: Points,
-    tuple: Points,
-    v: usize,
-    from: usize,
-    more: usize,
-    rows: &[u8],
-    m: usize,
+// What a walk along tuples of points goes by: the points as passed and flattened, the rows, the limits on lengths and the tolerance, how many vertices a set may have that opens an orbit, and how many
+// orbits there may be.
+#[derive(Clone, Copy)]
+struct Walk<'a> {
+    points: &'a Points,
+    flat: &'a Points,
+    rows: Rows<'a>,
     limits: Limits,
     tolerance: f64,
     most: usize,
     bound: usize,
+    ghost fits: { CallFits points.now flat.now rows.count rows.bytes.now },
+}
+
+// [5.6] [5.7] A tuple opens an orbit where it makes a hyperplane whose set may open one.
+fn fit_tuple(
+    walk: Walk,
+    tuple: &Points,
     state: Progress,
     ws: &mut [u8],
 ) -> Result<Progress, Refusal>
-    requires { TupleFits flat tuple m rows.now × OrbitsRoom bound state.known state.count ws.old × (v < points.n) × (points.n ≡ flat.n) × (tuple.n ≤ from) }
-    ensures { Walked tolerance most (points_of flat) (rows_in flat.n m rows.now) bound state ws.old (extensions (keeps_limits tolerance (limits_of limits) (points_of points) v) (points_of flat) (points_of tuple) flat.n from more) result ws.new }
+    requires { (0 < tuple.now.n) × (tuple.now.d ≡ walk.flat.now.d) × OrbitsRoom walk.bound state.known state.count ws.old }
+    ensures { Walked walk.entry.tolerance walk.entry.most (points_of walk.entry.flat.now) (rows_in walk.entry.flat.now.n walk.entry.rows.count walk.entry.rows.bytes.now) walk.entry.bound state ws.old (points_of tuple.now ∷ []) result ws.new }
+{
+    let plane = Subspace::from_points(tuple, walk.tolerance);
+    if !plane.is_hyperplane() {
+        return Ok(state);
+    }
+    let n = walk.flat.n;
+    let set = points_near(walk.flat, &plane, walk.tolerance);
+    if !may_open(seen(ws, state.known), set, n, walk.most) {
+        return Ok(state);
+    }
+    open_orbit(walk.rows, n, set, walk.bound, state, ws)
+}
+
+// A tuple that begins with v is extended by as many vertices as are wanted, ascending from one on [5.5]; a vertex that breaks a limit with v is passed over.
+fn extend(
+    walk: Walk,
+    tuple: &Points,
+    v: usize,
+    from: usize,
+    more: usize,
+    state: Progress,
+    ws: &mut [u8],
+) -> Result<Progress, Refusal>
+    requires { (0 < tuple.now.n) × (tuple.now.d ≡ walk.flat.now.d) × OrbitsRoom walk.bound state.known state.count ws.old × (v < walk.points.now.n) × (tuple.now.n ≤ from) }
+    ensures { Walked walk.entry.tolerance walk.entry.most (points_of walk.entry.flat.now) (rows_in walk.entry.flat.now.n walk.entry.rows.count walk.entry.rows.bytes.now) walk.entry.bound state ws.old (extensions (keeps_limits walk.entry.tolerance (limits_of walk.entry.limits) (points_of walk.entry.points.now) v) (points_of walk.entry.flat.now) (points_of tuple.now) walk.entry.flat.now.n from more) result ws.new }
 {
     if more == 0 {
-        return fit_tuple(flat, tuple, rows, m, tolerance, most, bound, state, ws);
+        return fit_tuple(walk, tuple, state, ws);
     }
     let mut reached = state;
-    for u in from..points.n {
-        if points.breaks_limit(v, u, limits, tolerance) {
+    for u in from..walk.points.n {
+        if walk.points.breaks_limit(v, u, walk.limits, walk.tolerance) {
             continue;
         }
-        let mut longer = tuple;
-        longer.push(flat.point(u));
-        reached = extend(
-            points,
-            flat,
-            longer,
-            v,
-            u + 1,
-            more - 1,
-            rows,
-            m,
-            limits,
-            tolerance,
-            most,
-            bound,
-            reached,
-            ws,
-        )?;
+        let mut longer = *tuple;
+        longer.push(walk.flat.point(u));
+        reached = extend(walk, &longer, v, u + 1, more - 1, reached, ws)?;
     }
     Ok(reached)
 }
@@ -186,9 +162,9 @@ fn extend(
 // ---- pairs
 
 // The flattened points of a pair.
-fn pair_points(flat: Points, v: usize, w: usize) -> Points
-    requires { (v < flat.n) × (w < flat.n) }
-    ensures { HoldsPoints result flat.d (point_at (points_of flat) v ∷ point_at (points_of flat) w ∷ []) }
+fn pair_points(flat: &Points, v: usize, w: usize) -> Points
+    requires { (v < flat.now.n) × (w < flat.now.n) }
+    ensures { HoldsPoints result flat.now.d (point_at (points_of flat.now) v ∷ point_at (points_of flat.now) w ∷ []) }
 {
     let mut pair = Points::new(flat.d);
     pair.push(flat.point(v));
@@ -198,43 +174,21 @@ fn pair_points(flat: Points, v: usize, w: usize) -> Points
 
 // Each pair's opener, in order, extended by so many vertices. The walk ends at a refusal.
 fn walk_pairs(
-    points: Points,
-    flat: Points,
-    pairs: Pairs,
+    walk: Walk,
+    pairs: &ArrayVec<usize, 190>,
     more: usize,
-    rows: &[u8],
-    m: usize,
-    limits: Limits,
-    tolerance: f64,
-    most: usize,
-    bound: usize,
     state: Progress,
     ws: &mut [u8],
 ) -> Result<Progress, Refusal>
-    requires { CallFits points flat m rows.now × PairsRise flat.n (pairs_in pairs) × (pairs.count ≤ 190) × OrbitsRoom bound state.known state.count ws.old }
-    ensures { Walked tolerance most (points_of flat) (rows_in flat.n m rows.now) bound state ws.old (pair_tuples tolerance (limits_of limits) (points_of points) (points_of flat) flat.n more (pairs_in pairs)) result ws.new }
+    requires { PairsRise walk.flat.now.n (map pair_of pairs.now.items) × OrbitsRoom walk.bound state.known state.count ws.old }
+    ensures { Walked walk.entry.tolerance walk.entry.most (points_of walk.entry.flat.now) (rows_in walk.entry.flat.now.n walk.entry.rows.count walk.entry.rows.bytes.now) walk.entry.bound state ws.old (pair_tuples walk.entry.tolerance (limits_of walk.entry.limits) (points_of walk.entry.points.now) (points_of walk.entry.flat.now) walk.entry.flat.now.n more (map pair_of pairs.now.items)) result ws.new }
 {
     let mut reached = state;
-    for k in 0..pairs.count {
-        let code = pairs.codes[k];
-        let v = code / 20;
-        let w = code % 20;
-        reached = extend(
-            points,
-            flat,
-            pair_points(flat, v, w),
-            v,
-            w + 1,
-            more,
-            rows,
-            m,
-            limits,
-            tolerance,
-            most,
-            bound,
-            reached,
-            ws,
-        )?;
+    for code in pairs.as_slice() {
+        let v = *code / 20;
+        let w = *code % 20;
+        let pair = pair_points(walk.flat, v, w);
+        reached = extend(walk, &pair, v, w + 1, more, reached, ws)?;
     }
     Ok(reached)
 }
@@ -251,26 +205,31 @@ fn most_vertices(rule: usize, more: usize, n: usize) -> usize
 
 // How many hyperplane orbits a call has, or refusal 13 where there are more than the bound.
 pub fn find_orbits(
-    points: Points,
-    flat: Points,
+    points: &Points,
+    flat: &Points,
     more: usize,
-    rows: &[u8],
-    m: usize,
+    rows: Rows,
     limits: Limits,
     tolerance: f64,
     rule: usize,
     bound: usize,
     ws: &mut [u8],
 ) -> Result<usize, Refusal>
-    requires { CallFits points flat m rows.now × (bound ≤ 256) × (124928 ≤ length ws.old) }
-    ensures { answer_in flat.n result ws.new ≡ orbits_or_refusal bound (hyperplane_orbits tolerance (limits_of limits) rule more (points_of points) (points_of flat) (rows_in flat.n m rows.now)) }
+    requires { CallFits points.now flat.now rows.count rows.bytes.now × (bound ≤ 256) × (124928 ≤ length ws.old) }
+    ensures { answer_in flat.now.n result ws.new ≡ orbits_or_refusal bound (hyperplane_orbits tolerance (limits_of limits) rule more (points_of points.now) (points_of flat.now) (rows_in flat.now.n rows.entry.count rows.entry.bytes.now)) }
 {
-    let pairs = pair_openers(&points, rows, m, limits, tolerance);
-    let state = Progress { known: 0, count: 0 };
-    let most = most_vertices(rule, more, flat.n);
-    let done = walk_pairs(
-        points, flat, pairs, more, rows, m, limits, tolerance, most, bound, state, ws,
-    )?;
+    let pairs = pair_openers(points, rows, limits, tolerance);
+    let walk = Walk {
+        points,
+        flat,
+        rows,
+        limits,
+        tolerance,
+        most: most_vertices(rule, more, flat.n),
+        bound,
+    };
+    let none = Progress { known: 0, count: 0 };
+    let done = walk_pairs(walk, &pairs, more, none, ws)?;
     Ok(done.count)
 }
 

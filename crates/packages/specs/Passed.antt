@@ -19,7 +19,7 @@ use Rattle.laws.specs.Parts.{get_d_rows}
 use Rattle.openers.specs.Rows.{rows_in, row_at, image_at_holds}
 use Rattle.stabilizers.specs.Permutations.{Permutations, permutations_of}
 use Rattle.load.specs.Meaning.{rows_at}
-use Rattle.tallies.specs.declared.FullSet.{FullSet}
+use Rattle.tallies.specs.declared.Package.{Package}
 use Rattle.tallies.specs.Meaning.{GlobalsFit, PackageFits, package_in}
 use Rattle.packages.specs.Once.{once_below, distinct_places}
 
@@ -150,9 +150,15 @@ module _ (n : ℕ) (bytes : Bytes) where
     numbers_long : length global_numbers ≡ n
     numbers_long = let k = loaded_numbers.long in length-take-le n (drop 5 bytes) (rw length-drop (omega arith))
 
-    module _ (whole : FullSet) (globals full : List ℕ) (size_is : whole.size ≡ size_of) (rows_is : whole.rows ≡ rows_of) (count_is : whole.count ≡ count_of)
-        (globals-are : rows_in n 1 globals ≡ rows_at bytes 5 n 1) (globals-long : length globals ≡ 32)
-        (full-are : rows_in size_of rows_of full ≡ rows_at bytes (5 + n) size_of rows_of) (full-long : length full ≡ 3840) where
+    module _ (whole : Package) (size_is : whole.size ≡ size_of) (rows_is : whole.full.count ≡ rows_of) (count_is : whole.count ≡ count_of)
+        (globals-are : rows_in n 1 whole.globals.now ≡ rows_at bytes 5 n 1) (globals-long : length whole.globals.now ≡ 32)
+        (full-are : rows_in size_of rows_of whole.full.bytes.now ≡ rows_at bytes (5 + n) size_of rows_of) (full-long : length whole.full.bytes.now ≡ 3840) where
+      abbrev globals : List ℕ
+      globals = whole.globals.now
+
+      abbrev full : List ℕ
+      full = whole.full.bytes.now
+
       row_is : row_at n 0 globals ≡ global_numbers
       unfolding rows_in row_at rows_at count_from
       row_is =
@@ -179,7 +185,7 @@ module _ (n : ℕ) (bytes : Bytes) where
       permute : Permutations size_of rows_of full
       permute = permutations_of size_of rows_of full loaded_numbers.size_most (omega (arith, loaded_numbers.rows_most)) (rw full-are rows_pass)
 
-      pub package_fits : PackageFits n whole globals full
+      pub package_fits : PackageFits n whole
       package_fits = record {
         numbered = rw size_is globals_fit;
         permute = rw (size_is, rows_is) permute;
@@ -188,6 +194,6 @@ module _ (n : ℕ) (bytes : Bytes) where
         small_count = omega (arith, loaded_numbers.count_most);
       }
 
-      pub package_is : package_in n whole globals full ≡ read_package n bytes
+      pub package_is : package_in n whole ≡ read_package n bytes
       unfolding package_in read_package rows_at
       package_is = rw (size_is, rows_is, count_is, row_is, full-are) refl

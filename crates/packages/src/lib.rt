@@ -2,13 +2,14 @@
 
 #![tactic(auto)]
 
-ghost use Rattle.std.specs.Prelude.{◌≡◌, ◌+◌, ◌*◌, ◌≤◌, T, length, take, drop};
+ghost use Rattle.std.specs.Prelude.{◌≡◌, ◌+◌, ◌≤◌, T, length, take, drop};
 ghost use Rattle.definitions.specs.Lists.{member_nat};
 ghost use Rattle.definitions.specs.Noble.{read_package, package_counts, package_good};
 ghost use Rattle.tallies.specs.Meaning.{PackageFits, package_in};
 ghost use Rattle.packages.specs.Once.{once_below};
 
-use tallies::FullSet;
+use openers::Rows;
+use tallies::Package;
 use words::Word;
 
 // ---- the test
@@ -88,19 +89,29 @@ pub fn package_good(pack: &[u8], n: usize) -> bool
 // ---- loading
 
 // A package that passes: its global numbers and its full rows, 32 bytes to a row, and the numbers that go with them.
-pub fn load_package(pack: &[u8], n: usize, globals: &mut [u8], full: &mut [u8]) -> FullSet
+pub fn load_package<'a>(
+    pack: &[u8],
+    n: usize,
+    globals: &'a mut [u8],
+    full: &'a mut [u8],
+) -> Package<'a>
     requires { (n ≤ 20) × T (package_good n pack.now) × (length globals.old ≡ 32) × (length full.old ≡ 3840) }
-    ensures fits { PackageFits n result globals.new full.new }
-    ensures is { package_in n result globals.new full.new ≡ read_package n pack.now }
+    ensures fits { PackageFits n result }
+    ensures is { package_in n result ≡ read_package n pack.now }
 {
     let rows = u16::get(pack, 0) as usize;
     let size = usize::from(pack[2]);
     let count = u16::get(pack, 3) as u32;
     load::copy_rows(pack, 5, n, 1, globals);
     load::copy_rows(pack, 5 + n, size, rows, full);
-    FullSet {
-        size: size,
-        rows: rows,
-        count: count,
+    let full = Rows {
+        bytes: full,
+        count: rows,
+    };
+    Package {
+        globals,
+        full,
+        size,
+        count,
     }
 }

@@ -231,19 +231,19 @@ module _ (m : ℕ) (e : ℤ) (double : T (is_double (fin false (suc m) e))) (n :
 -- a tolerance has the sign +, if it is the least one or more
 least_has_plus : (n : ℕ) (d : ℤ) → T (le least (fin true n d)) → ⊥
 unfolding le of_bits
-least_has_plus n d h = None (down d) (down_pos d) (eqb→eq (1 * 1 * down d) 0 (and_r (eqb (1 * 1 * down d) (n * up d * 2 ^ 30)) (eqb (1 * 1 * down d) 0) h))
+least_has_plus n d h = none (down d) (down_pos d) (eqb→eq (1 * 1 * down d) 0 (and_r (eqb (1 * 1 * down d) (n * up d * 2 ^ 30)) (eqb (1 * 1 * down d) 0) h))
   where
-    None : (y : ℕ) → 0 < y → 1 * 1 * y ≡ 0 → ⊥
-    None y p e = omega arith
+    none : (y : ℕ) → 0 < y → 1 * 1 * y ≡ 0 → ⊥
+    none y p e = omega arith
 
 -- and is no zero
 least_above_zero : (d : ℤ) → T (is_double (fin false zero d)) → T (le least (fin false zero d)) → ⊥
 unfolding of_bits
 least_above_zero d g low =
-    None (units_in least) (units_in (fin false zero d)) (not_more 1 (negsuc 29) least_double zero d g low) (subst (λ (z : ℕ). 0 < z) (sym least_units) (pow_pos 1044)) (nothing_in false d)
+    none (units_in least) (units_in (fin false zero d)) (not_more 1 (negsuc 29) least_double zero d g low) (subst (λ (z : ℕ). 0 < z) (sym least_units) (pow_pos 1044)) (nothing_in false d)
   where
-    None : (y z : ℕ) → y ≤ z → 0 < y → z ≡ 0 → ⊥
-    None y z l p i = omega arith
+    none : (y z : ℕ) → y ≤ z → 0 < y → z ≡ 0 → ⊥
+    none y z l p i = omega arith
 
 -- a zero of either sign lies below it
 zero_below : (s : Bool) (e : ℤ) (t : Float) → T (fits binary64 t) → T (le least t) → lt (fin s zero e) t ≡ true
@@ -268,10 +268,10 @@ zero_below false e (fin false (suc n) d) g low =
 zero_above_negative : (m : ℕ) (e : ℤ) → T (le zero64 (fin true (suc m) e)) → ⊥
 unfolding le of_bits
 zero_above_negative m e h =
-    None (down e) (suc m * up e) (mul-pos (zero-lt-suc m) (up_pos e)) (eqb→eq (0 * 1 * down e) (suc m * up e * 1) (and_l (eqb (0 * 1 * down e) (suc m * up e * 1)) (eqb (0 * 1 * down e) 0) h))
+    none (down e) (suc m * up e) (mul-pos (zero-lt-suc m) (up_pos e)) (eqb→eq (0 * 1 * down e) (suc m * up e * 1) (and_l (eqb (0 * 1 * down e) (suc m * up e * 1)) (eqb (0 * 1 * down e) 0) h))
   where
-    None : (y z : ℕ) → 0 < z → 0 * 1 * y ≡ z * 1 → ⊥
-    None y z p i = omega arith
+    none : (y z : ℕ) → 0 < z → 0 * 1 * y ≡ z * 1 → ⊥
+    none y z p i = omega arith
 
 tiny_root_below : (x t : Float) → T (fits binary64 x) → T (fits binary64 t) → T (le least t) → T (le zero64 x) → T (lt x tiny) → lt (value_of (square_root x)) t ≡ true
 unfolding square_root value_of lt le is_double of_bits

@@ -1,4 +1,4 @@
--- One vertex more of a set, as the loops take it: what its bit adds to a sum of powers, and the points near a plane. Leans on the sets of the crate of laws.
+-- One vertex more of a set, as the loops take it, and of the points near a plane; a power of two for a vertex is small. Leans on the sets of the crate of laws.
 use Rattle.std.specs.Prelude.{◌≡◌, Bool, ℕ, zero, suc, ◌+◌, ◌*◌, ◌/◌, ◌%◌, ◌^◌, ◌≤◌, ◌<◌, eqb, length, get_or, drop, Float}
 use Rattle.std.proofs.Math.Path.{refl}
 use Rattle.std.proofs.Common.{drop-cons}
@@ -12,7 +12,7 @@ use Rattle.definitions.specs.Subspace.{Subspace, distance}
 use Rattle.definitions.specs.Orbits.{point_at, points_near}
 use Rattle.laws.specs.Sets.{set_number, vertices_from, SetFrom, empty, without, with}
 
--- ---- sums over a set
+-- ---- a set
 
 -- one vertex more at the front
 pub vertices_step : (v n x : ℕ) → vertices_from v (suc n) x ≡ vertices_from v 1 x ++ vertices_from (suc v) n (x / 2)
@@ -23,27 +23,9 @@ vertices_step v n x = go (eqb (x % 2) 1)
     go true = refl
     go false = refl
 
-pub number_step : (f : ℕ → ℕ) (v n x : ℕ) → set_number (map f (vertices_from v (suc n) x)) ≡ cond (eqb (x % 2) 1) (2 ^ f v) 0 + set_number (map f (vertices_from (suc v) n (x / 2)))
-unfolding vertices_from set_number
-number_step f v n x = go (eqb (x % 2) 1)
-  where
-    go : (b : Bool) → set_number (map f (cond b (v ∷ vertices_from (suc v) n (x / 2)) (vertices_from (suc v) n (x / 2)))) ≡ cond b (2 ^ f v) 0 + set_number (map f (vertices_from (suc v) n (x / 2)))
-    go true = refl
-    go false = omega arith
-
 -- a power below 2 ^ 20
 pub power_below : (k : ℕ) → k < 20 → 2 ^ k ≤ 524288
 power_below k h = pow-le-pow_right {n = 2} (omega arith) {i = k} {j = 19} (omega arith)
-
--- the sum of n powers below 2 ^ 20
-pub number_bound : (f : ℕ → ℕ) (v n x : ℕ) → ((u : ℕ) → u < v + n → f u < 20) → set_number (map f (vertices_from v n x)) ≤ n * 524288
-unfolding vertices_from set_number
-number_bound f v zero x h = omega arith
-number_bound f v (suc n) x h = rw (number_step f v n x) (go (eqb (x % 2) 1) (number_bound f (suc v) n (x / 2) (λ u l. h u (omega arith))))
-  where
-    go : (b : Bool) → set_number (map f (vertices_from (suc v) n (x / 2))) ≤ n * 524288 → cond b (2 ^ f v) 0 + set_number (map f (vertices_from (suc v) n (x / 2))) ≤ suc n * 524288
-    go true ih = omega (arith, power_below (f v) (h v (omega arith)))
-    go false ih = omega arith
 
 -- ---- the points near a plane
 

@@ -161,6 +161,13 @@ module _ (p : Points) where
     unfolding points_of
     point_joined q a n d = rw (a, n, d, point_written) refl
 
+-- A row that is written behind the points is one point more, and the struct fits with it.
+pub row_joined : (p : Points) (row : List Float) (room : p.n < 20) (long : length row ≡ 5) (own : row ≡ five (vector_of p.d row))
+    → HoldsPoints (record { at = set_five p.at (5 * p.n) row nan; n = p.n + 1; d = p.d; fits = point_fits p row room long own }) p.d (points_of p ++ (vector_of p.d row ∷ []))
+row_joined p row room long own =
+    let more : Points = record { at = set_five p.at (5 * p.n) row nan; n = p.n + 1; d = p.d; fits = point_fits p row room long own } in
+    holds_points more p.d _ refl (point_joined p row room long own more refl refl refl)
+
 -- One point joined those that a struct holds.
 pub one_more : (p q : Points) (d : ℕ) (ps : List Vec) (row : List Float) (v : Vec) → HoldsPoints p d ps → vector_of d row ≡ v → HoldsPoints q p.d (points_of p ++ (vector_of p.d row ∷ [])) → HoldsPoints q d (ps ++ (v ∷ []))
 one_more p q d ps row v h e g =

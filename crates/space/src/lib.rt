@@ -169,7 +169,7 @@ impl Subspace {
 
 // ---- points
 
-// n points of d numbers each, 20 at most.
+// n points of d numbers each, 20 at most. Their numbers lie one behind another, and not point by point in an `ArrayVec`: what works on points borrows the numbers where they lie.
 #[derive(Clone, Copy)]
 pub struct Points {
     pub at: [f64; 100],

@@ -1,86 +1,67 @@
--- The turns of the loops: the vertices from v on, one of them taken off. Leans on Places.
+-- The turns of the loops: one vertex more of a set, and one row more. Leans on Places.
 use mathlib.Core.Path.{◌≡◌, refl, sym, ap, ◌∙◌}
 use mathlib.Core.Bool.{Bool, true, false, cond}
 use mathlib.Core.List.{List, [], ◌∷◌, ◌++◌, map, map-append, append-nil}
 use Prim.Native.Nat.{ℕ, suc, ◌+◌, ◌*◌, ◌-◌, ◌/◌, ◌%◌, ◌≤◌, ◌<◌}
 use native.Mathlib.Omega.{arith}
 use native.Mathlib.Numerals.{add-one}
-use lib.ListN.{length, get_or, length-append, length-map}
-use lib.Seq.{sets}
+use borrow.Rule.Slice.PartMut.{put_mid}
+use lib.ListN.{length, get_or, set, take, drop, length-append, length-map, take-append-drop}
+use lib.Seq.{sets, length-take-le}
 use Rattle.definitions.specs.Lists.{keep}
 use Rattle.definitions.specs.Orbits.{Row}
 use Rattle.definitions.specs.Recursion.{keeps_set, row_within, rows_within}
-use Rattle.laws.specs.Parts.{rows, rows_more}
-use Rattle.laws.specs.Segments.{sets_append}
-use Rattle.laws.specs.Sets.{vertices_from, vertices_of, vertices_odd, vertices_even}
+use Rattle.laws.specs.Parts.{rows, rows_more, map_take_more}
+use Rattle.laws.specs.Segments.{sets_append, take_sets_le, take_sets_ge, drop_sets_ge, drop_sets_add}
+use Rattle.laws.specs.Sets.{vertices_of}
 use Rattle.openers.specs.Rows.{rows_in, row_at, written_rows, written_more}
-use Rattle.sets.specs.Steps.{vertices_step}
-use Rattle.stabilizers.specs.Places.{places, bit_length, vertices_few}
+use Rattle.sets.specs.Vertices.{vertex_below}
+use Rattle.stabilizers.specs.Places.{places, vertices_few}
 
--- ---- a place
-
-pub count_turn : (u v x : ℕ) → v < u → length (vertices_from v (u - v) x) ≡ x % 2 + length (vertices_from (v + 1) (u - (v + 1)) (x / 2))
-count_turn u v x h =
-    let e : u - v ≡ suc (u - (v + 1)) = omega arith in
-    ap (λ (k : ℕ). length (vertices_from v k x)) e
-    ∙ (bit_length v (u - (v + 1)) x ∙ ap (λ (k : ℕ). x % 2 + length (vertices_from k (u - (v + 1)) (x / 2))) (sym (add-one v)))
-
-pub count_end : (u v x : ℕ) → u ≤ v → length (vertices_from v (u - v) x) ≡ 0
-unfolding vertices_from
-count_end u v x h = let e : u - v ≡ 0 = omega arith in rw e refl
-
-pub count_whole : (u x : ℕ) → length (vertices_from 0 (u - 0) x) ≡ length (vertices_of u x)
-unfolding vertices_of
-count_whole u x = let e : u - 0 ≡ u = omega arith in ap (λ (k : ℕ). length (vertices_from 0 k x)) e
+-- ---- a row
 
 pub place_small : (u x : ℕ) → length (vertices_of u x) ≤ u
 unfolding vertices_of
 place_small u x = vertices_few 0 u x
 
-pub one_few : (v x : ℕ) → length (vertices_from v 1 x) ≤ 1
-one_few v x = vertices_few v 1 x
+-- a vertex of a set, read in a list of them
+pub among : (n set k : ℕ) (vertices : List ℕ) → vertices ≡ vertices_of n set → k < length vertices → get_or vertices k 0 < n
+among n set k vertices e h = rw e (vertex_below n set k (rw e at h))
 
--- ---- a row
+-- the place of a vertex's image under row i
+abbrev place : List ℕ → ℕ → ℕ → ℕ → ℕ
+place s i x v = length (vertices_of (get_or s (32 * i + v) 0) x)
 
-module _ (s : List ℕ) (i set : ℕ) where
-  pub put_odd : (v x from at : ℕ) (out : List ℕ) → x % 2 ≡ 1
-      → (from + 1 ≡ from + length (vertices_from v 1 x)) × (sets out at (length (vertices_of (get_or s (32 * i + v) 0) set) ∷ []) ≡ sets out at (places s i set (vertices_from v 1 x)))
-  unfolding vertices_from places
-  put_odd v x from at out e = rw (vertices_odd v 0 x e) (refl, refl)
+places_length : (s : List ℕ) (i x : ℕ) (vertices : List ℕ) → length (places s i x vertices) ≡ length vertices
+unfolding places
+places_length s i x vertices = length-map vertices (place s i x)
 
-  pub put_even : (v x from at : ℕ) (out : List ℕ) → (x % 2 ≡ 1 → ⊥) → (from ≡ from + length (vertices_from v 1 x)) × (out ≡ sets out at (places s i set (vertices_from v 1 x)))
-  unfolding vertices_from places
-  put_even v x from at out e = rw (vertices_even v 0 x e) (omega arith, refl)
+pub places_few : (s : List ℕ) (i n x : ℕ) → length (places s i x (vertices_of n x)) ≤ n
+places_few s i n x = omega (arith, places_length s i x (vertices_of n x), place_small n x)
 
-  module _ (n : ℕ) where
-    abbrev pub places_from : ℕ → ℕ → List ℕ
-    places_from v x = places s i set (vertices_from v (n - v) x)
+-- the places of the first k vertices of a list, written to the front of a row
+abbrev pub written : List ℕ → ℕ → ℕ → List ℕ → List ℕ → ℕ → List ℕ
+written s i x vertices row k = sets row 0 (places s i x (take k vertices))
 
-    first_place : (v x : ℕ) → v < n → places_from v x ≡ places s i set (vertices_from v 1 x) ++ places_from (v + 1) (x / 2)
-    unfolding places
-    first_place v x h =
-        let e : n - v ≡ suc (n - (v + 1)) = omega arith in
-        ap (λ (k : ℕ). places s i set (vertices_from v k x)) e
-        ∙ (ap (places s i set) (vertices_step v (n - (v + 1)) x ∙ ap (λ (k : ℕ). vertices_from v 1 x ++ vertices_from k (n - (v + 1)) (x / 2)) (sym (add-one v)))
-        ∙ map-append (λ (u : ℕ). length (vertices_of (get_or s (32 * i + u) 0) set)) (vertices_from v 1 x) (vertices_from (v + 1) (n - (v + 1)) (x / 2)))
+pub place_more : (s : List ℕ) (i x : ℕ) (vertices row : List ℕ) (k : ℕ) → k < length vertices
+    → set (written s i x vertices row k) k (length (vertices_of (get_or s (32 * i + get_or vertices k 0) 0) x)) ≡ written s i x vertices row (k + 1)
+unfolding places
+place_more s i x vertices row k h =
+    let one = place s i x (get_or vertices k 0) ∷ [] in
+    let at : 0 + length (places s i x (take k vertices)) ≡ k = omega (arith, places_length s i x (take k vertices), length-take-le k vertices (omega arith)) in
+    ap (λ (j : ℕ). sets (written s i x vertices row k) j one) (sym at)
+    ∙ (sets_append (places s i x (take k vertices)) one row 0 ∙ ap (sets row 0) (sym (map_take_more (place s i x) vertices k 0 h)))
 
-    places_length : (l : List ℕ) → length (places s i set l) ≡ length l
-    unfolding places
-    places_length l = length-map l (λ (u : ℕ). length (vertices_of (get_or s (32 * i + u) 0) set))
-
-    pub row_turn : (v x at : ℕ) (out : List ℕ) → v < n → sets out at (places_from v x) ≡ sets (sets out at (places s i set (vertices_from v 1 x))) (at + length (vertices_from v 1 x)) (places_from (v + 1) (x / 2))
-    row_turn v x at out h =
-        ap (sets out at) (first_place v x h)
-        ∙ (sym (sets_append (places s i set (vertices_from v 1 x)) (places_from (v + 1) (x / 2)) out at)
-        ∙ ap (λ (k : ℕ). sets (sets out at (places s i set (vertices_from v 1 x))) (at + k) (places_from (v + 1) (x / 2))) (places_length (vertices_from v 1 x)))
-
-    pub row_end : (v x at : ℕ) (out : List ℕ) → n ≤ v → sets out at (places_from v x) ≡ out
-    unfolding vertices_from places
-    row_end v x at out h = let e : n - v ≡ 0 = omega arith in rw e refl
-
-    pub row_whole : (x : ℕ) → places_from 0 x ≡ places s i set (vertices_of n x)
-    unfolding vertices_of
-    row_whole x = let e : n - 0 ≡ n = omega arith in ap (λ (k : ℕ). places s i set (vertices_from 0 k x)) e
+-- what is written at the front of a part is written there in the whole
+pub put_within : (a k : ℕ) (out vs : List ℕ) → length vs ≤ k → put_mid a k out (sets (take k (drop a out)) 0 vs) ≡ sets out a vs
+put_within a k out vs h =
+    let z : a + 0 ≡ a = omega arith in
+    let run = sets (drop a out) 0 vs in
+    let behind : drop a (sets out a vs) ≡ run = ap (λ (j : ℕ). drop a (sets out j vs)) (sym z) ∙ drop_sets_add vs out a 0 in
+    let front : sets (take k (drop a out)) 0 vs ≡ take k run = sym (take_sets_ge vs (drop a out) k 0 (omega arith)) in
+    let rest : drop k (drop a out) ≡ drop k run = sym (drop_sets_ge vs (drop a out) k 0 (omega arith)) in
+    let part : sets (take k (drop a out)) 0 vs ++ drop k (drop a out) ≡ run = rw (front, rest) (take-append-drop k run) in
+    ap (λ (l : List ℕ). take a out ++ l) part ∙ (rw (← behind, ← (take_sets_le vs out a a (omega arith))) (take-append-drop a (sets out a vs)))
 
 -- ---- rows
 

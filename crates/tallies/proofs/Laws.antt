@@ -7,28 +7,25 @@ use Prim.Native.Nat.{ℕ, zero, suc, ◌+◌, ◌*◌, ◌-◌, ◌/◌, ◌%◌
 use native.Mathlib.Nat.{pow-le-pow_right}
 use native.Mathlib.Omega.{arith}
 use native.Mathlib.Numerals.{add-one}
-use borrow.Author.Tests.{lt-leb}
-use lib.Dec.{leb, le→leb}
+use lib.Dec.{leb}
 use lib.ListN.{length, get_or, take, drop, set, length-map}
 use Rattle.definitions.specs.Lists.{place_of}
 use Rattle.definitions.specs.Orbits.{Row, image, set_image}
 use Rattle.definitions.specs.Job.{number_at}
-use Rattle.laws.specs.Bools.{false→fails}
-use Rattle.laws.specs.Merging.{place_le, place_is}
+use Rattle.laws.specs.Merging.{place_le}
 use Rattle.laws.specs.Parts.{rows, map_rows_more, length_rows}
-use Rattle.laws.specs.Segments.{onto, take_onto}
 use Rattle.laws.specs.Sets.{set_number, vertices_of, vertices_set, image_set, number_small}
-use Rattle.words.specs.Words.{words, words_length, get_d_words, put}
-use Rattle.sorted.specs.Ascending.{Ascending, insert_new, union, up_to, ascending_nil}
+use Rattle.words.specs.Words.{words, words_length, get_d_words}
+use Rattle.sorted.specs.Ascending.{Ascending, insert_new, union, ascending_nil}
 use Rattle.sorted.specs.Gathering.{added, ascending_added}
 use Rattle.sorted.specs.Merging.{New, Merged}
 use Rattle.openers.specs.Rows.{rows_in, row_at, image_at_holds}
+use Rattle.sets.specs.Vertices.{RowSends, row_sends}
 use Rattle.stabilizers.specs.Permutations.{Permutation}
 use Rattle.orbits.specs.Numbers.{image_numbers}
 use Rattle.tallies.specs.Marks.{mark_number, latest, latest_is, none_before, last_marks, last_other, mark_more, marks_ascend, new_marks}
 use Rattle.tallies.specs.Counts.{Counted, count_by, count_one, sum_by, most_weight, added_few, images_few, found_opened}
-use Rattle.tallies.specs.Meaning.{counted_in, TallyFits}
-use Rattle.std.specs.Prelude.{Some, None}
+use Rattle.tallies.specs.Meaning.{GlobalsFit, counted_in, TallyFits}
 
 -- ---- the latest mark
 
@@ -71,28 +68,30 @@ image_small g i key full p =
     let small : 2 ^ g ≤ 1048576 = pow-le-pow_right {n = 2} (omega arith) {i = g} {j = 20} p.n_fits in
     omega (arith, number_small s)
 
+-- a key's vertices are sent to global numbers
+pub key_sends : (n g set : ℕ) (globals vertices : List ℕ) → GlobalsFit n g globals → vertices ≡ vertices_of n set → RowSends 0 globals vertices
+key_sends n g set globals vertices f e =
+    rw e (row_sends 0 n set globals (omega (arith, f.n_fits, f.long)) (λ v h. let z : 32 * 0 + v ≡ v = omega arith in rw z (omega (arith, f.below v h, f.g_fits))))
+
 module _ (g key : ℕ) (full : List ℕ) where
   abbrev pub images_to : ℕ → List ℕ
   images_to i = added [] (image_numbers g key (rows_in g i full))
 
-  pub gathered_none : (tally : ℕ) (new : List ℕ) → (0 ≡ length (images_to 0)) × (take 0 new ≡ map (mark_number tally) (images_to 0))
+  pub gathered_none : (tally : ℕ) → [] ≡ map (mark_number tally) (images_to 0)
   unfolding image_numbers rows_in rows added
-  gathered_none tally new = (refl, refl)
+  gathered_none tally = refl
 
   images_more : (i : ℕ) → image_numbers g key (rows_in g (i + 1) full) ≡ image_numbers g key (rows_in g i full) ++ (set_number (set_image (vertices_of g key) (row_at g i full)) ∷ [])
   unfolding image_numbers rows_in row_at
   images_more i = map_rows_more (λ (row : Row). set_number (set_image (vertices_of g key) row)) 32 g i full
 
   -- one image more
-  pub gathered_more : (tally i k r x : ℕ) (new after : List ℕ) → x ≡ set_number (set_image (vertices_of g key) (row_at g i full)) → k ≤ length new
-      → take k new ≡ map (mark_number tally) (images_to i)
-      → r ≡ length (insert_new (256 * x + tally) (take k new)) → after ≡ onto (insert_new (256 * x + tally) (take k new)) new
-      → (r ≡ length (images_to (i + 1))) × (take r after ≡ map (mark_number tally) (images_to (i + 1)))
-  gathered_more tally i k r x new after is_x wide held count buffer =
-      let whole : insert_new (256 * x + tally) (take k new) ≡ map (mark_number tally) (images_to (i + 1)) =
-      mark_more tally x (take k new) (image_numbers g key (rows_in g i full)) held
-      ∙ ap (λ (l : List ℕ). map (mark_number tally) (added [] l)) (ap (λ (y : ℕ). image_numbers g key (rows_in g i full) ++ (y ∷ [])) is_x ∙ sym (images_more i)) in
-      (count ∙ ap length whole ∙ length-map (images_to (i + 1)) (mark_number tally), ap (take r) buffer ∙ take_onto (insert_new (256 * x + tally) (take k new)) new r count ∙ whole)
+  pub gathered_more : (tally i x : ℕ) (new after : List ℕ) → x ≡ set_number (set_image (vertices_of g key) (row_at g i full)) → new ≡ map (mark_number tally) (images_to i)
+      → after ≡ insert_new (256 * x + tally) new → after ≡ map (mark_number tally) (images_to (i + 1))
+  gathered_more tally i x new after is_x held is =
+      is
+      ∙ mark_more tally x new (image_numbers g key (rows_in g i full)) held
+      ∙ ap (λ (l : List ℕ). map (mark_number tally) (added [] l)) (ap (λ (y : ℕ). image_numbers g key (rows_in g i full) ++ (y ∷ [])) is_x ∙ sym (images_more i))
 
   pub images_to_most : (i : ℕ) → length (images_to i) ≤ i
   unfolding rows_in image_numbers
@@ -125,17 +124,13 @@ module _ (known tally : ℕ) (marks images sums : List ℕ) (f : TallyFits known
   unfolding counted_in
   marks_up_holds = f.ready.fits.ascends
 
-  pub arrays_long : (tally < length images) × (tally < length sums)
-  unfolding counted_in
-  arrays_long = (omega (arith, f.ready.fits.long_images, tally_small), omega (arith, f.ready.fits.long_sums, tally_small))
-
   pub found_fits : (key k weight : ℕ) → latest 256 (words 4 marks known) key ≡ Some k → weight ≤ most_weight
-      → (k < length images) × (k < length sums) × (0 < get_or images k 0) × (get_or sums k 0 + weight ≤ 18446744073709551615)
+      → (k < 256) × (0 < get_or images k 0) × (get_or sums k 0 + weight ≤ 18446744073709551615)
   unfolding counted_in
   found_fits key k weight e light =
       let fit = f.ready.fits in
       let r = found_opened f.ready.done (counted_in known tally marks images sums) key k fit e in
-      (omega (arith, fit.long_images, r.1), omega (arith, fit.long_sums, r.1), fit.some_images k r.0, omega (arith, fit.small_sums k r.1, f.ready.free))
+      (r.1, fit.some_images k r.0, omega (arith, fit.small_sums k r.1, f.ready.free))
 
 -- ---- what a tally has added up to
 
@@ -150,25 +145,24 @@ pub sum_none : (l sums : List ℕ) (key : ℕ) → latest 256 l key ≡ None →
 unfolding sum_by
 sum_none l sums key e = rw e refl
 
--- two numbers written
-pub both_put : (ws w₁ w₂ : List ℕ) (at to a b x y : ℕ) → w₁ ≡ put 4 ws at a → w₂ ≡ put 4 w₁ to b → a ≡ x → b ≡ y → w₂ ≡ put 4 (put 4 ws at x) to y
-both_put ws w₁ w₂ at to a b x y e f p q = rw (f, e, p, q) refl
-
 -- ---- a tally opened
 
 module _ (g m key : ℕ) (full : List ℕ) (known tally : ℕ) (marks images sums : List ℕ) (f : TallyFits known tally marks images sums) (some_row : 0 < m) (few : m ≤ 120)
-    (k : ℕ) (new : List ℕ) (count : k ≡ length (images_to g key full m)) (held : take k new ≡ map (mark_number tally) (images_to g key full m)) where
+    (new : List ℕ) (held : new ≡ map (mark_number tally) (images_to g key full m)) where
+  count : length new ≡ length (images_to g key full m)
+  count = ap length held ∙ length-map (images_to g key full m) (mark_number tally)
+
   small : tally < 256
   small = tally_small known tally marks images sums f
 
-  pub marks_room : (4 * (known + k) ≤ length marks) × (0 < k) × (k ≤ 120)
+  pub marks_room : (4 * (known + length new) ≤ length marks) × (0 < length new) × (length new ≤ 120)
   unfolding counted_in
   marks_room =
       let r = images_to_few g key full m some_row in
       let w = words_length 4 marks known in
-      (omega (arith, f.long, f.ready.fits.few_marks, f.ready.fits.few_tallies, f.ready.free, r.1), omega (arith, r.0), omega (arith, r.1))
+      (omega (arith, count, f.long, f.ready.fits.few_marks, f.ready.fits.few_tallies, f.ready.free, r.1), omega (arith, count, r.0), omega (arith, count, r.1))
 
-  pub merge_new : New (words 4 marks known) (take k new)
+  pub merge_new : New (words 4 marks known) new
   unfolding counted_in
   merge_new = rw held (record {
     old = f.ready.fits.ascends;
@@ -176,14 +170,11 @@ module _ (g m key : ℕ) (full : List ℕ) (known tally : ℕ) (marks images sum
     fresh = record { new = new_marks tally (words 4 marks known) (images_to g key full m) small f.ready.fits.below };
   })
 
-  pub tally_opened : (weight : ℕ) (after : List ℕ) → Merged marks known (take k new) after
-      → counted_in (known + k) (tally + 1) after (set images tally k) (set sums tally (weight / k)) ≡ count_by None g (rows_in g m full) (counted_in known tally marks images sums) key weight
+  pub tally_opened : (weight : ℕ) (after : List ℕ) → Merged marks known new after
+      → counted_in (known + length new) (tally + 1) after (set images tally (length new)) (set sums tally (weight / length new)) ≡ count_by None g (rows_in g m full) (counted_in known tally marks images sums) key weight
   unfolding counted_in count_by
   tally_opened weight after merged =
-      let n : length (take k new) ≡ k = ap length held ∙ length-map (images_to g key full m) (mark_number tally) ∙ sym count in
-      let w : words 4 after (known + k) ≡ union (words 4 marks known) (map (mark_number tally) (images_to g key full m)) =
-      ap (λ (j : ℕ). words 4 after (known + j)) (sym n) ∙ merged.numbers ∙ ap (union (words 4 marks known)) held in
-      same w (add-one tally) (ap (set images tally) count) (ap (λ (j : ℕ). set sums tally (weight / j)) count)
+      same (merged.numbers ∙ ap (union (words 4 marks known)) held) (add-one tally) (ap (set images tally) count) (ap (λ (j : ℕ). set sums tally (weight / j)) count)
     where
       same : {a b : List ℕ} {c d : ℕ} {p q r s : List ℕ} → a ≡ b → c ≡ d → p ≡ q → r ≡ s
           → ◌≡◌ {A = Counted} (record { marks = a; tallies = c; images = p; sums = r }) (record { marks = b; tallies = d; images = q; sums = s })

@@ -10,7 +10,7 @@ use native.Mathlib.Omega.{arith}
 use native.Mathlib.Numerals.{add-one}
 use borrow.Author.Tests.{le-leb, lt-leb}
 use lib.Dec.{leb}
-use lib.ListN.{length, get_or, take, drop, replicate, length-replicate, length-drop, get_or-append}
+use lib.ListN.{length, get_or, take, drop, replicate, length-drop, get_or-append}
 use lib.Seq.{take_all, get_or_at}
 use Rattle.definitions.specs.Lists.{Pair, keep}
 use Rattle.definitions.specs.Orbits.{Row, set_image}
@@ -29,7 +29,7 @@ use Rattle.tallies.specs.Marks.{latest}
 use Rattle.tallies.specs.Counts.{Counted, count_one, count_all, count_more, none_counted, pair_key, sum_by, keeps_pair, keep_pairs, most_weight, CountFits, none_fits, one_fits, all_fit}
 use Rattle.tallies.specs.Agreement.{kept_are}
 use Rattle.tallies.specs.Meaning.{PackageFits, package_in, counted_in, TallyFits, WeightsFit, key_set}
-use Rattle.tallies.specs.declared.FullSet.{FullSet}
+use Rattle.tallies.specs.declared.Package.{Package}
 
 -- ---- the part behind the orbits, lent and given back
 
@@ -151,17 +151,10 @@ module _ (n count : ℕ) (globals : Row) (g : ℕ) (rows : List Row) (ws₀ : Li
               go (inl q) = let e : j ≡ i = omega arith in rw e (omega (arith, same_weight))
 
 -- as many full rows as there are to be
-pub rows_some : (n : ℕ) (whole : FullSet) (globals full : List ℕ) → PackageFits n whole globals full
-    → (0 < length (rows_in whole.size whole.rows full)) × (length (rows_in whole.size whole.rows full) ≤ 120)
+pub rows_some : (n : ℕ) (whole : Package) → PackageFits n whole
+    → (0 < length (rows_in whole.size whole.full.count whole.full.bytes.now)) × (length (rows_in whole.size whole.full.count whole.full.bytes.now) ≤ 120)
 unfolding rows_in
-rows_some n whole globals full f = let e = length_rows 32 whole.size whole.rows full in (omega (arith, f.some_row), omega (arith, f.few_rows))
-
--- the arrays keep their length
-pub same_long : (i known tallies : ℕ) (marks images sums images₀ sums₀ : List ℕ) → CountFits i (counted_in known tallies marks images sums) → images₀ ≡ replicate 256 0 → sums₀ ≡ replicate 256 0
-    → (length images ≡ length images₀) × (length sums ≡ length sums₀)
-unfolding counted_in
-same_long i known tallies marks images sums images₀ sums₀ f a b =
-    (f.long_images ∙ sym (ap length a ∙ length-replicate {A = ℕ} 256 0), f.long_sums ∙ sym (ap length b ∙ length-replicate {A = ℕ} 256 0))
+rows_some n whole f = let e = length_rows 32 whole.size whole.full.count whole.full.bytes.now in (omega (arith, f.some_row), omega (arith, f.few_rows))
 
 -- what is asked for a look at the marks
 pub marks_asked : (ws ws₀ : List ℕ) (known : ℕ) → length ws ≡ length ws₀ → drop 2048 ws ≡ drop 2048 ws₀ → 2048 + 4 * known ≤ length ws₀ → Ascending (words 4 (drop 2048 ws₀) known)
@@ -271,17 +264,17 @@ module _ (n : ℕ) (globals : Row) (marks sums ws₀ : List ℕ) (orbits : ℕ) 
 
 -- ---- all of it
 
-module _ (n orbits : ℕ) (whole : FullSet) (globals full ws₀ : List ℕ) (f : PackageFits n whole globals full) (few : orbits ≤ 256) (room : 124928 ≤ length ws₀)
+module _ (n orbits : ℕ) (whole : Package) (ws₀ : List ℕ) (f : PackageFits n whole) (few : orbits ≤ 256) (room : 124928 ≤ length ws₀)
     (light : WeightsFit whole.count orbits ws₀) where
   abbrev rows : List Row
-  rows = rows_in whole.size whole.rows full
+  rows = rows_in whole.size whole.full.count whole.full.bytes.now
 
-  rows_many : length rows ≡ whole.rows
+  rows_many : length rows ≡ whole.full.count
   unfolding rows_in
-  rows_many = length_rows 32 whole.size whole.rows full
+  rows_many = length_rows 32 whole.size whole.full.count whole.full.bytes.now
 
   abbrev end : Counted
-  end = count_all n (row_at n 0 globals) whole.size rows whole.count none_counted (orbits_in ws₀ orbits)
+  end = count_all n (row_at n 0 whole.globals.now) whole.size rows whole.count none_counted (orbits_in ws₀ orbits)
 
   all_light : (i : ℕ) → i < length (orbits_in ws₀ orbits) → whole.count * (get_or (orbits_in ws₀ orbits) i (0, 0)).1 ≤ most_weight
   all_light i h =
@@ -290,7 +283,7 @@ module _ (n orbits : ℕ) (whole : FullSet) (globals full ws₀ : List ℕ) (f :
 
   end_fits : CountFits (0 + length (orbits_in ws₀ orbits)) end
   end_fits =
-      all_fit n (row_at n 0 globals) whole.size rows whole.count (omega (arith, rows_many, f.some_row)) (omega (arith, rows_many, f.few_rows)) 0 none_counted (orbits_in ws₀ orbits) all_light
+      all_fit n (row_at n 0 whole.globals.now) whole.size rows whole.count (omega (arith, rows_many, f.some_row)) (omega (arith, rows_many, f.few_rows)) 0 none_counted (orbits_in ws₀ orbits) all_light
       (omega (arith, orbits_length ws₀ orbits)) none_fits
 
   module _ (known tallies : ℕ) (ws images sums : List ℕ) (counted : counted_in known tallies (drop 2048 ws) images sums ≡ end) (front : take 2048 ws ≡ take 2048 ws₀) where
@@ -305,23 +298,20 @@ module _ (n orbits : ℕ) (whole : FullSet) (globals full ws₀ : List ℕ) (f :
     pub marks_ascending : Ascending (words 4 (drop 2048 ws) known)
     marks_ascending = subst Ascending (sym marks_are) end_fits.ascends
 
-    pub sums_long : length sums ≡ 256
-    sums_long = ap length sums_are ∙ end_fits.long_sums
-
     pub marks_few : 2048 + 4 * known ≤ 124928
     marks_few =
         let a : known ≡ length end.marks = sym (words_length 4 (drop 2048 ws) known) ∙ ap length marks_are in
         omega (arith, end_fits.few_marks, end_fits.few_tallies, orbits_length ws₀ orbits)
 
-    pub all_kept : (after : List ℕ) (r : ℕ) → orbits_in after r ≡ keep_pairs n (row_at n 0 globals) (words 4 (drop 2048 ws) known) sums (orbits_in ws orbits)
-        → map (orbit_of n) (orbits_in after r) ≡ kept_by (package_in n whole globals full) (map (orbit_of n) (orbits_in ws₀ orbits))
+    pub all_kept : (after : List ℕ) (r : ℕ) → orbits_in after r ≡ keep_pairs n (row_at n 0 whole.globals.now) (words 4 (drop 2048 ws) known) sums (orbits_in ws orbits)
+        → map (orbit_of n) (orbits_in after r) ≡ kept_by (package_in n whole) (map (orbit_of n) (orbits_in ws₀ orbits))
     unfolding package_in
     all_kept after r e =
-        let same : keep_pairs n (row_at n 0 globals) (words 4 (drop 2048 ws) known) sums (orbits_in ws orbits) ≡ keep_pairs n (row_at n 0 globals) end.marks end.sums (orbits_in ws₀ orbits) =
+        let same : keep_pairs n (row_at n 0 whole.globals.now) (words 4 (drop 2048 ws) known) sums (orbits_in ws orbits) ≡ keep_pairs n (row_at n 0 whole.globals.now) end.marks end.sums (orbits_in ws₀ orbits) =
         keep_same marks_are sums_are (same_front ws ws₀ orbits few front) in
         ap (map (orbit_of n)) (e ∙ same)
-        ∙ kept_are (package_in n whole globals full) (rows_permute f.permute) n (key_set n whole.size globals f.numbered) (omega (arith, rows_many, f.some_row)) (omega (arith, rows_many, f.few_rows))
+        ∙ kept_are (package_in n whole) (rows_permute f.permute) n (key_set n whole.size whole.globals.now f.numbered) (omega (arith, rows_many, f.some_row)) (omega (arith, rows_many, f.few_rows))
         (orbits_in ws₀ orbits) all_light (omega (arith, orbits_length ws₀ orbits))
       where
-        keep_same : {a b c d : List ℕ} {x y : List Pair} → a ≡ b → c ≡ d → x ≡ y → keep_pairs n (row_at n 0 globals) a c x ≡ keep_pairs n (row_at n 0 globals) b d y
+        keep_same : {a b c d : List ℕ} {x y : List Pair} → a ≡ b → c ≡ d → x ≡ y → keep_pairs n (row_at n 0 whole.globals.now) a c x ≡ keep_pairs n (row_at n 0 whole.globals.now) b d y
         keep_same p q r = rw (p, q, r) refl

@@ -1,11 +1,11 @@
--- What the code is given: the full set's numbers by value, global numbers and full rows in bytes, rows at a stride of 32.
+-- What the code is given: a package, with its global numbers and full rows in bytes, rows at a stride of 32.
 -- What they mean is a package [17.1]. Leans on the rows in bytes and on Counts.
 use Rattle.std.specs.Prelude.{◌≡◌, List, map, ℕ, ◌+◌, ◌*◌, ◌^◌, ◌≤◌, ◌<◌, length, get_or, take, drop}
 use Rattle.std.proofs.Common.{sym, ap, subst, ◌∙◌, arith}
 use Rattle.std.proofs.Math.Nat.{pow-le-pow_right}
 use Rattle.definitions.specs.Orbits.{image, set_image}
 use Rattle.definitions.specs.Job.{number_at}
-use Rattle.definitions.specs.Noble.{Package}
+use Rattle.definitions.specs.Noble as def
 use Rattle.laws.specs.Lists.{of_map}
 use Rattle.laws.specs.Pairs.{pairs_map}
 use Rattle.laws.specs.Sets.{set_number, number_small, vertices_of, SetFrom, vertices_set, set_range, set_rises, sorted_set}
@@ -13,7 +13,7 @@ use Rattle.words.specs.Words.{words}
 use Rattle.openers.specs.Rows.{rows_in, row_at, image_at_holds}
 use Rattle.stabilizers.specs.Permutations.{Permutations}
 use Rattle.tallies.specs.Counts.{Counted, most_weight, Ready}
-use Rattle.tallies.specs.declared.FullSet.{FullSet}
+use Rattle.tallies.specs.declared.Package.{Package}
 
 -- the global numbers of n vertices in a full set of g points, none twice
 pub record GlobalsFit (n g : ℕ) (globals : List ℕ) : Type 0 where
@@ -24,20 +24,20 @@ pub record GlobalsFit (n g : ℕ) (globals : List ℕ) : Type 0 where
   pub one : (u w : ℕ) → u < n → w < n → get_or globals u 0 ≡ get_or globals w 0 → u ≡ w
 
 -- a package that can be counted by
-pub record PackageFits (n : ℕ) (full-set : FullSet) (globals full : List ℕ) : Type 0 where
-  pub numbered : GlobalsFit n full-set.size globals
-  pub permute : Permutations full-set.size full-set.rows full
-  pub some_row : 0 < full-set.rows
-  pub few_rows : full-set.rows ≤ 120
-  pub small_count : full-set.count ≤ 65535
+pub record PackageFits (n : ℕ) (whole : Package) : Type 0 where
+  pub numbered : GlobalsFit n whole.size whole.globals.now
+  pub permute : Permutations whole.size whole.full.count whole.full.bytes.now
+  pub some_row : 0 < whole.full.count
+  pub few_rows : whole.full.count ≤ 120
+  pub small_count : whole.count ≤ 65535
 
 -- the package
-unfoldable pub package_in : ℕ → FullSet → List ℕ → List ℕ → Package
-package_in n full-set globals full = record {
-  size = full-set.size;
-  count = full-set.count;
-  globals = row_at n 0 globals;
-  rows = rows_in full-set.size full-set.rows full;
+unfoldable pub package_in : ℕ → Package → def.Package
+package_in n whole = record {
+  size = whole.size;
+  count = whole.count;
+  globals = row_at n 0 whole.globals.now;
+  rows = rows_in whole.size whole.full.count whole.full.bytes.now;
 }
 
 -- the tallies that the code holds

@@ -5,9 +5,6 @@ use Rattle.laws.specs.Tests.{spaced, test_starts, test_stops, test_goes_on, test
 use Rattle.job.specs.Refusal.{size_within}
 use Rattle.job.proofs.all_within.Goals as goal
 
-pub loop-i-init : goal.loop-i-init
-loop-i-init c = (omega arith, test_starts _ _ _ _ _)
-
 pub returns-then-not-within : goal.returns-then-not-within
 unfolding floats_at spaced
 returns-then-not-within c =

@@ -1,13 +1,8 @@
 use mathlib.Core.Path.{sym, ◌∙◌}
 use native.Mathlib.Omega.{arith}
 use borrow.Author.Tests.{eq-eqb, ne_eqb}
-use Rattle.laws.specs.Tests.{count_starts, count_stops, count_goes_on, count_ends}
+use Rattle.laws.specs.Tests.{count_stops, count_goes_on, count_ends}
 use Rattle.job.proofs.is_identity.Goals as goal
-
-pub loop-i-init : goal.loop-i-init
-loop-i-init c =
-    let a = c.args in
-    (omega arith, count_starts a.job.now a.at a.n)
 
 pub returns-then-from-i : goal.returns-then-from-i
 returns-then-from-i c =

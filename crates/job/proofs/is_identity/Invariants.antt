@@ -1,5 +1,5 @@
 -- `job::is_identity` meets its contract. The invariant: the bytes from the i-th on decide. Assumes nothing.
-use Prim.Native.Nat.{◌-◌, ◌≤◌}
+use Prim.Native.Nat.{◌≤◌}
 use Rattle.laws.specs.Tests.{CountsOn}
 use Rattle.job.proofs.is_identity.Given as goal
 

@@ -1,5 +1,5 @@
 -- `job::rows_good` meets its contract. The invariant: the rows from the i-th on decide. Assumes nothing.
-use Prim.Native.Nat.{ℕ, ◌-◌, ◌≤◌}
+use Prim.Native.Nat.{ℕ, ◌≤◌}
 use lib.ListN.{take, drop}
 use Rattle.definitions.specs.Job.{is_permutation}
 use Rattle.laws.specs.Tests.{RestDecides}

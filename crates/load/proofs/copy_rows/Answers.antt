@@ -1,4 +1,4 @@
-use mathlib.Core.Path.{◌≡◌, refl, ◌∙◌}
+use mathlib.Core.Path.{refl, ◌∙◌}
 use Prim.Native.Nat.{◌*◌}
 use native.Mathlib.Omega.{arith}
 use Rattle.definitions.specs.Lists.{count_from}
@@ -6,28 +6,12 @@ use Rattle.laws.specs.Parts.{rows}
 use Rattle.laws.specs.Tests.{next_fits}
 use Rattle.openers.specs.Rows.{rows_in, written_rows}
 use Rattle.load.specs.Meaning.{rows_at}
-use Rattle.load.proofs.Laws.{copy_fits, lent_length, row_lent, row_copied}
-use Rattle.laws.specs.Clauses.{of_two}
+use Rattle.load.proofs.Laws.{lent_length, row_lent, row_copied}
 use Rattle.load.proofs.copy_rows.Goals as goal
 
 pub loop-i-init : goal.loop-i-init
 unfolding rows_in rows_at written_rows count_from rows
 loop-i-init c = (omega arith, refl, refl, refl)
-
-pub overflow_mul-from : goal.overflow_mul-from
-overflow_mul-from c =
-    let m = next_fits c.args.n c.loop-i.i c.args.count (omega arith) in
-    omega arith
-
-pub overflow_add-from : goal.overflow_add-from
-overflow_add-from c =
-    let m = next_fits c.args.n c.loop-i.i c.args.count (omega arith) in
-    omega arith
-
-pub overflow_add-to : goal.overflow_add-to
-overflow_add-to c =
-    let m = next_fits c.args.n c.loop-i.i c.args.count (omega arith) in
-    omega arith
 
 pub loop-i-preserved : goal.loop-i-preserved
 loop-i-preserved c =
@@ -35,9 +19,3 @@ loop-i-preserved c =
     let l = c.loop-i in
     let next = row_copied l.region _ c.args.at c.args.n l.i _ (omega arith) (omega arith) (omega arith) (row_lent l.region _ _ (32 * l.i) c.args.n c.copy_from_slice.ensures.after (lent_length _ _ _ (omega arith)) (omega arith)) l.invariant.2 c.args.region.now l.invariant.3 in
     (omega arith, next.0 ∙ l.invariant.1, next.1, next.2)
-
-pub returns : goal.returns
-returns c = of_two (λ x0 x1. record { rows = x0; region = x1 })
-    (let l = c.loop-i in
-    let end : l.i ≡ c.args.count = omega arith in
-    ((rw (← end) l.invariant.2, l.invariant.1), rw (← end) l.invariant.3))

@@ -1,6 +1,6 @@
 -- `load::copy_rows` meets its contract. The invariant: the first i rows were written to the region, 32 bytes apart, and stand there. Assumes nothing.
 use mathlib.Core.Path.{◌≡◌}
-use Prim.Native.Nat.{◌-◌, ◌≤◌}
+use Prim.Native.Nat.{◌≤◌}
 use lib.ListN.{length}
 use Rattle.openers.specs.Rows.{rows_in, written_rows}
 use Rattle.load.specs.Meaning.{rows_at}

@@ -8,8 +8,8 @@ use Rattle.load.proofs.Meaning.{loadable}
 use Rattle.load.proofs.Laws.{floats_length, offset_alone, plane_start, plane_turn, plane_end}
 use Rattle.load.proofs.plane_of.Goals as goal
 
-pub vector_at-requires : goal.vector_at-requires
-vector_at-requires c =
+pub vector_at-offset-requires : goal.vector_at-offset-requires
+vector_at-offset-requires c =
     let k = loadable _ _ c.requires.0 c.requires.1 in
     (omega arith, k.offset_fits)
 
@@ -17,25 +17,19 @@ pub new-plane-requires : goal.new-plane-requires
 new-plane-requires c =
     let k = loadable _ _ c.requires.0 c.requires.1 in
     let f = c.args.fields in
-    (omega arith, five_own _ _ f.d c.vector_at.ensures (floats_length _ _ f.d))
+    (omega arith, five_own _ _ f.d c.vector_at-offset.ensures (floats_length _ _ f.d))
 
 pub loop-j-init : goal.loop-j-init
 loop-j-init c = (omega arith, c.new-plane.ensures.1, c.new-plane.ensures.2, plane_start _ _ _ _ _ c.new-plane.ensures.0)
 
-pub overflow_mul-d-in-loop-j : goal.overflow_mul-d-in-loop-j
-overflow_mul-d-in-loop-j c =
+pub overflow_add-fields : goal.overflow_add-fields
+overflow_add-fields c =
     let k = loadable _ _ c.requires.0 c.requires.1 in
     let m = next_fits (8 * c.args.fields.d) c.loop-j.j (c.args.fields.rank - 1) (omega arith) in
     omega arith
 
-pub overflow_add-at : goal.overflow_add-at
-overflow_add-at c =
-    let k = loadable _ _ c.requires.0 c.requires.1 in
-    let m = next_fits (8 * c.args.fields.d) c.loop-j.j (c.args.fields.rank - 1) (omega arith) in
-    omega arith
-
-pub vector_at-requires-in-loop-j : goal.vector_at-requires-in-loop-j
-vector_at-requires-in-loop-j c =
+pub vector_at-requires : goal.vector_at-requires
+vector_at-requires c =
     let k = loadable _ _ c.requires.0 c.requires.1 in
     let m = next_fits (8 * c.args.fields.d) c.loop-j.j (c.args.fields.rank - 1) (omega arith) in
     (omega arith, omega arith)
@@ -44,20 +38,20 @@ pub push-requires : goal.push-requires
 push-requires c =
     let k = loadable _ _ c.requires.0 c.requires.1 in
     let l = c.loop-j in
-    (omega arith, five_own _ _ l.plane.d c.vector_at-in-loop-j.ensures (floats_length _ _ _ ∙ sym l.invariant.1))
+    (omega arith, five_own _ _ l.plane.d c.vector_at.ensures (floats_length _ _ _ ∙ sym l.invariant.1))
 
 pub loop-j-preserved : goal.loop-j-preserved
 loop-j-preserved c =
     let l = c.loop-j in
     let e = l.invariant.1 in
-    (omega arith, c.push.ensures.1 ∙ e, c.push.ensures.2 ∙ ap (λ (x : ℕ). x + 1) l.invariant.2, plane_turn _ _ _ _ _ _ _ _ c.push.ensures.0 l.invariant.3.means (rw e (five_means _ _ _ c.vector_at-in-loop-j.ensures (floats_length _ _ _))))
+    (omega arith, c.push.ensures.1 ∙ e, c.push.ensures.2 ∙ ap (λ (x : ℕ). x + 1) l.invariant.2, plane_turn _ _ _ _ _ _ _ _ c.push.ensures.0 l.invariant.3.means (rw e (five_means _ _ _ c.vector_at.ensures (floats_length _ _ _))))
 
 pub returns : goal.returns
 returns c =
     let k = loadable _ _ c.requires.0 c.requires.1 in
     let l = c.loop-j in
     let end : l.j ≡ c.args.fields.rank - 1 = omega arith in
-    let offset = offset_alone _ _ c.new-plane.ensures.0 ∙ five_means _ _ _ c.vector_at.ensures (floats_length _ _ _) in
+    let offset = offset_alone _ _ c.new-plane.ensures.0 ∙ five_means _ _ _ c.vector_at-offset.ensures (floats_length _ _ _) in
     (plane_end _ _ _ _ _ l.invariant.3 offset end k, l.invariant.1, l.invariant.2 ∙ end)
 
 pub overflow_sub-j-end : goal.overflow_sub-j-end

@@ -6,4 +6,4 @@ use Rattle.load.proofs.Laws.{plane_to}
 use Rattle.load.proofs.plane_of.Given as goal
 
 abbrev pub invariant-loop-j : goal.invariant-loop-j
-invariant-loop-j l = (l.j ≤ l.fn.fields.rank - 1) × (l.plane.d ≡ l.d) × (l.plane.rank ≡ l.j) × HoldsSubspace l.plane (plane_to l.job (subspace_of l.initial.plane).offset l.at l.d l.j)
+invariant-loop-j l = (l.j ≤ l.fn.fields.rank - 1) × (l.plane.d ≡ l.fn.fields.d) × (l.plane.rank ≡ l.j) × HoldsSubspace l.plane (plane_to l.job (subspace_of l.initial.plane).offset l.fn.fields.basis l.fn.fields.d l.j)

@@ -19,14 +19,8 @@ pub loop-i-init : goal.loop-i-init
 unfolding vectors_at count_from
 loop-i-init c = (omega arith, c.new-points.ensures, c.new-points.ensures.n_is)
 
-pub overflow_mul-d-in-loop-i : goal.overflow_mul-d-in-loop-i
-overflow_mul-d-in-loop-i c =
-    let k = loadable _ _ c.requires.0 c.requires.1 in
-    let m = next_fits (8 * c.args.fields.d) c.loop-i.i c.args.fields.n (omega arith) in
-    omega arith
-
-pub overflow_add-at : goal.overflow_add-at
-overflow_add-at c =
+pub overflow_add-fields : goal.overflow_add-fields
+overflow_add-fields c =
     let k = loadable _ _ c.requires.0 c.requires.1 in
     let m = next_fits (8 * c.args.fields.d) c.loop-i.i c.args.fields.n (omega arith) in
     omega arith

@@ -6,4 +6,4 @@ use Rattle.space.specs.Meaning.{HoldsPoints}
 use Rattle.load.proofs.points_of.Given as goal
 
 abbrev pub invariant-loop-i : goal.invariant-loop-i
-invariant-loop-i l = (l.i ≤ l.fn.fields.n) × HoldsPoints l.points l.d (vectors_at l.job l.at l.d l.i) × (l.points.n ≡ l.i)
+invariant-loop-i l = (l.i ≤ l.fn.fields.n) × HoldsPoints l.points l.fn.fields.d (vectors_at l.job l.fn.fields.points l.fn.fields.d l.i) × (l.points.n ≡ l.i)

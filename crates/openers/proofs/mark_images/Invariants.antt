@@ -1,6 +1,6 @@
 -- `mark_images` meets its contract.
 use mathlib.Core.Path.{◌≡◌}
-use Prim.Native.Nat.{◌-◌, ◌≤◌}
+use Prim.Native.Nat.{◌≤◌}
 use lib.ListN.{length}
 use Rattle.openers.specs.Rows.{rows_in}
 use Rattle.openers.specs.Marks.{marked}
@@ -8,4 +8,4 @@ use Rattle.openers.specs.Meaning.{vertex_images}
 use Rattle.openers.proofs.mark_images.Given as goal
 
 abbrev pub invariant-loop-i : goal.invariant-loop-i
-invariant-loop-i l = (l.i ≤ l.m) × (length l.marks ≡ length l.initial.marks) × (l.marks ≡ marked l.initial.marks (vertex_images (rows_in 32 l.i l.rows) l.v))
+invariant-loop-i l = (l.i ≤ l.rows.count) × (length l.marks ≡ length l.initial.marks) × (l.marks ≡ marked l.initial.marks (vertex_images (rows_in 32 l.i l.rows.bytes.now) l.v))

@@ -1,8 +1,8 @@
-use mathlib.Core.Path.{◌≡◌, sym}
+use mathlib.Core.Path.{◌≡◌, sym, ap, ◌∙◌}
 use mathlib.Core.Bool.{false}
 use mathlib.Core.List.{[]}
 use native.Mathlib.Omega.{arith}
-use lib.ListN.{replicate}
+use lib.ListN.{replicate, length}
 use Rattle.definitions.specs.Lists.{count_from}
 use Rattle.laws.specs.Lists.{of_count}
 use Rattle.openers.specs.Rows.{rows_in}
@@ -11,21 +11,21 @@ use Rattle.openers.proofs.Laws.{found_few, found_none, found_more, marks_more, a
 use Rattle.openers.proofs.vertex_openers.Goals as goal
 
 pub loop-v-init : goal.loop-v-init
-loop-v-init c = let none = found_none (vertex_images (rows_in 32 c.args.m c.args.rows.now)) (replicate 20 false) in
-    (omega arith, rw none.0 c.new-found.ensures, sym none.1)
+loop-v-init c = let none = found_none (vertex_images (rows_in 32 c.args.rows.count c.args.rows.bytes.now)) (replicate 20 false) in
+    (omega arith, c.new-found.ensures ∙ sym none.0, sym none.1)
 
 pub try_vertex-requires : goal.try_vertex-requires
-try_vertex-requires c = let l = c.loop-v in let few = found_few (vertex_images (rows_in 32 c.args.m c.args.rows.now)) (replicate 20 false) l.v in
-    let is = l.invariant.1.count_is in
-    (c.requires.m_fits, omega (arith, c.requires.n_fits), images_under c.requires l.v (omega arith), omega (arith, c.requires.n_fits))
+try_vertex-requires c = let l = c.loop-v in let few = found_few (vertex_images (rows_in 32 c.args.rows.count c.args.rows.bytes.now)) (replicate 20 false) l.v in
+    let is = ap length l.invariant.1 in
+    (omega (arith, c.requires.n_fits), images_under c.requires l.v (omega arith), omega (arith, is, few, c.requires.n_fits))
 
 pub loop-v-preserved : goal.loop-v-preserved
-loop-v-preserved c = let l = c.loop-v in let images = vertex_images (rows_in 32 c.args.m c.args.rows.now) in (
+loop-v-preserved c = let l = c.loop-v in let images = vertex_images (rows_in 32 c.args.rows.count c.args.rows.bytes.now) in (
   omega arith,
-  rw (found_more images (replicate 20 false) l.v, ← l.invariant.1.means, ← l.invariant.2) c.try_vertex.ensures.joins,
+  rw (found_more images (replicate 20 false) l.v, ← l.invariant.1, ← l.invariant.2) c.try_vertex.ensures.joins,
   rw (marks_more images (replicate 20 false) l.v, ← l.invariant.2) c.try_vertex.ensures.marks,
 )
 
 pub returns : goal.returns
 returns c = let l = c.loop-v in let e : l.v ≡ c.args.n = omega arith in
-    rw (← (vertices_walked c.args.n c.args.m c.args.rows.now c.requires.n_fits (replicate 20 false) [] (count_from 0 c.args.n) agree_none (λ v h. omega (arith, (of_count 0 c.args.n v h).1))), ← e) l.invariant.1
+    rw (← (vertices_walked c.args.n c.args.rows.count c.args.rows.bytes.now c.requires.n_fits (replicate 20 false) [] (count_from 0 c.args.n) agree_none (λ v h. omega (arith, (of_count 0 c.args.n v h).1))), ← e) l.invariant.1

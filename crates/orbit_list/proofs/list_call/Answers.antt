@@ -13,6 +13,10 @@ pub load_rows-requires : goal.load_rows-requires
 load_rows-requires g c =
     (exact c.args.job.now c.args.fields c.requires.0, own_fields c.args.job.now c.args.fields c.requires.0, omega (arith, (counts c.args.job.now c.args.fields c.requires.0).count_most))
 
+pub invariant_of-rows : goal.invariant_of-rows
+invariant_of-rows g c =
+    record { room = omega (arith, (counts c.args.job.now c.args.fields c.requires.0).count_most, c.load_rows.ensures.rows.1) }
+
 pub find_orbits-requires : goal.find_orbits-requires
 find_orbits-requires g c =
     let p = c.points_of-points in

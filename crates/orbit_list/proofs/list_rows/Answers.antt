@@ -3,6 +3,6 @@ use Rattle.std.proofs.Common.{arith}
 use Rattle.orbit_list.proofs.Laws.{written_few}
 use Rattle.orbit_list.proofs.list_rows.Goals as goal
 
-pub put_rows-requires : goal.put_rows-requires
-put_rows-requires g c =
-    (written_few c.args.n c.args.m c.args.rows.now c.requires.0 c.args.set _ (omega arith) _ _ c.rows_within-count.ensures.count c.rows_within-count.ensures.rows, omega arith)
+pub invariant_of-within : goal.invariant_of-within
+invariant_of-within g c =
+    record { room = written_few c.args.n c.args.rows.count c.args.rows.bytes.now c.requires.0 c.args.set _ (omega arith) _ _ c.rows_within-count.ensures.count c.rows_within-count.ensures.rows }

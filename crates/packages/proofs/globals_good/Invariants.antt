@@ -1,5 +1,5 @@
 -- `packages::globals_good` meets its contract. The invariant: the bytes from the i-th on decide. Assumes nothing.
-use Prim.Native.Nat.{◌-◌, ◌≤◌}
+use Prim.Native.Nat.{◌≤◌}
 use Rattle.packages.specs.Once.{once_below, Decides}
 use Rattle.packages.proofs.globals_good.Given as goal
 

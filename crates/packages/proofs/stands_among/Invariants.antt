@@ -1,5 +1,5 @@
 -- `packages::stands_among` meets its contract. The invariant: the bytes from the i-th on decide. Assumes nothing.
-use Prim.Native.Nat.{◌-◌, ◌≤◌}
+use Prim.Native.Nat.{◌≤◌}
 use Rattle.definitions.specs.Lists.{member_nat}
 use Rattle.packages.specs.Once.{Decides}
 use Rattle.packages.proofs.stands_among.Given as goal

@@ -1,10 +1,9 @@
--- `chosen_points` meets its contract. The invariant: the points chosen so far, and those of the vertices from v on, are all that are to be chosen.
-use mathlib.Core.Path.{◌≡◌}
-use mathlib.Core.List.{◌++◌}
-use Prim.Native.Nat.{◌≤◌}
-use Rattle.space.specs.Meaning.{points_of}
-use Rattle.sets.proofs.Laws.{points_from}
+-- `chosen_points` meets its contract. The invariant: the points of the vertices so far.
+use mathlib.Core.List.{map}
+use lib.ListN.{take}
+use Rattle.definitions.specs.Orbits.{point_at}
+use Rattle.space.specs.Meaning.{points_of, HoldsPoints}
 use Rattle.sets.proofs.chosen_points.Given as goal
 
 abbrev pub invariant-loop-v : goal.invariant-loop-v
-invariant-loop-v l = (l.v ≤ l.flat.n) × (l.chosen.d ≡ l.flat.d) × (l.chosen.n ≤ l.v) × (points_of l.chosen ++ points_from (points_of l.flat) l.flat.n l.v l.left ≡ points_from (points_of l.flat) l.flat.n 0 l.set)
+invariant-loop-v l = HoldsPoints l.chosen l.flat.d (map (point_at (points_of l.flat)) (take l.v-index l.v-items))

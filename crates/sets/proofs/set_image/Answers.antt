@@ -1,21 +1,36 @@
+use mathlib.Core.Path.{◌≡◌, refl, sym, ap, ◌∙◌}
+use Prim.Native.Nat.{◌+◌, ◌*◌, ◌^◌, ◌≤◌, ◌<◌}
 use native.Mathlib.Omega.{arith}
-use Rattle.sets.proofs.Laws.{image_turn, image_end, image_small, image_whole}
+use lib.ListN.{take}
+use Rattle.std.proofs.lemmas.List.{take_all}
+use Rattle.laws.specs.Sets.{set_number}
+use Rattle.sets.specs.Steps.{power_below}
+use Rattle.sets.proofs.Laws.{image_more, image_whole}
 use Rattle.sets.proofs.set_image.Goals as goal
 
 pub loop-v-init : goal.loop-v-init
-loop-v-init c = (omega arith, omega arith)
+unfolding set_number
+loop-v-init c = (refl, omega arith)
 
-pub image_bit-sum-requires : goal.image_bit-sum-requires
-image_bit-sum-requires c = (omega arith, c.requires.2 c.loop-v.v (omega arith))
-
+-- no power is above 2 ^ 19
 pub overflow_add-sum : goal.overflow_add-sum
-overflow_add-sum c = let l = c.loop-v in
-    record { fits = omega (arith, c.image_bit-sum.ensures, l.invariant.1, image_turn c.args.rows.now c.args.i c.args.n l.v l.rest (omega arith), image_small c.args.rows.now c.args.i c.args.n c.requires.0 c.requires.2 c.args.set) }
+overflow_add-sum c =
+    let l = c.loop-v in
+    let is = c.as_slice-v-items.ensures in
+    let below = power_below c.image.result (rw (c.image.ensures, is.value) (c.requires.sent l.v-index (rw is.value at c.loop-v-test.true))) in
+    record { fits = omega (arith, c.power-sum.ensures, below, l.invariant.1, is.fits) }
 
 pub loop-v-preserved : goal.loop-v-preserved
-loop-v-preserved c = let l = c.loop-v in
-    (omega arith, omega (arith, c.image_bit-sum.ensures, l.invariant.1, image_turn c.args.rows.now c.args.i c.args.n l.v l.rest (omega arith)))
+loop-v-preserved c =
+    let l = c.loop-v in
+    let is = c.as_slice-v-items.ensures in
+    let below = power_below c.image.result (rw (c.image.ensures, is.value) (c.requires.sent l.v-index (rw is.value at c.loop-v-test.true))) in
+    let more = image_more c.args.rows.bytes.now c.args.i c.as_slice-v-items.result.now l.v-index c.loop-v-test.true in
+    (rw (more, c.power-sum.ensures, c.image.ensures, l.invariant.0) refl, omega (arith, c.power-sum.ensures, below, l.invariant.1))
 
 pub returns : goal.returns
-returns c = let l = c.loop-v in
-    omega (arith, l.invariant.1, image_end c.args.rows.now c.args.i c.args.n l.v l.rest (omega arith), image_whole c.args.rows.now c.args.i c.args.n c.args.set)
+returns c n below =
+    let l = c.loop-v in
+    let is = c.as_slice-v-items.ensures in
+    let all : take l.v-index c.as_slice-v-items.result.now ≡ c.args.vertices.now.items = take_all l.v-index c.as_slice-v-items.result.now (omega arith) ∙ is.value in
+    l.invariant.0 ∙ (rw all (image_whole c.args.rows.bytes.now c.args.i n c.args.vertices.now.items below))

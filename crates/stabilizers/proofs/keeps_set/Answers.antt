@@ -1,10 +1,16 @@
 -- `keeps_set` meets its contract.
 use native.Mathlib.Omega.{arith}
+use Rattle.sets.specs.Vertices.{vertex_below, row_sends}
 use Rattle.stabilizers.specs.Places.{keeps_number}
 use Rattle.stabilizers.proofs.keeps_set.Goals as goal
 
 pub set_image-requires : goal.set_image-requires
-set_image-requires c = (c.requires.0.n_fits, omega (arith, c.requires.0.long, c.requires.0.n_fits), (λ v h. omega (arith, c.requires.0.below v h, c.requires.0.n_fits)))
+set_image-requires c =
+    let p = c.requires.0 in
+    rw c.vertices_of.ensures (row_sends c.args.i c.args.n c.args.set c.args.rows.bytes.now (omega (arith, p.long, p.n_fits)) (λ v h. omega (arith, p.below v h, p.n_fits)))
 
 pub returns : goal.returns
-returns c = rw c.set_image.ensures (keeps_number c.args.n c.args.i c.args.rows.now c.requires.0 c.args.set c.requires.1)
+returns c =
+    let n = c.args.n in
+    let image = c.set_image.ensures n (rw c.vertices_of.ensures (vertex_below n c.args.set)) in
+    rw (image, c.vertices_of.ensures) (keeps_number n c.args.i c.args.rows.bytes.now c.requires.0 c.args.set c.requires.1)

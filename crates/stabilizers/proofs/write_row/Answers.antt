@@ -1,34 +1,37 @@
 use mathlib.Core.Path.{◌≡◌, refl, sym, ap, ◌∙◌}
-use Prim.Native.Nat.{ℕ, ◌+◌}
+use Prim.Native.Nat.{ℕ, ◌+◌, ◌*◌, ◌≤◌, ◌<◌}
 use native.Mathlib.Omega.{arith}
-use lib.ListN.{length}
-use lib.Seq.{sets, length-sets}
-use Rattle.laws.specs.Sets.{vertices_from}
+use lib.ListN.{get_or, take}
+use Rattle.std.proofs.lemmas.List.{take_all}
+use Rattle.laws.specs.Sets.{vertices_of}
 use Rattle.stabilizers.specs.Places.{places}
-use Rattle.stabilizers.proofs.Laws.{places_from, row_turn, row_end, row_whole, one_few}
+use Rattle.stabilizers.proofs.Laws.{among, place_small, place_more}
 use Rattle.stabilizers.proofs.write_row.Goals as goal
 
-pub loop-v-init : goal.loop-v-init
-loop-v-init c = let none : c.args.start + 0 ≡ c.args.start = omega arith in
-    (omega arith, refl, omega arith, ap (λ (k : ℕ). sets c.args.out.now k (places_from c.args.rows.now c.args.i c.args.set c.args.n 0 c.args.set)) none)
+pub loop-k-init : goal.loop-k-init
+unfolding places
+loop-k-init c = refl
 
-pub put_place-next-requires : goal.put_place-next-requires
-put_place-next-requires c = let l = c.loop-v in
-    (omega (arith, c.requires.0.long, c.requires.0.n_fits), omega (arith, c.requires.0.below l.v (omega arith), c.requires.0.n_fits), omega (arith, l.invariant.1, c.requires.1), omega (arith, l.invariant.2, c.requires.0.n_fits))
+pub image-requires : goal.image-requires
+image-requires c =
+    let below = among c.args.n c.args.set c.loop-k.k _ (c.as_slice-v-items.ensures.value ∙ c.vertices_of-vertices.ensures) c.loop-k-test.true in
+    omega (arith, below, c.requires.0.long, c.requires.0.n_fits)
 
-pub loop-v-preserved : goal.loop-v-preserved
-loop-v-preserved c = let l = c.loop-v in
-    let few = one_few l.v l.rest in
-    let assoc : c.args.start + (l.next + length (vertices_from l.v 1 l.rest)) ≡ c.args.start + l.next + length (vertices_from l.v 1 l.rest) = omega arith in (
-      omega arith,
-      rw c.put_place-next.ensures.row (length-sets l.out (c.args.start + l.next) (places c.args.rows.now c.args.i c.args.set (vertices_from l.v 1 l.rest)) ∙ l.invariant.1),
-      omega (arith, c.put_place-next.ensures.next, l.invariant.2),
-      rw (c.put_place-next.ensures.next, c.put_place-next.ensures.row, assoc, ← (row_turn c.args.rows.now c.args.i c.args.set c.args.n l.v l.rest (c.args.start + l.next) l.out (omega arith))) l.invariant.3,
-    )
+pub place_in-place-requires : goal.place_in-place-requires
+place_in-place-requires c =
+    let below = among c.args.n c.args.set c.loop-k.k _ (c.as_slice-v-items.ensures.value ∙ c.vertices_of-vertices.ensures) c.loop-k-test.true in
+    omega (arith, c.image.ensures, c.requires.0.below _ below, c.requires.0.n_fits)
 
-pub shape_of-out : goal.shape_of-out
-shape_of-out c = c.loop-v.invariant.1
+pub overflow_cast-row : goal.overflow_cast-row
+overflow_cast-row c =
+    let below = among c.args.n c.args.set c.loop-k.k _ (c.as_slice-v-items.ensures.value ∙ c.vertices_of-vertices.ensures) c.loop-k-test.true in
+    record { fits = omega (arith, c.place_in-place.ensures, place_small c.image.result c.args.set, c.image.ensures, c.requires.0.below _ below, c.requires.0.n_fits) }
+
+pub loop-k-preserved : goal.loop-k-preserved
+loop-k-preserved c = rw (c.place_in-place.ensures, c.image.ensures, c.loop-k.invariant) (place_more c.args.rows.bytes.now c.args.i c.args.set c.as_slice-v-items.result.now c.args.row.now c.loop-k.k c.loop-k-test.true)
 
 pub returns : goal.returns
-returns c = let l = c.loop-v in
-    sym (row_end c.args.rows.now c.args.i c.args.set c.args.n l.v l.rest (c.args.start + l.next) l.out (omega arith)) ∙ (l.invariant.3 ∙ ap (sets c.args.out.now c.args.start) (row_whole c.args.rows.now c.args.i c.args.set c.args.n c.args.set))
+returns c =
+    let l = c.loop-k in
+    let all : take l.k c.as_slice-v-items.result.now ≡ vertices_of c.args.n c.args.set = take_all l.k c.as_slice-v-items.result.now (omega arith) ∙ (c.as_slice-v-items.ensures.value ∙ c.vertices_of-vertices.ensures) in
+    rw all at l.invariant

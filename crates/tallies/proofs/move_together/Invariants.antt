@@ -7,4 +7,4 @@ use Rattle.tallies.proofs.Moving.{MovedTo}
 use Rattle.tallies.proofs.move_together.Given as goal
 
 abbrev pub invariant-loop-i : goal.invariant-loop-i
-invariant-loop-i l = (l.i ≤ l.orbits) × MovedTo l.n (row_at l.n 0 l.globals) (words 4 (drop 2048 l.initial.ws) l.known) l.sums l.initial.ws l.orbits l.i l.kept l.ws
+invariant-loop-i l = (l.i ≤ l.orbits) × MovedTo l.n (row_at l.n 0 l.whole.globals.now) (words 4 (drop 2048 l.initial.ws) l.tallies.known) l.tallies.sums l.initial.ws l.orbits l.i l.kept l.ws

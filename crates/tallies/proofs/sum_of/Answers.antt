@@ -8,7 +8,7 @@ pub offset_bounds-sums-k : goal.offset_bounds-sums-k
 offset_bounds-sums-k c = omega (arith, latest_small _ _ _ (sym (sym c.in-Some.is ∙ c.mark_of.ensures)))
 
 pub bounds-sums-k : goal.bounds-sums-k
-bounds-sums-k c = omega (arith, c.requires.3, latest_small _ _ _ (sym (sym c.in-Some.is ∙ c.mark_of.ensures)))
+bounds-sums-k c = omega (arith, c.requires.1, latest_small _ _ _ (sym (sym c.in-Some.is ∙ c.mark_of.ensures)))
 
 pub returns-in-Some : goal.returns-in-Some
 returns-in-Some c = sum_found _ _ _ _ (sym (sym c.in-Some.is ∙ c.mark_of.ensures))

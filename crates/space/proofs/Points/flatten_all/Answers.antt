@@ -13,9 +13,6 @@ use Rattle.space.specs.Counts.{point_row, point_means, flatten_length}
 use Rattle.space.specs.Counts.{one_more}
 use Rattle.space.proofs.Points.flatten_all.Goals as goal
 
-pub new-flat-requires : goal.new-flat-requires
-new-flat-requires c = c.args.plane.now.fits.rank_fits
-
 pub loop-i-init : goal.loop-i-init
 unfolding rows
 loop-i-init c = (omega arith, c.new-flat.ensures.n_is, c.new-flat.ensures)

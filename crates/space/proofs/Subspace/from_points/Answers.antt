@@ -18,9 +18,6 @@ new-requires c = (omega arith, refl)
 pub returns-then-points-eq0 : goal.returns-then-points-eq0
 returns-then-points-eq0 c = (rw (from_points_none _ c.args.points.now c.if-points-eq0.true) c.new.ensures.0, λ h. absurd (omega arith))
 
-pub point_at-requires : goal.point_at-requires
-point_at-requires c = omega (arith, at_long c.args.points.now)
-
 pub new-s-requires : goal.new-s-requires
 new-s-requires c =
     let p = c.args.points.now in
@@ -38,9 +35,6 @@ returns-then-is_full_rank c =
     let l = c.loop-i in
     let full : is_full_rank (subspace_of l.s) ≡ true = sym c.is_full_rank.ensures ∙ c.if-is_full_rank.true in
     (holds_subspace _ _ (sym (add_points_full _ _ _ full) ∙ l.invariant.2), λ h. l.invariant.1)
-
-pub point_at-requires-in-loop-i : goal.point_at-requires-in-loop-i
-point_at-requires-in-loop-i c = omega (arith, at_long c.args.points.now, c.args.points.now.fits.n_fits)
 
 pub add-s-requires : goal.add-s-requires
 add-s-requires c =
