@@ -19,15 +19,15 @@ fn order_lists(s: &mut [u8], bytes: usize) -> usize
     requires { Pool bytes s.old }
     ensures { (result ≡ many bytes s.old) × (s.new ≡ labelled bytes s.old) }
 {
-    let lists = pool::lists(&s[0..bytes]) as usize;
+    let count = pool::lists(&s[0..bytes]) as usize;
     let area = Area {
         most: 1024,
-        bytes: bytes,
-        count: lists,
+        bytes,
+        count,
     };
     order::sort_lists(s, 1024, bytes);
     labels::label_irc(s, area, bytes + 2048);
-    lists
+    count
 }
 
 // The entries of a call whose emitted lists need no splitting: the pool from a place on, in order and labelled. It is the pool of the emitted lists as well.
@@ -37,12 +37,12 @@ pub fn sort_entries(ws: &mut [u8], shelf: Shelf, at: usize, bytes: usize) -> Lev
 {
     let count = order_lists(&mut ws[at..], bytes);
     Level {
-        shelf: shelf,
+        shelf,
         emitted: at,
         extent: bytes,
         lists: at,
-        bytes: bytes,
-        count: count,
+        bytes,
+        count,
     }
 }
 
@@ -67,7 +67,7 @@ pub fn split_entries(ws: &mut [u8], shelf: Shelf, from: usize, bytes: usize) -> 
     splitting::split_lists(&mut ws[shelf.labels..to + 2101260], layout);
     let sorted = sort_entries(ws, shelf, to, 2101260);
     Level {
-        shelf: shelf,
+        shelf,
         emitted: at,
         extent: bytes,
         lists: to,

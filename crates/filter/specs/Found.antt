@@ -216,9 +216,8 @@ module _ (area : Area) (at : ℕ) (ws₀ : List ℕ) (ok : Holding area ws₀) (
 
     -- what `finds_other` is asked
     pub asked : (notes : List ℕ) → 4 * area.count ≤ length notes → Noted (lists_of area ws₀) area.count notes
-        → Holding area ws × AllAscending (lists_of area ws) × (a < area.count) × Begun (lists_of area ws) a r × (4 * area.count ≤ length notes) × Noted (lists_of area ws) area.count notes
+        → AllAscending (lists_of area ws) × (a < area.count) × Begun (lists_of area ws) a r × (4 * area.count ≤ length notes) × Noted (lists_of area ws) area.count notes
     asked notes room n = (
-      g.holds,
       subst AllAscending (sym g.same) up,
       h,
       subst (λ (ls : List (List ℕ)). Begun ls a r) (sym g.same) begun,

@@ -1,6 +1,6 @@
 -- What each list has in common with the one before it, noted in bytes, and what follows for the walks: a list that begins as the one before it does, up to and with the first item of that
 -- one that is not found, is not found either. Leans on how far a walk comes.
-use Rattle.std.specs.Prelude.{◌≡◌, Bool, ◌&&◌, List, [], ◌∷◌, leb, get_or, drop}
+use Rattle.std.specs.Prelude.{◌≡◌, Option, Some, None, Bool, ◌&&◌, List, [], ◌∷◌, leb, get_or, drop}
 use Rattle.std.proofs.Math.Path.{refl, sym}
 use Rattle.std.proofs.Common.{ap, ◌∙◌, inl, ⊎_elim, add-one, drop_of_length-le, drop-cons}
 use Rattle.std.proofs.Math.Bool.{true, false, not}
@@ -110,8 +110,8 @@ noting_ends lists many bytes notes k n h = record { each = λ i l. n.noted.each 
 -- ---- the walks
 
 -- how far the walk through list a came in the list before place b, if one was made
-pub record Walked (lists : List (List ℕ)) (a b found : ℕ) : Type 0 where
-  pub before : found < 4294967296 → (0 < b) × (found ≡ items_found (get_or lists a []) (get_or lists (b - 1) []))
+pub record Walked (lists : List (List ℕ)) (a b : ℕ) (found : Option ℕ) : Type 0 where
+  pub before : (items : ℕ) → found ≡ Some items → (0 < b) × (items ≡ items_found (get_or lists a []) (get_or lists (b - 1) []))
 
 module _ (a b : List ℕ) where
   pub found_not : items_found a b < length b → false ≡ finds compare a b
@@ -131,17 +131,17 @@ module _ (a b : List ℕ) where
       sym (rw (le-leb (length b) (length a) (omega arith), f, found_all a b) (eq-eqb (items_found a b) (length b) e))
 
 module _ (lists : List (List ℕ)) (a b found : ℕ) where
-  pub walked_on : found ≡ items_found (get_or lists a []) (get_or lists b []) → Walked lists a (b + 1) found
-  walked_on e = let p : b + 1 - 1 ≡ b = omega arith in record { before = λ h. (omega arith, rw p e) }
+  pub walked_on : found ≡ items_found (get_or lists a []) (get_or lists b []) → Walked lists a (b + 1) (Some found)
+  walked_on e = let p : b + 1 - 1 ≡ b = omega arith in record { before = λ items h. (omega arith, let i : items ≡ found = cc in rw p (i ∙ e)) }
 
-  pub walked_alike : Walked lists a b found → (v : ℕ) → found < v → v < 4294967296 → (0 < b → v ≡ shared (get_or lists (b - 1) []) (get_or lists b []))
-      → (false ≡ finds compare (get_or lists a []) (get_or lists b [])) × Walked lists a (b + 1) found
-  walked_alike w v less small note =
-      let q = w.before (omega arith) in
+  pub walked_alike : Walked lists a b (Some found) → (v : ℕ) → found < v → (0 < b → v ≡ shared (get_or lists (b - 1) []) (get_or lists b []))
+      → (false ≡ finds compare (get_or lists a []) (get_or lists b [])) × Walked lists a (b + 1) (Some found)
+  walked_alike w v less note =
+      let q = w.before found refl in
       let e : shared (get_or lists (b - 1) []) (get_or lists b []) ≡ v = sym (note q.0) in
       let same : items_found (get_or lists a []) (get_or lists b []) ≡ items_found (get_or lists a []) (get_or lists (b - 1) []) = found_alike (get_or lists a []) (get_or lists (b - 1) []) (get_or lists b []) (omega (arith, q.1)) in
       let few = shared_few (get_or lists (b - 1) []) (get_or lists b []) in
       (found_not (get_or lists a []) (get_or lists b []) (omega (arith, q.1)), walked_on (q.1 ∙ sym same))
 
-pub walked_none : (lists : List (List ℕ)) (a b : ℕ) → Walked lists a b 4294967296
-walked_none lists a b = record { before = λ h. absurd (omega arith) }
+pub walked_none : (lists : List (List ℕ)) (a b : ℕ) → Walked lists a b None
+walked_none lists a b = record { before = λ items h. cc }

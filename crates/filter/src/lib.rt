@@ -7,31 +7,29 @@ ghost use Prim.Native.Nat.{◌+◌, ◌-◌, ◌*◌, ◌≤◌, ◌<◌, compar
 ghost use Rattle.std.proofs.lemmas.List.Edits.{sets};
 ghost use Rattle.definitions.specs.Plain.{finds_other, filter_irc};
 ghost use Rattle.words.specs.Runs.{run};
-ghost use Rattle.order.specs.Areas.{lists_of, list_of, Holding};
+ghost use Rattle.order.specs.Areas.{lists_of, list_of};
 ghost use Rattle.order.specs.Numbers.{AllAscending};
 ghost use Rattle.labels.specs.Walked.{shared};
 ghost use Rattle.filter.specs.Found.{Begun, Filters};
 ghost use Rattle.filter.specs.Noted.{Noted};
 
-use order::Area;
+use order::{Area, Lists};
 use words::Word;
 
 // So many lists at most.
 const LISTS: usize = 1024;
-// Above every number of items: no walk has been made yet.
-const NO_WALK: usize = 4294967296;
 
 // ---- what each list has in common with the one before it
 
 // How many items the lists at places k and k + 1 have in common, from the first on.
-fn shared_items(s: &[u8], area: Area, k: usize) -> usize
-    requires { Holding area s.now × (k + 1 < area.count) }
-    ensures { result ≡ shared (list_of area s.now k) (list_of area s.now (k + 1)) }
+fn shared_items(lists: Lists, k: usize) -> usize
+    requires { k + 1 < lists.area.count }
+    ensures { result ≡ shared (list_of lists.entry.area lists.entry.bytes.now k) (list_of lists.entry.area lists.entry.bytes.now (k + 1)) }
 {
-    let m = order::length_at(s, area, k);
-    let n = order::length_at(s, area, k + 1);
+    let m = lists.length(k);
+    let n = lists.length(k + 1);
     for i in 0..m {
-        if order::item_at(s, area, k, i) as u32 != labels::next_at(s, area, k + 1, n, i) {
+        if lists.item(k, i) as u32 != labels::next_at(lists, k + 1, n, i) {
             return i;
         }
     }
@@ -39,14 +37,12 @@ fn shared_items(s: &[u8], area: Area, k: usize) -> usize
 }
 
 // For each list but the first what it has in common with the one before it, as u32 at its place.
-fn note_shared(s: &[u8], area: Area, notes: &mut [u8])
-    requires { Holding area s.now × (4 * area.count ≤ length notes.old) }
-    ensures { Noted (lists_of area s.now) area.count notes.new }
+fn note_shared(lists: Lists, notes: &mut [u8])
+    requires { 4 * lists.area.count ≤ length notes.old }
+    ensures { Noted (lists_of lists.entry.area lists.entry.bytes.now) lists.entry.area.count notes.new }
 {
-    let lists = area.count;
-    for k in 1..lists {
-        let items = shared_items(s, area, k - 1);
-        u32::put(notes, 4 * k, items as u32);
+    for k in 1..lists.area.count {
+        u32::put(notes, 4 * k, shared_items(lists, k - 1) as u32);
     }
 }
 
@@ -55,23 +51,25 @@ fn note_shared(s: &[u8], area: Area, notes: &mut [u8])
 // Whether some other list is found in the list at place a, none of those before the start being found there [18.2]. The lists ascend: behind one
 // that begins above list a every list begins above it, and none of them is found in it. A list that begins as the one before it does, up to and
 // with the first item of that one that is not found, is not found either.
-fn finds_other(s: &[u8], notes: &[u8], area: Area, a: usize, start: usize) -> bool
-    requires { Holding area s.now × AllAscending (lists_of area s.now) × (a < area.count) × Begun (lists_of area s.now) a start × (4 * area.count ≤ length notes.now) × Noted (lists_of area s.now) area.count notes.now }
-    ensures { result ≡ finds_other compare (lists_of area s.now) a }
+fn finds_other(lists: Lists, notes: &[u8], a: usize, start: usize) -> bool
+    requires { AllAscending (lists_of lists.area lists.bytes.now) × (a < lists.area.count) × Begun (lists_of lists.area lists.bytes.now) a start × (4 * lists.area.count ≤ length notes.now) × Noted (lists_of lists.area lists.bytes.now) lists.area.count notes.now }
+    ensures { result ≡ finds_other compare (lists_of lists.entry.area lists.entry.bytes.now) a }
 {
-    let lists = area.count;
-    let mut found = NO_WALK;
-    for b in start..lists {
-        if found < u32::get(notes, 4 * b) as usize {
+    // how many items of the list before were found, once a walk was made
+    let mut found = None;
+    for b in start..lists.area.count {
+        let alike = u32::get(notes, 4 * b) as usize;
+        if found.is_some_and(|items| items < alike) {
             continue;
         }
-        if labels::starts_above(s, area, b, a) {
+        if labels::starts_above(lists, b, a) {
             return false;
         }
-        found = labels::items_found(s, area, a, b);
-        if found == order::length_at(s, area, b) && a != b {
+        let items = labels::items_found(lists, a, b);
+        if items == lists.length(b) && a != b {
             return true;
         }
+        found = Some(items);
     }
     false
 }
@@ -83,12 +81,12 @@ fn filter_noted(ws: &mut [u8], notes: &[u8], area: Area, at: usize) -> usize
     ensures many { result ≡ length (filter_irc compare (lists_of area ws.old)) }
     ensures numbers { ws.new ≡ sets ws.old at (run 4 (filter_irc compare (lists_of area ws.old))) }
 {
-    let lists = area.count;
     let mut many = 0;
     let mut start = 0;
-    for a in 0..lists {
-        start = labels::search_start(ws, area, a, start);
-        if !finds_other(ws, notes, area, a, start) {
+    for a in 0..area.count {
+        let lists = Lists { bytes: ws, area };
+        start = labels::search_start(lists, a, start);
+        if !finds_other(lists, notes, a, start) {
             u32::put(ws, at + 4 * many, a as u32);
             many += 1;
         }
@@ -103,6 +101,6 @@ pub fn filter_irc(ws: &mut [u8], area: Area, at: usize) -> usize
     ensures numbers { ws.new ≡ sets ws.old at (run 4 (filter_irc compare (lists_of area ws.old))) }
 {
     let mut notes = [0; 4 * LISTS];
-    note_shared(ws, area, &mut notes);
+    note_shared(Lists { bytes: ws, area }, &mut notes);
     filter_noted(ws, &notes, area, at)
 }

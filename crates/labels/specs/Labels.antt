@@ -1,7 +1,7 @@
 -- A table of labels in bytes: for each list a u32 number, 0 for none, else b in its lower half and c in its upper half. As b < c, no pair has the number 0.
 -- Leans on Numbers and Words. Assumes nothing.
 use Rattle.std.specs.Prelude.{◌≡◌, refl, Bool, false, cond, eqb, length, drop}
-use Rattle.std.proofs.Common.{sym, ap, ◌∙◌, arith, ne_eqb}
+use Rattle.std.proofs.Common.{sym, ap, ◌∙◌, subst, ⊎_elim, arith, eq-eqb, ne_eqb}
 use mathlib.Core.List.{List, [], ◌∷◌, ◌++◌, map, flat_map}
 use Rattle.std.specs.Prelude.{Option, Some, None}
 use Prim.Native.Nat.{ℕ, suc, ◌+◌, ◌*◌, ◌/◌, ◌%◌, ◌^◌, ◌≤◌, ◌<◌, compare}
@@ -12,6 +12,7 @@ use Rattle.definitions.specs.Lists.{Pair, compare_nats}
 use Rattle.definitions.specs.Figures.{walk, first_above, label_from, labels_of}
 use Rattle.laws.specs.Lists.{Mem, here, there, of_map}
 use Rattle.laws.specs.Orders.{nats}
+use Rattle.laws.specs.Segments.{le_or_lt}
 use Rattle.laws.specs.Walks.{labelled}
 use Rattle.words.specs.Words.{bytes_of, words}
 use Rattle.words.specs.Runs.{run, words_sets}
@@ -41,6 +42,32 @@ label_bytes = flat_map (λ (o : Option Pair). bytes_of 4 (label_code o))
 -- the table of n labels from a place on
 unfoldable pub labels_in : ℕ → ℕ → List ℕ → List (Option Pair)
 labels_in at n s = map label_of (words 4 (drop at s) n)
+
+-- ---- what a number says
+
+pub label_none : (n : ℕ) → n < 65536 → label_of n ≡ None
+unfolding label_of
+label_none n h = rw (eq-eqb (n / 65536) 0 (omega arith)) refl
+
+pub label_some : (n : ℕ) → 65536 ≤ n → label_of n ≡ Some (n % 65536, n / 65536)
+unfolding label_of
+label_some n h = rw (ne_eqb (n / 65536) 0 (λ e. let z : n / 65536 ≡ 0 = e in omega arith)) refl
+
+-- both numbers fit in half a label
+abbrev pub Halves : Option Pair → Type 0
+Halves o = (p : Pair) → o ≡ Some p → (p.0 < 65536) × (p.1 < 65536)
+
+abbrev lower : Option Pair → ℕ
+lower o = elim o [ None ↦ 0 | Some p ↦ p.0 ]
+
+abbrev upper : Option Pair → ℕ
+upper o = elim o [ None ↦ 0 | Some p ↦ p.1 ]
+
+pub halves : (n : ℕ) → n < 4294967296 → Halves (label_of n)
+halves n h p e =
+    let low : lower (label_of n) < 65536 = ⊎_elim (λ k. rw (label_some n k) (omega arith)) (λ k. rw (label_none n k) (omega arith)) (le_or_lt 65536 n) in
+    let high : upper (label_of n) < 65536 = ⊎_elim (λ k. rw (label_some n k) (omega arith)) (λ k. rw (label_none n k) (omega arith)) (le_or_lt 65536 n) in
+    (subst (λ (o : Option Pair). lower o < 65536) e low, subst (λ (o : Option Pair). upper o < 65536) e high)
 
 -- ---- what is written is read
 

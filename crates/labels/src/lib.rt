@@ -4,57 +4,56 @@
 
 ghost use Rattle.std.specs.Prelude.{◌≡◌, length, get_or, drop};
 ghost use Prim.Native.Nat.{◌+◌, ◌*◌, ◌≤◌, ◌<◌, compare};
-ghost use Rattle.pool.specs.Pool.{count};
 ghost use Rattle.std.proofs.lemmas.List.Edits.{sets};
 ghost use Rattle.order.specs.Areas.{lists_of, list_of, Holding};
 ghost use Rattle.definitions.specs.Figures.{first_above, labels_of};
 ghost use Rattle.order.specs.Numbers.{AllAscending};
-ghost use Rattle.labels.specs.Labels.{leaves, search_from, label_bytes};
+ghost use Rattle.labels.specs.Labels.{label_of, leaves, search_from, label_bytes};
 ghost use Rattle.labels.specs.Walked.{items_found};
 
-use order::Area;
+use order::{Area, Lists};
 use words::Word;
 
 // The item at place i of the list at place k, which has n items; behind its last item a number above every item.
-pub fn next_at(s: &[u8], area: Area, k: usize, n: usize, i: usize) -> u32
-    requires { Holding area s.now × (k < area.count) × (n ≡ length (list_of area s.now k)) }
-    ensures { result ≡ get_or (list_of area s.now k) i 65536 }
+pub fn next_at(lists: Lists, k: usize, n: usize, i: usize) -> u32
+    requires { (k < lists.area.count) × (n ≡ length (list_of lists.area lists.bytes.now k)) }
+    ensures { result ≡ get_or (list_of lists.entry.area lists.entry.bytes.now k) i 65536 }
 {
     if n <= i {
         return 65536;
     }
-    order::item_at(s, area, k, i) as u32
+    lists.item(k, i) as u32
 }
 
 // ---- the walk
 
 // Whether the first item of the list at place b is above that of the list at place a.
-pub fn starts_above(s: &[u8], area: Area, b: usize, a: usize) -> bool
-    requires { Holding area s.now × (b < area.count) × (a < area.count) }
-    ensures { result ≡ first_above compare (list_of area s.now b) (list_of area s.now a) }
+pub fn starts_above(lists: Lists, b: usize, a: usize) -> bool
+    requires { (b < lists.area.count) × (a < lists.area.count) }
+    ensures { result ≡ first_above compare (list_of lists.entry.area lists.entry.bytes.now b) (list_of lists.entry.area lists.entry.bytes.now a) }
 {
-    if order::length_at(s, area, b) == 0 {
+    if lists.length(b) == 0 {
         return false;
     }
-    if order::length_at(s, area, a) == 0 {
+    if lists.length(a) == 0 {
         return false;
     }
-    order::item_at(s, area, a, 0) < order::item_at(s, area, b, 0)
+    lists.item(a, 0) < lists.item(b, 0)
 }
 
 // How many items of list b the walk through list a finds, one after another: all of them where it comes to the end of b [8.7]. `label_irc` has this walk inside its labelled loops, by the
 // same laws. No `for`: the place in list a rises each turn, but the walk ends with list b.
-pub fn items_found(s: &[u8], area: Area, a: usize, b: usize) -> usize
-    requires { Holding area s.now × (a < area.count) × (b < area.count) }
-    ensures { result ≡ items_found (list_of area s.now a) (list_of area s.now b) }
+pub fn items_found(lists: Lists, a: usize, b: usize) -> usize
+    requires { (a < lists.area.count) × (b < lists.area.count) }
+    ensures { result ≡ items_found (list_of lists.entry.area lists.entry.bytes.now a) (list_of lists.entry.area lists.entry.bytes.now b) }
 {
-    let m = order::length_at(s, area, a);
-    let n = order::length_at(s, area, b);
+    let m = lists.length(a);
+    let n = lists.length(b);
     let mut i = 0;
     let mut j = 0;
     while j < n {
-        let item = next_at(s, area, a, m, i);
-        let sought = order::item_at(s, area, b, j) as u32;
+        let item = next_at(lists, a, m, i);
+        let sought = lists.item(b, j) as u32;
         if sought < item {
             return j;
         }
@@ -66,41 +65,53 @@ pub fn items_found(s: &[u8], area: Area, a: usize, b: usize) -> usize
     j
 }
 
+// ---- labels
+
+// The two lists whose union is the list with a label, or none: a label of four bytes holds the first in its lower half, the second in its upper one, and 0 where there are none.
+pub fn components(label: u32) -> Option<(u32, u32)>
+    ensures { result ≡ label_of label }
+{
+    if label < 65536 {
+        return None;
+    }
+    Some((label % 65536, label / 65536))
+}
+
 // ---- label_irc
 
 // The place of the first list from place `from` on that does not begin below list a.
-pub fn search_start(s: &[u8], area: Area, a: usize, from: usize) -> usize
-    requires { Holding area s.now × (a < area.count) × (from ≤ area.count) }
-    ensures { result ≡ search_from (list_of area s.now a) (drop from (lists_of area s.now)) from }
+pub fn search_start(lists: Lists, a: usize, from: usize) -> usize
+    requires { (a < lists.area.count) × (from ≤ lists.area.count) }
+    ensures { result ≡ search_from (list_of lists.entry.area lists.entry.bytes.now a) (drop from (lists_of lists.entry.area lists.entry.bytes.now)) from }
 {
-    for b in from..area.count {
-        if !starts_above(s, area, a, b) {
+    for b in from..lists.area.count {
+        if !starts_above(lists, a, b) {
             return b;
         }
     }
-    area.count
+    lists.area.count
 }
 
 // Whether the list at place c is what the walk of list b through list a passes over or leaves.
-fn is_left(s: &[u8], area: Area, a: usize, b: usize, c: usize) -> bool
-    requires { Holding area s.now × (a < area.count) × (b < area.count) × (c < area.count) }
-    ensures { result ≡ leaves (list_of area s.now a) (list_of area s.now b) (list_of area s.now c) }
+fn is_left(lists: Lists, a: usize, b: usize, c: usize) -> bool
+    requires { (a < lists.area.count) × (b < lists.area.count) × (c < lists.area.count) }
+    ensures { result ≡ leaves (list_of lists.entry.area lists.entry.bytes.now a) (list_of lists.entry.area lists.entry.bytes.now b) (list_of lists.entry.area lists.entry.bytes.now c) }
 {
-    let m = order::length_at(s, area, a);
-    let n = order::length_at(s, area, b);
-    let l = order::length_at(s, area, c);
+    let m = lists.length(a);
+    let n = lists.length(b);
+    let l = lists.length(c);
     if n + l != m {
         return false;
     }
     let mut j = 0;
     for i in 0..m {
-        let x = order::item_at(s, area, a, i) as u32;
-        let y = next_at(s, area, b, n, j);
+        let x = lists.item(a, i) as u32;
+        let y = next_at(lists, b, n, j);
         if y < x {
             return false;
         }
         if x < y {
-            if next_at(s, area, c, l, i - j) != x {
+            if next_at(lists, c, l, i - j) != x {
                 return false;
             }
         } else {
@@ -118,25 +129,25 @@ pub fn label_irc(ws: &mut [u8], area: Area, at: usize)
     requires { Holding area ws.old × AllAscending (lists_of area ws.old) × (area.count ≤ 65536) × (area.bytes + 2 * area.count ≤ at) × (at + 4 * area.count ≤ length ws.old) }
     ensures { ws.new ≡ sets ws.old at (label_bytes (labels_of compare (lists_of area ws.old))) }
 {
-    let lists = area.count;
     let mut start = 0;
-    'a: for a in 0..lists {
+    'a: for a in 0..area.count {
         u32::put(ws, at + 4 * a, 0);
-        let m = order::length_at(ws, area, a);
-        start = search_start(ws, area, a, start);
-        'subset: for b in start..lists {
-            if starts_above(ws, area, b, a) {
+        let lists = Lists { bytes: ws, area };
+        let m = lists.length(a);
+        start = search_start(lists, a, start);
+        'subset: for b in start..area.count {
+            if starts_above(lists, b, a) {
                 break;
             }
-            let n = order::length_at(ws, area, b);
+            let n = lists.length(b);
             if m <= n {
                 continue;
             }
             let mut i = 0;
             let mut j = 0;
             while j < n {
-                let x = next_at(ws, area, a, m, i);
-                let y = order::item_at(ws, area, b, j) as u32;
+                let x = next_at(lists, a, m, i);
+                let y = lists.item(b, j) as u32;
                 if y < x {
                     continue 'subset;
                 }
@@ -145,8 +156,8 @@ pub fn label_irc(ws: &mut [u8], area: Area, at: usize)
                 }
                 i += 1;
             }
-            for c in b + 1..lists {
-                if is_left(ws, area, a, b, c) {
+            for c in b + 1..area.count {
+                if is_left(lists, a, b, c) {
                     u32::put(ws, at + 4 * a, b as u32 + 65536 * c as u32);
                     continue 'a;
                 }

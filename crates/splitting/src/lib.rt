@@ -5,11 +5,12 @@
 ghost use Rattle.std.specs.Prelude.{◌≡◌, ◌+◌, ◌*◌, ◌≤◌, ◌<◌, length, get_or, take};
 ghost use mathlib.Core.List.{[], ◌∷◌, ◌++◌, map, flat_map};
 ghost use Rattle.std.specs.Prelude.{None};
-ghost use Rattle.pool.specs.Pool.{count, base, closed_lists, emptied, ended};
+ghost use Rattle.pool.specs.Pool.{count, base, closed_lists, emptied, ended, Sound};
 ghost use Rattle.order.specs.Areas.{list_at};
-ghost use Rattle.labels.specs.Labels.{label_of, labels_in};
+ghost use Rattle.labels.specs.Labels.{labels_in, Halves};
 ghost use Rattle.splitting.specs.Splitting.{split_nats, push_all, fill_all, PoolRoom, PoolGrown, SplittingRoom, facet_labels, pool_of, rest_of, parts_in};
 
+use order::Pool;
 use words::Word;
 
 // ---- splitting
@@ -25,15 +26,29 @@ pub struct Layout {
     pub steps: usize,
 }
 
-// The number that stands for facet a's components: 0 for none, and for a facet that the table does not have.
-fn components(s: &[u8], facets: usize, a: usize) -> u32
+impl Layout {
+    // The lists that are split.
+    fn lists<'a>(self, ws: &'a [u8]) -> Pool<'a>
+        requires { (self.from ≤ self.to) × (self.to ≤ length ws.now) × Sound 2 self.most (pool_of self ws.now) }
+        ensures { (result.bytes.now ≡ pool_of self ws.entry.now) × (result.most ≡ self.most) }
+    {
+        Pool {
+            bytes: &ws[self.from..self.to],
+            most: self.most,
+        }
+    }
+}
+
+// Facet a's components, or none; none too for a facet that the table does not have.
+fn components(s: &[u8], facets: usize, a: usize) -> Option<(u32, u32)>
     requires { 4 * facets ≤ length s.now }
-    ensures { label_of result ≡ get_or (labels_in 0 facets s.now) a None }
+    ensures found { result ≡ get_or (labels_in 0 facets s.now) a None }
+    ensures small { Halves result }
 {
     if facets <= a {
-        return 0;
+        return None;
     }
-    u32::get(s, 4 * a)
+    labels::components(u32::get(s, 4 * a))
 }
 
 // The parts of one facet join the open list. Its queue holds the facet, and two more for each step. No `for`: the queue grows while it is gone through.
@@ -50,17 +65,19 @@ fn split_facet(ws: &mut [u8], layout: Layout, facet: u16)
     while head < tail {
         let a = queue[head];
         head += 1;
-        let mut parts = 0;
-        if 0 < left {
+        let parts = if 0 < left {
             left -= 1;
-            parts = components(ws, layout.facets, a as usize);
-        }
-        if parts < 65536 {
-            pool::push(&mut ws[layout.to..], layout.most, a);
+            components(ws, layout.facets, usize::from(a))
         } else {
-            queue[tail] = (parts % 65536) as u16;
-            queue[tail + 1] = (parts / 65536) as u16;
-            tail += 2;
+            None
+        };
+        match parts {
+            None => pool::push(&mut ws[layout.to..], layout.most, a),
+            Some((first, second)) => {
+                queue[tail] = first as u16;
+                queue[tail + 1] = second as u16;
+                tail += 2;
+            }
         }
     }
 }
@@ -71,9 +88,9 @@ fn split_list(ws: &mut [u8], layout: Layout, k: usize)
     ensures ws_after { ws.new ≡ take layout.to ws.old ++ ended (push_all layout.most (rest_of layout ws.old) (parts_in layout ws.old (list_at layout.most (pool_of layout ws.old) k))) }
     ensures pool_grown { PoolGrown layout.most (rest_of layout ws.old) (rest_of layout ws.new) (length (parts_in layout ws.old (list_at layout.most (pool_of layout ws.old) k))) 1 }
 {
-    let n = order::length_of(&ws[layout.from..layout.to], layout.most, k);
+    let n = layout.lists(ws).length(k);
     for i in 0..n {
-        let facet = order::item_of(&ws[layout.from..layout.to], layout.most, k, i);
+        let facet = layout.lists(ws).item(k, i);
         split_facet(ws, layout, facet);
     }
     pool::end_list(&mut ws[layout.to..]);
@@ -84,10 +101,8 @@ pub fn split_lists(ws: &mut [u8], layout: Layout)
     requires { SplittingRoom layout ws.old × (base layout.most + 2 * length (flat_map (parts_in layout ws.old) (closed_lists 2 layout.most (pool_of layout ws.old))) ≤ length (rest_of layout ws.old)) × (length (flat_map (parts_in layout ws.old) (closed_lists 2 layout.most (pool_of layout ws.old))) < 4294967296) }
     ensures { ws.new ≡ take layout.to ws.old ++ fill_all layout.most (emptied (rest_of layout ws.old)) (map (parts_in layout ws.old) (closed_lists 2 layout.most (pool_of layout ws.old))) }
 {
-    let from = layout.from;
-    let to = layout.to;
-    let lists = pool::lists(&ws[from..to]) as usize;
-    pool::clear(&mut ws[to..]);
+    let lists = pool::lists(&ws[layout.from..layout.to]) as usize;
+    pool::clear(&mut ws[layout.to..]);
     for k in 0..lists {
         split_list(ws, layout, k);
     }

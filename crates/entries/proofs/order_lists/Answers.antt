@@ -11,14 +11,14 @@ use Rattle.entries.proofs.order_lists.Goals as goal
 whole : (bytes : ℕ) → bytes - 0 ≡ bytes
 whole bytes = omega arith
 
-pub lists-lists-requires : goal.lists-lists-requires
-lists-lists-requires c = rw (whole c.args.bytes) (omega (arith, c.requires.sound.fits))
+pub lists-count-requires : goal.lists-count-requires
+lists-count-requires c = rw (whole c.args.bytes) (omega (arith, c.requires.sound.fits))
 
 pub label_irc-requires : goal.label_irc-requires
 unfolding in_order
-label_irc-requires c = label_asked c.args.bytes c.args.s.now c.requires _ _ c.sort_lists.ensures (c.lists-lists.ensures ∙ ap (λ (b : ℕ). count (take b c.args.s.now)) (whole c.args.bytes))
+label_irc-requires c = label_asked c.args.bytes c.args.s.now c.requires _ _ c.sort_lists.ensures (c.lists-count.ensures ∙ ap (λ (b : ℕ). count (take b c.args.s.now)) (whole c.args.bytes))
 
 pub returns : goal.returns
 unfolding in_order
-returns c = let n = c.lists-lists.ensures ∙ ap (λ (b : ℕ). count (take b c.args.s.now)) (whole c.args.bytes) in
+returns c = let n = c.lists-count.ensures ∙ ap (λ (b : ℕ). count (take b c.args.s.now)) (whole c.args.bytes) in
     (n, label_left c.args.bytes c.args.s.now c.requires _ _ _ c.sort_lists.ensures n c.label_irc.ensures)

@@ -1,26 +1,17 @@
 -- `entries::split_entries` meets its contract: the pool is moved, the part from the table of components on is lent to splitting, and the split lists are put in order. Assumes nothing.
-use mathlib.Core.Path.{◌≡◌, refl, ◌∙◌}
-use mathlib.Core.List.{List}
-use Prim.Native.Nat.{ℕ, ◌+◌, ◌-◌}
-use native.Mathlib.Omega.{arith}
-use lib.ListN.{drop}
-use lib.Seq.{paste}
-use Rattle.std.specs.List.{copy_within}
+use mathlib.Core.Path.{◌∙◌}
+use Rattle.laws.specs.Merging.{moved}
 use Rattle.entries.specs.Split.{split_asked, sort_asked, split_left}
 use Rattle.entries.proofs.split_entries.Goals as goal
-
--- what is moved is as long as its range
-moved : (s : List ℕ) (from n to : ℕ) → copy_within s from (from + n) to ≡ paste s to (drop from s) n
-moved s from n to = let e : from + n - from ≡ n = omega arith in rw e refl
 
 pub split_lists-requires : goal.split_lists-requires
 split_lists-requires c = split_asked c.args.shelf c.args.from c.args.bytes c.args.ws.now c.requires c.copy_within.new.self (c.copy_within.ensures.after ∙ moved _ c.args.from c.args.bytes _)
 
 pub sort_entries-sorted-requires : goal.sort_entries-sorted-requires
 sort_entries-sorted-requires c = let m = c.copy_within in let p = c.split_lists in
-    sort_asked c.args.shelf c.args.from c.args.bytes c.args.ws.now c.requires m.new.self (m.ensures.after ∙ moved _ c.args.from c.args.bytes _) p.new.ws c.ws-2-1.given.0 p.ensures
+    sort_asked c.args.shelf c.args.from c.args.bytes c.args.ws.now c.requires m.new.self (m.ensures.after ∙ moved _ c.args.from c.args.bytes _) p.new.ws p.auto.ws p.ensures
 
 pub returns : goal.returns
 returns c = let m = c.copy_within in let p = c.split_lists in
     let r = c.sort_entries-sorted in
-    split_left c.args.shelf c.args.from c.args.bytes c.args.ws.now c.requires m.new.self (m.ensures.after ∙ moved _ c.args.from c.args.bytes _) p.new.ws c.ws-2-1.given.0 p.ensures r.result r.new.ws r.ensures
+    split_left c.args.shelf c.args.from c.args.bytes c.args.ws.now c.requires m.new.self (m.ensures.after ∙ moved _ c.args.from c.args.bytes _) p.new.ws p.auto.ws p.ensures r.result r.new.ws r.ensures

@@ -13,7 +13,7 @@ pub search_start-start-requires : goal.search_start-start-requires
 search_start-start-requires c =
     let l = c.loop-a in
     let n = lists_length c.args.area.most c.args.area.bytes c.args.area.count c.args.ws.now in
-    (l.invariant.0.holds, c.loop-a-test.true, omega (arith, l.invariant.1.few))
+    (c.loop-a-test.true, omega (arith, l.invariant.1.few))
 
 pub finds_other-requires : goal.finds_other-requires
 finds_other-requires c =

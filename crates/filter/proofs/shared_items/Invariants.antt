@@ -7,4 +7,4 @@ use Rattle.labels.specs.Walked.{shared}
 use Rattle.filter.proofs.shared_items.Given as goal
 
 abbrev pub invariant-loop-i : goal.invariant-loop-i
-invariant-loop-i l = l.i + shared (drop l.i (list_of l.area l.s l.k)) (drop l.i (list_of l.area l.s (l.k + 1))) ≡ shared (list_of l.area l.s l.k) (list_of l.area l.s (l.k + 1))
+invariant-loop-i l = l.i + shared (drop l.i (list_of l.lists.area l.lists.bytes.now l.k)) (drop l.i (list_of l.lists.area l.lists.bytes.now (l.k + 1))) ≡ shared (list_of l.lists.area l.lists.bytes.now l.k) (list_of l.lists.area l.lists.bytes.now (l.k + 1))

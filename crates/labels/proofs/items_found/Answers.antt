@@ -10,21 +10,21 @@ use Rattle.labels.proofs.items_found.Goals.{then-item-sought, else-item-sought}
 
 pub returns-then-sought-item : goal.returns-then-sought-item
 returns-then-sought-item c =
-    let s = c.args.s.now in
-    let x = list_of c.args.area s c.args.a in
-    let y = list_of c.args.area s c.args.b in
+    let s = c.args.lists.bytes.now in
+    let x = list_of c.args.lists.area s c.args.a in
+    let y = list_of c.args.lists.area s c.args.b in
     let l = c.loop-j in
-    let g = c.item_at-sought in
+    let g = c.item-sought in
     let inside : l.j < length y = omega arith in
     items_above x y l.i l.j l.invariant.2 g.result inside (g.ensures ∙ read_inside y l.j 0 65536 inside) (omega arith) (omega arith)
 
 pub loop-j-preserved : goal.loop-j-preserved
 loop-j-preserved c =
-    let s = c.args.s.now in
-    let x = list_of c.args.area s c.args.a in
-    let y = list_of c.args.area s c.args.b in
+    let s = c.args.lists.bytes.now in
+    let x = list_of c.args.lists.area s c.args.a in
+    let y = list_of c.args.lists.area s c.args.b in
     let l = c.loop-j in
-    let g = c.item_at-sought in
+    let g = c.item-sought in
     let inside : l.j < length y = omega arith in
     let is_y = g.ensures ∙ read_inside y l.j 0 65536 inside in
     let before : l.i < length x = before_end x l.i (omega arith) in
@@ -35,6 +35,6 @@ loop-j-preserved c =
 
 pub returns : goal.returns
 returns c =
-    let s = c.args.s.now in
+    let s = c.args.lists.bytes.now in
     let l = c.loop-j in
-    items_end (list_of c.args.area s c.args.a) (list_of c.args.area s c.args.b) l.i l.j l.invariant.2 (omega arith)
+    items_end (list_of c.args.lists.area s c.args.a) (list_of c.args.lists.area s c.args.b) l.i l.j l.invariant.2 (omega arith)

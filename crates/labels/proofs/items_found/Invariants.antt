@@ -7,7 +7,7 @@ use Rattle.labels.specs.Walked.{items_found}
 use Rattle.labels.proofs.items_found.Given as goal
 
 abbrev pub invariant-loop-j : goal.invariant-loop-j
-invariant-loop-j l = (l.i ≤ l.m) × (l.j ≤ l.n) × (l.j + items_found (drop l.i (list_of l.area l.s l.a)) (drop l.j (list_of l.area l.s l.b)) ≡ items_found (list_of l.area l.s l.a) (list_of l.area l.s l.b))
+invariant-loop-j l = (l.i ≤ l.m) × (l.j ≤ l.n) × (l.j + items_found (drop l.i (list_of l.lists.area l.lists.bytes.now l.a)) (drop l.j (list_of l.lists.area l.lists.bytes.now l.b)) ≡ items_found (list_of l.lists.area l.lists.bytes.now l.a) (list_of l.lists.area l.lists.bytes.now l.b))
 
 abbrev pub decreases-loop-j : goal.decreases-loop-j
 decreases-loop-j l = l.m - l.i

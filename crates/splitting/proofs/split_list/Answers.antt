@@ -7,39 +7,50 @@ use Rattle.splitting.proofs.Lists.{splits1_start, pool_same, splits1_room, split
 use Rattle.laws.specs.Clauses.{of_two}
 use Rattle.splitting.proofs.split_list.Goals as goal
 
+pub length-n-requires : goal.length-n-requires
+length-n-requires c = rw c.lists.ensures.0 c.requires.1
+
 pub loop-i-init : goal.loop-i-init
 loop-i-init c = splits1_start c.args.layout c.args.k c.args.ws.now c.requires.0 c.requires.2
 
-pub item_of-facet-requires : goal.item_of-facet-requires
-item_of-facet-requires c = let l = c.loop-i in
+pub lists-requires-in-loop-i : goal.lists-requires-in-loop-i
+lists-requires-in-loop-i c = let l = c.loop-i in
     let e = pool_same c.args.layout c.args.k c.args.ws.now c.requires.0 c.requires.2 l.ws l.i l.invariant in
-    rw e (c.requires.0.sound, c.requires.1, omega arith)
+    (c.requires.0.order, omega (arith, l.invariant.long, c.requires.0.inside), rw e c.requires.0.sound)
+
+pub item-facet-requires : goal.item-facet-requires
+item-facet-requires c = let l = c.loop-i in
+    let e = pool_same c.args.layout c.args.k c.args.ws.now c.requires.0 c.requires.2 l.ws l.i l.invariant in
+    let n = rw (c.lists.ensures.0, c.lists.ensures.1) at c.length-n.ensures in
+    rw (c.lists-in-loop-i.ensures.0, c.lists-in-loop-i.ensures.1, e) (c.requires.1, omega (arith, n, c.loop-i-test.true))
 
 pub split_facet-requires : goal.split_facet-requires
 split_facet-requires c = let l = c.loop-i in
     let e = pool_same c.args.layout c.args.k c.args.ws.now c.requires.0 c.requires.2 l.ws l.i l.invariant in
-    let g = c.item_of-facet in
-    let v = rw e at g.ensures in
-    (omega (arith, c.requires.0.table, c.requires.0.order), omega (arith, l.invariant.long, c.requires.0.inside), c.requires.0.short, splits1_room c.args.layout c.args.k c.args.ws.now c.requires.0 c.requires.2 l.ws l.i l.invariant (omega arith) g.result v)
+    let n = rw (c.lists.ensures.0, c.lists.ensures.1) at c.length-n.ensures in
+    let v = rw (c.lists-in-loop-i.ensures.0, c.lists-in-loop-i.ensures.1, e) at c.item-facet.ensures in
+    (omega (arith, c.requires.0.table, c.requires.0.order), omega (arith, l.invariant.long, c.requires.0.inside), c.requires.0.short, splits1_room c.args.layout c.args.k c.args.ws.now c.requires.0 c.requires.2 l.ws l.i l.invariant (omega (arith, n)) _ v)
 
 pub loop-i-preserved : goal.loop-i-preserved
 loop-i-preserved c = let l = c.loop-i in
     let e = pool_same c.args.layout c.args.k c.args.ws.now c.requires.0 c.requires.2 l.ws l.i l.invariant in
-    let g = c.item_of-facet in
-    let v = rw e at g.ensures in
-    splits1_more c.args.layout c.args.k c.args.ws.now c.requires.0 c.requires.2 l.ws l.i l.invariant (omega arith) g.result v _ c.split_facet.ensures.ws_after c.split_facet.ensures.pool_grown
+    let n = rw (c.lists.ensures.0, c.lists.ensures.1) at c.length-n.ensures in
+    let v = rw (c.lists-in-loop-i.ensures.0, c.lists-in-loop-i.ensures.1, e) at c.item-facet.ensures in
+    splits1_more c.args.layout c.args.k c.args.ws.now c.requires.0 c.requires.2 l.ws l.i l.invariant (omega (arith, n)) _ v _ c.split_facet.ensures.ws_after c.split_facet.ensures.pool_grown
 
 pub end_list-requires : goal.end_list-requires
 end_list-requires c = let l = c.loop-i in
-    rw (lent_tail c.args.layout.to l.ws) (splits1_free c.args.layout c.args.k c.args.ws.now c.requires.0 c.requires.2 l.ws l.i l.invariant (omega arith) c.requires.3)
+    let n = rw (c.lists.ensures.0, c.lists.ensures.1) at c.length-n.ensures in
+    rw (lent_tail c.args.layout.to l.ws) (splits1_free c.args.layout c.args.k c.args.ws.now c.requires.0 c.requires.2 l.ws l.i l.invariant (omega (arith, n)) c.requires.3)
 
 pub returns : goal.returns
 returns c = of_two (λ x0 x1. record { ws_after = x0; pool_grown = x1 })
     (let l = c.loop-i in let g = c.end_list in
     let to = c.args.layout.to in
+    let q = rw (c.lists.ensures.0, c.lists.ensures.1) at c.length-n.ensures in
     let h : to ≤ length l.ws = omega (arith, l.invariant.long, c.requires.0.inside) in
     let e = rw (lent_tail to l.ws) at g.ensures in
-    let n = ap length e ∙ splits1_long c.args.layout c.args.k c.args.ws.now c.requires.0 c.requires.2 l.ws l.i l.invariant (omega arith) c.requires.3 in (
-      back_whole to l.ws g.new.s h n ∙ rw (l.invariant.front, e ∙ splits1_end c.args.layout c.args.k c.args.ws.now c.requires.0 c.requires.2 l.ws l.i l.invariant (omega arith) c.requires.3) refl,
-      splits1_grown c.args.layout c.args.k c.args.ws.now c.requires.0 c.requires.2 l.ws l.i l.invariant (omega arith) c.requires.3 _ (back_tail to l.ws g.new.s h n ∙ e),
+    let n = ap length e ∙ splits1_long c.args.layout c.args.k c.args.ws.now c.requires.0 c.requires.2 l.ws l.i l.invariant (omega (arith, q)) c.requires.3 in (
+      back_whole to l.ws g.new.s h n ∙ rw (l.invariant.front, e ∙ splits1_end c.args.layout c.args.k c.args.ws.now c.requires.0 c.requires.2 l.ws l.i l.invariant (omega (arith, q)) c.requires.3) refl,
+      splits1_grown c.args.layout c.args.k c.args.ws.now c.requires.0 c.requires.2 l.ws l.i l.invariant (omega (arith, q)) c.requires.3 _ (back_tail to l.ws g.new.s h n ∙ e),
     ))

@@ -1,5 +1,4 @@
--- `splitting::split_list` meets its contract. The loop's invariant: the parts of the first i facets are pushed. The measure is what is left of the list. Assumes nothing.
-use Prim.Native.Nat.{◌-◌}
+-- `splitting::split_list` meets its contract. The loop's invariant: the parts of the first i facets are pushed. Assumes nothing.
 use Rattle.splitting.proofs.Lists.{Splits1}
 use Rattle.splitting.proofs.split_list.Given as goal
 

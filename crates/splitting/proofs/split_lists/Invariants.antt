@@ -1,6 +1,5 @@
--- `splitting::split_lists` meets its contract. The loop's invariant: the first k lists are split. The measure is what is left of them. Assumes nothing.
+-- `splitting::split_lists` meets its contract. The loop's invariant: the first k lists are split. Assumes nothing.
 use mathlib.Core.Path.{◌≡◌}
-use Prim.Native.Nat.{◌-◌}
 use Rattle.pool.specs.Pool.{count}
 use Rattle.splitting.specs.Splitting.{pool_of}
 use Rattle.splitting.proofs.Lists.{SplitsAll}
