@@ -33,6 +33,7 @@ pub fn room(alloc: Global) -> Result<Vec<u8>, AllocError>
 }
 
 // Reads until the buffer is full or the input has ended, and says how many bytes it put at the buffer's front.
+// No `for`: each step is as long as what one reading gave.
 pub fn read_full<R: Read>(input: &mut R, buffer: &mut [u8]) -> io::Result<usize>
     ensures { ReadsAtMost result buffer.new }
 {

@@ -56,7 +56,7 @@ orbit_small t a s kind i h k =
     let o = h.holds.orbits in
     omega arith
 
-used_at : (a : Areas) (s : List ℕ) (orbit : ℕ) → orbit < a.lists - a.used → get_or s (a.used + orbit) 0 ≡ get_or (used_part a s) orbit 0
+pub used_at : (a : Areas) (s : List ℕ) (orbit : ℕ) → orbit < a.lists - a.used → get_or s (a.used + orbit) 0 ≡ get_or (used_part a s) orbit 0
 used_at a s orbit h = sym (get_or-take (a.lists - a.used) (drop a.used s) orbit 0 h ∙ get_or-drop a.used s orbit 0)
 
 flag_free : (b : Bool) → flag b ≡ 0 → T (not b)
@@ -69,6 +69,14 @@ unfolding flag
 flag_taken true n = tt
 flag_taken false n = n refl
 
+pub is_unused : (a : Areas) (list : List Facet) (us : List ℕ) (f : Facet) → Uses a list us → f.0 < a.orbits → get_or us f.0 0 ≡ 0 → T (unused list f)
+unfolding unused
+is_unused a list us f u h e = flag_free (uses_orbit f.0 list) (sym (u f.0 h) ∙ e)
+
+pub is_used : (a : Areas) (list : List Facet) (us : List ℕ) (f : Facet) → Uses a list us → f.0 < a.orbits → (get_or us f.0 0 ≡ 0 → ⊥) → T (not (unused list f))
+unfolding unused
+is_used a list us f u h n = flag_taken (uses_orbit f.0 list) (λ e. n (u f.0 h ∙ e))
+
 -- the flag of a candidate's orbit
 module _ (t : Table) (a : Areas) (s : List ℕ) (kind : Option ℕ) (i orbit : ℕ) (h : Inputs t a s) (k : i < length (numbers t kind)) (e : orbit ≡ (get_or (candidates t kind) i (0, 0)).0) where
   small : orbit < a.orbits
@@ -80,13 +88,13 @@ module _ (t : Table) (a : Areas) (s : List ℕ) (kind : Option ℕ) (i orbit : �
   is_flag : (list : List Facet) → Uses a list (used_part a s) → get_or s (a.used + orbit) 0 ≡ flag (uses_orbit (get_or (candidates t kind) i (0, 0)).0 list)
   is_flag list u = used_at a s orbit (let o = small in let f = h.fits in omega arith) ∙ (u orbit small ∙ ap (λ (o : ℕ). flag (uses_orbit o list)) e)
 
-  pub is_unused : (list : List Facet) → Uses a list (used_part a s) → get_or s (a.used + orbit) 0 ≡ 0 → T (unused list (get_or (candidates t kind) i (0, 0)))
+  pub candidate_unused : (list : List Facet) → Uses a list (used_part a s) → get_or s (a.used + orbit) 0 ≡ 0 → T (unused list (get_or (candidates t kind) i (0, 0)))
   unfolding unused
-  is_unused list u z = flag_free (uses_orbit (get_or (candidates t kind) i (0, 0)).0 list) (sym (is_flag list u) ∙ z)
+  candidate_unused list u z = flag_free (uses_orbit (get_or (candidates t kind) i (0, 0)).0 list) (sym (is_flag list u) ∙ z)
 
-  pub is_used : (list : List Facet) → Uses a list (used_part a s) → (get_or s (a.used + orbit) 0 ≡ 0 → ⊥) → T (not (unused list (get_or (candidates t kind) i (0, 0))))
+  pub candidate_used : (list : List Facet) → Uses a list (used_part a s) → (get_or s (a.used + orbit) 0 ≡ 0 → ⊥) → T (not (unused list (get_or (candidates t kind) i (0, 0))))
   unfolding unused
-  is_used list u n = flag_taken (uses_orbit (get_or (candidates t kind) i (0, 0)).0 list) (λ z. n (is_flag list u ∙ z))
+  candidate_used list u n = flag_taken (uses_orbit (get_or (candidates t kind) i (0, 0)).0 list) (λ z. n (is_flag list u ∙ z))
 
 -- ---- the last unused place
 
@@ -107,8 +115,20 @@ last_free t list ridge low zero = None
 last_free t list ridge low (suc i) =
     cond (ltb i low) None (cond (unused list (get_or (candidates t ridge) i (0, 0))) (Some i) (last_free t list ridge low i))
 
+pub latest_none : (t : Table) (list : List Facet) (ridge : Option ℕ) (low place : ℕ) → Latest t list ridge low place None → waiting t list ridge low place ≡ []
+unfolding Latest
+latest_none t list ridge low place l = l
+
+pub latest_found : (t : Table) (list : List Facet) (ridge : Option ℕ) (low place i : ℕ) → Latest t list ridge low place (Some i)
+    → waiting t list ridge low place ≡ waiting t list ridge low i ++ (get_or (candidates t ridge) i (0, 0) ∷ [])
+unfolding Latest
+latest_found t list ridge low place i l = l.last
+
+pub not_below_holds : (low i : ℕ) → i ≤ low → ltb low i ≡ false
+not_below_holds low i h = fails→false (ltb low i) (not_T (ltb low i) (λ z. let k = ltb→lt low i z in omega arith))
+
 not_below : (i low : ℕ) → low ≤ i → ltb i low ≡ false
-not_below i low h = fails→false (ltb i low) (not_T (ltb i low) (λ z. let k = ltb→lt i low z in omega arith))
+not_below i low h = not_below_holds i low h
 
 module _ (t : Table) (list : List Facet) (ridge : Option ℕ) (low : ℕ) where
   pub free_stop : (i : ℕ) → i ≤ low → last_free t list ridge low i ≡ None

@@ -3,66 +3,81 @@
 
 #![tactic(auto)]
 
+ghost use Rattle.std.proofs.Props.{props};
 ghost use Rattle.std.specs.Prelude.{◌≡◌, List, ◌≤◌, ◌<◌, length, get_or};
-ghost use Rattle.definitions.specs.Search.{Table, Facet};
-ghost use Rattle.facets.specs.Layout.{Inputs, KindIn, Uses, numbers, used_part};
-ghost use Rattle.facets.specs.Frames.{candidates as candidatesOf, low_of};
-ghost use Rattle.candidates.specs.Latest.{last_free};
+ghost use Rattle.definitions.specs.Search.{Table};
+ghost use Rattle.facets.specs.Layout.{Inputs, KindIn};
 
 use facets::Areas;
 use words::Word;
 
-// How many candidates there are: all facets, or the shares of 1 in a ridge orbit.
-pub fn candidates(ws: &[u8], a: Areas, kind: Option<usize>) -> usize
-    requires { (t : Table) × Inputs t a ws.now × KindIn a kind }
-    ensures { (t : Table) → Inputs t a ws.now → result ≡ length (numbers t kind) }
-{
-    match kind {
-        None => a.facets,
-        Some(ridge) => pool::list_length(a.ones(ws), ridge) as usize,
-    }
+// The candidates in a workspace: all facets, or the shares of 1 in a ridge orbit, which is one of the call's.
+#[derive(Clone, Copy)]
+pub struct Candidates<'a> {
+    pub ws: &'a [u8],
+    pub areas: Areas,
+    pub kind: Option<usize>,
+    pub ghost kind_in: { KindIn areas kind } by { Prim.hlevel props },
 }
 
-// The facet at a place among them.
-pub fn candidate(ws: &[u8], a: Areas, kind: Option<usize>, i: usize) -> usize
-    requires { (t : Table) × Inputs t a ws.now × KindIn a kind × (i < length (numbers t kind)) }
-    ensures { (t : Table) → Inputs t a ws.now → result ≡ get_or (numbers t kind) i 0 }
-{
-    match kind {
-        None => i,
-        Some(ridge) => pool::item::<u16>(a.ones(ws), a.ridges, ridge, i) as usize,
-    }
-}
+impl<'a> Candidates<'a> {
+    ghost use Rattle.definitions.specs.Search.{Facet};
+    ghost use Rattle.facets.specs.Layout.{Uses, numbers, used_part};
+    ghost use Rattle.facets.specs.Frames.{candidates as candidatesOf, low_of};
+    ghost use Rattle.candidates.specs.Latest.{last_free};
 
-// The orbit of the facet at a place.
-fn orbit_at(ws: &[u8], a: Areas, kind: Option<usize>, i: usize) -> usize
-    requires { (t : Table) × Inputs t a ws.now × KindIn a kind × (i < length (numbers t kind)) }
-    ensures { (t : Table) → Inputs t a ws.now → result ≡ (get_or (candidatesOf t kind) i (0, 0)).0 }
-{
-    let x = candidate(ws, a, kind, i);
-    u16::get(ws, 2 * x) as usize
-}
-
-// The first place whose facet has an orbit above the mark. Candidates ascend by orbit.
-pub fn binary(ws: &[u8], a: Areas, kind: Option<usize>, mark: usize) -> usize
-    requires { (t : Table) × Inputs t a ws.now × KindIn a kind }
-    ensures { (t : Table) → Inputs t a ws.now → result ≡ low_of t mark kind }
-{
-    halving::first_not(
-        candidates(ws, a, kind),
-        |i| orbit_at(ws, a, kind, i) <= mark,
-    )
-}
-
-// The last place from `low` to below `place` whose facet has an orbit that is not in use, if any.
-pub fn latest(ws: &[u8], a: Areas, kind: Option<usize>, low: usize, place: usize) -> Option<usize>
-    requires { (t : Table) × Inputs t a ws.now × KindIn a kind × (place ≤ length (numbers t kind)) × (list : List Facet) × Uses a list (used_part a ws.now) }
-    ensures { (t : Table) (list : List Facet) → Inputs t a ws.now → Uses a list (used_part a ws.now) → result ≡ last_free t list kind low place }
-{
-    for i in (low..place).rev() {
-        if ws[a.used + orbit_at(ws, a, kind, i)] == 0 {
-            return Some(i);
+    // How many there are.
+    pub fn count(self) -> usize
+        requires { (t : Table) × Inputs t self.areas self.ws.now }
+        ensures { (t : Table) → Inputs t self.entry.areas self.entry.ws.now → result ≡ length (numbers t self.entry.kind) }
+    {
+        match self.kind {
+            None => self.areas.facets,
+            Some(ridge) => pool::list_length(self.areas.ones(self.ws), ridge) as usize,
         }
     }
-    None
+
+    // The facet at a place among them.
+    pub fn facet(self, i: usize) -> usize
+        requires { (t : Table) × Inputs t self.areas self.ws.now × (i < length (numbers t self.kind)) }
+        ensures { (t : Table) → Inputs t self.entry.areas self.entry.ws.now → result ≡ get_or (numbers t self.entry.kind) i 0 }
+    {
+        match self.kind {
+            None => i,
+            Some(ridge) => {
+                let ones = self.areas.ones(self.ws);
+                pool::item::<u16>(ones, self.areas.ridges, ridge, i) as usize
+            }
+        }
+    }
+
+    // The orbit of the facet at a place.
+    fn orbit(self, i: usize) -> usize
+        requires { (t : Table) × Inputs t self.areas self.ws.now × (i < length (numbers t self.kind)) }
+        ensures { (t : Table) → Inputs t self.entry.areas self.entry.ws.now → result ≡ (get_or (candidatesOf t self.entry.kind) i (0, 0)).0 }
+    {
+        let x = self.facet(i);
+        u16::get(self.ws, 2 * x) as usize
+    }
+
+    // The first place whose facet has an orbit above the mark. Candidates ascend by orbit.
+    pub fn binary(self, mark: usize) -> usize
+        requires { (t : Table) × Inputs t self.areas self.ws.now }
+        ensures { (t : Table) → Inputs t self.entry.areas self.entry.ws.now → result ≡ low_of t mark self.entry.kind }
+    {
+        halving::first_not(self.count(), |i| self.orbit(i) <= mark)
+    }
+
+    // The last place from `low` to below `place` whose facet has an orbit that is not in use, if any.
+    pub fn latest(self, low: usize, place: usize) -> Option<usize>
+        requires { (t : Table) × Inputs t self.areas self.ws.now × (place ≤ length (numbers t self.kind)) × (list : List Facet) × Uses self.areas list (used_part self.areas self.ws.now) }
+        ensures { (t : Table) (list : List Facet) → Inputs t self.entry.areas self.entry.ws.now → Uses self.entry.areas list (used_part self.entry.areas self.entry.ws.now) → result ≡ last_free t list self.entry.kind low place }
+    {
+        for i in (low..place).rev() {
+            if self.ws[self.areas.used + self.orbit(i)] == 0 {
+                return Some(i);
+            }
+        }
+        None
+    }
 }

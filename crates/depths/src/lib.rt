@@ -9,6 +9,7 @@ ghost use Rattle.facets.specs.Layout.{KindIn, frames_part};
 ghost use Rattle.frames.specs.Paths.{list_to, mark_after, PathStands};
 ghost use Rattle.frames.specs.Steps.{Entered, Withdrawn, Light};
 
+use candidates::Candidates;
 use facets::Areas;
 use words::Word;
 
@@ -40,8 +41,9 @@ pub fn enter(ws: &mut [u8], a: Areas, depth: usize, kind: Option<usize>)
     ensures { (t : Table) → PathStands t a ws.old depth depth → Entered t a ws.old ws.new depth kind }
 {
     let mark = mark_after(ws, a, depth);
-    let low = candidates::binary(ws, a, kind, usize::from(mark));
-    let place = candidates::candidates(ws, a, kind);
+    let candidates = Candidates { ws, areas: a, kind };
+    let low = candidates.binary(usize::from(mark));
+    let place = candidates.count();
     frames::put_frame(
         &mut ws[a.frames..a.totals],
         depth,

@@ -3,11 +3,12 @@ use Rattle.std.specs.Prelude.{◌≡◌, Bool, true, false, cond, not, List, [],
 use Rattle.std.specs.List.{position_or_len}
 use Rattle.std.proofs.lemmas.Bool.Decides.{nat_tests}
 use Rattle.std.proofs.Math.Path.{refl}
-use Rattle.std.proofs.Common.{sym, arith, T_not, nltb→le, ltb→lt}
+use Rattle.std.proofs.Common.{sym, ⊎_elim, arith, T_not, nltb→le, ltb→lt, eqb→eq}
 use Rattle.std.proofs.Math.Dec.{not_T}
 use Rattle.definitions.specs.Lists.{any_of, place_of}
 use Rattle.definitions.specs.Search.{Verdict, over, closed, open_at, judge}
 use Rattle.laws.specs.Bools.{true→holds, false→fails, fails→false}
+use Rattle.laws.specs.Segments.{le_or_lt}
 use Rattle.laws.specs.Lists.{any_of_holds, any_witness, member_at, at_member}
 
 -- ---- the scan for the lowest total of 1
@@ -15,6 +16,16 @@ use Rattle.laws.specs.Lists.{any_of_holds, any_witness, member_at, at_member}
 pub judge_over : (l : List ℕ) → true ≡ any_of (ltb 2) l → over ≡ judge l
 unfolding judge
 judge_over l e = rw (sym e) refl
+
+-- none before a place
+abbrev pub NoneOpen : List ℕ → ℕ → Type 0
+NoneOpen l i = (j : ℕ) → j < i → T (not (eqb 1 (get_or l j 0)))
+
+pub none_next : (l : List ℕ) (i : ℕ) → NoneOpen l i → (get_or l i 0 ≡ 1 → ⊥) → NoneOpen l (i + 1)
+none_next l i before n j h =
+    ⊎_elim (λ k. before j k)
+    (λ k. let e : j ≡ i = omega arith in rw e (not_T (eqb 1 (get_or l i 0)) (λ z. n (sym (eqb→eq 1 (get_or l i 0) z)))))
+    (le_or_lt (suc j) i)
 
 same_one : (x : ℕ) → eqb 1 x ≡ (x == 1)
 same_one x = grind (arith, nat_tests)

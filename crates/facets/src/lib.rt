@@ -9,7 +9,7 @@ ghost use Rattle.definitions.specs.Lists.{any_of};
 ghost use Rattle.definitions.specs.Search.{judge};
 ghost use Rattle.facets.specs.Layout.{AreasFit, verdict, touched_part, ones_part, frames_part};
 
-// The verdict on a list, the open case with its ridge orbit.
+// The verdict on a list, the open case with its ridge orbit: three cases, which neither an Option nor a Result has.
 #[derive(Clone, Copy)]
 pub enum Verdict {
     Over,
@@ -34,6 +34,8 @@ pub struct Areas {
 }
 
 // The areas that are read. An area that is written is a range of the workspace where it is written: for a slice cut out of a `&mut` slice no clause is proved that says what the whole ends as.
+// What writes takes the workspace and the areas side by side, here and in the crates of the search: of a struct that held both and is lent to be written, each contract would have to say
+// besides that the areas and the loan are as they were.
 impl Areas {
     // What each facet adds, one list for each facet.
     pub fn touched(self, ws: &[u8]) -> &[u8]

@@ -66,9 +66,23 @@ pub record NextAt (t : Table) (fr : Frame) (place : ℕ) : Type 0 where
   pub free : T (unused fr.list (candidate_of t fr place))
   pub found : waiting t fr.list fr.ridge fr.low fr.place ≡ waiting t fr.list fr.ridge fr.low place ++ (candidate_of t fr place ∷ [])
 
+-- the next candidate, or that none is left
+pub record Next (t : Table) (fr : Frame) (r : Option ℕ) : Type 0 where
+  pub none : r ≡ None → waiting t fr.list fr.ridge fr.low fr.place ≡ []
+  pub at : (place : ℕ) → r ≡ Some place → NextAt t fr place
+
 -- the place of the next candidate, if any is left
 unfoldable pub next_place : Table → Frame → Option ℕ
 next_place t fr = last_free t fr.list fr.ridge fr.low fr.place
+
+-- it is the last free place of the frame, where there is one
+pub next_found : (t : Table) (fr : Frame) (place : ℕ) → Some place ≡ last_free t fr.list fr.ridge fr.low fr.place → Some place ≡ next_place t fr
+unfolding next_place
+next_found t fr place e = e
+
+pub next_none : (t : Table) (fr : Frame) → None ≡ last_free t fr.list fr.ridge fr.low fr.place → None ≡ next_place t fr
+unfolding next_place
+next_none t fr e = e
 
 -- a next candidate is there
 pub record CandidateDue (t : Table) (a : Areas) (s : List ℕ) (d place : ℕ) : Type 0 where
@@ -164,13 +178,16 @@ module _ (t : Table) (a : Areas) (s : List ℕ) (d : ℕ) (st : PathStands t a s
       let q = st.frames.places (d - 1) (omega arith) in
       latest_is t (list_to t p (d - 1)) (kind_at p (d - 1)) (low_at p (d - 1)) (place_at p (d - 1)) (omega arith)
 
-  pub next_none : (r : Option ℕ) → r ≡ next_place t (frame_at t (frames_part a s) (d - 1)) → r ≡ None → waiting t deepest.list deepest.ridge deepest.low deepest.place ≡ []
+  pub none_due : (r : Option ℕ) → r ≡ next_place t (frame_at t (frames_part a s) (d - 1)) → r ≡ None → waiting t deepest.list deepest.ridge deepest.low deepest.place ≡ []
   unfolding Latest
-  next_none r e f = rw (sym e ∙ f) at latest
+  none_due r e f = rw (sym e ∙ f) at latest
 
-  pub next_found : (r : Option ℕ) (place : ℕ) → r ≡ next_place t (frame_at t (frames_part a s) (d - 1)) → r ≡ Some place → NextAt t (frame_at t (frames_part a s) (d - 1)) place
+  pub next_due : (r : Option ℕ) (place : ℕ) → r ≡ next_place t (frame_at t (frames_part a s) (d - 1)) → r ≡ Some place → NextAt t (frame_at t (frames_part a s) (d - 1)) place
   unfolding Latest candidate_of
-  next_found r place e f = let w : LatestAt t deepest.list deepest.ridge deepest.low deepest.place place = rw (sym e ∙ f) at latest in record { inside = w.below; free = w.free; found = w.last }
+  next_due r place e f = let w : LatestAt t deepest.list deepest.ridge deepest.low deepest.place place = rw (sym e ∙ f) at latest in record { inside = w.below; free = w.free; found = w.last }
+
+  pub next_holds : (r : Option ℕ) → r ≡ next_place t (frame_at t (frames_part a s) (d - 1)) → Next t (frame_at t (frames_part a s) (d - 1)) r
+  next_holds r e = record { none = none_due r e; at = λ place f. next_due r place e f }
 
 -- ---- a place taken
 

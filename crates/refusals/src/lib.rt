@@ -7,7 +7,7 @@ ghost use Rattle.refusals.specs.Refused.{number_of};
 
 use std::fmt;
 
-// In the order of the numbers. A variant is named after what is refused.
+// In the order of the numbers. A variant is named after what is refused. `number` and not the place among the variants: the page counts with gaps.
 #[derive(Clone, Copy, Debug, PartialEq, Eq)]
 pub enum Refusal {
     // [11.1]

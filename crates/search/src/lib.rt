@@ -30,7 +30,7 @@ pub struct Listed {
     pub left: u32,
 }
 
-// What follows an examined list: the search goes on with so many frames, or the limit is reached.
+// What follows an examined list: the search goes on with so many frames, or the limit is reached. No Option: to stop here is an answer, and the two cases are read by name.
 #[derive(Clone, Copy)]
 pub enum Step {
     On(usize),
@@ -52,11 +52,8 @@ fn close(ws: &mut [u8], a: Areas, course: Course, depth: usize) -> Result<Step, 
     requires { (t : Table) × Judged t a ws.old depth closed }
     ensures { (t : Table) → Judged t a ws.old depth closed → Followed t a course ws.old ws.new depth result }
 {
-    let bound = a.bound;
-    let lists = a.lists;
-    let end = a.end;
-    let emitted = pool::lists(&ws[lists..end]);
-    if bound <= emitted as usize {
+    let emitted = pool::lists(&ws[a.lists..a.end]);
+    if a.bound <= emitted as usize {
         return Err(Refusal::Bound);
     }
     emission::emit(ws, a, depth);
@@ -76,17 +73,16 @@ fn follow(ws: &mut [u8], a: Areas, course: Course, s: State) -> Result<Step, Ref
     requires { (t : Table) × Judged t a ws.old s.depth (verdict s.verdict) }
     ensures { (t : Table) → Judged t a ws.old s.depth (verdict s.verdict) → Followed t a course ws.old ws.new s.depth result }
 {
-    let depth = s.depth;
     match s.verdict {
         Verdict::Over => {
-            depths::withdraw(ws, a, depth);
-            Ok(Step::On(depth))
+            depths::withdraw(ws, a, s.depth);
+            Ok(Step::On(s.depth))
         }
         Verdict::Open(ridge) => {
-            depths::enter(ws, a, depth, Some(usize::from(ridge)));
-            Ok(Step::On(depth + 1))
+            depths::enter(ws, a, s.depth, Some(usize::from(ridge)));
+            Ok(Step::On(s.depth + 1))
         }
-        Verdict::Closed => close(ws, a, course, depth),
+        Verdict::Closed => close(ws, a, course, s.depth),
     }
 }
 
@@ -120,7 +116,7 @@ fn found(ws: &[u8], a: Areas, left: u32) -> Listed
     }
 }
 
-// The search [7.8]: the lists emitted, in order, and what is left of the budget.
+// The search [7.8]: the lists emitted, in order, and what is left of the budget. No `for`: the number of frames goes up and down.
 pub fn search(ws: &mut [u8], a: Areas, course: Course, budget: u32) -> Result<Listed, Refusal>
     requires { (t : Table) × Inputs t a ws.old }
     ensures found { (t : Table) → Inputs t a ws.old → search_outcome t a result ws.new ≡ searchOf t (entry_limits_of a course) budget }

@@ -8,6 +8,7 @@ ghost use Rattle.facets.specs.Layout.{verdict, frames_part};
 ghost use Rattle.frames.specs.Paths.{frame_at, PathStands};
 ghost use Rattle.frames.specs.Steps.{next_place, Visited, CandidateDue};
 
+use candidates::Candidates;
 use facets::{Areas, Verdict};
 
 // Where the search stands: the verdict on the list that was examined last, how many frames there are, and how many lists may still be examined.
@@ -25,10 +26,12 @@ pub fn next(ws: &[u8], a: Areas, depth: usize) -> Option<usize>
 {
     let k = depth - 1;
     let frames = a.frames(ws);
-    let kind = frames::kind(frames, k);
-    let low = frames::low(frames, k);
-    let place = frames::place(frames, k);
-    candidates::latest(ws, a, kind, low, place)
+    let candidates = Candidates {
+        ws,
+        areas: a,
+        kind: frames::kind(frames, k),
+    };
+    candidates.latest(frames::low(frames, k), frames::place(frames, k))
 }
 
 // The next candidate is taken, and the list that it makes is judged.
@@ -37,8 +40,12 @@ pub fn visit(ws: &mut [u8], a: Areas, s: State, place: usize) -> State
     ensures { (result.depth ≡ s.depth) × (result.left ≡ s.left - 1) × ((t : Table) → CandidateDue t a ws.old s.depth place → Visited t a ws.old ws.new s.depth place result.verdict) }
 {
     let k = s.depth - 1;
-    let kind = frames::kind(a.frames(ws), k);
-    let x = candidates::candidate(ws, a, kind, place);
+    let candidates = Candidates {
+        ws,
+        areas: a,
+        kind: frames::kind(a.frames(ws), k),
+    };
+    let x = candidates.facet(place);
     frames::take_place(&mut ws[a.frames..a.totals], k, place as u32, x as u16);
     let over = totals::join(ws, a, x);
     let verdict = facets::judge_totals(&ws[a.totals..a.used], over);

@@ -20,9 +20,9 @@ within : NotOver closed
 unfolding NotOver
 within = tt
 
-pub returns-then-bound-emitted : goal.returns-then-bound-emitted
+pub returns-then-a-emitted : goal.returns-then-a-emitted
 unfolding Followed
-returns-then-bound-emitted c = λ t j. let e = c.lists-emitted.ensures in follow_full t c.args.a c.args.course c.args.ws.now c.args.depth j (omega arith)
+returns-then-a-emitted c = λ t j. let e = c.lists-emitted.ensures in follow_full t c.args.a c.args.course c.args.ws.now c.args.depth j (omega arith)
 
 pub emit-requires : goal.emit-requires
 emit-requires c = let j = c.requires.1 in let e = c.lists-emitted.ensures in (c.requires.0, j.stands, j.emitted, omega arith)
@@ -31,7 +31,7 @@ pub returns-then-reached : goal.returns-then-reached
 unfolding Followed
 returns-then-reached c =
     λ t j. let e = c.lists-emitted.ensures in
-    let h : count (lists_part c.args.a c.args.ws.now) < c.args.a.bound = rw e at c.if-bound-emitted.false in
+    let h : count (lists_part c.args.a c.args.ws.now) < c.args.a.bound = rw e at c.if-a-emitted.false in
     let r : limit_reached c.args.course.limit (count (lists_part c.args.a c.args.ws.now) + 1) ≡ true = rw e at (sym c.reached.ensures ∙ c.if-reached.true) in
     rw c.emit.ensures
     (follow_stop t c.args.a c.args.course c.args.ws.now c.args.depth j h _ (emit_stands t c.args.a c.args.ws.now c.args.depth j.stands j.emitted h) (emit_frames t c.args.a c.args.ws.now c.args.depth j.stands j.emitted h) (emit_lists t c.args.a c.args.ws.now c.args.depth j.stands j.emitted h) (emit_tables t c.args.a c.args.ws.now c.args.depth j.stands j.emitted h) (emit_emitted t c.args.a c.args.ws.now c.args.depth j.stands j.emitted h) r)
@@ -40,7 +40,7 @@ returns-then-reached c =
 pub enter-requires : goal.enter-requires
 enter-requires c =
     let j = c.requires.1 in let e = c.lists-emitted.ensures in
-    let h : count (lists_part c.args.a c.args.ws.now) < c.args.a.bound = rw e at c.if-bound-emitted.false in
+    let h : count (lists_part c.args.a c.args.ws.now) < c.args.a.bound = rw e at c.if-a-emitted.false in
     let light = judged_light c.requires.0 c.args.a c.args.ws.now c.args.depth closed j within in
     rw c.emit.ensures (
       c.requires.0,
@@ -58,7 +58,7 @@ pub returns-then-course : goal.returns-then-course
 unfolding Followed
 returns-then-course c =
     λ t j. let e = c.lists-emitted.ensures in
-    let h : count (lists_part c.args.a c.args.ws.now) < c.args.a.bound = rw e at c.if-bound-emitted.false in
+    let h : count (lists_part c.args.a c.args.ws.now) < c.args.a.bound = rw e at c.if-a-emitted.false in
     let r : limit_reached c.args.course.limit (count (lists_part c.args.a c.args.ws.now) + 1) ≡ false = rw e at (sym c.reached.ensures ∙ c.if-reached.false) in
     let st : PathStands t c.args.a c.emit.new.ws c.args.depth c.args.depth = rw c.emit.ensures (emit_stands t c.args.a c.args.ws.now c.args.depth j.stands j.emitted h) in
     let fr : frames_part c.args.a c.emit.new.ws ≡ frames_part c.args.a c.args.ws.now = rw c.emit.ensures (emit_frames t c.args.a c.args.ws.now c.args.depth j.stands j.emitted h) in
@@ -71,14 +71,14 @@ returns-then-course c =
 pub withdraw-requires : goal.withdraw-requires
 withdraw-requires c =
     let j = c.requires.1 in let e = c.lists-emitted.ensures in
-    let h : count (lists_part c.args.a c.args.ws.now) < c.args.a.bound = rw e at c.if-bound-emitted.false in
+    let h : count (lists_part c.args.a c.args.ws.now) < c.args.a.bound = rw e at c.if-a-emitted.false in
     rw c.emit.ensures (c.requires.0, emit_stands c.requires.0 c.args.a c.args.ws.now c.args.depth j.stands j.emitted h, j.deep)
 
 pub returns : goal.returns
 unfolding Followed
 returns c =
     λ t j. let e = c.lists-emitted.ensures in
-    let h : count (lists_part c.args.a c.args.ws.now) < c.args.a.bound = rw e at c.if-bound-emitted.false in
+    let h : count (lists_part c.args.a c.args.ws.now) < c.args.a.bound = rw e at c.if-a-emitted.false in
     let r : limit_reached c.args.course.limit (count (lists_part c.args.a c.args.ws.now) + 1) ≡ false = rw e at (sym c.reached.ensures ∙ c.if-reached.false) in
     let st : PathStands t c.args.a c.emit.new.ws c.args.depth c.args.depth = rw c.emit.ensures (emit_stands t c.args.a c.args.ws.now c.args.depth j.stands j.emitted h) in
     let fr : frames_part c.args.a c.emit.new.ws ≡ frames_part c.args.a c.args.ws.now = rw c.emit.ensures (emit_frames t c.args.a c.args.ws.now c.args.depth j.stands j.emitted h) in

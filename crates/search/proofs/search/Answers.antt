@@ -4,7 +4,7 @@ use Prim.Native.Nat.{ℕ, ◌+◌, ◌-◌, ◌*◌, ◌<◌}
 use Rattle.facets.specs.Layout.{lists_part}
 use Rattle.search.specs.Outcomes.{search_outcome, counted_lists}
 use Rattle.emission.specs.Emission.{emitted_count}
-use Rattle.frames.specs.Steps.{next_none, next_found}
+use Rattle.frames.specs.Steps.{none_due, next_due}
 use Rattle.search.specs.Turns.{Followed, Goes, Stops, Fills, turn_start, turn_depth, turn_back, turn_ready, turn_spent, turn_judged, turn_on, turn_stopped, turn_full, turn_end, budget_falls, inputs_before}
 use Rattle.laws.specs.Clauses.{of_three}
 use Rattle.refusals.specs.Refused.{number_of, handed_on}
@@ -35,7 +35,7 @@ loop-s-preserved-in-None c =
     let l = c.loop-s in let go = c.start.ensures c.requires.0 c.requires.1 in let turn = l.invariant.2 c.requires.0 go.stands.inputs in (
       c.back-s.auto.ws ∙ l.invariant.0,
       (c.back-s.ensures.2 c.requires.0 turn.stands).tables ∙ l.invariant.1,
-      λ t h. let u = l.invariant.2 t h in let n = next_none t c.args.a l.ws l.s.depth u.stands c.loop-s-test.true c.next.result (c.next.ensures t u.stands) c.in-None.is in
+      λ t h. let u = l.invariant.2 t h in let n = none_due t c.args.a l.ws l.s.depth u.stands c.loop-s-test.true c.next.result (c.next.ensures t u.stands) c.in-None.is in
           rw (c.back-s.ensures.0, c.back-s.ensures.1) (turn_back t c.args.a c.args.course c.args.budget l.ws l.s.depth l.s.left u c.loop-s-test.true c.back-s.new.ws n (c.back-s.ensures.2 t u.stands)),
     )
 
@@ -47,7 +47,7 @@ pub returns-then-s-eq0 : goal.returns-then-s-eq0
 unfolding search_outcome counted_lists
 returns-then-s-eq0 c = of_three (λ x0 x1 x2. record { found = x0; many = x1; kept = x2 })
     (let l = c.loop-s in let go = c.start.ensures c.requires.0 c.requires.1 in let turn = l.invariant.2 c.requires.0 go.stands.inputs in (
-      (λ t h. let back = c.start.ensures t h in let u = l.invariant.2 t back.stands.inputs in let n = next_found t c.args.a l.ws l.s.depth u.stands c.loop-s-test.true c.next.result c.in-Some.place (c.next.ensures t u.stands) c.in-Some.is in
+      (λ t h. let back = c.start.ensures t h in let u = l.invariant.2 t back.stands.inputs in let n = next_due t c.args.a l.ws l.s.depth u.stands c.loop-s-test.true c.next.result c.in-Some.place (c.next.ensures t u.stands) c.in-Some.is in
           turn_spent t c.args.a c.args.course c.args.budget l.ws l.s.depth l.s.left u c.loop-s-test.true c.in-Some.place n c.if-s-eq0.true),
       (λ t. tt),
       l.invariant.1 ∙ go.tables,
@@ -55,11 +55,11 @@ returns-then-s-eq0 c = of_three (λ x0 x1 x2. record { found = x0; many = x1; ke
 
 pub visit-s-requires : goal.visit-s-requires
 visit-s-requires c =
-    let l = c.loop-s in let go = c.start.ensures c.requires.0 c.requires.1 in let turn = l.invariant.2 c.requires.0 go.stands.inputs in let n = next_found c.requires.0 c.args.a l.ws l.s.depth turn.stands c.loop-s-test.true c.next.result c.in-Some.place (c.next.ensures c.requires.0 turn.stands) c.in-Some.is in (c.requires.0, turn_ready c.requires.0 c.args.a c.args.course c.args.budget l.ws l.s.depth l.s.left turn c.loop-s-test.true c.in-Some.place n, omega (arith, c.if-s-eq0.false))
+    let l = c.loop-s in let go = c.start.ensures c.requires.0 c.requires.1 in let turn = l.invariant.2 c.requires.0 go.stands.inputs in let n = next_due c.requires.0 c.args.a l.ws l.s.depth turn.stands c.loop-s-test.true c.next.result c.in-Some.place (c.next.ensures c.requires.0 turn.stands) c.in-Some.is in (c.requires.0, turn_ready c.requires.0 c.args.a c.args.course c.args.budget l.ws l.s.depth l.s.left turn c.loop-s-test.true c.in-Some.place n, omega (arith, c.if-s-eq0.false))
 
 pub follow-requires : goal.follow-requires
 follow-requires c =
-    let l = c.loop-s in let go = c.start.ensures c.requires.0 c.requires.1 in let turn = l.invariant.2 c.requires.0 go.stands.inputs in let n = next_found c.requires.0 c.args.a l.ws l.s.depth turn.stands c.loop-s-test.true c.next.result c.in-Some.place (c.next.ensures c.requires.0 turn.stands) c.in-Some.is in
+    let l = c.loop-s in let go = c.start.ensures c.requires.0 c.requires.1 in let turn = l.invariant.2 c.requires.0 go.stands.inputs in let n = next_due c.requires.0 c.args.a l.ws l.s.depth turn.stands c.loop-s-test.true c.next.result c.in-Some.place (c.next.ensures c.requires.0 turn.stands) c.in-Some.is in
     let d : 0 < l.s.depth = c.loop-s-test.true in
     let p : 0 < l.s.left = omega (arith, c.if-s-eq0.false) in
     let w = c.visit-s.ensures.2 c.requires.0 (turn_ready c.requires.0 c.args.a c.args.course c.args.budget l.ws l.s.depth l.s.left turn d c.in-Some.place n) in
@@ -69,7 +69,7 @@ follow-requires c =
 pub loop-s-smaller : goal.loop-s-smaller
 unfolding Followed
 loop-s-smaller c =
-    let l = c.loop-s in let go = c.start.ensures c.requires.0 c.requires.1 in let turn = l.invariant.2 c.requires.0 go.stands.inputs in let n = next_found c.requires.0 c.args.a l.ws l.s.depth turn.stands c.loop-s-test.true c.next.result c.in-Some.place (c.next.ensures c.requires.0 turn.stands) c.in-Some.is in
+    let l = c.loop-s in let go = c.start.ensures c.requires.0 c.requires.1 in let turn = l.invariant.2 c.requires.0 go.stands.inputs in let n = next_due c.requires.0 c.args.a l.ws l.s.depth turn.stands c.loop-s-test.true c.next.result c.in-Some.place (c.next.ensures c.requires.0 turn.stands) c.in-Some.is in
     let d : 0 < l.s.depth = c.loop-s-test.true in
     let p : 0 < l.s.left = omega (arith, c.if-s-eq0.false) in
     let w = c.visit-s.ensures.2 c.requires.0 (turn_ready c.requires.0 c.args.a c.args.course c.args.budget l.ws l.s.depth l.s.left turn d c.in-Some.place n) in
@@ -81,7 +81,7 @@ loop-s-smaller c =
 pub loop-s-preserved : goal.loop-s-preserved
 unfolding Followed
 loop-s-preserved c =
-    let l = c.loop-s in let go = c.start.ensures c.requires.0 c.requires.1 in let turn = l.invariant.2 c.requires.0 go.stands.inputs in let n = next_found c.requires.0 c.args.a l.ws l.s.depth turn.stands c.loop-s-test.true c.next.result c.in-Some.place (c.next.ensures c.requires.0 turn.stands) c.in-Some.is in
+    let l = c.loop-s in let go = c.start.ensures c.requires.0 c.requires.1 in let turn = l.invariant.2 c.requires.0 go.stands.inputs in let n = next_due c.requires.0 c.args.a l.ws l.s.depth turn.stands c.loop-s-test.true c.next.result c.in-Some.place (c.next.ensures c.requires.0 turn.stands) c.in-Some.is in
     let d : 0 < l.s.depth = c.loop-s-test.true in
     let p : 0 < l.s.left = omega (arith, c.if-s-eq0.false) in
     let w = c.visit-s.ensures.2 c.requires.0 (turn_ready c.requires.0 c.args.a c.args.course c.args.budget l.ws l.s.depth l.s.left turn d c.in-Some.place n) in
@@ -89,7 +89,7 @@ loop-s-preserved c =
     let q : Goes c.requires.0 c.args.a c.args.course c.visit-s.new.ws c.follow.new.ws l.s.depth c.in-On.deep = rw (c.in-On.is, c.visit-s.ensures.0) at g in (
       c.follow.auto.ws ∙ (c.visit-s.auto.ws ∙ l.invariant.0),
       q.tables ∙ (w.tables ∙ l.invariant.1),
-      λ t h. let turn = l.invariant.2 t h in let n = next_found t c.args.a l.ws l.s.depth turn.stands c.loop-s-test.true c.next.result c.in-Some.place (c.next.ensures t turn.stands) c.in-Some.is in
+      λ t h. let turn = l.invariant.2 t h in let n = next_due t c.args.a l.ws l.s.depth turn.stands c.loop-s-test.true c.next.result c.in-Some.place (c.next.ensures t turn.stands) c.in-Some.is in
           let d : 0 < l.s.depth = c.loop-s-test.true in
           let p : 0 < l.s.left = omega (arith, c.if-s-eq0.false) in
           let w = c.visit-s.ensures.2 t (turn_ready t c.args.a c.args.course c.args.budget l.ws l.s.depth l.s.left turn d c.in-Some.place n) in
@@ -101,7 +101,7 @@ loop-s-preserved c =
 pub found-requires : goal.found-requires
 unfolding Followed
 found-requires c =
-    let l = c.loop-s in let go = c.start.ensures c.requires.0 c.requires.1 in let turn = l.invariant.2 c.requires.0 go.stands.inputs in let n = next_found c.requires.0 c.args.a l.ws l.s.depth turn.stands c.loop-s-test.true c.next.result c.in-Some.place (c.next.ensures c.requires.0 turn.stands) c.in-Some.is in
+    let l = c.loop-s in let go = c.start.ensures c.requires.0 c.requires.1 in let turn = l.invariant.2 c.requires.0 go.stands.inputs in let n = next_due c.requires.0 c.args.a l.ws l.s.depth turn.stands c.loop-s-test.true c.next.result c.in-Some.place (c.next.ensures c.requires.0 turn.stands) c.in-Some.is in
     let d : 0 < l.s.depth = c.loop-s-test.true in
     let p : 0 < l.s.left = omega (arith, c.if-s-eq0.false) in
     let w = c.visit-s.ensures.2 c.requires.0 (turn_ready c.requires.0 c.args.a c.args.course c.args.budget l.ws l.s.depth l.s.left turn d c.in-Some.place n) in
@@ -115,13 +115,13 @@ shape_of-ws-in-Stopped c =
 pub returns-in-Stopped : goal.returns-in-Stopped
 unfolding Followed search_outcome counted_lists
 returns-in-Stopped c = of_three (λ x0 x1 x2. record { found = x0; many = x1; kept = x2 })
-    (let l = c.loop-s in let go = c.start.ensures c.requires.0 c.requires.1 in let turn = l.invariant.2 c.requires.0 go.stands.inputs in let n = next_found c.requires.0 c.args.a l.ws l.s.depth turn.stands c.loop-s-test.true c.next.result c.in-Some.place (c.next.ensures c.requires.0 turn.stands) c.in-Some.is in
+    (let l = c.loop-s in let go = c.start.ensures c.requires.0 c.requires.1 in let turn = l.invariant.2 c.requires.0 go.stands.inputs in let n = next_due c.requires.0 c.args.a l.ws l.s.depth turn.stands c.loop-s-test.true c.next.result c.in-Some.place (c.next.ensures c.requires.0 turn.stands) c.in-Some.is in
     let d : 0 < l.s.depth = c.loop-s-test.true in
     let p : 0 < l.s.left = omega (arith, c.if-s-eq0.false) in
     let w = c.visit-s.ensures.2 c.requires.0 (turn_ready c.requires.0 c.args.a c.args.course c.args.budget l.ws l.s.depth l.s.left turn d c.in-Some.place n) in
     let j = turn_judged c.requires.0 c.args.a c.args.course c.args.budget l.ws l.s.depth l.s.left turn d c.in-Some.place n c.visit-s.new.ws c.visit-s.result.verdict w p in let g = c.in_ok-step-in-Some.ensures c.requires.0 (rw c.visit-s.ensures.0 j) in
     let q : Stops c.requires.0 c.args.a c.args.course c.visit-s.new.ws c.follow.new.ws l.s.depth = rw (c.in-Stopped.is, c.visit-s.ensures.0) at g in (
-      (λ t h. let back = c.start.ensures t h in let turn = l.invariant.2 t back.stands.inputs in let n = next_found t c.args.a l.ws l.s.depth turn.stands c.loop-s-test.true c.next.result c.in-Some.place (c.next.ensures t turn.stands) c.in-Some.is in
+      (λ t h. let back = c.start.ensures t h in let turn = l.invariant.2 t back.stands.inputs in let n = next_due t c.args.a l.ws l.s.depth turn.stands c.loop-s-test.true c.next.result c.in-Some.place (c.next.ensures t turn.stands) c.in-Some.is in
           let d : 0 < l.s.depth = c.loop-s-test.true in
           let p : 0 < l.s.left = omega (arith, c.if-s-eq0.false) in
           let w = c.visit-s.ensures.2 t (turn_ready t c.args.a c.args.course c.args.budget l.ws l.s.depth l.s.left turn d c.in-Some.place n) in
@@ -152,13 +152,13 @@ returns c = of_three (λ x0 x1 x2. record { found = x0; many = x1; kept = x2 })
 pub returns-in_err-step-in-Some : goal.returns-in_err-step-in-Some
 unfolding Followed search_outcome counted_lists
 returns-in_err-step-in-Some c = of_three (λ x0 x1 x2. record { found = x0; many = x1; kept = x2 })
-    (rw (handed_on _ _ c.from_residual.ensures.1) (let l = c.loop-s in let go = c.start.ensures c.requires.0 c.requires.1 in let turn = l.invariant.2 c.requires.0 go.stands.inputs in let n = next_found c.requires.0 c.args.a l.ws l.s.depth turn.stands c.loop-s-test.true c.next.result c.in-Some.place (c.next.ensures c.requires.0 turn.stands) c.in-Some.is in
+    (rw (handed_on _ _ c.from_residual.ensures.1) (let l = c.loop-s in let go = c.start.ensures c.requires.0 c.requires.1 in let turn = l.invariant.2 c.requires.0 go.stands.inputs in let n = next_due c.requires.0 c.args.a l.ws l.s.depth turn.stands c.loop-s-test.true c.next.result c.in-Some.place (c.next.ensures c.requires.0 turn.stands) c.in-Some.is in
     let d : 0 < l.s.depth = c.loop-s-test.true in
     let p : 0 < l.s.left = omega (arith, c.if-s-eq0.false) in
     let w = c.visit-s.ensures.2 c.requires.0 (turn_ready c.requires.0 c.args.a c.args.course c.args.budget l.ws l.s.depth l.s.left turn d c.in-Some.place n) in
     let j = turn_judged c.requires.0 c.args.a c.args.course c.args.budget l.ws l.s.depth l.s.left turn d c.in-Some.place n c.visit-s.new.ws c.visit-s.result.verdict w p in let g = c.in_err-step-in-Some.ensures c.requires.0 (rw c.visit-s.ensures.0 j) in
     let q : Fills c.requires.0 c.args.a c.args.course c.visit-s.new.ws c.follow.new.ws l.s.depth (number_of c.in_err-step-in-Some.field-0.0) = rw c.visit-s.ensures.0 at g in (
-      (λ t h. let back = c.start.ensures t h in let turn = l.invariant.2 t back.stands.inputs in let n = next_found t c.args.a l.ws l.s.depth turn.stands c.loop-s-test.true c.next.result c.in-Some.place (c.next.ensures t turn.stands) c.in-Some.is in
+      (λ t h. let back = c.start.ensures t h in let turn = l.invariant.2 t back.stands.inputs in let n = next_due t c.args.a l.ws l.s.depth turn.stands c.loop-s-test.true c.next.result c.in-Some.place (c.next.ensures t turn.stands) c.in-Some.is in
           let d : 0 < l.s.depth = c.loop-s-test.true in
           let p : 0 < l.s.left = omega (arith, c.if-s-eq0.false) in
           let w = c.visit-s.ensures.2 t (turn_ready t c.args.a c.args.course c.args.budget l.ws l.s.depth l.s.left turn d c.in-Some.place n) in
