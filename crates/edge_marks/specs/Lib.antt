@@ -2,3 +2,4 @@
 pub mod Marks
 pub mod MarkTurns
 pub mod Summaries
+pub mod Ends

@@ -5,50 +5,51 @@
 ghost use Rattle.std.specs.Prelude.{◌≡◌, ◌+◌, ◌*◌, ◌-◌, ◌/◌, ◌%◌, ◌≤◌, ◌<◌, false, length};
 ghost use Rattle.pool.specs.Pool.{count, closed_lists};
 ghost use Rattle.definitions.specs.Job.{figure_words};
-ghost use Rattle.order.specs.Areas.{list_at, list_of, Holding};
+ghost use Rattle.order.specs.Areas.{list_at, list_of};
 ghost use Rattle.order.specs.Numbers.{ItemsBelow};
 ghost use Rattle.openers.specs.Marks.{marked};
 ghost use Rattle.openers.specs.Rows.{rows_in};
 ghost use Rattle.shapes.specs.EdgeSets.{polygon};
 ghost use Rattle.shapes.specs.FigureWords.{edge_words};
-ghost use Rattle.figure_words.specs.Wrote.{Wrote};
+ghost use Rattle.words.specs.Wrote.{Writes};
 ghost use Rattle.shapes.specs.UsedPoints.{end_of, ends_used};
 ghost use Rattle.edge_marks.specs.Summaries.{summary_marked};
 ghost use Rattle.edge_marks.specs.Marks.{EdgesFit, image_codes, marks_of, codes_marked, edges_marked};
 
-use order::Area;
+use openers::Rows;
+use order::{Lists, Pool};
+use words::Writer;
 
 // ---- edges as marks
 
+// The edges of facets, a list of codes for each, and the rows that carry them.
+#[derive(Clone, Copy)]
+pub struct Facets<'a> {
+    pub edges: Pool<'a>,
+    pub rows: Rows<'a>,
+    pub ghost most: { edges.most ≡ 1024 },
+    pub ghost fit: { EdgesFit rows.count rows.bytes.now edges.bytes.now },
+}
+
 // All row images of the edges of facet x are marked.
-pub fn mark_facet(edges: &[u8], x: usize, rows: &[u8], m: usize, marks: &mut [bool; 400])
-    requires { (32 * m ≤ length rows.now) × EdgesFit m rows.now edges.now × (x < count edges.now) }
-    ensures { marks.new ≡ marked marks.old (image_codes (rows_in 32 m rows.now) (list_at 1024 edges.now x)) }
+pub fn mark_facet(facets: Facets, x: usize, marks: &mut [bool; 400])
+    requires { x < count facets.edges.bytes.now }
+    ensures { marks.new ≡ marked marks.old (image_codes (rows_in 32 facets.entry.rows.count facets.entry.rows.bytes.now) (list_at 1024 facets.entry.edges.bytes.now x)) }
 {
-    let n = order::length_of(edges, 1024, x);
-    for i in 0..n {
-        let code = order::item_of(edges, 1024, x, i) as usize;
-        openers::mark_pair_images(rows, m, code / 20, code % 20, marks);
+    for i in 0..facets.edges.length(x) {
+        let code = facets.edges.item(x, i) as usize;
+        openers::mark_pair_images(facets.rows, code / 20, code % 20, marks);
     }
 }
 
-// All row images of the edges of the facets of the list at place k of an area.
-pub fn mark_list(
-    lists: &[u8],
-    area: Area,
-    k: usize,
-    edges: &[u8],
-    rows: &[u8],
-    m: usize,
-) -> [bool; 400]
-    requires { (32 * m ≤ length rows.now) × EdgesFit m rows.now edges.now × Holding area lists.now × (k < area.count) × ItemsBelow (count edges.now) (list_of area lists.now k) }
-    ensures { result ≡ marks_of (rows_in 32 m rows.now) (closed_lists 2 1024 edges.now) (list_of area lists.now k) }
+// All row images of the edges of the facets of list k.
+pub fn mark_list(lists: Lists, k: usize, facets: Facets) -> [bool; 400]
+    requires { (k < lists.area.count) × ItemsBelow (count facets.edges.bytes.now) (list_of lists.area lists.bytes.now k) }
+    ensures { result ≡ marks_of (rows_in 32 facets.entry.rows.count facets.entry.rows.bytes.now) (closed_lists 2 1024 facets.entry.edges.bytes.now) (list_of lists.entry.area lists.entry.bytes.now k) }
 {
     let mut marks = [false; 400];
-    let n = order::length_at(lists, area, k);
-    for i in 0..n {
-        let x = order::item_at(lists, area, k, i) as usize;
-        mark_facet(edges, x, rows, m, &mut marks);
+    for i in 0..lists.length(k) {
+        mark_facet(facets, lists.item(k, i) as usize, &mut marks);
     }
     marks
 }
@@ -61,28 +62,26 @@ pub fn count_marks(marks: &[bool; 400]) -> usize
 }
 
 // The marked edges, upward.
-pub fn write_marks(answer: &mut [u8], at: usize, marks: &[bool; 400]) -> usize
-    ensures { Wrote answer.old at answer.new result (edge_words (edges_marked marks.now)) }
+pub fn write_marks(w: &mut Writer, marks: &[bool; 400])
+    ensures { Writes w.old w.new (edge_words (edges_marked marks.now)) }
 {
-    let mut cursor = at;
     for (code, marked) in marks.iter().enumerate() {
         if *marked {
-            cursor = figure_words::write_edge(answer, cursor, code);
+            figure_words::write_edge(w, code);
         }
     }
-    cursor
 }
 
 // The polygon over n points with the marked edges.
-pub fn write_marked(answer: &mut [u8], at: usize, n: usize, marks: &[bool; 400]) -> usize
+pub fn write_marked(w: &mut Writer, n: usize, marks: &[bool; 400])
     requires { n < 4294967296 }
-    ensures { Wrote answer.old at answer.new result (figure_words (polygon n (edges_marked marks.now))) }
+    ensures { Writes w.old w.new (figure_words (polygon n (edges_marked marks.now))) }
 {
     let edges = count_marks(marks);
-    let head = figure_words::write_head(answer, at, 4, n);
-    let many = figure_words::push(answer, head, edges as u32);
-    let body = write_marks(answer, many, marks);
-    figure_words::write_body(answer, body, edges)
+    figure_words::write_head(w, 4, n);
+    w.push(edges as u32);
+    write_marks(w, marks);
+    figure_words::write_body(w, edges);
 }
 
 // ---- summaries
@@ -105,17 +104,10 @@ fn count_ends(marks: &[bool; 400], n: usize) -> usize
 
 // The summary of a figure over n points, with the marked edges, which are so many, and with so many facets, at every
 // rank: the points that are an end of an edge, the edges, the facets.
-pub fn write_summary(
-    answer: &mut [u8],
-    at: usize,
-    marks: &[bool; 400],
-    n: usize,
-    edges: usize,
-    facets: usize,
-) -> usize
+pub fn write_summary(w: &mut Writer, marks: &[bool; 400], n: usize, edges: usize, facets: usize)
     requires { (n ≤ 20) × (edges ≡ length (codes_marked marks.now 400)) × (edges ≤ 400) × (facets < 4294967296) }
-    ensures { Wrote answer.old at answer.new result (summary_marked n marks.now facets) }
+    ensures { Writes w.old w.new (summary_marked n marks.now facets) }
 {
     let points = count_ends(marks, n);
-    figure_words::push_three(answer, at, points as u32, edges as u32, facets as u32)
+    w.push_three(points as u32, edges as u32, facets as u32);
 }

@@ -1,12 +1,12 @@
 -- The turns of the loops over facets, orbits and labels. Leans on Facets and Counts.
-use mathlib.Core.Path.{◌≡◌, refl, sym, ap, ◌∙◌, subst}
+use mathlib.Core.Path.{◌≡◌, refl, sym, ap, ◌∙◌}
 use mathlib.Core.Bool.{Bool, true, false, cond}
 use mathlib.Core.List.{List, [], ◌∷◌, ◌++◌, map, flat_map, append-nil, append_assoc, map-append}
 use mathlib.Core.Logic.{⊎_elim}
 use Rattle.std.specs.Prelude.{Option, Some, None}
 use Rattle.std.specs.Option.{is_some}
 use Rattle.std.specs.Int.{from_bool}
-use Prim.Native.Nat.{ℕ, zero, suc, ◌+◌, ◌*◌, ◌/◌, ◌%◌, ◌≤◌, ◌<◌}
+use Prim.Native.Nat.{ℕ, zero, suc, ◌+◌, ◌*◌, ◌≤◌, ◌<◌}
 use native.Mathlib.Numerals.{add-one}
 use native.Mathlib.Decide.{ℕ_discrete}
 use native.Mathlib.Omega.{arith}
@@ -22,7 +22,7 @@ use Rattle.laws.specs.Segments.{le_or_lt}
 use Rattle.words.specs.Words.{words, words_more, words_length, number_at_drop}
 use Rattle.orbits.specs.Workspace.{orbits_in, orbits_length}
 use Rattle.labels.specs.Labels.{label_of, labels_in}
-use Rattle.possible_facets.specs.Facets.{first_one_of, FirstsFrom, Firsts}
+use Rattle.possible_facets.specs.Facets.{first_one_of, FirstsFrom}
 use Rattle.entry_lists.specs.Counts.{count_words}
 
 -- ---- first facets
@@ -44,14 +44,6 @@ module _ (owners firsts : List ℕ) where
           let f = r.at y later b in
           get_or-set_other firsts (get_or owners x 0) (get_or owners y 0) x 0 ne
           ∙ (f ∙ (rw (drop-cons owners x 0 h, ne_eqb (get_or owners y 0) (get_or owners x 0) ne, add-one x) (omega arith)))
-
-  pub firsts_all : (x : ℕ) → x ≤ 0 → FirstsFrom owners firsts x → Firsts owners firsts
-  firsts_all x h r = record {
-    at = λ y b.
-        let e : x ≡ 0 = omega arith in
-        let f : get_or firsts (get_or owners y 0) 0 ≡ 0 + first_one_of (drop 0 owners) (get_or owners y 0) = subst (λ (k : ℕ). get_or firsts (get_or owners y 0) 0 ≡ k + first_one_of (drop k owners) (get_or owners y 0)) e (r.at y (omega arith) b) in
-        f ∙ (omega arith);
-  }
 
 -- ---- counts
 
@@ -117,14 +109,6 @@ unfolding flat_map
 words_none at s = ap (flat_map compound_words) (sym (compounds_none at s))
 
 -- ---- a label
-
-pub label_none : (n : ℕ) → n < 65536 → None ≡ label_of n
-unfolding label_of
-label_none n h = rw (eq-eqb (n / 65536) 0 (omega arith)) refl
-
-pub label_some : (n : ℕ) → 65536 ≤ n → Some (n % 65536, n / 65536) ≡ label_of n
-unfolding label_of
-label_some n h = rw (ne_eqb (n / 65536) 0 (λ e. let z : n / 65536 ≡ 0 = e in omega arith)) refl
 
 pub compound_some : (o : Option Pair) → from_bool (is_some o) ≡ length (compound_at 0 o)
 unfolding compound_at

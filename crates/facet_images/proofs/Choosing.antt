@@ -3,19 +3,19 @@ use mathlib.Core.Path.{◌≡◌, refl, sym, ap, ◌∙◌}
 use mathlib.Core.Bool.{Bool, true, false, cond, ◌&&◌}
 use mathlib.Core.List.{List, [], ◌∷◌, ◌++◌, map, flat_map, append-nil, append_assoc, map-append}
 use mathlib.Core.Logic.{⊎_elim}
-use Prim.Native.Nat.{ℕ, suc, ◌+◌, ◌*◌, ◌%◌, ◌≤◌, ◌<◌}
+use Prim.Native.Nat.{ℕ, suc, ◌+◌, ◌%◌, ◌≤◌, ◌<◌}
 use native.Mathlib.Numerals.{add-one}
 use native.Mathlib.Omega.{arith}
 use lib.Dec.{leb}
 use lib.ListN.{length, get_or, take, drop, set, replicate, length-set, drop_of_length-le}
-use lib.Seq.{drop-cons, get_or-drop, get_or-set_same, get_or-set_other}
+use lib.Seq.{drop-cons, get_or-set_same, get_or-set_other}
 use Rattle.definitions.specs.Lists.{keep, count_from}
 use Rattle.laws.specs.Parts.{take_more}
 use Rattle.laws.specs.Segments.{le_or_lt}
 use Rattle.openers.specs.Marks.{marked, marked_more}
-use Rattle.openers.specs.Rows.{ImagesBelow}
-use Rattle.figure_words.specs.Wrote.{Wrote, wrote_none, wrote_then, wrote_as}
-use Rattle.edge_marks.specs.Marks.{codes_marked, EdgesFit}
+use Rattle.words.specs.Wrote.{Writes, writes_none, writes_then, writes_as}
+use Rattle.words.specs.declared.Writer.{Writer}
+use Rattle.edge_marks.specs.Marks.{codes_marked}
 use Rattle.facet_images.specs.Images.{NumbersOf, facet_words, is_wanted, is_chosen, next_choice, chosen_from}
 use Rattle.facet_images.specs.declared.Choice.{Choice}
 use Rattle.facet_images.specs.declared.Choice.TheVariants.{Left, Chosen, Repeated}
@@ -61,23 +61,6 @@ marks_turn n list marks i h e = rw e (sym (ap (marked (replicate n false)) (take
 pub marks_start : (n : ℕ) (list : List ℕ) → replicate n false ≡ marked (replicate n false) (take 0 list)
 unfolding marked
 marks_start n list = refl
-
--- ---- one row
-
-pub row_fits : (m row : ℕ) (rows edges : List ℕ) → row < m → EdgesFit m rows edges → EdgesFit 1 (drop (32 * row) rows) edges
-row_fits m row rows edges h f = record {
-  sound = f.sound;
-  low = f.low;
-  first = λ k i a b. one (f.first k i a b);
-  second = λ k i a b. one (f.second k i a b);
-}
-  where
-    one : {v : ℕ} → ImagesBelow 20 v m rows → ImagesBelow 20 v 1 (drop (32 * row) rows)
-    one {v} g = record {
-      below = λ i l.
-          let e : 32 * row + (32 * i + v) ≡ 32 * row + v = omega arith in
-          omega (arith, get_or-drop (32 * row) rows (32 * i + v) 0, ap (λ (j : ℕ). get_or rows j 0) e, g.below row h);
-    }
 
 -- ---- the edges of an image
 
@@ -151,18 +134,18 @@ module _ (inside : List Bool) where
 
     -- what is written and what is left are the whole
     module _ (f : ℕ → List ℕ) where
-      pub record Partly (i : ℕ) (choice : Choice) (before : List ℕ) (at : ℕ) (after : List ℕ) (r : ℕ) : Type 0 where
+      pub record Partly (i : ℕ) (choice : Choice) (before after : Writer) : Type 0 where
         pub words : List ℕ
-        pub wrote : Wrote before at after r words
+        pub writes : Writes before after words
         pub rest : words ++ flat_map f (chosen_from inside choice (drop i ids)) ≡ flat_map f (chosen_from inside Left ids)
 
-      pub partly_none : (s : List ℕ) (at : ℕ) → Partly 0 Left s at s at
-      partly_none s at = record { words = []; wrote = wrote_none s at; rest = refl }
+      pub partly_none : (w : Writer) → Partly 0 Left w w
+      partly_none w = record { words = []; writes = writes_none w; rest = refl }
 
-      pub partly_more : {i : ℕ} {choice : Choice} {s t u : List ℕ} {at q r : ℕ} → Partly i choice s at t q → (next : Choice) → i < length ids → next ≡ next_choice inside choice (get_or ids i 0)
-          → Wrote t q u r (cond (is_chosen next) (f (get_or ids i 0)) []) → Partly (i + 1) next s at u r
+      pub partly_more : {i : ℕ} {choice : Choice} {u v w : Writer} → Partly i choice u v → (next : Choice) → i < length ids → next ≡ next_choice inside choice (get_or ids i 0)
+          → Writes v w (cond (is_chosen next) (f (get_or ids i 0)) []) → Partly (i + 1) next u w
       unfolding chosen_from flat_map
-      partly_more {i} {choice} {s} {t} {u} {at} {q} {r} p next h c w =
+      partly_more {i} {choice} p next h c x =
           let d : drop i ids ≡ get_or ids i 0 ∷ drop (suc i) ids = drop-cons ids i 0 h in
           let later = chosen_from inside next (drop (suc i) ids) in
           let step : flat_map f (chosen_from inside choice (drop i ids)) ≡ flat_map f (cond (is_chosen next) (get_or ids i 0 ∷ later) later) = rw (d, ← c) refl in
@@ -170,7 +153,7 @@ module _ (inside : List Bool) where
           let split : flat_map f (cond (is_chosen next) (get_or ids i 0 ∷ later) later) ≡ one ++ flat_map f later = go (is_chosen next) in
           record {
             words = p.words ++ one;
-            wrote = wrote_then p.wrote w;
+            writes = writes_then p.writes x;
             rest =
                 ap (λ (j : ℕ). p.words ++ one ++ flat_map f (chosen_from inside next (drop j ids))) (add-one i)
                 ∙ (append_assoc p.words one (flat_map f later) ∙ (ap (λ (l : List ℕ). p.words ++ l) (sym (step ∙ split)) ∙ p.rest));
@@ -180,7 +163,7 @@ module _ (inside : List Bool) where
           go true = refl
           go false = refl
 
-      pub partly_all : {i : ℕ} {choice : Choice} {s t : List ℕ} {at q : ℕ} → Partly i choice s at t q → length ids ≤ i → Wrote s at t q (flat_map f (chosen_from inside Left ids))
+      pub partly_all : {i : ℕ} {choice : Choice} {u v : Writer} → Partly i choice u v → length ids ≤ i → Writes u v (flat_map f (chosen_from inside Left ids))
       unfolding flat_map
       partly_all {i} {choice} p h =
-          wrote_as p.wrote (sym (append-nil p.words) ∙ (ap (λ (l : List ℕ). p.words ++ flat_map f l) (sym (chosen_end i choice h)) ∙ p.rest))
+          writes_as p.writes (sym (append-nil p.words) ∙ (ap (λ (l : List ℕ). p.words ++ flat_map f l) (sym (chosen_end i choice h)) ∙ p.rest))

@@ -2,20 +2,21 @@
 
 #![tactic(auto)]
 
-ghost use Rattle.std.specs.Prelude.{◌≡◌, ◌+◌, ◌*◌, ◌-◌, ◌/◌, ◌%◌, ◌≤◌, ◌<◌, false, cond, ◌&&◌, leb, length, replicate};
+ghost use Rattle.std.specs.Prelude.{◌≡◌, ◌*◌, ◌/◌, ◌%◌, ◌≤◌, ◌<◌, false, cond, ◌&&◌, leb, length, get_or, replicate};
 ghost use mathlib.Core.List.{[], flat_map};
 ghost use Rattle.words.specs.Words.{words};
 ghost use Rattle.pool.specs.Pool.{count};
-ghost use Rattle.order.specs.Areas.{list_of, Holding};
+ghost use Rattle.order.specs.Areas.{list_of};
 ghost use Rattle.order.specs.Numbers.{ItemsBelow};
 ghost use Rattle.openers.specs.Marks.{marked};
-ghost use Rattle.figure_words.specs.Wrote.{Wrote};
-ghost use Rattle.edge_marks.specs.Marks.{EdgesFit};
+ghost use Rattle.words.specs.Wrote.{Writes};
 ghost use Rattle.facet_images.specs.Images.{NumbersOf, NumbersBelow, image_marks, facet_words, id_words, IdsBelow, is_wanted, is_chosen, next_choice, chosen_from};
 ghost use Rattle.facet_images.specs.declared.Choice.TheVariants.{Left};
 
-use order::Area;
-use words::Word;
+use edge_marks::Facets;
+use openers::Rows;
+use order::Lists;
+use words::{Word, Writer};
 
 // ---- the facets of a polyhedron
 
@@ -32,49 +33,70 @@ pub fn edge_numbers(marks: &[bool; 400]) -> [usize; 400]
     numbers
 }
 
-// The facets of the list at place k of an area.
-pub fn list_marks(lists: &[u8], area: Area, k: usize) -> [bool; 1024]
-    requires { Holding area lists.now × (k < area.count) × ItemsBelow 1024 (list_of area lists.now k) }
-    ensures { result ≡ marked (replicate 1024 false) (list_of area lists.now k) }
+// The facets of the list at place k.
+pub fn list_marks(lists: Lists, k: usize) -> [bool; 1024]
+    requires { (k < lists.area.count) × ItemsBelow 1024 (list_of lists.area lists.bytes.now k) }
+    ensures { result ≡ marked (replicate 1024 false) (list_of lists.entry.area lists.entry.bytes.now k) }
 {
     let mut marks = [false; 1024];
-    let n = order::length_at(lists, area, k);
+    let n = lists.length(k);
     for i in 0..n {
-        let x = order::item_at(lists, area, k, i) as usize;
-        marks[x] = true;
+        marks[lists.item(k, i) as usize] = true;
     }
     marks
 }
 
 // The edges of the image of facet x under a row.
-pub fn image_marks(edges: &[u8], x: usize, rows: &[u8], m: usize, row: usize) -> [bool; 400]
-    requires { (32 * m ≤ length rows.now) × EdgesFit m rows.now edges.now × (x < count edges.now) × (row < m) }
-    ensures { result ≡ image_marks edges.now rows.now x row }
+pub fn image_marks(facets: Facets, x: usize, row: usize) -> [bool; 400]
+    requires { (x < count facets.edges.bytes.now) × (row < facets.rows.count) }
+    ensures { result ≡ image_marks facets.entry.edges.bytes.now facets.entry.rows.bytes.now x row }
 {
-    let from = 32 * row;
+    let rows = Rows {
+        bytes: &facets.rows.bytes[32 * row..],
+        count: 1,
+    };
+    let under = Facets {
+        edges: facets.edges,
+        rows,
+    };
     let mut marks = [false; 400];
-    edge_marks::mark_facet(edges, x, &rows[from..], 1, &mut marks);
+    edge_marks::mark_facet(under, x, &mut marks);
     marks
 }
 
 // A facet: how many edges it has, and their numbers.
-fn write_facet(answer: &mut [u8], at: usize, image: &[bool; 400], numbers: &[usize; 400]) -> usize
+fn write_facet(w: &mut Writer, image: &[bool; 400], numbers: &[usize; 400])
     requires { NumbersBelow numbers.now }
-    ensures { Wrote answer.old at answer.new result (facet_words image.now numbers.now) }
+    ensures { Writes w.old w.new (facet_words image.now numbers.now) }
 {
-    let many = edge_marks::count_marks(image);
-    let mut cursor = figure_words::push(answer, at, many as u32);
+    w.push(edge_marks::count_marks(image) as u32);
     for (code, marked) in image.iter().enumerate() {
         if *marked {
-            cursor = figure_words::push(answer, cursor, numbers[code] as u32);
+            w.push(numbers[code] as u32);
         }
     }
-    cursor
 }
 
 // ---- images in order
 
-// What comes of an image, of all images of facets in order.
+// The images of all facets, as their numbers: `count` of four bytes.
+#[derive(Clone, Copy)]
+pub struct Ids<'a> {
+    pub bytes: &'a [u8],
+    pub count: usize,
+    pub ghost room: { 4 * count ≤ length bytes.now },
+}
+
+impl<'a> Ids<'a> {
+    pub fn get(self, i: usize) -> usize
+        requires { i < self.count }
+        ensures { result ≡ get_or (words 4 self.entry.bytes.now self.entry.count) i 0 }
+    {
+        u32::get(self.bytes, 4 * i) as usize
+    }
+}
+
+// What comes of an image, of all images of facets in order: three cases, which neither an Option nor a Result has.
 #[derive(Clone, Copy, PartialEq, Eq)]
 pub enum Choice {
     // It is not wanted.
@@ -117,62 +139,44 @@ pub fn next_choice(inside: &[bool; 1024], before: Choice, id: usize) -> Choice
 }
 
 // How many images are chosen.
-pub fn count_chosen(ids: &[u8], many: usize, inside: &[bool; 1024]) -> usize
-    requires { 4 * many ≤ length ids.now }
-    ensures { (result ≡ length (chosen_from inside.now Left (words 4 ids.now many))) × (result ≤ many) }
+pub fn count_chosen(ids: Ids, inside: &[bool; 1024]) -> usize
+    ensures { (result ≡ length (chosen_from inside.now Left (words 4 ids.entry.bytes.now ids.entry.count))) × (result ≤ ids.entry.count) }
 {
     let mut total = 0;
     let mut choice = Choice::Left;
-    for i in 0..many {
-        let id = u32::get(ids, 4 * i) as usize;
-        choice = next_choice(inside, choice, id);
+    for i in 0..ids.count {
+        choice = next_choice(inside, choice, ids.get(i));
         total += usize::from(choice.is_chosen());
     }
     total
 }
 
 // The image with an id, where it is chosen.
-fn write_chosen(
-    answer: &mut [u8],
-    at: usize,
-    choice: Choice,
-    edges: &[u8],
-    rows: &[u8],
-    m: usize,
-    id: usize,
-    numbers: &[usize; 400],
-) -> usize
-    requires { (32 * m ≤ length rows.now) × EdgesFit m rows.now edges.now × (id % 1024 < count edges.now) × (id % 131072 / 1024 < m) × NumbersBelow numbers.now }
-    ensures { Wrote answer.old at answer.new result (cond (is_chosen choice) (id_words edges.now rows.now numbers.now id) []) }
+fn write_chosen(w: &mut Writer, choice: Choice, facets: Facets, id: usize, numbers: &[usize; 400])
+    requires { (id % 1024 < count facets.edges.bytes.now) × (id % 131072 / 1024 < facets.rows.count) × NumbersBelow numbers.now }
+    ensures { Writes w.old w.new (cond (is_chosen choice) (id_words facets.entry.edges.bytes.now facets.entry.rows.bytes.now numbers.now id) []) }
 {
-    if !choice.is_chosen() {
-        return at;
+    if choice.is_chosen() {
+        let image = image_marks(facets, id % 1024, id % 131072 / 1024);
+        write_facet(w, &image, numbers);
     }
-    let image = image_marks(edges, id % 1024, rows, m, id % 131072 / 1024);
-    write_facet(answer, at, &image, numbers)
 }
 
 // The chosen images, in order.
 pub fn write_images(
-    answer: &mut [u8],
-    at: usize,
-    ids: &[u8],
-    many: usize,
+    w: &mut Writer,
+    ids: Ids,
     inside: &[bool; 1024],
-    edges: &[u8],
-    rows: &[u8],
-    m: usize,
+    facets: Facets,
     numbers: &[usize; 400],
-) -> usize
-    requires { (4 * many ≤ length ids.now) × (32 * m ≤ length rows.now) × EdgesFit m rows.now edges.now × IdsBelow (count edges.now) m (words 4 ids.now many) × NumbersBelow numbers.now }
-    ensures { Wrote answer.old at answer.new result (flat_map (id_words edges.now rows.now numbers.now) (chosen_from inside.now Left (words 4 ids.now many))) }
+)
+    requires { IdsBelow (count facets.edges.bytes.now) facets.rows.count (words 4 ids.bytes.now ids.count) × NumbersBelow numbers.now }
+    ensures { Writes w.old w.new (flat_map (id_words facets.entry.edges.bytes.now facets.entry.rows.bytes.now numbers.now) (chosen_from inside.now Left (words 4 ids.entry.bytes.now ids.entry.count))) }
 {
-    let mut cursor = at;
     let mut choice = Choice::Left;
-    for i in 0..many {
-        let id = u32::get(ids, 4 * i) as usize;
+    for i in 0..ids.count {
+        let id = ids.get(i);
         choice = next_choice(inside, choice, id);
-        cursor = write_chosen(answer, cursor, choice, edges, rows, m, id, numbers);
+        write_chosen(w, choice, facets, id, numbers);
     }
-    cursor
 }

@@ -1,3 +1,2 @@
--- Words in an answer buffer, and the words of a figure.
-pub mod Wrote
+-- The words of a figure.
 pub mod Laws

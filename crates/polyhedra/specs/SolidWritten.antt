@@ -37,7 +37,8 @@ use Rattle.shapes.specs.Kept.{Kept, kept_at, kept_possible, kept_edge_images, ke
 use Rattle.shelf.specs.Keeps.{edges_of, edges_part}
 use Rattle.shelf.specs.Leaves.{facet_at, lists_left, both_left, lists_of_both, figure_left, entry_left, answer_left, Leaves}
 use Rattle.shelf.specs.declared.Level.{Level}
-use Rattle.figure_words.specs.Wrote.{Wrote}
+use Rattle.words.specs.Wrote.{Writes}
+use Rattle.words.specs.declared.Writer.{Writer}
 use Rattle.possible_facets.specs.Facets.{edges_at}
 use Rattle.shapes.specs.UsedPoints.{ends_used}
 use Rattle.edge_marks.specs.Summaries.{summary_marked}
@@ -431,5 +432,6 @@ pub record SolidLeft (n m : ℕ) (bytes : List ℕ) (kept-all : List Kept) (leve
   pub images : Arranged (image_edges (rows_in n m bytes) (edges_of kept-all)) level.shelf.facets m ids
 
 -- the answer is written
-pub record WroteSolidAnswer (n m : ℕ) (bytes : List ℕ) (level : Level) (s ids : List ℕ) (budget left : ℕ) (before : List ℕ) (at : ℕ) (after : List ℕ) (r : ℕ) : Type 0 where
-  pub wrote : (kept-all : List Kept) → SolidLeft n m bytes kept-all level s ids → Wrote before at after r (answer_words budget (answer_left 1 n (rows_in n m bytes) kept-all level s left))
+pub record WroteSolidAnswer (n m : ℕ) (bytes : List ℕ) (level : Level) (s ids : List ℕ) (budget left : ℕ) (before after : Writer) : Type 0 where
+  pub same : after.buffer.ghost_name ≡ before.buffer.ghost_name
+  pub wrote : (kept-all : List Kept) → SolidLeft n m bytes kept-all level s ids → Writes before after (answer_words budget (answer_left 1 n (rows_in n m bytes) kept-all level s left))

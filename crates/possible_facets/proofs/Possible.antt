@@ -6,25 +6,23 @@ use native.Mathlib.Numerals.{add-one}
 use native.Mathlib.Omega.{arith}
 use lib.ListN.{take, drop}
 use lib.Seq.{drop-drop}
-use Rattle.figure_words.specs.Wrote.{Wrote, wrote_none, wrote_then, wrote_as}
+use Rattle.words.specs.declared.Writer.{Writer}
+use Rattle.words.specs.Wrote.{Writes, writes_then, writes_as}
 use Rattle.possible_facets.specs.Facets.{leading}
 use Rattle.possible_facets.specs.Possible.{possible_from}
 
 module _ (figure : ℕ → List ℕ → List ℕ) (orbits : ℕ) (owners : List ℕ) (edges : List (List ℕ)) where
   -- the orbits before one, whose first facet is x, are written
-  pub record SoFar (orbit x : ℕ) (before : List ℕ) (at : ℕ) (after : List ℕ) (r : ℕ) : Type 0 where
+  pub record SoFar (orbit x : ℕ) (before after : Writer) : Type 0 where
     pub words : List ℕ
-    pub wrote : Wrote before at after r words
+    pub wrote : Writes before after words
     pub rest : words ++ possible_from figure (orbits - orbit) orbit (drop x owners) (drop x edges) ≡ possible_from figure orbits 0 owners edges
 
-  pub possible_none : (s : List ℕ) (at : ℕ) → SoFar 0 0 s at s at
-  possible_none s at = record { words = []; wrote = wrote_none s at; rest = let e : orbits - 0 ≡ orbits = omega arith in rw e refl }
-
-  module _ {orbit x : ℕ} {s t : List ℕ} {at q : ℕ} (f : SoFar orbit x s at t q) where
-    pub possible_more : {u v : List ℕ} {r i : ℕ} (end : ℕ) → orbit < orbits → end ≡ x + leading orbit (drop x owners) → Wrote t q u r ((end - x) ∷ []) → Wrote u r v i (flat_map (figure orbit) (take (end - x) (drop x edges)))
-        → SoFar (orbit + 1) end s at v i
+  module _ {orbit x : ℕ} {s t : Writer} (f : SoFar orbit x s t) where
+    pub possible_more : {u v : Writer} (end : ℕ) → orbit < orbits → end ≡ x + leading orbit (drop x owners) → Writes t u ((end - x) ∷ []) → Writes u v (flat_map (figure orbit) (take (end - x) (drop x edges)))
+        → SoFar (orbit + 1) end s v
     unfolding possible_from
-    possible_more {u} {v} {r} {i} end h e a b =
+    possible_more end h e a b =
         let many = leading orbit (drop x owners) in
         let m : end - x ≡ many = omega arith in
         let k : orbits - orbit ≡ suc (orbits - (orbit + 1)) = omega arith in
@@ -37,13 +35,13 @@ module _ (figure : ℕ → List ℕ → List ℕ) (orbits : ℕ) (owners : List 
         ∙ (rw (owners-left, edges_left, m, add-one orbit) refl) in
         record {
           words = f.words ++ one;
-          wrote = wrote_then f.wrote (wrote_then a b);
+          wrote = writes_then f.wrote (writes_then a b);
           rest = append_assoc f.words one left ∙ (ap (λ (l : List ℕ). f.words ++ l) (sym next) ∙ f.rest);
         }
 
-    pub possible_all : orbits ≤ orbit → Wrote s at t q (possible_from figure orbits 0 owners edges)
+    pub possible_all : orbits ≤ orbit → Writes s t (possible_from figure orbits 0 owners edges)
     unfolding possible_from
     possible_all h =
         let k : orbits - orbit ≡ 0 = omega arith in
         let none : possible_from figure (orbits - orbit) orbit (drop x owners) (drop x edges) ≡ [] = ap (λ (j : ℕ). possible_from figure j orbit (drop x owners) (drop x edges)) k in
-        wrote_as f.wrote (sym (append-nil f.words) ∙ (ap (λ (l : List ℕ). f.words ++ l) (sym none) ∙ f.rest))
+        writes_as f.wrote (sym (append-nil f.words) ∙ (ap (λ (l : List ℕ). f.words ++ l) (sym none) ∙ f.rest))

@@ -2,19 +2,19 @@
 
 #![tactic(auto)]
 
-ghost use Rattle.std.specs.Prelude.{◌≡◌, ⊤, List, ℕ, ◌+◌, ◌*◌, ◌-◌, ◌/◌, ◌%◌, ◌≤◌, ◌<◌, length, get_or, drop};
+ghost use Rattle.std.specs.Prelude.{◌≡◌, ⊤, List, ℕ, ◌+◌, ◌*◌, ◌-◌, ◌≤◌, ◌<◌, length, get_or, drop};
 ghost use mathlib.Core.List.{flat_map};
-ghost use Rattle.laws.specs.Sets.{vertices_of};
 ghost use Rattle.laws.specs.Segments.{part};
+ghost use Rattle.laws.specs.Sets.{vertices_of};
 ghost use Rattle.words.specs.Words.{words};
-ghost use Rattle.pool.specs.Pool.{count, closed_lists, Sound};
+ghost use Rattle.words.specs.Wrote.{Writes};
+ghost use Rattle.pool.specs.Pool.{count, closed_lists};
 ghost use Rattle.order.specs.Areas.{list_at};
-ghost use Rattle.shapes.specs.EdgeSets.{polygon};
-ghost use Rattle.figure_words.specs.Wrote.{Wrote};
 ghost use Rattle.possible_facets.specs.Facets.{leading};
 ghost use Rattle.possible_facets.specs.Possible.{edge_figure_words, polygon_words, size_in, possible_from};
 
-use words::Word;
+use order::Pool;
+use words::{Word, Writer};
 
 // ---- figures of facets
 
@@ -33,9 +33,9 @@ pub trait FacetFigure {
         ensures { (result ≡ size self.now orbit) × (result < 4294967296) };
 
     // The figure of facet x, which lies over so many points.
-    fn write(answer: &mut [u8], at: usize, points: usize, edges: &[u8], x: usize) -> usize
-        requires { (points < 4294967296) × Sound 2 1024 edges.now × (x < count edges.now) }
-        ensures { Wrote answer.old at answer.new result (words points (list_at 1024 edges.now x)) };
+    fn write(&self, w: &mut Writer, points: usize, edges: Pool, x: usize)
+        requires { (points < 4294967296) × (x < count edges.bytes.now) }
+        ensures { Writes w.old w.new (words points (list_at edges.entry.most edges.entry.bytes.now x)) };
 }
 
 // Facets of rank 2: edges, over their two ends.
@@ -53,20 +53,20 @@ impl FacetFigure for Edges {
         2
     }
 
-    fn write(answer: &mut [u8], at: usize, _: usize, edges: &[u8], x: usize) -> usize {
-        figure_words::write_edge_figure(answer, at, first_code(edges, x))
+    fn write(&self, w: &mut Writer, _: usize, edges: Pool, x: usize) {
+        figure_words::write_edge_figure(w, first_code(edges, x));
     }
 }
 
 // The code of a facet's first edge, or 0.
-fn first_code(edges: &[u8], x: usize) -> usize
-    requires { Sound 2 1024 edges.now × (x < count edges.now) }
-    ensures { (result ≡ get_or (list_at 1024 edges.now x) 0 0) × (result < 65536) }
+fn first_code(edges: Pool, x: usize) -> usize
+    requires { x < count edges.bytes.now }
+    ensures { (result ≡ get_or (list_at edges.entry.most edges.entry.bytes.now x) 0 0) × (result < 65536) }
 {
-    if order::length_of(edges, 1024, x) == 0 {
+    if edges.length(x) == 0 {
         return 0;
     }
-    order::item_of(edges, 1024, x, 0) as usize
+    edges.item(x, 0) as usize
 }
 
 // Facets of rank 3: polygons, over the points of their orbit's set, of n vertices. The sets lie in a workspace.
@@ -76,7 +76,7 @@ pub struct Polygons<'a> {
     pub n: usize,
 }
 
-impl<'a> FacetFigure for Polygons<'a> {
+impl FacetFigure for Polygons<'_> {
     ghost knows = { λ it orbit. (8 * orbit + 4 ≤ length it.ws.now) × (it.n < 4294967296) };
 
     ghost size = { λ it orbit. size_in it.n it.ws.now orbit };
@@ -87,15 +87,13 @@ impl<'a> FacetFigure for Polygons<'a> {
         set_size(u32::get(self.ws, 8 * orbit), self.n)
     }
 
-    fn write(answer: &mut [u8], at: usize, points: usize, edges: &[u8], x: usize) -> usize
-        requires { (points < 4294967296) × Sound 2 1024 edges.now × (x < count edges.now) }
-        ensures { Wrote answer.old at answer.new result (polygon_words points (list_at 1024 edges.now x)) }
-    {
-        figure_words::write_polygon(answer, at, points, edges, 1024, x)
+    fn write(&self, w: &mut Writer, points: usize, edges: Pool, x: usize) {
+        figure_words::write_polygon(w, points, edges, x);
     }
 }
 
-// How many vertices a set has.
+// How many vertices a set has. By its bits, and not by `sets::vertices_of`, which asks for 20 vertices at most: what is
+// written of facets takes any number of them.
 fn set_size(set: u32, n: usize) -> usize
     ensures { (result ≡ length (vertices_of n set)) × (result ≤ n) }
 {
@@ -108,61 +106,75 @@ fn set_size(set: u32, n: usize) -> usize
     many
 }
 
-// ---- possible facets
+// ---- orbits of facets
 
-// The first facet from x on that is not of an orbit, or the number of facets.
-fn end_of_orbit(owners: &[u8], facets: usize, x: usize, orbit: usize) -> usize
-    requires { (2 * facets ≤ length owners.now) × (x ≤ facets) }
-    ensures { (result ≡ x + leading orbit (drop x (words 2 owners.now facets))) × (result ≤ facets) }
-{
-    for i in x..facets {
-        if u16::get(owners, 2 * i) as usize != orbit {
-            return i;
-        }
-    }
-    facets
+// The orbit of each facet, a number of two bytes.
+#[derive(Clone, Copy)]
+pub struct Owners<'a> {
+    pub bytes: &'a [u8],
+    pub facets: usize,
+    pub ghost room: { 2 * facets ≤ length bytes.now },
 }
+
+impl<'a> Owners<'a> {
+    // The orbit of facet x.
+    pub fn orbit(self, x: usize) -> usize
+        requires { x < self.facets }
+        ensures { (result ≡ get_or (words 2 self.entry.bytes.now self.entry.facets) x 0) × (result < 65536) }
+    {
+        u16::get(self.bytes, 2 * x) as usize
+    }
+
+    // The first facet from x on that is not of an orbit, or the number of facets.
+    fn end_of(self, x: usize, orbit: usize) -> usize
+        requires { x ≤ self.facets }
+        ensures { (result ≡ x + leading orbit (drop x (words 2 self.entry.bytes.now self.entry.facets))) × (result ≤ self.entry.facets) }
+    {
+        for i in x..self.facets {
+            if self.orbit(i) != orbit {
+                return i;
+            }
+        }
+        self.facets
+    }
+}
+
+// ---- possible facets
 
 // The figures of the facets from one number to another, over so many points.
 fn write_facets<T: FacetFigure>(
-    answer: &mut [u8],
-    at: usize,
+    w: &mut Writer,
+    figures: &T,
     points: usize,
-    edges: &[u8],
+    edges: Pool,
     from: usize,
     to: usize,
-) -> usize
-    requires { (points < 4294967296) × Sound 2 1024 edges.now × (from ≤ to) × (to ≤ count edges.now) }
-    ensures { Wrote answer.old at answer.new result (flat_map (T.words points) (part from (to - from) (closed_lists 2 1024 edges.now))) }
+)
+    requires { (points < 4294967296) × (from ≤ to) × (to ≤ count edges.bytes.now) }
+    ensures { Writes w.old w.new (flat_map (T.words points) (part from (to - from) (closed_lists 2 edges.entry.most edges.entry.bytes.now))) }
 {
-    let mut cursor = at;
     for x in from..to {
-        cursor = T::write(answer, cursor, points, edges, x);
+        figures.write(w, points, edges, x);
     }
-    cursor
 }
 
 // For each orbit the number of its facets, then their figures.
 pub fn write_possible<T: FacetFigure>(
-    answer: &mut [u8],
-    at: usize,
+    w: &mut Writer,
     figures: &T,
-    owners: &[u8],
-    facets: usize,
+    owners: Owners,
     orbits: usize,
-    edges: &[u8],
-) -> usize
-    requires { ((orbit : ℕ) → orbit < orbits → T.knows figures.now orbit) × (2 * facets ≤ length owners.now) × (facets < 4294967296) × Sound 2 1024 edges.now × (facets ≤ count edges.now) }
-    ensures { Wrote answer.old at answer.new result (possible_from (λ (orbit : ℕ). T.words (T.size figures.now orbit)) orbits 0 (words 2 owners.now facets) (closed_lists 2 1024 edges.now)) }
+    edges: Pool,
+)
+    requires { ((orbit : ℕ) → orbit < orbits → T.knows figures.now orbit) × (owners.facets < 4294967296) × (owners.facets ≤ count edges.bytes.now) }
+    ensures { Writes w.old w.new (possible_from (λ (orbit : ℕ). T.words (T.size figures.now orbit)) orbits 0 (words 2 owners.entry.bytes.now owners.entry.facets) (closed_lists 2 edges.entry.most edges.entry.bytes.now)) }
 {
-    let mut cursor = at;
     let mut x = 0;
     for orbit in 0..orbits {
         let points = figures.size(orbit);
-        let end = end_of_orbit(owners, facets, x, orbit);
-        cursor = figure_words::push(answer, cursor, (end - x) as u32);
-        cursor = write_facets::<T>(answer, cursor, points, edges, x, end);
+        let end = owners.end_of(x, orbit);
+        w.push((end - x) as u32);
+        write_facets(w, figures, points, edges, x, end);
         x = end;
     }
-    cursor
 }

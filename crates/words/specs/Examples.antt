@@ -6,7 +6,7 @@ use Rattle.std.specs.Float.Ieee.{of_bits, of_fields}
 use Rattle.definitions.specs.Job.{little, number_at, float_at, word_bytes}
 use Rattle.words.specs.Words.{bytes_of, put, words}
 use Rattle.words.specs.Floats.{read_of}
-use Rattle.words.specs.Writer.{encoded, padded, full, written, cursor_of, behind_word}
+use Rattle.words.specs.Writer.{encoded, padded, written, cursor_of, behind_word}
 
 -- the lowest byte first
 lowest_first : put 4 (9 ∷ 9 ∷ 9 ∷ 9 ∷ 9 ∷ 9 ∷ []) 1 67305985 ≡ 9 ∷ 1 ∷ 2 ∷ 3 ∷ 4 ∷ 9 ∷ []
@@ -31,10 +31,10 @@ two_words : written 10 (7 ∷ 256 ∷ []) ≡ 7 ∷ 0 ∷ 0 ∷ 0 ∷ 0 ∷ 1 �
 unfolding written padded encoded flat_map word_bytes
 two_words = refl
 
-behind_two : cursor_of 10 (7 ∷ 256 ∷ []) ≡ 8
+behind_two : cursor_of 10 (7 ∷ 256 ∷ []) ≡ Some 8
 unfolding cursor_of
 behind_two = refl
 
-no_third : behind_word 10 8 ≡ full
+no_third : behind_word 10 (Some 8) ≡ None
 unfolding behind_word
 no_third = refl

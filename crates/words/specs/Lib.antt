@@ -4,4 +4,5 @@ pub mod Runs
 pub mod Lent
 pub mod Floats
 pub mod Writer
+pub mod Wrote
 pub mod Examples

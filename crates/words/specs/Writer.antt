@@ -1,6 +1,6 @@
 -- An answer buffer that is cleared once and then takes words one behind another: after each, the words so far and zeros behind them. Words for which there is
 -- no room are dropped, and the cursor tells. Leans on `word_bytes` [12.6] and on Words. Assumes nothing.
-use Rattle.std.specs.Prelude.{◌≡◌, cond, ℕ, ◌+◌, ◌-◌, ◌*◌, ◌/◌, ◌≤◌, ◌<◌, leb, take, drop, replicate}
+use Rattle.std.specs.Prelude.{◌≡◌, cond, ℕ, ◌+◌, ◌-◌, ◌*◌, ◌/◌, ◌≤◌, ◌<◌, leb, take, drop, replicate, Option, Some, None}
 use Rattle.std.proofs.Math.Path.{refl, sym, ap}
 use Rattle.std.proofs.Common.{◌∙◌, length-append, length-take, take_all}
 use mathlib.Core.List.{List, [], ◌∷◌, ◌++◌, flat_map, append_assoc, append-nil}
@@ -25,7 +25,7 @@ encoded = flat_map word_bytes
 unfoldable pub padded : ℕ → List ℕ → List ℕ
 padded n l = l ++ replicate (n - length l) 0
 
--- the cursor where there was no room for every word: past the end of every buffer
+-- the most bytes that a buffer has
 abbrev pub full : ℕ
 full = 18446744073709551615
 
@@ -33,15 +33,18 @@ full = 18446744073709551615
 unfoldable pub written : ℕ → List ℕ → List ℕ
 written n l = padded n (encoded (take (n / 4) l))
 
-unfoldable pub cursor_of : ℕ → List ℕ → ℕ
-cursor_of n l = cond (leb (4 * length l) n) (4 * length l) full
+-- none once there was no room for a word
+unfoldable pub cursor_of : ℕ → List ℕ → Option ℕ
+cursor_of n l = cond (leb (4 * length l) n) (Some (4 * length l)) None
 
 -- a word at the cursor, and the cursor behind it
-unfoldable pub with_word : List ℕ → ℕ → ℕ → List ℕ
-with_word s at v = cond (leb (at + 4) (length s)) (put 4 s at v) s
+unfoldable pub with_word : List ℕ → Option ℕ → ℕ → List ℕ
+with_word s None v = s
+with_word s (Some at) v = cond (leb (at + 4) (length s)) (put 4 s at v) s
 
-unfoldable pub behind_word : ℕ → ℕ → ℕ
-behind_word n at = cond (leb (at + 4) n) (at + 4) full
+unfoldable pub behind_word : ℕ → Option ℕ → Option ℕ
+behind_word n None = None
+behind_word n (Some at) = cond (leb (at + 4) n) (Some (at + 4)) None
 
 -- ---- laws
 
@@ -101,7 +104,7 @@ written_none n =
     let e : n - 0 ≡ n = omega arith in
     rw (take-nil (n / 4), e) refl
 
-pub cursor_none : (n : ℕ) → cursor_of n [] ≡ 0
+pub cursor_none : (n : ℕ) → cursor_of n [] ≡ Some 0
 unfolding cursor_of
 cursor_none n = rw (le-leb 0 n (omega arith)) refl
 
@@ -114,11 +117,11 @@ pub padded_answer : (n : ℕ) (bytes : List ℕ) → padded n bytes ≡ buffer_o
 unfolding padded buffer_of
 padded_answer n bytes = refl
 
-pub cursor_fits : (n : ℕ) (l : List ℕ) → 4 * length l ≤ n → cursor_of n l ≡ length (encoded l)
+pub cursor_fits : (n : ℕ) (l : List ℕ) → 4 * length l ≤ n → cursor_of n l ≡ Some (length (encoded l))
 unfolding cursor_of
-cursor_fits n l h = rw (le-leb (4 * length l) n h) (sym (encoded_length l))
+cursor_fits n l h = rw (le-leb (4 * length l) n h) (ap Some (sym (encoded_length l)))
 
-pub cursor_full : (n : ℕ) (l : List ℕ) → n < 4 * length l → cursor_of n l ≡ full
+pub cursor_full : (n : ℕ) (l : List ℕ) → n < 4 * length l → cursor_of n l ≡ None
 unfolding cursor_of
 cursor_full n l h = rw (lt-leb (4 * length l) n h) refl
 
@@ -127,22 +130,26 @@ module _ (n : ℕ) (l : List ℕ) (v : ℕ) where
   more_length : length (l ++ (v ∷ [])) ≡ length l + 1
   more_length = length-append l (v ∷ [])
 
+  here : 4 * length l ≤ n → cursor_of n l ≡ Some (4 * length l)
+  here h = cursor_fits n l h ∙ ap Some (encoded_length l)
+
   cursor_room : 4 * length l + 4 ≤ n → behind_word n (cursor_of n l) ≡ cursor_of n (l ++ (v ∷ []))
   unfolding cursor_of behind_word
   cursor_room h =
       let e : 4 * length (l ++ (v ∷ [])) ≡ 4 * length l + 4 = ap (λ (k : ℕ). 4 * k) more_length ∙ omega arith in
       rw (le-leb (4 * length l) n (omega arith), e, le-leb (4 * length l + 4) n h) refl
 
-  cursor_no_room : n ≤ full → n < 4 * length l + 4 → behind_word n (cursor_of n l) ≡ cursor_of n (l ++ (v ∷ []))
+  cursor_no_room : n < 4 * length l + 4 → behind_word n (cursor_of n l) ≡ cursor_of n (l ++ (v ∷ []))
   unfolding behind_word
-  cursor_no_room f h =
+  cursor_no_room h =
       let e = more_length in
-      let past : n < cursor_of n l + 4 = ⊎_elim (λ g. omega (arith, cursor_fits n l g, encoded_length l)) (λ g. omega (arith, cursor_full n l g)) (le_or_lt (4 * length l) n) in
-      rw (lt-leb (cursor_of n l + 4) n past) (sym (cursor_full n (l ++ (v ∷ [])) (omega arith)))
+      let past : behind_word n (cursor_of n l) ≡ None =
+      ⊎_elim (λ g. ap (behind_word n) (here g) ∙ (rw (lt-leb (4 * length l + 4) n h) refl)) (λ g. ap (behind_word n) (cursor_full n l g)) (le_or_lt (4 * length l) n) in
+      past ∙ sym (cursor_full n (l ++ (v ∷ [])) (omega arith))
 
   -- the cursor after one word more
-  pub cursor_word : n ≤ full → behind_word n (cursor_of n l) ≡ cursor_of n (l ++ (v ∷ []))
-  cursor_word f = ⊎_elim cursor_room (cursor_no_room f) (le_or_lt (4 * length l + 4) n)
+  pub cursor_word : behind_word n (cursor_of n l) ≡ cursor_of n (l ++ (v ∷ []))
+  cursor_word = ⊎_elim cursor_room cursor_no_room (le_or_lt (4 * length l + 4) n)
 
   written_length : length (written n l) ≡ n
   unfolding written
@@ -153,20 +160,24 @@ module _ (n : ℕ) (l : List ℕ) (v : ℕ) where
   unfolding with_word
   written_room h =
       let e = more_length in
-      let c : cursor_of n l ≡ 4 * length l = cursor_fits n l (omega arith) ∙ encoded_length l in
+      let c : cursor_of n l ≡ Some (4 * length l) = here (omega arith) in
       let before = written_fits n l (omega arith) in
-      rw (written_length, c, le-leb (4 * length l + 4) n h, before) (put_word n l v h ∙ sym (written_fits n (l ++ (v ∷ [])) (omega arith)))
+      rw c (rw (written_length, le-leb (4 * length l + 4) n h, before) (put_word n l v h ∙ sym (written_fits n (l ++ (v ∷ [])) (omega arith))))
 
   written_same : n < 4 * length l + 4 → written n l ≡ written n (l ++ (v ∷ []))
   unfolding written
   written_same h = ap (λ (r : List ℕ). padded n (encoded r)) (sym (take-append-le (n / 4) l (v ∷ []) (omega arith)))
 
-  written_no_room : n ≤ full → n < 4 * length l + 4 → with_word (written n l) (cursor_of n l) v ≡ written n (l ++ (v ∷ []))
+  written_no_room : n < 4 * length l + 4 → with_word (written n l) (cursor_of n l) v ≡ written n (l ++ (v ∷ []))
   unfolding with_word
-  written_no_room f h =
-      let past : n < cursor_of n l + 4 = ⊎_elim (λ g. omega (arith, cursor_fits n l g, encoded_length l)) (λ g. omega (arith, cursor_full n l g)) (le_or_lt (4 * length l) n) in
-      rw (written_length, lt-leb (cursor_of n l + 4) n past) (written_same h)
+  written_no_room h =
+      let past : with_word (written n l) (cursor_of n l) v ≡ written n l =
+      ⊎_elim
+      (λ g. ap (λ (at : Option ℕ). with_word (written n l) at v) (here g) ∙ (rw (written_length, lt-leb (4 * length l + 4) n h) refl))
+      (λ g. ap (λ (at : Option ℕ). with_word (written n l) at v) (cursor_full n l g))
+      (le_or_lt (4 * length l) n) in
+      past ∙ written_same h
 
   -- the buffer after one word more
-  pub written_word : n ≤ full → with_word (written n l) (cursor_of n l) v ≡ written n (l ++ (v ∷ []))
-  written_word f = ⊎_elim written_room (written_no_room f) (le_or_lt (4 * length l + 4) n)
+  pub written_word : with_word (written n l) (cursor_of n l) v ≡ written n (l ++ (v ∷ []))
+  written_word = ⊎_elim written_room written_no_room (le_or_lt (4 * length l + 4) n)

@@ -4,16 +4,14 @@
 #![tactic(auto)]
 
 ghost use Rattle.std.proofs.Common.{lit<};
-ghost use Rattle.std.specs.Prelude.{◌≡◌, ◌+◌, ◌≤◌, ◌<◌, ℕ, length};
+ghost use Rattle.std.specs.Prelude.{◌≡◌, ◌∷◌, [], ◌+◌, ◌≤◌, ◌<◌, ℕ, length};
 ghost use Rattle.std.specs.Float.{binary64};
 ghost use Rattle.std.specs.Float.Ieee.{to_bits};
 ghost use Rattle.definitions.specs.Job.{number_at, float_at};
 ghost use Rattle.words.specs.Words.{put};
 ghost use Rattle.words.specs.Floats.{read_of};
 ghost use Rattle.words.specs.Writer.{with_word, behind_word};
-
-// The cursor of an answer that had no room for every word.
-pub const FULL: usize = 18446744073709551615;
+ghost use Rattle.words.specs.Wrote.{Writes};
 
 // ---- numbers
 
@@ -48,12 +46,11 @@ impl Word for u16 {
     ghost number = { λ v. v };
 
     fn get(s: &[u8], at: usize) -> u16 {
-        u16::from(s[at]) + u16::from(s[at + 1]) * 256
+        u16::from_le_bytes(s[at..at + 2].try_into().unwrap())
     }
 
     fn put(s: &mut [u8], at: usize, v: u16) {
-        s[at] = (v % 256) as u8;
-        s[at + 1] = (v / 256) as u8;
+        s[at..at + 2].copy_from_slice(&v.to_le_bytes());
     }
 
     ghost wide = { lit< tt };
@@ -67,12 +64,11 @@ impl Word for u32 {
     ghost number = { λ v. v };
 
     fn get(s: &[u8], at: usize) -> u32 {
-        u32::from(u16::get(s, at)) + u32::from(u16::get(s, at + 2)) * 65536
+        u32::from_le_bytes(s[at..at + 4].try_into().unwrap())
     }
 
     fn put(s: &mut [u8], at: usize, v: u32) {
-        u16::put(s, at, (v % 65536) as u16);
-        u16::put(s, at + 2, (v / 65536) as u16);
+        s[at..at + 4].copy_from_slice(&v.to_le_bytes());
     }
 
     ghost wide = { lit< tt };
@@ -86,12 +82,11 @@ impl Word for u64 {
     ghost number = { λ v. v };
 
     fn get(s: &[u8], at: usize) -> u64 {
-        u64::from(u32::get(s, at)) + u64::from(u32::get(s, at + 4)) * 4294967296
+        u64::from_le_bytes(s[at..at + 8].try_into().unwrap())
     }
 
     fn put(s: &mut [u8], at: usize, v: u64) {
-        u32::put(s, at, (v % 4294967296) as u32);
-        u32::put(s, at + 4, (v / 4294967296) as u32);
+        s[at..at + 8].copy_from_slice(&v.to_le_bytes());
     }
 
     ghost wide = { lit< tt };
@@ -126,15 +121,45 @@ pub fn put_f64(s: &mut [u8], at: usize, x: f64)
 
 // ---- an answer, word by word
 
-// Where there is room the word is written at the cursor, which moves behind it; where there is none nothing is written and the cursor says so for good.
-pub fn push_word(answer: &mut [u8], at: usize, v: u32) -> usize
-    ensures cursor { result ≡ behind_word (length answer.old) at }
-    ensures buffer { answer.new ≡ with_word answer.old at v }
-{
-    let n = answer.len();
-    if n < at || n - at < 4 {
-        return FULL;
+// An answer buffer, and where its next word goes: nowhere once there was no room for one.
+#[derive(Drop)]
+pub struct Writer<'a> {
+    pub buffer: &'a mut [u8],
+    pub at: Option<usize>,
+}
+
+impl<'a> Writer<'a> {
+    pub fn new(buffer: &'a mut [u8]) -> Writer<'a>
+        ensures { (result.buffer ≡ buffer.entry) × (result.at ≡ Some 0) }
+    {
+        Writer {
+            buffer,
+            at: Some(0),
+        }
     }
-    u32::put(answer, at, v);
-    at + 4
+
+    // Where there is room the word is written at the cursor, which moves behind it; where there is none nothing is written, now and later.
+    pub fn push(&mut self, v: u32)
+        ensures cursor { self.new.at ≡ behind_word (length self.old.buffer.now) self.old.at }
+        ensures buffer { self.new.buffer.now ≡ with_word self.old.buffer.now self.old.at v }
+        ensures writes { Writes self.old self.new (v ∷ []) }
+    {
+        let n = self.buffer.len();
+        if let Some(at) = self.at {
+            if at <= n && 4 <= n - at {
+                u32::put(self.buffer, at, v);
+                self.at = Some(at + 4);
+            } else {
+                self.at = None;
+            }
+        }
+    }
+
+    pub fn push_three(&mut self, a: u32, b: u32, c: u32)
+        ensures { Writes self.old self.new (a ∷ b ∷ c ∷ []) }
+    {
+        self.push(a);
+        self.push(b);
+        self.push(c);
+    }
 }

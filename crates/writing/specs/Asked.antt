@@ -37,6 +37,9 @@ module _ {level : Level} {s : List ℕ} (h : ListsStanding level s) where
       subst (λ (ls : List (List ℕ)). ItemsBelow bound (get_or ls k [])) (sym lists_are)
       (λ x i. omega (arith, h.numbers (get_or (lists_left level s) k []) (member_at (lists_left level s) k [] (omega (arith, many_lists))) x i))
 
+  pub numbers_inside : (bound k : ℕ) → level.shelf.facets ≤ bound → k < level.count → ItemsBelow bound (get_or (lists_left level s) k [])
+  numbers_inside bound k b g x i = omega (arith, h.numbers (get_or (lists_left level s) k []) (member_at (lists_left level s) k [] (omega (arith, many_lists))) x i)
+
   -- the number at a place, and the two lists that it names
   pub number_is : (k : ℕ) → k < level.count → number_at s (level.lists + level.bytes + 2 * k) 2 ≡ get_or (order_left level s) k 0
   number_is k g =
@@ -56,11 +59,21 @@ module _ {level : Level} {s : List ℕ} (h : ListsStanding level s) where
   unfolding both_at
   split_asked k number g e = rw e (omega (arith, h.room), h.area.sound, order_inside level s h.area k g, (both_asked k g).0)
 
+  pub split_inside : (k number : ℕ) → k < level.count → number ≡ get_or (order_left level s) k 0
+      → (number < count (part level.lists level.bytes s)) × ItemsBelow level.shelf.facets (list_at 1024 (part level.lists level.bytes s) number)
+  unfolding both_at
+  split_inside k number g e = rw e (order_inside level s h.area k g, (both_asked k g).0)
+
   pub emitted_asked : (k number : ℕ) → k < level.count → number ≡ get_or (order_left level s) k 0
       → (level.emitted + level.extent ≤ length s) × Sound 2 1024 (emitted_pool level s) × (number < count (emitted_pool level s)) × ItemsBelow level.shelf.facets (list_at 1024 (emitted_pool level s) number)
   unfolding both_at
   emitted_asked k number g e =
       rw e (omega (arith, h.room, h.emitted.before), h.emitted.sound, omega (arith, h.emitted.as_many, order_inside level s h.area k g), (both_asked k g).1)
+
+  pub emitted_inside : (k number : ℕ) → k < level.count → number ≡ get_or (order_left level s) k 0
+      → (number < count (emitted_pool level s)) × ItemsBelow level.shelf.facets (list_at 1024 (emitted_pool level s) number)
+  unfolding both_at
+  emitted_inside k number g e = rw e (omega (arith, h.emitted.as_many, order_inside level s h.area k g), (both_asked k g).1)
 
   -- what both are together
   pub both_written : (owners : List ℕ) (k number : ℕ) → k < level.count → number ≡ get_or (order_left level s) k 0

@@ -29,7 +29,8 @@ use Rattle.shapes.specs.Kept.{Kept, kept_possible, kept_edge_images, kept_figure
 use Rattle.shelf.specs.Keeps.{facets_in, edges_of, edges_part}
 use Rattle.shelf.specs.Leaves.{facet_at, lists_left, both_left, lists_of_both, both_below, figure_left, entry_left, answer_left, Leaves}
 use Rattle.shelf.specs.declared.Level.{Level}
-use Rattle.figure_words.specs.Wrote.{Wrote}
+use Rattle.words.specs.Wrote.{Writes}
+use Rattle.words.specs.declared.Writer.{Writer}
 use Rattle.possible_facets.specs.Facets.{OwnersBelow, item_of, item_words, list_words, owners_from, owners_all, item_is, owners_below, Each, edges_at, many_edges, leading_is}
 use Rattle.edge_marks.specs.Summaries.{summary_marked}
 use Rattle.edge_marks.specs.Marks.{Ends, EdgesFit, marks_of, codes_marked, edges_marked, pair_code_holds}
@@ -293,5 +294,6 @@ pub record Left (n m : ℕ) (bytes : List ℕ) (kept : List Kept) (level : Level
   pub leaves : Leaves 0 n (rows_in n m bytes) kept level s
 
 -- the answer is written: for whatever is kept there, the words of the answer that stands in the workspace
-pub record WroteAnswer (n m : ℕ) (bytes : List ℕ) (level : Level) (s : List ℕ) (budget left : ℕ) (before : List ℕ) (at : ℕ) (after : List ℕ) (r : ℕ) : Type 0 where
-  pub wrote : (kept : List Kept) → Left n m bytes kept level s → Wrote before at after r (answer_words budget (answer_left 0 n (rows_in n m bytes) kept level s left))
+pub record WroteAnswer (n m : ℕ) (bytes : List ℕ) (level : Level) (s : List ℕ) (budget left : ℕ) (before after : Writer) : Type 0 where
+  pub same : after.buffer.ghost_name ≡ before.buffer.ghost_name
+  pub wrote : (kept : List Kept) → Left n m bytes kept level s → Writes before after (answer_words budget (answer_left 0 n (rows_in n m bytes) kept level s left))

@@ -19,17 +19,18 @@ unfolding facet_codes
 loop-i-init c = (omega arith, marked_none _ _)
 
 pub mark_facet-requires : goal.mark_facet-requires
-mark_facet-requires c = let l = c.loop-i in let list = list_of c.args.area c.args.lists.now c.args.k in
-    (c.requires.0, c.requires.1, subst (λ (x : ℕ). x < count c.args.edges.now) (sym c.item_at-x.ensures) (c.requires.4 (get_or list l.i 0) (member_at list l.i 0 (omega (arith, c.length_at-n.ensures)))))
+mark_facet-requires c = let l = c.loop-i in let list = list_of c.args.lists.area c.args.lists.bytes.now c.args.k in
+    subst (λ (x : ℕ). x < count c.args.facets.edges.bytes.now) (sym c.item.ensures) (c.requires.1 (get_or list l.i 0) (member_at list l.i 0 (omega (arith, c.length-i-end.ensures))))
 
 pub loop-i-preserved : goal.loop-i-preserved
 unfolding facet_codes list_at
-loop-i-preserved c = let l = c.loop-i in let rows = rows_in 32 c.args.m c.args.rows.now in
-    let edges = closed_lists 2 1024 c.args.edges.now in
-    let list = list_of c.args.area c.args.lists.now c.args.k in
-    (omega arith, c.mark_facet.ensures ∙ ((λ t. marked (l.invariant.1 t) (image_codes rows (get_or edges (c.item_at-x.ensures t) []))) ∙ marked_flat (λ (x : ℕ). image_codes rows (get_or edges x [])) (replicate 400 false) list l.i 0 (omega (arith, c.length_at-n.ensures))))
+loop-i-preserved c = let l = c.loop-i in let f = c.args.facets in
+    let rows = rows_in 32 f.rows.count f.rows.bytes.now in
+    let edges = closed_lists 2 1024 f.edges.bytes.now in
+    let list = list_of c.args.lists.area c.args.lists.bytes.now c.args.k in
+    (omega arith, c.mark_facet.ensures ∙ ((λ t. marked (l.invariant.1 t) (image_codes rows (get_or edges (c.item.ensures t) []))) ∙ marked_flat (λ (x : ℕ). image_codes rows (get_or edges x [])) (replicate 400 false) list l.i 0 (omega (arith, c.length-i-end.ensures))))
 
 pub returns : goal.returns
 unfolding marks_of
-returns c = let l = c.loop-i in let list = list_of c.args.area c.args.lists.now c.args.k in
-    l.invariant.1 ∙ ap (λ (r : List ℕ). marked (replicate 400 false) (facet_codes (rows_in 32 c.args.m c.args.rows.now) (closed_lists 2 1024 c.args.edges.now) r)) (take_all l.i list (omega (arith, c.length_at-n.ensures)))
+returns c = let l = c.loop-i in let list = list_of c.args.lists.area c.args.lists.bytes.now c.args.k in
+    l.invariant.1 ∙ ap (λ (r : List ℕ). marked (replicate 400 false) (facet_codes (rows_in 32 c.args.facets.rows.count c.args.facets.rows.bytes.now) (closed_lists 2 1024 c.args.facets.edges.bytes.now) r)) (take_all l.i list (omega (arith, c.length-i-end.ensures)))

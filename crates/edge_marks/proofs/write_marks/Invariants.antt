@@ -4,8 +4,8 @@ use Prim.Native.Nat.{◌≤◌}
 use Rattle.openers.specs.Meaning.{pair_of}
 use Rattle.shapes.specs.FigureWords.{edge_words}
 use Rattle.edge_marks.specs.Marks.{codes_marked}
-use Rattle.figure_words.specs.Wrote.{Wrote}
+use Rattle.words.specs.Wrote.{Writes}
 use Rattle.edge_marks.proofs.write_marks.Given as goal
 
 abbrev pub invariant-loop-code : goal.invariant-loop-code
-invariant-loop-code l = (l.code ≤ 400) × Wrote l.initial.answer l.initial.cursor l.answer l.cursor (edge_words (map pair_of (codes_marked l.marks l.code)))
+invariant-loop-code l = (l.code ≤ 400) × Writes l.initial.w l.w (edge_words (map pair_of (codes_marked l.marks l.code)))

@@ -1,6 +1,6 @@
 -- `edge_marks::write_summary` meets its contract.
 use mathlib.Core.List.{[], ◌∷◌}
-use Rattle.figure_words.specs.Wrote.{wrote_as}
+use Rattle.words.specs.Wrote.{writes_as}
 use Rattle.edge_marks.specs.Summaries.{summary_marked}
 use Rattle.edge_marks.proofs.write_summary.Goals as goal
 
@@ -8,4 +8,4 @@ pub returns : goal.returns
 unfolding summary_marked
 returns c = let ends = c.count_ends-points.ensures.0 in
     let lines = c.requires.1 in
-    wrote_as c.push_three.ensures (λ t. ends t ∷ lines t ∷ c.args.facets ∷ [])
+    writes_as c.push_three.ensures (λ t. ends t ∷ lines t ∷ c.args.facets ∷ [])

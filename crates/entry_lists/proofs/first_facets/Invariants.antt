@@ -7,4 +7,4 @@ use Rattle.possible_facets.specs.Facets.{FirstsFrom}
 use Rattle.entry_lists.proofs.first_facets.Given as goal
 
 abbrev pub invariant-loop-x : goal.invariant-loop-x
-invariant-loop-x l = (l.x ≤ l.facets) × (length l.firsts ≡ 256) × FirstsFrom (words 2 l.owners l.facets) l.firsts l.x
+invariant-loop-x l = (l.x ≤ l.owners.facets) × (length l.firsts ≡ 256) × FirstsFrom (words 2 l.owners.bytes.now l.owners.facets) l.firsts l.x

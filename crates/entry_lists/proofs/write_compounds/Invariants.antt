@@ -4,8 +4,8 @@ use Prim.Native.Nat.{◌≤◌}
 use Rattle.definitions.specs.Job.{compound_words}
 use Rattle.definitions.specs.Figures.{compounds_from}
 use Rattle.labels.specs.Labels.{labels_in}
-use Rattle.figure_words.specs.Wrote.{Wrote}
+use Rattle.words.specs.Wrote.{Writes}
 use Rattle.entry_lists.proofs.write_compounds.Given as goal
 
 abbrev pub invariant-loop-i : goal.invariant-loop-i
-invariant-loop-i l = (l.i ≤ l.n) × Wrote l.initial.answer l.initial.cursor l.answer l.cursor (flat_map compound_words (compounds_from 0 (labels_in l.labels l.i l.s)))
+invariant-loop-i l = (l.i ≤ l.n) × Writes l.initial.w l.w (flat_map compound_words (compounds_from 0 (labels_in l.labels l.i l.s)))

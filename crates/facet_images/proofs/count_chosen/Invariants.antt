@@ -8,4 +8,5 @@ use Rattle.facet_images.specs.declared.Choice.TheVariants.{Left}
 use Rattle.facet_images.proofs.count_chosen.Given as goal
 
 abbrev pub invariant-loop-i : goal.invariant-loop-i
-invariant-loop-i l = (l.i ≤ l.many) × (l.total ≤ l.i) × (l.total + length (chosen_from l.inside l.choice (drop l.i (words 4 l.ids l.many))) ≡ length (chosen_from l.inside Left (words 4 l.ids l.many)))
+invariant-loop-i l =
+    (l.i ≤ l.ids.count) × (l.total ≤ l.i) × (l.total + length (chosen_from l.inside l.choice (drop l.i (words 4 l.ids.bytes.now l.ids.count))) ≡ length (chosen_from l.inside Left (words 4 l.ids.bytes.now l.ids.count)))

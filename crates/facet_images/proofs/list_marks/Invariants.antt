@@ -8,4 +8,4 @@ use Rattle.order.specs.Areas.{list_of}
 use Rattle.facet_images.proofs.list_marks.Given as goal
 
 abbrev pub invariant-loop-i : goal.invariant-loop-i
-invariant-loop-i l = (l.i ≤ l.n) × (length l.marks ≡ 1024) × (l.marks ≡ marked (replicate 1024 false) (take l.i (list_of l.area l.lists l.k)))
+invariant-loop-i l = (l.i ≤ l.n) × (length l.marks ≡ 1024) × (l.marks ≡ marked (replicate 1024 false) (take l.i (list_of l.lists.area l.lists.bytes.now l.k)))

@@ -2,13 +2,13 @@
 use mathlib.Core.Path.{sym, ap, ◌∙◌}
 use mathlib.Core.Bool.{Bool}
 use mathlib.Core.List.{List}
-use Rattle.figure_words.specs.Wrote.{wrote_none, wrote_as}
+use Rattle.words.specs.Wrote.{writes_none, writes_as}
 use Rattle.facet_images.specs.Images.{facet_words, id_words}
 use Rattle.facet_images.proofs.write_chosen.Goals as goal
 
-pub returns-then-not-is_chosen : goal.returns-then-not-is_chosen
-returns-then-not-is_chosen c = rw (sym c.is_chosen.ensures ∙ c.if-not-is_chosen.true) (wrote_none _ _)
-
-pub returns : goal.returns
+pub returns-then-is_chosen : goal.returns-then-is_chosen
 unfolding id_words
-returns c = rw (sym c.is_chosen.ensures ∙ c.if-not-is_chosen.false) (wrote_as c.write_facet.ensures (ap (λ (marks : List Bool). facet_words marks c.args.numbers.now) c.image_marks-image.ensures))
+returns-then-is_chosen c = rw (sym c.is_chosen.ensures ∙ c.if-is_chosen.true) (writes_as c.write_facet.ensures (ap (λ (marks : List Bool). facet_words marks c.args.numbers.now) c.image_marks-image.ensures))
+
+pub returns-else-is_chosen : goal.returns-else-is_chosen
+returns-else-is_chosen c = rw (sym c.is_chosen.ensures ∙ c.if-is_chosen.false) (writes_none _)

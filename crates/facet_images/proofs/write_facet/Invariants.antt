@@ -2,9 +2,9 @@
 use mathlib.Core.List.{map}
 use Prim.Native.Nat.{ℕ, ◌≤◌}
 use lib.ListN.{get_or}
-use Rattle.figure_words.specs.Wrote.{Wrote}
+use Rattle.words.specs.Wrote.{Writes}
 use Rattle.edge_marks.specs.Marks.{codes_marked}
 use Rattle.facet_images.proofs.write_facet.Given as goal
 
 abbrev pub invariant-loop-code : goal.invariant-loop-code
-invariant-loop-code l = (l.code ≤ 400) × Wrote l.initial.answer l.initial.cursor l.answer l.cursor (map (λ (c : ℕ). get_or l.numbers c 0) (codes_marked l.image l.code))
+invariant-loop-code l = (l.code ≤ 400) × Writes l.initial.w l.w (map (λ (c : ℕ). get_or l.numbers c 0) (codes_marked l.image l.code))

@@ -6,4 +6,4 @@ use Rattle.facet_images.proofs.Choosing.{Partly}
 use Rattle.facet_images.proofs.write_images.Given as goal
 
 abbrev pub invariant-loop-i : goal.invariant-loop-i
-invariant-loop-i l = (l.i ≤ l.many) × Partly l.inside (words 4 l.ids l.many) (id_words l.edges l.rows l.numbers) l.i l.choice l.initial.answer l.initial.cursor l.answer l.cursor
+invariant-loop-i l = (l.i ≤ l.ids.count) × Partly l.inside (words 4 l.ids.bytes.now l.ids.count) (id_words l.facets.edges.bytes.now l.facets.rows.bytes.now l.numbers) l.i l.choice l.initial.w l.w

@@ -3,8 +3,8 @@ use mathlib.Core.List.{flat_map}
 use Prim.Native.Nat.{◌-◌, ◌≤◌}
 use lib.ListN.{take, drop}
 use Rattle.pool.specs.Pool.{closed_lists}
-use Rattle.figure_words.specs.Wrote.{Wrote}
+use Rattle.words.specs.Wrote.{Writes}
 use Rattle.possible_facets.proofs.write_facets.Given as goal
 
 abbrev pub invariant-loop-x : goal.invariant-loop-x
-invariant-loop-x g l = (l.from ≤ l.x) × (l.x ≤ l.to) × Wrote l.initial.answer l.initial.cursor l.answer l.cursor (flat_map (g.T.FacetFigure.words l.points) (take (l.x - l.from) (drop l.from (closed_lists 2 1024 l.edges))))
+invariant-loop-x g l = (l.from ≤ l.x) × (l.x ≤ l.to) × Writes l.initial.w l.w (flat_map (g.T.FacetFigure.words l.points) (take (l.x - l.from) (drop l.from (closed_lists 2 l.edges.most l.edges.bytes.now))))

@@ -6,4 +6,4 @@ use Rattle.possible_facets.proofs.Possible.{SoFar}
 use Rattle.possible_facets.proofs.write_possible.Given as goal
 
 abbrev pub invariant-loop-orbit : goal.invariant-loop-orbit
-invariant-loop-orbit g l = (l.orbit ≤ l.orbits) × (l.x ≤ l.facets) × SoFar (λ (o : ℕ). g.T.FacetFigure.words (g.T.FacetFigure.size l.figures o)) l.orbits (words 2 l.owners l.facets) (closed_lists 2 1024 l.edges) l.orbit l.x l.initial.answer l.initial.cursor l.answer l.cursor
+invariant-loop-orbit g l = (l.orbit ≤ l.orbits) × (l.x ≤ l.owners.facets) × SoFar (λ (o : ℕ). g.T.FacetFigure.words (g.T.FacetFigure.size l.figures o)) l.orbits (words 2 l.owners.bytes.now l.owners.facets) (closed_lists 2 l.edges.most l.edges.bytes.now) l.orbit l.x l.initial.w l.w

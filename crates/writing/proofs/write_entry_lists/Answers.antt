@@ -1,22 +1,20 @@
 -- `writing::write_entry_lists` meets its contract. Assumes nothing.
-use mathlib.Core.Path.{◌∙◌}
-use borrow.Author.Rules.{rules}
-use Rattle.figure_words.specs.Wrote.{wrote_then, wrote_as}
+use native.Mathlib.Omega.{arith}
+use Rattle.words.specs.Wrote.{writes_then, writes_as}
 use Rattle.writing.specs.Standing.{owners_in}
-use Rattle.writing.specs.Asked.{number_is, split_asked, emitted_asked, both_written}
+use Rattle.writing.specs.Asked.{split_inside, emitted_inside, both_written}
 use Rattle.writing.proofs.write_entry_lists.Goals as goal
 
--- what is asked of either pool, for the number that stands at the entry's place
-pub write_pool_list-before-requires : goal.write_pool_list-before-requires
-write_pool_list-before-requires c = let h = c.requires.0 in
-    let number = c.get-number.ensures ∙ number_is h c.args.k c.requires.2 in
-    search (rules, h, c.requires.1, split_asked h c.args.k _ c.requires.2 number, emitted_asked h c.args.k _ c.requires.2 number)
+pub write_list-requires : goal.write_list-requires
+write_list-requires c = let left = c.args.left in let h = left.standing in let pool = split_inside h c.args.k _ c.requires.1 c.number-number.ensures in
+    simp (c.owners-owners.ensures.0, c.owners-owners.ensures.1, c.split-split.ensures.0, c.split-split.ensures.1) (omega (arith, h.few_facets), h.owners, c.requires.0, pool.0, pool.1)
 
-pub write_pool_list-requires : goal.write_pool_list-requires
-write_pool_list-requires c = let h = c.requires.0 in
-    let number = c.get-number.ensures ∙ number_is h c.args.k c.requires.2 in
-    search (rules, h, c.requires.1, split_asked h c.args.k _ c.requires.2 number, emitted_asked h c.args.k _ c.requires.2 number)
+pub write_list-requires-2 : goal.write_list-requires-2
+write_list-requires-2 c = let left = c.args.left in let h = left.standing in let pool = emitted_inside h c.args.k _ c.requires.1 c.number-number.ensures in
+    simp (c.owners-owners.ensures.0, c.owners-owners.ensures.1, c.emitted-emitted.ensures.0, c.emitted-emitted.ensures.1) (omega (arith, h.few_facets), h.owners, c.requires.0, pool.0, pool.1)
 
 pub returns : goal.returns
-returns c = let h = c.requires.0 in
-    wrote_as (wrote_then c.write_pool_list-before.ensures c.write_pool_list.ensures) (both_written h (owners_in c.args.level c.args.ws.now) c.args.k _ c.requires.2 (c.get-number.ensures ∙ number_is h c.args.k c.requires.2))
+returns c = let left = c.args.left in
+    let first = simp (c.owners-owners.ensures.0, c.owners-owners.ensures.1, c.split-split.ensures.0, c.split-split.ensures.1) at c.write_list.ensures in
+    let second = simp (c.owners-owners.ensures.0, c.owners-owners.ensures.1, c.emitted-emitted.ensures.0, c.emitted-emitted.ensures.1) at c.write_list-2.ensures in
+    writes_as (writes_then first second) (both_written left.standing (owners_in left.level left.ws.now) c.args.k _ c.requires.1 c.number-number.ensures)

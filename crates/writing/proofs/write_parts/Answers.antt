@@ -1,13 +1,10 @@
 -- `writing::write_parts` meets its contract.
-use native.Mathlib.Omega.{arith}
-use Rattle.figure_words.specs.Wrote.{wrote_then}
+use Rattle.words.specs.Wrote.{writes_then}
 use Rattle.writing.specs.Standing.{parts_from}
-use Rattle.writing.specs.Asked.{owners_asked}
 use Rattle.writing.proofs.write_parts.Goals as goal
-
-pub write_possible-possible-requires : goal.write_possible-possible-requires
-write_possible-possible-requires g c = let h = c.requires.0 in (c.requires.2, owners_asked h.listed, omega (arith, h.listed.few_facets), h.edges, h.each)
 
 pub returns : goal.returns
 unfolding parts_from
-returns g c = wrote_then (wrote_then (wrote_then (wrote_then c.write_front-counts.ensures c.write_entries-figures.ensures) c.write_possible-possible.ensures) c.write_labels-compounds.ensures) c.write_summaries.ensures
+returns g c =
+    let possible = rw (c.owners.ensures.0, c.owners.ensures.1, c.edges.ensures.0, c.edges.ensures.1) at c.write_possible.ensures in
+    writes_then (writes_then (writes_then (writes_then c.write_front.ensures c.write_entries.ensures) possible) c.write_labels.ensures) c.write_summaries.ensures

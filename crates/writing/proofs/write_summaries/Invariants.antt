@@ -3,8 +3,8 @@ use mathlib.Core.List.{flat_map}
 use Prim.Native.Nat.{◌≤◌}
 use lib.ListN.{take}
 use Rattle.shelf.specs.Leaves.{lists_left}
-use Rattle.figure_words.specs.Wrote.{Wrote}
+use Rattle.words.specs.Wrote.{Writes}
 use Rattle.writing.proofs.write_summaries.Given as goal
 
 abbrev pub invariant-loop-k : goal.invariant-loop-k
-invariant-loop-k g l = (l.k ≤ l.count) × Wrote l.initial.answer l.initial.cursor l.answer l.cursor (flat_map (g.T.EntryFigure.summary l.figures l.level l.ws) (take l.k (lists_left l.level l.ws)))
+invariant-loop-k g l = (l.k ≤ l.left.level.count) × Writes l.initial.w l.w (flat_map (g.T.EntryFigure.summary l.figures l.left.level l.left.ws.now) (take l.k (lists_left l.left.level l.left.ws.now)))

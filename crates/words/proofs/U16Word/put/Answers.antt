@@ -1,11 +1,7 @@
 -- `u16::put` meets its contract. Assumes nothing.
-use native.Mathlib.Omega.{arith}
-use lib.ListN.{length-set}
-use Rattle.words.proofs.Laws.{write_two}
+use mathlib.Core.Path.{◌∙◌}
+use Rattle.words.proofs.Laws.{copied}
 use Rattle.words.proofs.U16Word.put.Goals as goal
 
-pub bounds-s-at-2 : goal.bounds-s-at-2
-bounds-s-at-2 c = simp length-set (omega arith)
-
 pub returns : goal.returns
-returns c = write_two _ _ _ (omega arith)
+returns c = copied 2 _ _ _ _ c.requires (c.copy_from_slice.ensures.after ∙ c.to_le_bytes.ensures)
