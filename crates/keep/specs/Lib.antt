@@ -3,6 +3,6 @@ pub mod Storing
 pub mod Stocked
 pub mod Adding
 pub mod Cleared
-pub mod Vertices
 pub mod Rooms
 pub mod Short
+pub mod OneOrTwo

@@ -1,9 +1,6 @@
--- A list of one or two items, and numbers that fit in so many bytes. And vertices that join a struct. Leans on the openers.
-use Rattle.std.specs.Prelude.{◌≡◌, refl, Bool, true, false, cond, not, List, [], ◌∷◌, map, ℕ, zero, suc, ◌%◌, ◌^◌, ◌≤◌, ◌<◌, eqb, length, get_or, take}
-use Rattle.std.proofs.Common.{sym, ap, ◌∙◌, arith, eq-eqb, ne_eqb, length-take-le}
-use Rattle.laws.specs.Sets.{vertices_from}
-use Rattle.openers.specs.Meaning.{vertices_in, HoldsVertices}
-use Rattle.openers.specs.declared.Vertices.{Vertices}
+-- A list of one or two items, and numbers that fit in so many bytes.
+use Rattle.std.specs.Prelude.{◌≡◌, refl, Bool, true, false, cond, not, List, [], ◌∷◌, map, ℕ, zero, suc, ◌^◌, ◌≤◌, ◌<◌, length, get_or, take}
+use Rattle.std.proofs.Common.{arith}
 
 -- a list of one item, or of two
 unfoldable pub one_or_two : Bool → ℕ → ℕ → List ℕ
@@ -44,13 +41,3 @@ module _ (swapped : Bool) (many a b : ℕ) (e : many ≡ cond swapped 1 2) where
       go : (s : Bool) → Fitting w (map (λ (v : ℕ). v) (take (cond s 1 2) (a ∷ b ∷ [])))
       go true = one_fitting w a f
       go false = two_fitting w a b f g
-
--- ---- vertices
-
-pub one_vertex : (v rest : ℕ) → rest % 2 ≡ 1 → vertices_from v 1 rest ≡ v ∷ []
-unfolding vertices_from
-one_vertex v rest e = rw (eq-eqb (rest % 2) 1 e) refl
-
-pub no_vertex : (v rest : ℕ) → (rest % 2 ≡ 1 → ⊥) → vertices_from v 1 rest ≡ []
-unfolding vertices_from
-no_vertex v rest e = rw (ne_eqb (rest % 2) 1 e) refl

@@ -1,18 +1,15 @@
 // The shelf of a call: emptied before its loop, and what every orbit that is kept writes on it, the label and the
-// owner of a facet. With them the vertices of an orbit's set. What is kept of an inner call of rank 2 stands in
-// `kept_edges`, of one of rank 3 in `kept_polygons`. Leans on the shelf and on pools.
+// owner of a facet. What is kept of an inner call of rank 2 stands in `kept_edges`, of one of rank 3 in
+// `kept_polygons`. Leans on the shelf and on pools.
 
 #![tactic(auto)]
 
 ghost use Rattle.std.specs.Prelude.{◌≡◌, [], ℕ, ◌+◌, ◌*◌, ◌≤◌, ◌<◌, length};
-ghost use Rattle.laws.specs.Sets.{vertices_of};
 ghost use Rattle.words.specs.Words.{put};
-ghost use Rattle.openers.specs.Meaning.{HoldsVertices};
 ghost use Rattle.shelf.specs.Keeps.{Keeps, Ridges, ShelfFits};
 ghost use Rattle.keep.specs.Stocked.{ShelfWritten};
 ghost use Rattle.keep.specs.Adding.{with_facets};
 
-use openers::Vertices;
 use shelf::Shelf;
 use words::Word;
 
@@ -29,23 +26,7 @@ pub fn clear_shelf(ws: &mut [u8], shelf: Shelf)
     pool::clear(&mut ws[shelf.places..shelf.end]);
 }
 
-// ---- a set's vertices
-
-// The vertices of a set, ascending.
-pub fn vertices_of(set: u32, n: usize) -> Vertices
-    requires { n ≤ 20 }
-    ensures { HoldsVertices result (vertices_of n set) }
-{
-    let mut found = Vertices::new();
-    let mut rest = set;
-    for v in 0..n {
-        if rest % 2 == 1 {
-            found.push(v);
-        }
-        rest = rest / 2;
-    }
-    found
-}
+// ---- what an orbit writes
 
 // The label and the owner of facet x.
 pub fn store_facet(ws: &mut [u8], shelf: Shelf, x: usize, label: u32, owner: u16)

@@ -18,16 +18,16 @@ ghost use Rattle.keep.specs.Rooms.{RoomFor};
 ghost use Rattle.keep.specs.Short.{Fitting};
 ghost use Rattle.kept_edges.specs.Edges.{edge_answer, EndsStored};
 
-use openers::Vertices;
+use arrayvec::ArrayVec;
 use shelf::Shelf;
 use words::Word;
 
 // The second vertex: a line may have more points, and its edge ends at the second.
-fn second(vertices: Vertices) -> usize
-    requires { (2 ≤ vertices.count) × (vertices.count ≤ 20) }
-    ensures { result ≡ get_or vertices.at 1 0 }
+fn second(vertices: &ArrayVec<usize, 20>) -> usize
+    requires { 2 ≤ length vertices.now.items }
+    ensures { result ≡ get_or vertices.now.items 1 0 }
 {
-    vertices.at[1]
+    vertices[1]
 }
 
 // ---- one list, label and owner
@@ -75,12 +75,11 @@ pub fn keep_edge(ws: &mut [u8], shelf: Shelf, n: usize, swapped: bool) -> Shelf
     ensures within { (take 2048 ws.new ≡ take 2048 ws.old) × ShelfWritten shelf ws.old ws.new }
     ensures keeps { (kept : List Kept) (i : Inner) (left : ℕ) → Keeps n shelf kept ws.old → Ridges shelf kept ws.old → i.orbit ≡ orbit_of n (orbit_at ws.old shelf.orbits) → i.answer ≡ edge_answer swapped left → Keeps n result (kept ++ (kept_of i ∷ [])) ws.new × Ridges result (kept ++ (kept_of i ∷ [])) ws.new }
 {
-    let i = shelf.orbits;
-    let vertices = keep::vertices_of(u32::get(ws, 8 * i), n);
-    let v = vertices.at[0];
-    let w = second(vertices);
+    let vertices = sets::vertices_of(u32::get(ws, 8 * shelf.orbits), n);
+    let v = vertices[0];
+    let w = second(&vertices);
     keep_ends(ws, shelf, v, w, swapped);
     store(ws, shelf.edges, shelf.labels, 1024, &[(20 * v + w) as u16]);
-    keep::store_facet(ws, shelf, shelf.facets, 0, i as u16);
+    keep::store_facet(ws, shelf, shelf.facets, 0, shelf.orbits as u16);
     keep::one_more(shelf, 1)
 }

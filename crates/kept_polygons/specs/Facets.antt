@@ -26,7 +26,7 @@ use Rattle.keep.specs.Rooms.{room_edges, room_places}
 use Rattle.kept_polygons.specs.Labels.{label_some}
 use Rattle.left_edges.specs.Marked.{marked_codes}
 use Rattle.left_edges.specs.Polygons.{EdgesLeft}
-use Rattle.left_edges.specs.Reading.{moved_code, marks_of, entry_below, count_append, lent_tail}
+use Rattle.left_edges.specs.Reading.{moved_code, HasVertex, PairHasVertices, marks_of, entry_below, count_append, lent_tail}
 use Rattle.left_edges.proofs.Reading.{marked_below}
 
 -- ---- what is read
@@ -35,7 +35,7 @@ use Rattle.left_edges.proofs.Reading.{marked_below}
 pub record Source (n m : ℕ) (inner : List Kept) (level : Level) (rows : List ℕ) (at : ℕ) (vertices s : List ℕ) : Type 0 where
   pub left : EdgesLeft n m inner level rows (drop at s)
   pub inside : at ≤ length s
-  pub small : (p : ℕ) → p < n → get_or vertices p 0 < 20
+  pub small : (p : ℕ) → p < n → HasVertex vertices p
 
 -- an entry's facets, and its label
 abbrev pub entry_at : Level → ℕ → List ℕ → ℕ → List ℕ
@@ -70,7 +70,7 @@ module _ {n m : ℕ} {inner : List Kept} {level : Level} {rows : List ℕ} {at :
 
   module _ (src : Source n m inner level rows at vertices s) (k : ℕ) (h : k < level.count) where
     -- a marked code is that of two points, whose vertices are small
-    pub marked_small : (c : ℕ) → c < 400 → (marks : List Bool) → marks ≡ marks_of (rows_in n m rows) inner (entry_at level at s k) → get_or marks c false ≡ true → (get_or vertices (c / 20) 0 < 20) × (get_or vertices (c % 20) 0 < 20)
+    pub marked_small : (c : ℕ) → c < 400 → (marks : List Bool) → marks ≡ marks_of (rows_in n m rows) inner (entry_at level at s k) → get_or marks c false ≡ true → PairHasVertices vertices c
     marked_small c f marks e t =
         let r = marked_below n m rows inner (entry_at level at s k) src.left.rows_fit src.left.each (entry_below src.left k h) c f (rw e at t) in
         (src.small (c / 20) r.0, src.small (c % 20) r.1)

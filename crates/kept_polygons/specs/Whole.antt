@@ -12,8 +12,7 @@ use Rattle.laws.specs.Lists.{Mem, here, there}
 use Rattle.laws.specs.Places.{map_same}
 use Rattle.laws.specs.Sets.{vertices_of}
 use Rattle.openers.specs.Rows.{rows_in}
-use Rattle.openers.specs.Meaning.{pair_code, HoldsVertices}
-use Rattle.openers.specs.declared.Vertices.{Vertices}
+use Rattle.openers.specs.Meaning.{pair_code}
 use Rattle.orbits.specs.Numbers.{orbit_of}
 use Rattle.order.specs.Areas.{lists_length}
 use Rattle.shapes.specs.Polygons.{ends_via}
@@ -27,9 +26,9 @@ use Rattle.keep.specs.Stocked.{Stocked, ShelfWritten, within_both, ridges_within
 use Rattle.keep.specs.Adding.{StockedWith, stocked_with, stocked_more, kept_more, with_facets, orbit_at, orbit_labels, labels_length, owners_length}
 use Rattle.keep.specs.Rooms.{RoomFor, places_number, edges_number, codes_items}
 use Rattle.kept_polygons.specs.Labels.{labels_raised}
-use Rattle.keep.specs.Vertices.{vertex_at, vertex_below, vertex_rises}
+use Rattle.sets.specs.Vertices.{vertex_below, vertex_rises}
 use Rattle.left_edges.specs.Polygons.{edge_in, OneEdge, EdgesLeft, entry_edges, polygon_kept, polygon_kept_holds}
-use Rattle.left_edges.specs.Reading.{moved_code, ridges_moved, lists_below}
+use Rattle.left_edges.specs.Reading.{moved_code, HasVertex, ridges_moved, lists_below}
 use Rattle.left_edges.proofs.Reading.{entry_codes}
 use Rattle.kept_polygons.specs.Facets.{Source, FacetsStored, FacetsRoom, codes_of, labels_left, labels_long, all_codes, all_labels, all_lists, source_kept, behind_same}
 
@@ -80,7 +79,7 @@ module _ (N : ℕ) (inner : List Kept) (each : (k : Kept) → Mem k inner → On
 
 -- ---- the steps of `keep_polygons`: the ridges, then the facets
 
-module _ (n : ℕ) (shelf : Shelf) (m : ℕ) (inner : List Kept) (level : Level) (rows : List ℕ) (at : ℕ) (s : List ℕ) (vs : Vertices) (holds : HoldsVertices vs (next_vertices n shelf s)) (fits : n ≤ 20)
+module _ (n : ℕ) (shelf : Shelf) (m : ℕ) (inner : List Kept) (level : Level) (rows : List ℕ) (at : ℕ) (s : List ℕ) (vs : List ℕ) (holds : vs ≡ next_vertices n shelf s) (fits : n ≤ 20)
     (left : EdgesLeft (length (next_vertices n shelf s)) m inner level rows (drop at s)) (inside : at ≤ length s) (behind : shelf.end ≤ at) where
   abbrev N : ℕ
   N = length (next_vertices n shelf s)
@@ -88,24 +87,24 @@ module _ (n : ℕ) (shelf : Shelf) (m : ℕ) (inner : List Kept) (level : Level)
   abbrev to : ℕ → ℕ
   to = vertex_in (next_vertices n shelf s)
 
-  pub vertex_same : (p : ℕ) → p < N → get_or vs.at p 0 ≡ to p
-  vertex_same p h = vertex_at holds p h
+  pub vertex_same : (p : ℕ) → p < N → get_or vs p 0 ≡ to p
+  vertex_same p h = ap (λ (l : List ℕ). get_or l p 0) holds
 
-  pub vertex_small : (p : ℕ) → p < N → get_or vs.at p 0 < 20
+  pub vertex_small : (p : ℕ) → p < N → HasVertex vs p
   vertex_small p h = omega (arith, vertex_same p h, vertex_below n (number_at s (8 * shelf.orbits) 4) p h)
 
-  pub source_here : Source N m inner level rows at vs.at s
+  pub source_here : Source N m inner level rows at vs s
   source_here = record { left = left; inside = inside; small = vertex_small }
 
   -- each entry's edges, as codes
-  codes_are : map (map pair_code) (map (entry_edges to (rows_in N m rows) inner) (lists_left level (drop at s))) ≡ all_codes shelf N m inner level rows at vs.at s
+  codes_are : map (map pair_code) (map (entry_edges to (rows_in N m rows) inner) (lists_left level (drop at s))) ≡ all_codes shelf N m inner level rows at vs s
   unfolding codes_of
   codes_are = twice (lists_left level (drop at s)) (λ l i. i)
     where
-      twice : (ls : List (List ℕ)) → ((l : List ℕ) → Mem l ls → Mem l (lists_left level (drop at s))) → map (map pair_code) (map (entry_edges to (rows_in N m rows) inner) ls) ≡ map (codes_of N m rows inner vs.at) ls
+      twice : (ls : List (List ℕ)) → ((l : List ℕ) → Mem l ls → Mem l (lists_left level (drop at s))) → map (map pair_code) (map (entry_edges to (rows_in N m rows) inner) ls) ≡ map (codes_of N m rows inner vs) ls
       twice [] h = refl
       twice (l ∷ ls) h =
-          let one = entry_codes N m rows inner l left.rows_fit left.each (lists_below left l (h l (here refl))) vs.at to vertex_same in
+          let one = entry_codes N m rows inner l left.rows_fit left.each (lists_below left l (h l (here refl))) vs to vertex_same in
           let more = twice ls (λ x i. h x (there i)) in
           λ t. one t ∷ more t
 
@@ -113,17 +112,17 @@ module _ (n : ℕ) (shelf : Shelf) (m : ℕ) (inner : List Kept) (level : Level)
     order : shelf.edges ≤ shelf.end
     order = let f = keeps.fits in omega (arith, f.edge_room, f.label_room, f.owner_room, f.ridge_room, f.place_room)
 
-    module _ {t : List ℕ} (one : Stored 4 256 shelf.ridges (shelf.places - shelf.ridges) s t (ridges_moved vs.at inner)) where
+    module _ {t : List ℕ} (one : Stored 4 256 shelf.ridges (shelf.places - shelf.ridges) s t (ridges_moved vs inner)) where
       pub ridges_near : ShelfWritten shelf s t
       ridges_near = ridges_within keeps.fits one
 
-      ridges_stocked : Stocked shelf (map (map pair_code) (edges_of kept)) (labels_from 0 kept) (owners_of kept) (map ridge_codes kept ++ (ridges_moved vs.at inner ∷ [])) (places_of kept) t
+      ridges_stocked : Stocked shelf (map (map pair_code) (edges_of kept)) (labels_from 0 kept) (owners_of kept) (map ridge_codes kept ++ (ridges_moved vs inner ∷ [])) (places_of kept) t
       ridges_stocked = stocked_ridges (stocked_with keeps ridges) one
 
       tail : drop at t ≡ drop at s
       tail = behind_same shelf at order behind ridges_near
 
-      pub source_then : Source N m inner level rows at vs.at t
+      pub source_then : Source N m inner level rows at vs t
       source_then = source_kept shelf order behind ridges_near source_here
 
       labels_there : length (labels_from 0 kept) ≡ shelf.facets
@@ -133,15 +132,15 @@ module _ (n : ℕ) (shelf : Shelf) (m : ℕ) (inner : List Kept) (level : Level)
       owners_there = owners_length kept ∙ sym keeps.facets
 
       -- room for the facets
-      pub facets_room : {r : ℕ} → RoomFor shelf kept level.count (length (joined (map (entry_edges to (rows_in N m rows) inner) (lists_left level (drop at s))))) r (length (joined (lists_left level (drop at s)))) → FacetsRoom shelf N m inner level rows at vs.at t
+      pub facets_room : {r : ℕ} → RoomFor shelf kept level.count (length (joined (map (entry_edges to (rows_in N m rows) inner) (lists_left level (drop at s))))) r (length (joined (lists_left level (drop at s)))) → FacetsRoom shelf N m inner level rows at vs t
       facets_room room =
-          let items : length (joined (all_codes shelf N m inner level rows at vs.at s)) ≡ length (joined (map (entry_edges to (rows_in N m rows) inner) (lists_left level (drop at s)))) =
+          let items : length (joined (all_codes shelf N m inner level rows at vs s)) ≡ length (joined (map (entry_edges to (rows_in N m rows) inner) (lists_left level (drop at s)))) =
           ap (λ (l : List (List ℕ)). length (joined l)) (sym codes_are) ∙ codes_items (map (entry_edges to (rows_in N m rows) inner) (lists_left level (drop at s))) in
           record {
             edges = map (map pair_code) (edges_of kept);
             labels = labels_from 0 kept;
             owners = owners_of kept;
-            ridges = map ridge_codes kept ++ (ridges_moved vs.at inner ∷ []);
+            ridges = map ridge_codes kept ++ (ridges_moved vs inner ∷ []);
             places = places_of kept;
             stock = ridges_stocked;
             small = room.small;
@@ -153,7 +152,7 @@ module _ (n : ℕ) (shelf : Shelf) (m : ℕ) (inner : List Kept) (level : Level)
             place_room = rw tail room.place_room;
           }
 
-      module _ {u : List ℕ} (two : FacetsStored shelf level.count (all_codes shelf N m inner level rows at vs.at t) (all_labels shelf N m inner level rows at vs.at t) (all_lists shelf N m inner level rows at vs.at t) t u) where
+      module _ {u : List ℕ} (two : FacetsStored shelf level.count (all_codes shelf N m inner level rows at vs t) (all_labels shelf N m inner level rows at vs t) (all_lists shelf N m inner level rows at vs t) t u) where
         pub polygons_within : ShelfWritten shelf s u
         polygons_within = within_both shelf ridges_near two.within
 
@@ -168,13 +167,13 @@ module _ (n : ℕ) (shelf : Shelf) (m : ℕ) (inner : List Kept) (level : Level)
         unfolding polygon_kept ridge_codes
         polygons_stocked o e =
             let stock = rw tail at (two.stocked _ _ _ _ _ ridges_stocked labels_there owners_there) in
-            let r : ridge_codes (k o) ≡ ridges_moved vs.at inner =
+            let r : ridge_codes (k o) ≡ ridges_moved vs inner =
             ap (λ (l : List ℕ). zip_with ridge_code (map (λ (g : Kept). ends_via (vertex_in l) (edge_in g)) inner) (map (λ (g : Kept). g.orbit.count) inner)) e
-            ∙ ridges_moved_holds N inner left.each to vs.at vertex_same left.rows_fit.n_fits in
-            let c : map (map pair_code) (k o).edges ≡ all_codes shelf N m inner level rows at vs.at s =
+            ∙ ridges_moved_holds N inner left.each to vs vertex_same left.rows_fit.n_fits in
+            let c : map (map pair_code) (k o).edges ≡ all_codes shelf N m inner level rows at vs s =
             ap (λ (l : List ℕ). map (map pair_code) (map (entry_edges (vertex_in l) (rows_in N m rows) inner) (lists_left level (drop at s)))) e ∙ codes_are in
-            let b : orbit_labels (length (facets_of kept)) (k o) ≡ all_labels shelf N m inner level rows at vs.at s =
-            labels_raised (length (facets_of kept)) (k o) (labels_left level at s) refl (lists_long ∙ sym (labels_long shelf N m inner level rows at vs.at s))
+            let b : orbit_labels (length (facets_of kept)) (k o) ≡ all_labels shelf N m inner level rows at vs s =
+            labels_raised (length (facets_of kept)) (k o) (labels_left level at s) refl (lists_long ∙ sym (labels_long shelf N m inner level rows at vs s))
             ∙ ap (λ (first : ℕ). map (raised first) (labels_left level at s)) (sym keeps.facets) in
             stocked_more kept (k o) (rw (r, c, b, lists_long, ← keeps.orbits) stock)
 

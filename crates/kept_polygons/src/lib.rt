@@ -17,11 +17,12 @@ ghost use Rattle.keep.specs.Storing.{ListRoom, Stored};
 ghost use Rattle.keep.specs.Stocked.{ShelfWritten};
 ghost use Rattle.keep.specs.Adding.{with_facets, orbit_at};
 ghost use Rattle.left_edges.specs.Polygons.{EdgesLeft};
-ghost use Rattle.left_edges.specs.Reading.{ridges_moved};
+ghost use Rattle.left_edges.specs.Reading.{HasVertex, ridges_moved};
 ghost use Rattle.kept_polygons.specs.Facets.{Source, FacetStored, FacetsStored, FacetsRoom, entry_at, labels_left, codes_of, all_codes, all_labels, all_lists};
 ghost use Rattle.kept_polygons.specs.Whole.{InnerLeft, PolygonRoom, inner_answer};
 
-use openers::Vertices;
+use arrayvec::ArrayVec;
+use openers::Rows;
 use shelf::{Level, Shelf};
 use words::Word;
 
@@ -41,12 +42,18 @@ fn store_places(ws: &mut [u8], at: usize, level: Level, k: usize, from: usize, t
 }
 
 // Each inner orbit's edge, moved to the vertices, with its count: the orbit's ridges.
-fn store_ridges(ws: &mut [u8], at: usize, level: Level, from: usize, to: usize, vertices: Vertices)
-    requires { (from ≤ to) × (to ≤ at) × (at ≤ length ws.old) × ((n : ℕ) × (m : ℕ) × (rows : List ℕ) × (inner : List Kept) × EdgesLeft n m inner level rows (drop at ws.old) × ListRoom 4 256 from (to - from) ws.old (length inner) × ((p : ℕ) → p < n → get_or vertices.at p 0 < 20)) }
-    ensures { (n m : ℕ) (rows : List ℕ) (inner : List Kept) → EdgesLeft n m inner level rows (drop at ws.old) → Stored 4 256 from (to - from) ws.old ws.new (ridges_moved vertices.at inner) }
+fn store_ridges(
+    ws: &mut [u8],
+    at: usize,
+    level: Level,
+    from: usize,
+    to: usize,
+    vertices: &ArrayVec<usize, 20>,
+)
+    requires { (from ≤ to) × (to ≤ at) × (at ≤ length ws.old) × ((n : ℕ) × (m : ℕ) × (rows : List ℕ) × (inner : List Kept) × EdgesLeft n m inner level rows (drop at ws.old) × ListRoom 4 256 from (to - from) ws.old (length inner) × ((p : ℕ) → p < n → HasVertex vertices.now.items p)) }
+    ensures { (n m : ℕ) (rows : List ℕ) (inner : List Kept) → EdgesLeft n m inner level rows (drop at ws.old) → Stored 4 256 from (to - from) ws.old ws.new (ridges_moved vertices.now.items inner) }
 {
-    let orbits = level.shelf.orbits;
-    for a in 0..orbits {
+    for a in 0..level.shelf.orbits {
         let code = left_edges::moved(
             left_edges::edge_at(&ws[at..], level.shelf, a),
             vertices,
@@ -78,15 +85,14 @@ fn keep_facet(
     at: usize,
     level: Level,
     k: usize,
-    rows: &[u8],
-    m: usize,
-    vertices: Vertices,
+    rows: Rows,
+    vertices: &ArrayVec<usize, 20>,
 )
-    requires { ShelfFits shelf (length ws.old) × (shelf.end ≤ at) × (shelf.orbits < 256) × (shelf.facets + level.count ≤ 1024) × (k < level.count) × ((n : ℕ) × (inner : List Kept) × Source n m inner level rows.now at vertices.at ws.old × ListRoom 2 1024 shelf.edges (shelf.labels - shelf.edges) ws.old (length (codes_of n m rows.now inner vertices.at (entry_at level at ws.old k))) × ListRoom 2 1024 shelf.places (shelf.end - shelf.places) ws.old (length (entry_at level at ws.old k))) }
-    ensures { (n : ℕ) (inner : List Kept) → Source n m inner level rows.now at vertices.at ws.old → FacetStored shelf k (codes_of n m rows.now inner vertices.at (entry_at level at ws.old k)) (raised shelf.facets (get_or (labels_left level at ws.old) k None)) (entry_at level at ws.old k) ws.old ws.new }
+    requires { ShelfFits shelf (length ws.old) × (shelf.end ≤ at) × (shelf.orbits < 256) × (shelf.facets + level.count ≤ 1024) × (k < level.count) × ((n : ℕ) × (inner : List Kept) × Source n rows.count inner level rows.bytes.now at vertices.now.items ws.old × ListRoom 2 1024 shelf.edges (shelf.labels - shelf.edges) ws.old (length (codes_of n rows.count rows.bytes.now inner vertices.now.items (entry_at level at ws.old k))) × ListRoom 2 1024 shelf.places (shelf.end - shelf.places) ws.old (length (entry_at level at ws.old k))) }
+    ensures { (n : ℕ) (inner : List Kept) → Source n rows.entry.count inner level rows.entry.bytes.now at vertices.now.items ws.old → FacetStored shelf k (codes_of n rows.entry.count rows.entry.bytes.now inner vertices.now.items (entry_at level at ws.old k)) (raised shelf.facets (get_or (labels_left level at ws.old) k None)) (entry_at level at ws.old k) ws.old ws.new }
 {
     let mut marks = [false; 400];
-    left_edges::mark_entry(&ws[at..], level, k, rows, m, &mut marks);
+    left_edges::mark_entry(&ws[at..], level, k, rows, &mut marks);
     left_edges::store_edges(ws, shelf.edges, shelf.labels, &marks, vertices);
     store_places(ws, at, level, k, shelf.places, shelf.end);
     let place = level.lists + (level.bytes + 2048 + 4 * k);
@@ -100,15 +106,14 @@ fn keep_facets(
     shelf: Shelf,
     at: usize,
     level: Level,
-    rows: &[u8],
-    m: usize,
-    vertices: Vertices,
+    rows: Rows,
+    vertices: &ArrayVec<usize, 20>,
 )
-    requires { (shelf.end ≤ at) × (shelf.orbits < 256) × (shelf.facets + level.count ≤ 1024) × ((n : ℕ) × (inner : List Kept) × Source n m inner level rows.now at vertices.at ws.old × FacetsRoom shelf n m inner level rows.now at vertices.at ws.old) }
-    ensures { (n : ℕ) (inner : List Kept) → Source n m inner level rows.now at vertices.at ws.old → FacetsStored shelf level.count (all_codes shelf n m inner level rows.now at vertices.at ws.old) (all_labels shelf n m inner level rows.now at vertices.at ws.old) (all_lists shelf n m inner level rows.now at vertices.at ws.old) ws.old ws.new }
+    requires { (shelf.end ≤ at) × (shelf.orbits < 256) × (shelf.facets + level.count ≤ 1024) × ((n : ℕ) × (inner : List Kept) × Source n rows.count inner level rows.bytes.now at vertices.now.items ws.old × FacetsRoom shelf n rows.count inner level rows.bytes.now at vertices.now.items ws.old) }
+    ensures { (n : ℕ) (inner : List Kept) → Source n rows.entry.count inner level rows.entry.bytes.now at vertices.now.items ws.old → FacetsStored shelf level.count (all_codes shelf n rows.entry.count inner level rows.entry.bytes.now at vertices.now.items ws.old) (all_labels shelf n rows.entry.count inner level rows.entry.bytes.now at vertices.now.items ws.old) (all_lists shelf n rows.entry.count inner level rows.entry.bytes.now at vertices.now.items ws.old) ws.old ws.new }
 {
     for k in 0..level.count {
-        keep_facet(ws, shelf, at, level, k, rows, m, vertices);
+        keep_facet(ws, shelf, at, level, k, rows, vertices);
     }
 }
 
@@ -119,16 +124,15 @@ pub fn keep_polygons(
     n: usize,
     at: usize,
     level: Level,
-    rows: &[u8],
-    m: usize,
+    rows: Rows,
 ) -> Shelf
-    requires { (n ≤ 20) × (shelf.end ≤ at) × (at ≤ length ws.old) × ((kept : List Kept) × (inner : List Kept) × Keeps n shelf kept ws.old × Ridges shelf kept ws.old × InnerLeft n shelf at m inner level rows.now ws.old × PolygonRoom n shelf at m kept inner level rows.now ws.old) }
+    requires { (n ≤ 20) × (shelf.end ≤ at) × (at ≤ length ws.old) × ((kept : List Kept) × (inner : List Kept) × Keeps n shelf kept ws.old × Ridges shelf kept ws.old × InnerLeft n shelf at rows.count inner level rows.bytes.now ws.old × PolygonRoom n shelf at rows.count kept inner level rows.bytes.now ws.old) }
     ensures shelf { result ≡ with_facets shelf level.count }
     ensures within { (take 2048 ws.new ≡ take 2048 ws.old) × ShelfWritten shelf ws.old ws.new }
-    ensures keeps { (kept inner : List Kept) (i : Inner) (left : ℕ) → Keeps n shelf kept ws.old → Ridges shelf kept ws.old → InnerLeft n shelf at m inner level rows.now ws.old → i.orbit ≡ orbit_of n (orbit_at ws.old shelf.orbits) → i.answer ≡ inner_answer n shelf at m inner level rows.now ws.old left → Keeps n result (kept ++ (kept_of i ∷ [])) ws.new × Ridges result (kept ++ (kept_of i ∷ [])) ws.new }
+    ensures keeps { (kept inner : List Kept) (i : Inner) (left : ℕ) → Keeps n shelf kept ws.old → Ridges shelf kept ws.old → InnerLeft n shelf at rows.entry.count inner level rows.entry.bytes.now ws.old → i.orbit ≡ orbit_of n (orbit_at ws.old shelf.orbits) → i.answer ≡ inner_answer n shelf at rows.entry.count inner level rows.entry.bytes.now ws.old left → Keeps n result (kept ++ (kept_of i ∷ [])) ws.new × Ridges result (kept ++ (kept_of i ∷ [])) ws.new }
 {
-    let vertices = keep::vertices_of(u32::get(ws, 8 * shelf.orbits), n);
-    store_ridges(ws, at, level, shelf.ridges, shelf.places, vertices);
-    keep_facets(ws, shelf, at, level, rows, m, vertices);
+    let vertices = sets::vertices_of(u32::get(ws, 8 * shelf.orbits), n);
+    store_ridges(ws, at, level, shelf.ridges, shelf.places, &vertices);
+    keep_facets(ws, shelf, at, level, rows, &vertices);
     keep::one_more(shelf, level.count)
 }

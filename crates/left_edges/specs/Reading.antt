@@ -59,6 +59,13 @@ images_more rows inner marks l i x h e =
 abbrev pub moved_code : List ℕ → ℕ → ℕ
 moved_code vertices c = 20 * get_or vertices (c / 20) 0 + get_or vertices (c % 20) 0
 
+-- the vertex at a position is one of 20, where 0 stands behind the last; and both of a pair with a code
+abbrev pub HasVertex : List ℕ → ℕ → Type 0
+HasVertex vertices p = get_or vertices p 0 < 20
+
+abbrev pub PairHasVertices : List ℕ → ℕ → Type 0
+PairHasVertices vertices c = HasVertex vertices (c / 20) × HasVertex vertices (c % 20)
+
 abbrev pub Test : List Bool → ℕ → Bool
 Test marks c = get_or marks c false
 

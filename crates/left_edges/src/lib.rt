@@ -10,24 +10,39 @@ ghost use Rattle.openers.specs.Marks.{marked};
 ghost use Rattle.openers.specs.Meaning.{pair_code};
 ghost use Rattle.order.specs.Areas.{HoldsOrder};
 ghost use Rattle.shapes.specs.Kept.{Kept};
+ghost use Rattle.shelf.specs.Areas.{area_of};
 ghost use Rattle.shelf.specs.Keeps.{ShelfFits, Lists, edges_part};
 ghost use Rattle.shelf.specs.Leaves.{lists_left};
 ghost use Rattle.keep.specs.Storing.{ListRoom, Stored};
 ghost use Rattle.left_edges.specs.Marked.{marked_codes};
 ghost use Rattle.left_edges.specs.Polygons.{edge_at, images_of, EdgesLeft};
-ghost use Rattle.left_edges.specs.Reading.{moved_code};
+ghost use Rattle.left_edges.specs.Reading.{moved_code, PairHasVertices};
 
-use openers::Vertices;
+use arrayvec::ArrayVec;
+use openers::Rows;
 use shelf::{Level, Shelf};
 
 // ---- what an inner call of rank 3 has left
+
+// The workspace and the level go side by side, and not in a struct such as `writing::Left`: that its lists stand, which `Left` holds, is more than is known here.
+
+// The lists of its entries, in their order.
+fn entries(s: &[u8], level: Level) -> order::Lists
+    requires { (level.lists ≤ length s.now) × HoldsOrder 1024 level.bytes level.count (drop level.lists s.now) }
+    ensures { (result.bytes.now ≡ drop level.lists s.now) × (result.area ≡ area_of level) }
+{
+    order::Lists {
+        bytes: &s[level.lists..],
+        area: level.area(),
+    }
+}
 
 // How many facets entry k has.
 pub fn facets_of(s: &[u8], level: Level, k: usize) -> usize
     requires { (level.lists ≤ length s.now) × HoldsOrder 1024 level.bytes level.count (drop level.lists s.now) × (k < level.count) }
     ensures { result ≡ length (get_or (lists_left level s.now) k []) }
 {
-    order::length_at(&s[level.lists..], level.area(), k)
+    entries(s, level).length(k)
 }
 
 // Facet i of entry k.
@@ -35,7 +50,7 @@ pub fn facet_at(s: &[u8], level: Level, k: usize, i: usize) -> u16
     requires { (level.lists ≤ length s.now) × HoldsOrder 1024 level.bytes level.count (drop level.lists s.now) × (k < level.count) × (i < length (get_or (lists_left level s.now) k [])) }
     ensures { result ≡ get_or (get_or (lists_left level s.now) k []) i 0 }
 {
-    order::item_at(&s[level.lists..], level.area(), k, i)
+    entries(s, level).item(k, i)
 }
 
 // The first edge of facet x, as its code.
@@ -49,38 +64,51 @@ pub fn edge_at(s: &[u8], shelf: Shelf, x: usize) -> usize
 // ---- a facet's edges
 
 // The images of facet x's edge are marked.
-fn mark_facet(s: &[u8], level: Level, x: usize, rows: &[u8], m: usize, marks: &mut [bool; 400])
-    requires { (n : ℕ) × (inner : List Kept) × EdgesLeft n m inner level rows.now s.now × (x < length inner) }
-    ensures { (n : ℕ) (inner : List Kept) → EdgesLeft n m inner level rows.now s.now → x < length inner → marks.new ≡ marked marks.old (map pair_code (map (pair_image (edge_at inner x)) (rows_in n m rows.now))) }
+fn mark_facet(s: &[u8], level: Level, x: usize, rows: Rows, marks: &mut [bool; 400])
+    requires { (n : ℕ) × (inner : List Kept) × EdgesLeft n rows.count inner level rows.bytes.now s.now × (x < length inner) }
+    ensures { (n : ℕ) (inner : List Kept) → EdgesLeft n rows.entry.count inner level rows.entry.bytes.now s.now → x < length inner → marks.new ≡ marked marks.old (map pair_code (map (pair_image (edge_at inner x)) (rows_in n rows.entry.count rows.entry.bytes.now))) }
 {
     let code = edge_at(s, level.shelf, x);
-    openers::mark_pair_images(rows, m, code / 20, code % 20, marks);
+    openers::mark_pair_images(rows, code / 20, code % 20, marks);
 }
 
 // The images of the edges of entry k's facets are marked.
-pub fn mark_entry(s: &[u8], level: Level, k: usize, rows: &[u8], m: usize, marks: &mut [bool; 400])
-    requires { (n : ℕ) × (inner : List Kept) × EdgesLeft n m inner level rows.now s.now × (k < level.count) }
-    ensures { (n : ℕ) (inner : List Kept) → EdgesLeft n m inner level rows.now s.now → marks.new ≡ marked marks.old (map pair_code (images_of (rows_in n m rows.now) inner (get_or (lists_left level s.now) k []))) }
+pub fn mark_entry(s: &[u8], level: Level, k: usize, rows: Rows, marks: &mut [bool; 400])
+    requires { (n : ℕ) × (inner : List Kept) × EdgesLeft n rows.count inner level rows.bytes.now s.now × (k < level.count) }
+    ensures { (n : ℕ) (inner : List Kept) → EdgesLeft n rows.entry.count inner level rows.entry.bytes.now s.now → marks.new ≡ marked marks.old (map pair_code (images_of (rows_in n rows.entry.count rows.entry.bytes.now) inner (get_or (lists_left level s.now) k []))) }
 {
     let items = facets_of(s, level, k);
     for i in 0..items {
         let x = facet_at(s, level, k, i) as usize;
-        mark_facet(s, level, x, rows, m, marks);
+        mark_facet(s, level, x, rows, marks);
     }
 }
 
-// The code of a pair of positions, moved to the vertices at them.
-pub fn moved(code: usize, vertices: Vertices) -> usize
-    requires { (code < 400) × (get_or vertices.at (code / 20) 0 < 20) × (get_or vertices.at (code % 20) 0 < 20) }
-    ensures { (result ≡ moved_code vertices.at code) × (result < 400) }
+// The vertex at a position, and 0 behind the last.
+fn vertex_at(vertices: &ArrayVec<usize, 20>, position: usize) -> usize
+    ensures { result ≡ get_or vertices.now.items position 0 }
 {
-    20 * vertices.at[code / 20] + vertices.at[code % 20]
+    vertices.as_slice().get(position).copied().unwrap_or(0)
+}
+
+// The code of a pair of positions, moved to the vertices at them.
+pub fn moved(code: usize, vertices: &ArrayVec<usize, 20>) -> usize
+    requires { PairHasVertices vertices.now.items code }
+    ensures { (result ≡ moved_code vertices.now.items code) × (result < 400) }
+{
+    20 * vertex_at(vertices, code / 20) + vertex_at(vertices, code % 20)
 }
 
 // The marked edges, ascending, moved to the vertices, are one list more.
-pub fn store_edges(ws: &mut [u8], from: usize, to: usize, marks: &[bool; 400], vertices: Vertices)
-    requires { (from ≤ to) × ListRoom 2 1024 from (to - from) ws.old (length (marked_codes marks.now)) × ((c : ℕ) → c < 400 → get_or marks.now c false ≡ true → (get_or vertices.at (c / 20) 0 < 20) × (get_or vertices.at (c % 20) 0 < 20)) }
-    ensures { Stored 2 1024 from (to - from) ws.old ws.new (map (moved_code vertices.at) (marked_codes marks.now)) }
+pub fn store_edges(
+    ws: &mut [u8],
+    from: usize,
+    to: usize,
+    marks: &[bool; 400],
+    vertices: &ArrayVec<usize, 20>,
+)
+    requires { (from ≤ to) × ListRoom 2 1024 from (to - from) ws.old (length (marked_codes marks.now)) × ((c : ℕ) → c < 400 → get_or marks.now c false ≡ true → PairHasVertices vertices.now.items c) }
+    ensures { Stored 2 1024 from (to - from) ws.old ws.new (map (moved_code vertices.now.items) (marked_codes marks.now)) }
 {
     for (c, marked) in marks.iter().enumerate() {
         if *marked {

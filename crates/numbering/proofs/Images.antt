@@ -99,10 +99,6 @@ module _ {rows : List ℕ} {m key mark : ℕ} {marks₀ marks : List (Option ℕ
     count_is = sym (count_then ∙ (rw z (omega arith)));
   }
 
--- an image's code is a place among the marks
-pub key_small : (i key : ℕ) (s : List ℕ) → key < 400 → get_or s (32 * i + key / 20) 0 < 20 → get_or s (32 * i + key % 20) 0 < 20 → pair_code (pair_image (pair_of key) (row_at 32 i s)) < 400
-key_small i key s h a b = omega (arith, key_is i key s h)
-
 -- what the rows make of a ridge's ends
 pub sent_below : {m : ℕ} {s : List ℕ} (key : ℕ) → Sent m s (pair_of key) → (i : ℕ) → i < m → (get_or s (32 * i + key / 20) 0 < 20) × (get_or s (32 * i + key % 20) 0 < 20)
 unfolding pair_of
@@ -110,40 +106,41 @@ sent_below key sent i h = (sent.first.below i h, sent.second.below i h)
 
 -- ---- the number of a ridge
 
-module _ (key : ℕ) {rows : List ℕ} {m : ℕ} {marks : List (Option ℕ)} {counts : List ℕ} {known : ℕ} {keys : KnownKeys Pair} (sent : Sent m rows (pair_of key)) (st : MarksStand marks counts known keys) where
+module _ (key : ℕ) {rows : List ℕ} {m : ℕ} {marks : List (Option ℕ)} {counts : List ℕ} {keys : KnownKeys Pair} (sent : Sent m rows (pair_of key)) (st : MarksStand marks counts keys) where
   same_mark : get_or marks (pair_code (pair_of key)) None ≡ get_or marks key None
   same_mark = ap (λ (k : ℕ). get_or marks k None) (code_of_key key)
 
-  pub ridge_held : (number : ℕ) → get_or marks key None ≡ Some number → (number ≡ (number_ends (rows_in 32 m rows) keys (pair_of key)).0) × MarksStand marks counts known (number_ends (rows_in 32 m rows) keys (pair_of key)).1
+  pub ridge_held : (number : ℕ) → get_or marks key None ≡ Some number → (number ≡ (number_ends (rows_in 32 m rows) keys (pair_of key)).0) × MarksStand marks counts (number_ends (rows_in 32 m rows) keys (pair_of key)).1
   ridge_held number h =
-      let e = number_held m rows (pair_of key) sent marks counts known keys st number (same_mark ∙ h) in
-      (sym (ap (λ (r : ℕ × KnownKeys Pair). r.0) e), subst (λ (r : ℕ × KnownKeys Pair). MarksStand marks counts known r.1) (sym e) st)
+      let e = number_held m rows (pair_of key) sent marks counts keys st number (same_mark ∙ h) in
+      (sym (ap (λ (r : ℕ × KnownKeys Pair). r.0) e), subst (λ (r : ℕ × KnownKeys Pair). MarksStand marks counts r.1) (sym e) st)
 
-  opens : get_or marks key None ≡ None → number_ends (rows_in 32 m rows) keys (pair_of key) ≡ (known, open_key_orbit compare_pair edge_via (rows_in 32 m rows) keys (pair_of key))
-  opens z = number_opened m rows (pair_of key) sent marks counts known keys st (same_mark ∙ z)
+  opens : get_or marks key None ≡ None → number_ends (rows_in 32 m rows) keys (pair_of key) ≡ (length counts, open_key_orbit compare_pair edge_via (rows_in 32 m rows) keys (pair_of key))
+  opens z = number_opened m rows (pair_of key) sent marks counts keys st (same_mark ∙ z)
 
-  pub ridge_opens : get_or marks key None ≡ None → length (number_ends (rows_in 32 m rows) keys (pair_of key)).1.counts ≤ 190 → known < 190
+  pub ridge_opens : get_or marks key None ≡ None → length (number_ends (rows_in 32 m rows) keys (pair_of key)).1.counts ≤ 190 → length counts < 190
   unfolding open_key_orbit
   ridge_opens z h =
       let e = ap (λ (r : ℕ × KnownKeys Pair). length r.1.counts) (opens z) in
       let f = length-append keys.counts (length (fresh compare_pair (map (λ (h : Pair × ℕ). h.0) keys.held) (map (λ (row : Row). edge_via (image row) (pair_of key)) (rows_in 32 m rows))) ∷ []) in
-      omega (arith, st.known_is)
+      omega (arith, ap length st.counts_are)
 
-  pub ridge_opened : get_or marks key None ≡ None → known < length counts → (number : ℕ) → number ≡ known → (joined : List (Option ℕ)) (many : ℕ)
-      → joined ≡ marks_joined marks known (pair_codes (rows_in 32 m rows) (pair_of key)) → many ≡ many_joined marks known (pair_codes (rows_in 32 m rows) (pair_of key))
-      → (number ≡ (number_ends (rows_in 32 m rows) keys (pair_of key)).0) × MarksStand joined (set counts known many) (known + 1) (number_ends (rows_in 32 m rows) keys (pair_of key)).1
-  ridge_opened z h number n joined many e f =
+  pub ridge_opened : get_or marks key None ≡ None → (number : ℕ) → number ≡ length counts → (joined : List (Option ℕ)) (many : ℕ)
+      → joined ≡ marks_joined marks number (pair_codes (rows_in 32 m rows) (pair_of key)) → many ≡ many_joined marks number (pair_codes (rows_in 32 m rows) (pair_of key))
+      → (new : List ℕ) → new ≡ counts ++ (many ∷ [])
+      → (number ≡ (number_ends (rows_in 32 m rows) keys (pair_of key)).0) × MarksStand joined new (number_ends (rows_in 32 m rows) keys (pair_of key)).1
+  ridge_opened z number n joined many e f new g =
       let o = opens z in (
         n ∙ sym (ap (λ (r : ℕ × KnownKeys Pair). r.0) o),
-        rw (e, f) (subst (λ (r : ℕ × KnownKeys Pair). MarksStand (marks_joined marks known (pair_codes (rows_in 32 m rows) (pair_of key))) (set counts known (many_joined marks known (pair_codes (rows_in 32 m rows) (pair_of key)))) (known + 1) r.1) (sym o)
-            (opened_stands m rows (pair_of key) sent marks counts known keys st h)),
+        rw (g, e, f, n) (subst (λ (r : ℕ × KnownKeys Pair). MarksStand (marks_joined marks (length counts) (pair_codes (rows_in 32 m rows) (pair_of key))) (counts ++ (many_joined marks (length counts) (pair_codes (rows_in 32 m rows) (pair_of key)) ∷ [])) r.1) (sym o)
+            (opened_stands m rows (pair_of key) sent marks counts keys st)),
       )
 
-  pub many_small : (many : ℕ) → m ≤ 120 → many ≡ many_joined marks known (pair_codes (rows_in 32 m rows) (pair_of key)) → many ≤ 120
-  unfolding pair_codes rows_in
-  many_small many h e =
-      let l = length-map (parts.rows 32 32 m rows) (λ (row : Row). pair_code (pair_image (pair_of key) row)) in
-      omega (arith, many_few marks known (pair_codes (rows_in 32 m rows) (pair_of key)), length_rows 32 32 m rows)
+pub many_small : {m : ℕ} (rows : List ℕ) (key number : ℕ) (marks : List (Option ℕ)) (many : ℕ) → m ≤ 120 → many ≡ many_joined marks number (pair_codes (rows_in 32 m rows) (pair_of key)) → many ≤ 120
+unfolding pair_codes rows_in
+many_small {m} rows key number marks many h e =
+    let l = length-map (parts.rows 32 32 m rows) (λ (row : Row). pair_code (pair_image (pair_of key) row)) in
+    omega (arith, many_few marks number (pair_codes (rows_in 32 m rows) (pair_of key)), length_rows 32 32 m rows)
 
 pub sent_small : {m : ℕ} {s : List ℕ} (key : ℕ) → Sent m s (pair_of key) → key < 400
 unfolding pair_of

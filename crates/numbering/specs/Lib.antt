@@ -1,2 +1,3 @@
 pub mod Numbering
 pub mod Standing
+pub mod NumberMarks

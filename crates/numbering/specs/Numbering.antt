@@ -145,20 +145,16 @@ image_small m s p sent q h =
 abbrev held_in : Pair → KnownKeys Pair → Option ℕ
 held_in p keys = key_held_by compare_pair edge_via p keys.held
 
-pub record MarksStand (marks : List (Option ℕ)) (counts : List ℕ) (known : ℕ) (keys : KnownKeys Pair) : Type 0 where
+pub record MarksStand (marks : List (Option ℕ)) (counts : List ℕ) (keys : KnownKeys Pair) : Type 0 where
   pub long : length marks ≡ 400
-  pub room : length counts ≡ 190
   pub marks_are : (p : Pair) → p.0 < 20 → p.1 < 20 → get_or marks (pair_code p) None ≡ key_held_by compare_pair edge_via p keys.held
-  pub known_is : known ≡ length keys.counts
-  pub counts_are : take known counts ≡ keys.counts
+  pub counts_are : counts ≡ keys.counts
 
-pub stands_none : (counts : List ℕ) → length counts ≡ 190 → MarksStand (replicate 400 None) counts 0 (no_keys Pair)
+pub stands_none : MarksStand (replicate 400 None) [] (no_keys Pair)
 unfolding no_keys key_held_by pair_code
-stands_none counts h = record {
-  room = h;
+stands_none = record {
   long = length-replicate {A = Option ℕ} 400 None;
   marks_are = λ p h k. get_or-replicate {A = Option ℕ} 400 (20 * p.0 + p.1) None None (omega arith);
-  known_is = refl;
   counts_are = refl;
 }
 
@@ -168,9 +164,9 @@ stands_none counts h = record {
 Unseen : List (Option ℕ) → List Pair → Type 0
 Unseen marks seen = (p : Pair) → p.0 < 20 → p.1 < 20 → is_none (get_or marks (pair_code p) None) ≡ not (member_pair p seen)
 
-held_unseen : (marks : List (Option ℕ)) (counts : List ℕ) (known : ℕ) (keys : KnownKeys Pair) → MarksStand marks counts known keys → Unseen marks (map (λ (h : Pair × ℕ). h.0) keys.held)
+held_unseen : (marks : List (Option ℕ)) (counts : List ℕ) (keys : KnownKeys Pair) → MarksStand marks counts keys → Unseen marks (map (λ (h : Pair × ℕ). h.0) keys.held)
 unfolding member_pair Unseen
-held_unseen marks counts known keys s p h k = ap (λ (g : Option ℕ). is_none g) (s.marks_are p h k) ∙ go (held_in p keys) refl
+held_unseen marks counts keys s p h k = ap (λ (g : Option ℕ). is_none g) (s.marks_are p h k) ∙ go (held_in p keys) refl
   where
     seen : List Pair
     seen = map (λ (h : Pair × ℕ). h.0) keys.held
@@ -214,7 +210,7 @@ many_fresh marks k seen (x ∷ images) l u small =
 
 -- ---- a ridge orbit is opened
 
-module _ (m : ℕ) (s : List ℕ) (p : Pair) (sent : Sent m s p) (marks : List (Option ℕ)) (counts : List ℕ) (known : ℕ) (keys : KnownKeys Pair) (stands : MarksStand marks counts known keys) where
+module _ (m : ℕ) (s : List ℕ) (p : Pair) (sent : Sent m s p) (marks : List (Option ℕ)) (counts : List ℕ) (keys : KnownKeys Pair) (stands : MarksStand marks counts keys) where
   images : List Pair
   images = map (pair_image p) (rows_in 32 m s)
 
@@ -229,31 +225,30 @@ module _ (m : ℕ) (s : List ℕ) (p : Pair) (sent : Sent m s p) (marks : List (
   unfolding images
   small = image_small m s p sent
 
+  known_is : length counts ≡ length keys.counts
+  known_is = ap length stands.counts_are
+
   opened_marks : (q : Pair) → q.0 < 20 → q.1 < 20
-      → get_or (marks_joined marks known codes) (pair_code q) None ≡ key_held_by compare_pair edge_via q (open_key_orbit compare_pair edge_via (rows_in 32 m s) keys p).held
+      → get_or (marks_joined marks (length counts) codes) (pair_code q) None ≡ key_held_by compare_pair edge_via q (open_key_orbit compare_pair edge_via (rows_in 32 m s) keys p).held
   unfolding images edge_via pair_image member_pair
   opened_marks q h k =
       let mark : Option ℕ = get_or marks (pair_code q) None in
-      joined_at marks known codes (pair_code q) (omega (arith, code_small q h k, stands.long))
-      ∙ (ap (λ (c : List ℕ). or_else mark (cond (member_nat (pair_code q) c) (Some known) None)) codes_are
-      ∙ (ap (λ (b : Bool). or_else mark (cond b (Some known) None)) (member_codes q images k (λ x i. (small x i).1))
-      ∙ (ap (λ (g : Option ℕ). or_else g (cond (member_pair q images) (Some known) None)) (stands.marks_are q h k)
-      ∙ (ap (λ (n : ℕ). or_else (held_in q keys) (cond (member_pair q images) (Some n) None)) stands.known_is
+      joined_at marks (length counts) codes (pair_code q) (omega (arith, code_small q h k, stands.long))
+      ∙ (ap (λ (c : List ℕ). or_else mark (cond (member_nat (pair_code q) c) (Some (length counts)) None)) codes_are
+      ∙ (ap (λ (b : Bool). or_else mark (cond b (Some (length counts)) None)) (member_codes q images k (λ x i. (small x i).1))
+      ∙ (ap (λ (g : Option ℕ). or_else g (cond (member_pair q images) (Some (length counts)) None)) (stands.marks_are q h k)
+      ∙ (ap (λ (n : ℕ). or_else (held_in q keys) (cond (member_pair q images) (Some n) None)) known_is
       ∙ sym (marks_after_holds compare_pair pairs edge_via (rows_in 32 m s) keys p q)))))
 
-  pub opened_stands : known < length counts
-      → MarksStand (marks_joined marks known (pair_codes (rows_in 32 m s) p)) (set counts known (many_joined marks known (pair_codes (rows_in 32 m s) p))) (known + 1) (open_key_orbit compare_pair edge_via (rows_in 32 m s) keys p)
+  pub opened_stands : MarksStand (marks_joined marks (length counts) (pair_codes (rows_in 32 m s) p)) (counts ++ (many_joined marks (length counts) (pair_codes (rows_in 32 m s) p) ∷ [])) (open_key_orbit compare_pair edge_via (rows_in 32 m s) keys p)
   unfolding open_key_orbit codes images edge_via pair_image
-  opened_stands room = record {
-    room = length-set counts known (many_joined marks known codes) ∙ stands.room;
-    long = joined_long marks known codes ∙ stands.long;
+  opened_stands = record {
+    long = joined_long marks (length counts) codes ∙ stands.long;
     marks_are = opened_marks;
-    known_is = rw length-append (omega (arith, stands.known_is));
     counts_are =
-        let many : many_joined marks known codes ≡ length (fresh compare_pair (map (λ (h : Pair × ℕ). h.0) keys.held) images) =
-        ap (many_joined marks known) codes_are ∙ many_fresh marks known (map (λ (h : Pair × ℕ). h.0) keys.held) images stands.long (held_unseen marks counts known keys stands) small in
-        take_more_set counts known (many_joined marks known codes) room
-        ∙ (λ t. stands.counts_are t ++ (many t ∷ []));
+        let many : many_joined marks (length counts) codes ≡ length (fresh compare_pair (map (λ (h : Pair × ℕ). h.0) keys.held) images) =
+        ap (many_joined marks (length counts)) codes_are ∙ many_fresh marks (length counts) (map (λ (h : Pair × ℕ). h.0) keys.held) images stands.long (held_unseen marks counts keys stands) small in
+        λ t. stands.counts_are t ++ (many t ∷ []);
   }
 
   -- the number of a pair with a mark, and of one without
@@ -261,8 +256,8 @@ module _ (m : ℕ) (s : List ℕ) (p : Pair) (sent : Sent m s p) (marks : List (
   unfolding number_ends number_or_open_key
   number_held number h = ap (number_or_open_key compare_pair edge_via (rows_in 32 m s) keys p) (sym (stands.marks_are p sent.first_small sent.second_small) ∙ h)
 
-  pub number_opened : get_or marks (pair_code p) None ≡ None → number_ends (rows_in 32 m s) keys p ≡ (known, open_key_orbit compare_pair edge_via (rows_in 32 m s) keys p)
+  pub number_opened : get_or marks (pair_code p) None ≡ None → number_ends (rows_in 32 m s) keys p ≡ (length counts, open_key_orbit compare_pair edge_via (rows_in 32 m s) keys p)
   unfolding number_ends number_or_open_key
   number_opened h =
       ap (number_or_open_key compare_pair edge_via (rows_in 32 m s) keys p) (sym (stands.marks_are p sent.first_small sent.second_small) ∙ h)
-      ∙ (λ t. (sym stands.known_is t, open_key_orbit compare_pair edge_via (rows_in 32 m s) keys p))
+      ∙ (λ t. (sym known_is t, open_key_orbit compare_pair edge_via (rows_in 32 m s) keys p))

@@ -5,4 +5,4 @@ use Rattle.numbering.specs.declared.RidgeOrbits.{RidgeOrbits}
 use Rattle.numbering.specs.Numbering.{MarksStand}
 
 abbrev pub Standing : RidgeOrbits → KnownKeys Pair → Type 0
-Standing r keys = MarksStand r.marks r.counts r.known keys
+Standing r keys = MarksStand r.marks r.counts.items keys

@@ -14,33 +14,28 @@ ghost use Rattle.shapes.specs.Kept.{number_ends};
 ghost use Rattle.numbering.specs.Numbering.{Sent, marks_joined, many_joined};
 ghost use Rattle.numbering.specs.Standing.{Standing};
 
+use arrayvec::ArrayVec;
+use openers::Rows;
+
 // ---- ridge orbits
 
 // The code of row i's image of a pair with this code.
-fn image_key(rows: &[u8], i: usize, key: usize) -> usize
-    requires { (32 * i + 32 ≤ length rows.now) × (key < 400) × (get_or rows.now (32 * i + key / 20) 0 < 20) × (get_or rows.now (32 * i + key % 20) 0 < 20) }
-    ensures { result ≡ pair_code (pair_image (pair_of key) (row_at 32 i rows.now)) }
+fn image_key(rows: Rows, i: usize, key: usize) -> usize
+    requires { (32 * i + 32 ≤ length rows.bytes.now) × (key < 400) × (get_or rows.bytes.now (32 * i + key / 20) 0 < 20) × (get_or rows.bytes.now (32 * i + key % 20) 0 < 20) }
+    ensures code { result ≡ pair_code (pair_image (pair_of key) (row_at 32 i rows.entry.bytes.now)) }
+    ensures small { result < 400 }
 {
-    openers::code(
-        openers::image(rows, i, key / 20),
-        openers::image(rows, i, key % 20),
-    )
+    openers::code(rows.image(i, key / 20), rows.image(i, key % 20))
 }
 
 // The images of a ridge that have no mark get this number as theirs; returns how many they are.
-fn open_ridge(
-    rows: &[u8],
-    m: usize,
-    key: usize,
-    number: u16,
-    marks: &mut [Option<u16>; 400],
-) -> usize
-    requires { (32 * m ≤ length rows.now) × (key < 400) × Sent m rows.now (pair_of key) }
-    ensures counts { result ≡ many_joined marks.old number (pair_codes (rows_in 32 m rows.now) (pair_of key)) }
-    ensures marks { marks.new ≡ marks_joined marks.old number (pair_codes (rows_in 32 m rows.now) (pair_of key)) }
+fn open_ridge(rows: Rows, key: usize, number: u16, marks: &mut [Option<u16>; 400]) -> usize
+    requires { (key < 400) × Sent rows.count rows.bytes.now (pair_of key) }
+    ensures counts { result ≡ many_joined marks.old number (pair_codes (rows_in 32 rows.entry.count rows.entry.bytes.now) (pair_of key)) }
+    ensures marks { marks.new ≡ marks_joined marks.old number (pair_codes (rows_in 32 rows.entry.count rows.entry.bytes.now) (pair_of key)) }
 {
     let mut count = 0;
-    for i in 0..m {
+    for i in 0..rows.count {
         let at = image_key(rows, i, key);
         if marks[at].is_none() {
             marks[at] = Some(number);
@@ -50,12 +45,11 @@ fn open_ridge(
     count
 }
 
-// The ridge orbits opened so far: for each code of two ends the number of the ridge orbit that holds it, how many ridges each ridge orbit has, and how many ridge orbits there are.
-#[derive(Clone, Copy)]
+// The ridge orbits opened so far: for each code of two ends the number of the ridge orbit that holds it, and how many ridges each ridge orbit has.
+#[derive(Drop)]
 pub struct RidgeOrbits {
     pub marks: [Option<u16>; 400],
-    pub counts: [u32; 190],
-    pub known: usize,
+    pub counts: ArrayVec<u32, 190>,
 }
 
 impl RidgeOrbits {
@@ -65,23 +59,21 @@ impl RidgeOrbits {
     {
         RidgeOrbits {
             marks: [None; 400],
-            counts: [0; 190],
-            known: 0,
+            counts: ArrayVec::new(),
         }
     }
 
     // The number of the ridge orbit that holds a ridge; where there is none, one is opened and its count noted.
-    pub fn number(&mut self, rows: &[u8], m: usize, key: usize) -> u16
-        requires { (32 * m ≤ length rows.now) × (m ≤ 120) × (key < 400) × Sent m rows.now (pair_of key) × ((keys : KnownKeys Pair) × Standing self.old keys × (length (number_ends (rows_in 32 m rows.now) keys (pair_of key)).1.counts ≤ 190)) }
-        ensures { (keys : KnownKeys Pair) → Standing self.old keys → (result ≡ (number_ends (rows_in 32 m rows.now) keys (pair_of key)).0) × Standing self.new (number_ends (rows_in 32 m rows.now) keys (pair_of key)).1 }
+    pub fn number(&mut self, rows: Rows, key: usize) -> u16
+        requires { (rows.count ≤ 120) × (key < 400) × Sent rows.count rows.bytes.now (pair_of key) × ((keys : KnownKeys Pair) × Standing self.old keys × (length (number_ends (rows_in 32 rows.count rows.bytes.now) keys (pair_of key)).1.counts ≤ 190)) }
+        ensures { (keys : KnownKeys Pair) → Standing self.old keys → (result ≡ (number_ends (rows_in 32 rows.entry.count rows.entry.bytes.now) keys (pair_of key)).0) × Standing self.new (number_ends (rows_in 32 rows.entry.count rows.entry.bytes.now) keys (pair_of key)).1 }
     {
         match self.marks[key] {
             Some(number) => number,
             None => {
-                let number = self.known as u16;
-                let count = open_ridge(rows, m, key, number, &mut self.marks);
-                self.counts[self.known] = count as u32;
-                self.known += 1;
+                let number = self.counts.len() as u16;
+                let count = open_ridge(rows, key, number, &mut self.marks);
+                self.counts.push(count as u32);
                 number
             }
         }

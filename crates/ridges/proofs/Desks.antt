@@ -38,15 +38,15 @@ part_shift o a b l h k =
 module _ (n most ridges m : ℕ) (rows : List ℕ) (kept : List Kept) (shelf : Shelf) (desk : Desk) (s : List ℕ) (g : Given n most ridges m rows kept shelf desk s) where
   -- ---- the shares
 
-  module _ (s1 counts : List ℕ) (known : ℕ) (a : AllNumbered m rows desk.numbers desk.shares (closed_lists 4 256 (ridges_part shelf s)) s s1 counts known) where
-    counts_are : take known counts ≡ (numbers_kept (rows_in n m rows) kept).1.counts
+  module _ (s1 counts : List ℕ) (a : AllNumbered m rows desk.numbers desk.shares (closed_lists 4 256 (ridges_part shelf s)) s s1 counts) where
+    counts_are : counts ≡ (numbers_kept (rows_in n m rows) kept).1.counts
     counts_are = a.counts_are ∙ ap (λ (r : List (List ℕ) × KnownKeys Pair). r.1.counts) (numbers_same n most ridges m rows kept shelf desk s g)
 
     -- ---- the tables
 
     module _ (s2 : List ℕ) (b : Made desk.shares desk.touched 4 1024 s1 s2 (lists_to (facet_codes (sources_of shelf desk s1) counts) shelf.facets)) where
-      module _ (s3 : List ℕ) (c : Made desk.touched desk.ones 2 shelf.facets s2 s3 (lists_to (touched_of known (closed_lists 4 1024 (area desk.shares desk.touched s2))) shelf.facets)) where
-        module _ (s4 : List ℕ) (d : Made desk.ones desk.frames 2 known s3 s4 (lists_to (made.ones_of (closed_lists 4 1024 (area desk.shares desk.touched s3)) shelf.facets) known)) where
+      module _ (s3 : List ℕ) (c : Made desk.touched desk.ones 2 shelf.facets s2 s3 (lists_to (touched_of (length counts) (closed_lists 4 1024 (area desk.shares desk.touched s2))) shelf.facets)) where
+        module _ (s4 : List ℕ) (d : Made desk.ones desk.frames 2 (length counts) s3 s4 (lists_to (made.ones_of (closed_lists 4 1024 (area desk.shares desk.touched s3)) shelf.facets) (length counts))) where
           all_long : length s4 ≡ length s
           all_long = d.long ∙ (c.long ∙ (b.long ∙ a.long))
 
@@ -62,19 +62,19 @@ module _ (n most ridges m : ℕ) (rows : List ℕ) (kept : List Kept) (shelf : S
           same x h =
               ap (λ (l : List (List ℕ)). get_or l x []) b.pool.lists_are
               ∙ (lists_at_holds (facet_codes (sources_of shelf desk s1) counts) shelf.facets x [] h
-              ∙ (codes_are n most g.rows_fit_holds.n_fits (rows_in n m rows) kept g.small (sources_of shelf desk s1) (holding n most ridges m rows kept shelf desk s g s1 counts known a) counts known (known_is n most ridges m rows kept shelf desk s g s1 counts known a) counts_are x (omega (arith, facets_are n most ridges m rows kept shelf desk s g s1 counts known a))
+              ∙ (codes_are n most g.rows_fit_holds.n_fits (rows_in n m rows) kept g.small (sources_of shelf desk s1) (holding n most ridges m rows kept shelf desk s g s1 counts a) counts counts_are x (omega (arith, facets_are n most ridges m rows kept shelf desk s g s1 counts a))
               ∙ ap (λ (f : Facet). map share_code (shares_of (kept_table (rows_in n m rows) kept) f)) (sym (facet_is x))))
 
           below : (x : ℕ) → x < shelf.facets → (z : Share) → Mem z (shares_of (kept_table (rows_in n m rows) kept) (facet_of (kept_table (rows_in n m rows) kept) x)) → z.0 < 65536
           below x h z i =
               let j = subst (λ (f : Facet). Mem z (shares_of (kept_table (rows_in n m rows) kept) f)) (facet_is x) i in
-              omega (arith, (known_few n most ridges m rows kept shelf desk s g s1 counts known a).1, shares_below n most g.rows_fit_holds.n_fits (rows_in n m rows) kept g.small (sources_of shelf desk s1) (holding n most ridges m rows kept shelf desk s g s1 counts known a) counts known (known_is n most ridges m rows kept shelf desk s g s1 counts known a) counts_are x (omega (arith, facets_are n most ridges m rows kept shelf desk s g s1 counts known a)) z j)
+              omega (arith, (known_few n most ridges m rows kept shelf desk s g s1 counts a).1, shares_below n most g.rows_fit_holds.n_fits (rows_in n m rows) kept g.small (sources_of shelf desk s1) (holding n most ridges m rows kept shelf desk s g s1 counts a) counts counts_are x (omega (arith, facets_are n most ridges m rows kept shelf desk s g s1 counts a)) z j)
 
           owners_are : words 2 (drop shelf.owners s4) shelf.facets ≡ map (λ (f : Facet). f.0) (all_facets (kept_table (rows_in n m rows) kept))
           unfolding owners_of
           owners_are =
               let k = g.keeps.fits in
-              let e : owners_part shelf s4 ≡ owners_part shelf s = area_kept shelf.end shelf.owners shelf.ridges s s4 (shelf_kept n most ridges m rows kept shelf desk s g s1 counts known a s2 b s3 c s4 d) (omega (arith, k.owner_room)) (omega (arith, k.ridge_room, k.place_room)) in
+              let e : owners_part shelf s4 ≡ owners_part shelf s = area_kept shelf.end shelf.owners shelf.ridges s s4 (shelf_kept n most ridges m rows kept shelf desk s g s1 counts a s2 b s3 c s4 d) (omega (arith, k.owner_room)) (omega (arith, k.ridge_room, k.place_room)) in
               sym (words_take 2 (drop shelf.owners s4) (shelf.ridges - shelf.owners) shelf.facets (omega (arith, k.owner_room, g.keeps.few_facets)))
               ∙ (ap (λ (p : List ℕ). words 2 p shelf.facets) e ∙ (g.keeps.owners ∙ ap (map (λ (f : Facet). f.0)) (sym (facets_same (rows_in n m rows) kept))))
 
@@ -84,17 +84,17 @@ module _ (n most ridges m : ℕ) (rows : List ℕ) (kept : List Kept) (shelf : S
               let k = g.keeps.fits in
               (omega (arith, k.owner_room, k.ridge_room, k.place_room, f.before, f.number_room, f.share_room), omega (arith, f.touched_room), omega (arith, f.ones_room))
 
-          touched_area : layout.touched_part (areas_of shelf desk known) (drop shelf.owners s4) ≡ area desk.touched desk.ones s3
+          touched_area : layout.touched_part (areas_of shelf desk (length counts)) (drop shelf.owners s4) ≡ area desk.touched desk.ones s3
           unfolding areas_of
           touched_area =
               part_shift shelf.owners desk.touched desk.ones s4 (omega (arith, behind.0)) behind.1
               ∙ area_kept desk.ones desk.touched desk.ones s3 s4 d.front behind.1 (omega arith)
 
-          ones_area : layout.ones_part (areas_of shelf desk known) (drop shelf.owners s4) ≡ area desk.ones desk.frames s4
+          ones_area : layout.ones_part (areas_of shelf desk (length counts)) (drop shelf.owners s4) ≡ area desk.ones desk.frames s4
           unfolding areas_of
           ones_area = part_shift shelf.owners desk.ones desk.frames s4 (omega (arith, behind.0, behind.1)) behind.2
 
-          search_fits : layout.AreasFit (areas_of shelf desk known) (length (drop shelf.owners s4))
+          search_fits : layout.AreasFit (areas_of shelf desk (length counts)) (length (drop shelf.owners s4))
           unfolding areas_of
           search_fits =
               let f = g.fits in
@@ -103,7 +103,7 @@ module _ (n most ridges m : ℕ) (rows : List ℕ) (kept : List Kept) (shelf : S
               let many = g.keeps.few_facets in
               record {
                 few_facets = omega arith;
-                few_ridges = omega (arith, (known_few n most ridges m rows kept shelf desk s g s1 counts known a).1);
+                few_ridges = omega (arith, (known_few n most ridges m rows kept shelf desk s g s1 counts a).1);
                 few_orbits = omega arith;
                 few_items = omega arith;
                 few_lists = omega arith;
@@ -112,20 +112,20 @@ module _ (n most ridges m : ℕ) (rows : List ℕ) (kept : List Kept) (shelf : S
                 ones_room = omega (arith, behind.0, behind.1, behind.2);
                 frame_room = omega (arith, behind.0, behind.1, behind.2, f.frame_room);
                 total_room = refl;
-                used_room = omega (arith, behind.0, behind.1, behind.2, f.frame_room, f.total_room, (known_few n most ridges m rows kept shelf desk s g s1 counts known a).1);
+                used_room = omega (arith, behind.0, behind.1, behind.2, f.frame_room, f.total_room, (known_few n most ridges m rows kept shelf desk s g s1 counts a).1);
                 list_room = omega (arith, behind.0, behind.1, behind.2, f.frame_room, f.total_room, f.list_room);
                 ends = omega (arith, f.ends, all_long);
               }
 
           -- the search's inputs
-          pub inputs_are : Inputs (kept_table (rows_in n m rows) kept) (areas_of shelf desk known) (drop shelf.owners s4)
+          pub inputs_are : Inputs (kept_table (rows_in n m rows) kept) (areas_of shelf desk (length counts)) (drop shelf.owners s4)
           unfolding areas_of lists
           inputs_are = record {
             fits = search_fits;
             holds =
-                tables_hold (kept_table (rows_in n m rows) kept) lists shelf.facets same below (areas_of shelf desk known) (words 2 (drop shelf.owners s4) shelf.facets)
-                (layout.touched_part (areas_of shelf desk known) (drop shelf.owners s4)) (layout.ones_part (areas_of shelf desk known) (drop shelf.owners s4))
-                (length (flat (lists_to (touched_of known lists) shelf.facets))) (length (flat (lists_to (made.ones_of lists shelf.facets) known)))
-                refl (facets_are n most ridges m rows kept shelf desk s g s1 counts known a ∙ sym (ap length (facets_same (rows_in n m rows) kept))) (known_is n most ridges m rows kept shelf desk s g s1 counts known a ∙ sym (ridges_same (rows_in n m rows) kept)) (omega (arith, (known_few n most ridges m rows kept shelf desk s g s1 counts known a).1))
-                (g.keeps.orbits ∙ sym (orbits_same (rows_in n m rows) kept)) owners_are (rw touched_area c.pool) (rw ones_area (rw (shares_kept n most ridges m rows kept shelf desk s g s1 counts known a s2 b s3 c) at d.pool));
+                tables_hold (kept_table (rows_in n m rows) kept) lists shelf.facets same below (areas_of shelf desk (length counts)) (words 2 (drop shelf.owners s4) shelf.facets)
+                (layout.touched_part (areas_of shelf desk (length counts)) (drop shelf.owners s4)) (layout.ones_part (areas_of shelf desk (length counts)) (drop shelf.owners s4))
+                (length (flat (lists_to (touched_of (length counts) lists) shelf.facets))) (length (flat (lists_to (made.ones_of lists shelf.facets) (length counts))))
+                refl (facets_are n most ridges m rows kept shelf desk s g s1 counts a ∙ sym (ap length (facets_same (rows_in n m rows) kept))) (known_is n most ridges m rows kept shelf desk s g s1 counts a ∙ sym (ridges_same (rows_in n m rows) kept)) (omega (arith, (known_few n most ridges m rows kept shelf desk s g s1 counts a).1))
+                (g.keeps.orbits ∙ sym (orbits_same (rows_in n m rows) kept)) owners_are (rw touched_area c.pool) (rw ones_area (rw (shares_kept n most ridges m rows kept shelf desk s g s1 counts a s2 b s3 c) at d.pool));
           }

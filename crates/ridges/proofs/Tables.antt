@@ -67,16 +67,20 @@ pub record AddingAll (ridges : ℕ) (codes places last : List ℕ) (i : ℕ) : T
   pub last_long : length last ≡ 190
   pub each : (ridge : ℕ) → ridge < ridges → Adding codes ridge (get_or places ridge 0) (get_or last ridge 0) i
 
-pub all_start : (ridges : ℕ) (codes places last : List ℕ) → PlacesCounted ridges [] places last → AddingAll ridges codes places last 0
-unfolding last_share
-all_start ridges codes places last z = record {
-  places_long = z.places_long;
-  last_long = z.last_long;
-  each = λ ridge h.
-      let a : get_or places ridge 0 ≡ 0 = z.many ridge h ∙ ap length (here_none ridge) in
-      let b : get_or last ridge 0 ≡ 0 = z.share ridge h ∙ ap (last_share 0) (here_none ridge) in
-      rw (a, b) (adding_start codes ridge);
+pub all_start : (ridges : ℕ) (codes : List ℕ) → AddingAll ridges codes (replicate 190 0) (replicate 190 0) 0
+all_start ridges codes = record {
+  places_long = refl;
+  last_long = refl;
+  each = λ ridge h. rw zero_at (adding_start codes ridge);
 }
+  where
+    zeros : (n k : ℕ) → ◌≡◌ {A = ℕ} (get_or (replicate n 0) k 0) 0
+    zeros zero k = refl
+    zeros (suc n) zero = refl
+    zeros (suc n) (suc k) = zeros n k
+
+    zero_at : (k : ℕ) → ◌≡◌ {A = ℕ} (get_or (replicate 190 0) k 0) 0
+    zero_at k = zeros 190 k
 
 module _ {ridges : ℕ} {codes places last : List ℕ} {i : ℕ} (a : AddingAll ridges codes places last i) (h : i < length codes) (code : ℕ) (e : code ≡ get_or codes i 0) (small : code < 4294967296) (few : ridges ≤ 190) where
   pub all_joins : code % 65536 < ridges → AddingAll ridges codes (set places (code % 65536) (get_or places (code % 65536) 0 + 1)) (set last (code % 65536) (code / 65536)) (i + 1)
@@ -107,24 +111,6 @@ all_end {ridges} {codes} {places} {last} {i} a h =
       many = λ ridge l. (a.each ridge l).places_are ∙ ap (λ (l : List ℕ). length (shares_here ridge l)) e;
       share = λ ridge l. (a.each ridge l).last_is ∙ ap (λ (l : List ℕ). last_share 0 (shares_here ridge l)) e;
     }
-
--- nothing is counted before
-pub none_counted_holds : (ridges : ℕ) → ridges ≤ 190 → PlacesCounted ridges [] (replicate 190 0) (replicate 190 0)
-unfolding last_share
-none_counted_holds ridges h = record {
-  places_long = refl;
-  last_long = refl;
-  many = λ ridge l. zero_at ridge ∙ sym (ap length (here_none ridge));
-  share = λ ridge l. zero_at ridge ∙ sym (ap (last_share 0) (here_none ridge));
-}
-  where
-    zeros : (n k : ℕ) → ◌≡◌ {A = ℕ} (get_or (replicate n 0) k 0) 0
-    zeros zero k = refl
-    zeros (suc n) zero = refl
-    zeros (suc n) (suc k) = zeros n k
-
-    zero_at : (k : ℕ) → ◌≡◌ {A = ℕ} (get_or (replicate 190 0) k 0) 0
-    zero_at k = zeros 190 k
 
 -- what that comes to
 pub counted_amount : {ridges : ℕ} {codes places last : List ℕ} → PlacesCounted ridges codes places last → (ridge : ℕ) → ridge < ridges → (added : ℕ) → added ≡ min (get_or last ridge 0 * get_or places ridge 0) 3 → added ≡ amount_of ridge codes

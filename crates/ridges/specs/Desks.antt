@@ -174,7 +174,6 @@ module _ (n most ridges m : ℕ) (rows : List ℕ) (kept : List Kept) (shelf : S
       let f = g.fits in
       let k = g.keeps.fits in (
         record {
-          rows_fit_holds = g.rows_fit_holds.m_fits;
           rows_few = g.rows_few;
           order = omega (arith, k.ridge_room);
           before = omega (arith, k.place_room, f.before);
@@ -199,11 +198,11 @@ module _ (n most ridges m : ℕ) (rows : List ℕ) (kept : List Kept) (shelf : S
 
   -- ---- the shares
 
-  module _ (s1 counts : List ℕ) (known : ℕ) (a : AllNumbered m rows desk.numbers desk.shares (closed_lists 4 256 (ridges_part shelf s)) s s1 counts known) where
-    pub known_is : known ≡ length (numbers_kept (rows_in n m rows) kept).1.counts
-    known_is = a.known_is ∙ ap (λ (r : List (List ℕ) × KnownKeys Pair). length r.1.counts) numbers_same
+  module _ (s1 counts : List ℕ) (a : AllNumbered m rows desk.numbers desk.shares (closed_lists 4 256 (ridges_part shelf s)) s s1 counts) where
+    pub known_is : length counts ≡ length (numbers_kept (rows_in n m rows) kept).1.counts
+    known_is = ap length a.counts_are ∙ ap (λ (r : List (List ℕ) × KnownKeys Pair). length r.1.counts) numbers_same
 
-    pub known_few : (known ≤ ridges) × (known ≤ 190)
+    pub known_few : (length counts ≤ ridges) × (length counts ≤ 190)
     known_few = (omega (arith, known_is, g.few), omega (arith, known_is, g.few, g.fits.few_ridges_holds))
 
     kept_area : (b c : ℕ) → b ≤ c → c ≤ shelf.end → area b c s1 ≡ area b c s
@@ -262,7 +261,7 @@ module _ (n most ridges m : ℕ) (rows : List ℕ) (kept : List Kept) (shelf : S
     facets_are = g.keeps.facets
 
     pub shares_fit : SourcesFit (sources_of shelf desk s1) counts shelf.facets
-    shares_fit = sources_fit n most g.rows_fit_holds.n_fits (rows_in n m rows) kept g.small (sources_of shelf desk s1) holding counts shelf.facets facets_are (omega (arith, known_is, known_few.1, a.counts_long))
+    shares_fit = sources_fit n most g.rows_fit_holds.n_fits (rows_in n m rows) kept g.small (sources_of shelf desk s1) holding counts shelf.facets facets_are (omega (arith, known_is))
 
     place_short : (l : List ℕ) → Mem l (places_of kept) → length l ≤ most
     unfolding places_of
@@ -294,11 +293,11 @@ module _ (n most ridges m : ℕ) (rows : List ℕ) (kept : List Kept) (shelf : S
       pub facets_count : shelf.facets ≡ count (area desk.shares desk.touched s2)
       facets_count = sym (holds_count b.pool ∙ lists_long (facet_codes (sources_of shelf desk s1) counts) shelf.facets)
 
-      pub touching_space : Space desk.touched desk.ones 2 shelf.facets (length s2) (shelf.facets * known) shelf.facets
+      pub touching_space : Space desk.touched desk.ones 2 shelf.facets (length s2) (shelf.facets * length counts) shelf.facets
       touching_space =
           let f = g.fits in
           let k = g.keeps.few_facets in
-          let p : shelf.facets * known ≤ 1024 * known = mul-le-mul_right known k in
+          let p : shelf.facets * length counts ≤ 1024 * length counts = mul-le-mul_right (length counts) k in
           record {
             order = omega (arith, f.touched_room);
             inside = omega (arith, b.long, a.long, f.ones_room, f.frame_room, f.total_room, f.list_room, f.ends);
@@ -325,13 +324,13 @@ module _ (n most ridges m : ℕ) (rows : List ℕ) (kept : List Kept) (shelf : S
               let e = ap length (sym r.2 ∙ lists_at_holds (facet_codes (sources_of shelf desk s1) counts) shelf.facets r.0 [] h) in
               omega (arith, few_places_at r.0 h)
 
-      module _ (s3 : List ℕ) (c : Made desk.touched desk.ones 2 shelf.facets s2 s3 (lists_to (touched_of known (closed_lists 4 1024 (area desk.shares desk.touched s2))) shelf.facets)) where
+      module _ (s3 : List ℕ) (c : Made desk.touched desk.ones 2 shelf.facets s2 s3 (lists_to (touched_of (length counts) (closed_lists 4 1024 (area desk.shares desk.touched s2))) shelf.facets)) where
         pub shares_kept : area desk.shares desk.touched s3 ≡ area desk.shares desk.touched s2
         shares_kept = area_kept desk.touched desk.shares desk.touched s2 s3 c.front (omega (arith, g.fits.share_room)) (omega arith)
 
         -- what `lay_ones` asks
         pub ones_asks : Sound 4 1024 (area desk.shares desk.touched s3) × (shelf.facets ≡ count (area desk.shares desk.touched s3))
-            × Space desk.ones desk.frames 2 known (length s3) (length (flat (closed_lists 4 1024 (area desk.shares desk.touched s3)))) known
+            × Space desk.ones desk.frames 2 (length counts) (length s3) (length (flat (closed_lists 4 1024 (area desk.shares desk.touched s3)))) (length counts)
         ones_asks =
             let f = g.fits in
             let e : length (flat (closed_lists 4 1024 (area desk.shares desk.touched s2))) ≤ 1024 * most = omega (arith, ap (λ (l : List (List ℕ)). length (flat l)) b.pool.lists_are, codes_few) in
@@ -348,7 +347,7 @@ module _ (n most ridges m : ℕ) (rows : List ℕ) (kept : List Kept) (shelf : S
               },
             )
 
-        module _ (s4 : List ℕ) (d : Made desk.ones desk.frames 2 known s3 s4 (lists_to (made.ones_of (closed_lists 4 1024 (area desk.shares desk.touched s3)) shelf.facets) known)) where
+        module _ (s4 : List ℕ) (d : Made desk.ones desk.frames 2 (length counts) s3 s4 (lists_to (made.ones_of (closed_lists 4 1024 (area desk.shares desk.touched s3)) shelf.facets) (length counts))) where
           -- the shelf is as it was
           pub shelf_kept : take shelf.end s4 ≡ take shelf.end s
           shelf_kept =

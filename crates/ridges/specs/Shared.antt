@@ -1,7 +1,7 @@
 -- The shares made from the shelf and the numbers are those of the definition's table, and what making them reads is in order. Leans on Shares, Facets, Small and Below.
-use Rattle.std.specs.Prelude.{◌≡◌, ℕ, ◌+◌, ◌/◌, ◌≤◌, ◌<◌, take}
+use Rattle.std.specs.Prelude.{◌≡◌, ℕ, ◌+◌, ◌/◌, ◌≤◌, ◌<◌}
 use Rattle.std.proofs.Math.Path.{refl, sym, ap}
-use Rattle.std.proofs.Common.{subst, ◌∙◌, ⊎_elim, arith, get_or-take}
+use Rattle.std.proofs.Common.{subst, ◌∙◌, ⊎_elim, arith}
 use mathlib.Core.List.{List, [], ◌∷◌, ◌++◌, map, flat_map, zip_with, map-map}
 use Rattle.std.proofs.Math.ListN.{length, get_or}
 use Rattle.std.proofs.lemmas.List.{length-map}
@@ -160,15 +160,14 @@ module _ (n most : ℕ) (n_fits : n ≤ 20) (rows : List Row) (kept : List Kept)
 
   -- ---- the shares
 
-  module _ (counts : List ℕ) (known : ℕ) (is_Known : known ≡ length (numbers_kept rows kept).1.counts) (are : take known counts ≡ (numbers_kept rows kept).1.counts) where
+  module _ (counts : List ℕ) (are : counts ≡ (numbers_kept rows kept).1.counts) where
     code_is : (o : ℕ) (h : o < length kept) (r : At kept o) (a : ℕ) → a < length r.item.ends
         → code_at src counts o a ≡ share_code (kept_share (numbers_kept rows kept).1.counts r.item (get_or (numbers_kept rows kept).0 o []) a)
     unfolding code_at kept_share
     code_is o h r a k =
         let rc = (numbers_kept rows kept).1.counts in
-        let s = number_small o a (omega (arith, numbers_same o h r)) in
         let ridge = get_or (numbers_in src o) a 0 in
-        let e : get_or counts ridge 0 ≡ get_or rc ridge 0 = sym (get_or-take known counts ridge 0 (omega arith)) ∙ ap (λ (l : List ℕ). get_or l ridge 0) are in
+        let e : get_or counts ridge 0 ≡ get_or rc ridge 0 = ap (λ (l : List ℕ). get_or l ridge 0) are in
         rw (e, count_is o h r, inner_is o h r a k, number_list o) refl
 
     -- facet x of the table
@@ -203,7 +202,7 @@ module _ (n most : ℕ) (n_fits : n ≤ 20) (rows : List Row) (kept : List Kept)
     codes_are x h = let r = kept_at_holds kept x h in facet_shares_holds x h r ∙ ap (map share_code) (sym (table_shares x r))
 
     -- they name ridge orbits of the table
-    pub shares_below : (x : ℕ) → x < length (facets_of kept) → (s : Share) → Mem s (shares_of (kept_table rows kept) (get_or (facets_of kept) x (0, 0))) → s.0 < known
+    pub shares_below : (x : ℕ) → x < length (facets_of kept) → (s : Share) → Mem s (shares_of (kept_table rows kept) (get_or (facets_of kept) x (0, 0))) → s.0 < length counts
     unfolding kept_share
     shares_below x h s m =
         let r = kept_at_holds kept x h in
@@ -212,7 +211,7 @@ module _ (n most : ℕ) (n_fits : n ≤ 20) (rows : List Row) (kept : List Kept)
         let b = place_below x r q.0 q.1 in
         let e : s.0 ≡ get_or (get_or (numbers_kept rows kept).0 r.orbit []) q.0 0 = ap (λ (z : Share). z.0) q.2 in
         let f = ap (λ (l : List ℕ). get_or l q.0 0) (number_list r.orbit) in
-        omega (arith, number_small r.orbit q.0 (omega (arith, numbers_same r.orbit r.inside r.at)))
+        omega (arith, ap length are, number_small r.orbit q.0 (omega (arith, numbers_same r.orbit r.inside r.at)))
 
 -- ---- the table's facets
 

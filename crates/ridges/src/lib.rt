@@ -10,36 +10,44 @@ ghost use Rattle.pool.specs.Pool.{count, closed_lists, Sound};
 ghost use Rattle.openers.specs.Rows.{rows_in};
 ghost use Rattle.shapes.specs.Kept.{Kept, kept_table};
 ghost use Rattle.facets.specs.Layout.{Inputs};
+ghost use Rattle.shares.specs.Areas.{AreaRoom, AreaEmpty, Joined, AreaGrown, Space, Made, flat, lists_to};
+ghost use Rattle.ridges.specs.Codes.{PlacesCounted, touched_of, ones_in, ones_to, ones_of};
+ghost use Rattle.ridges.specs.SharesLaid.{SharesLaid, shares_part, shares_in};
 ghost use Rattle.ridges.specs.Desks.{Given, areas_of};
-ghost use Rattle.shares.specs.Areas.{area, AreaRoom, AreaEmpty, Joined, AreaGrown, Space, Made, flat, lists_to};
-ghost use Rattle.ridges.specs.Codes.{PlacesCounted, touched_to, touched_of, ones_in, ones_to, ones_of};
 
 use facets::Areas;
+use openers::Rows;
 use shares::Desk;
 use shelf::Shelf;
 
 // ---- the tables of the search
 
-// What the places of facet x say of each ridge orbit: how many of them are in it, and the share at the last of these.
-fn count_places(
-    shares: &[u8],
-    x: usize,
-    ridges: usize,
-    places: &mut [u32; 190],
-    last: &mut [u32; 190],
-)
-    requires { Sound 4 1024 shares.now × (x < count shares.now) × (ridges ≤ 190) × PlacesCounted ridges [] places.old last.old }
-    ensures { PlacesCounted ridges (get_or (closed_lists 4 1024 shares.now) x []) places.new last.new }
+// What the places of a facet say of each ridge orbit: how many of them are in it, and the share at the last of these.
+#[derive(Clone, Copy)]
+struct Counted {
+    places: [u32; 190],
+    last: [u32; 190],
+}
+
+// What the places of facet x say of the first ridge orbits.
+fn count_places(shares: &[u8], x: usize, ridges: usize) -> Counted
+    requires { Sound 4 1024 shares.now × (x < count shares.now) × (ridges ≤ 190) }
+    ensures { PlacesCounted ridges (get_or (closed_lists 4 1024 shares.now) x []) result.places result.last }
 {
+    let mut counted = Counted {
+        places: [0; 190],
+        last: [0; 190],
+    };
     let n = pool::list_length(shares, x) as usize;
     for i in 0..n {
         let code = pool::item::<u32>(shares, 1024, x, i);
         let ridge = (code % 65536) as usize;
         if ridge < ridges {
-            places[ridge] += 1;
-            last[ridge] = code / 65536;
+            counted.places[ridge] += 1;
+            counted.last[ridge] = code / 65536;
         }
     }
+    counted
 }
 
 // What a facet adds to a ridge orbit [7.2], cut off at 3.
@@ -51,20 +59,12 @@ fn amount(last: u32, places: u32) -> usize
 
 // What facet x adds, as one list more: 4 × ridge orbit + amount for each ridge orbit where it adds something.
 fn touch_facet(ws: &mut [u8], desk: Desk, facets: usize, ridges: usize, x: usize)
-    requires { (desk.shares ≤ desk.touched) × Sound 4 1024 (area desk.shares desk.touched ws.old) × (x < count (area desk.shares desk.touched ws.old)) × (ridges ≤ 190) × AreaEmpty desk.touched desk.ones 2 facets ws.old ridges 1 }
-    ensures { AreaGrown desk.touched desk.ones 2 facets ws.old ws.new (touched_to ridges (get_or (closed_lists 4 1024 (area desk.shares desk.touched ws.old)) x []) ∷ []) }
+    requires { SharesLaid desk ws.old × (x < count (shares_part desk ws.old)) × (ridges ≤ 190) × AreaEmpty desk.touched desk.ones 2 facets ws.old ridges 1 }
+    ensures { AreaGrown desk.touched desk.ones 2 facets ws.old ws.new (touched_of ridges (shares_in desk ws.old) x ∷ []) }
 {
-    let mut places: [u32; 190] = [0; 190];
-    let mut last: [u32; 190] = [0; 190];
-    count_places(
-        &ws[desk.shares..desk.touched],
-        x,
-        ridges,
-        &mut places,
-        &mut last,
-    );
+    let counted = count_places(&ws[desk.shares..desk.touched], x, ridges);
     for ridge in 0..ridges {
-        let added = amount(last[ridge], places[ridge]);
+        let added = amount(counted.last[ridge], counted.places[ridge]);
         if 0 < added {
             pool::push(
                 &mut ws[desk.touched..desk.ones],
@@ -78,8 +78,8 @@ fn touch_facet(ws: &mut [u8], desk: Desk, facets: usize, ridges: usize, x: usize
 
 // What each facet adds. A facet's places are looked at once.
 fn touch_facets(ws: &mut [u8], desk: Desk, facets: usize, ridges: usize)
-    requires { (desk.shares ≤ desk.touched) × Sound 4 1024 (area desk.shares desk.touched ws.old) × (facets ≡ count (area desk.shares desk.touched ws.old)) × (ridges ≤ 190) × Space desk.touched desk.ones 2 facets (length ws.old) (facets * ridges) facets }
-    ensures { Made desk.touched desk.ones 2 facets ws.old ws.new (lists_to (touched_of ridges (closed_lists 4 1024 (area desk.shares desk.touched ws.old))) facets) }
+    requires { SharesLaid desk ws.old × (facets ≡ count (shares_part desk ws.old)) × (ridges ≤ 190) × Space desk.touched desk.ones 2 facets (length ws.old) (facets * ridges) facets }
+    ensures { Made desk.touched desk.ones 2 facets ws.old ws.new (lists_to (touched_of ridges (shares_in desk ws.old)) facets) }
 {
     pool::clear(&mut ws[desk.touched..desk.ones]);
     for x in 0..facets {
@@ -89,8 +89,8 @@ fn touch_facets(ws: &mut [u8], desk: Desk, facets: usize, ridges: usize)
 
 // Facet x joins the open list, once for each share of 1 that it has in a ridge orbit.
 fn ones_of_facet(ws: &mut [u8], desk: Desk, ridges: usize, ridge: usize, x: usize)
-    requires { (desk.shares ≤ desk.touched) × (desk.touched ≤ desk.ones) × Sound 4 1024 (area desk.shares desk.touched ws.old) × (x < count (area desk.shares desk.touched ws.old)) × (ridge < 65536) × (x < 65536) × AreaRoom desk.ones desk.frames 2 ridges ws.old (length (ones_in ridge x (get_or (closed_lists 4 1024 (area desk.shares desk.touched ws.old)) x []))) 1 }
-    ensures { Joined desk.ones desk.frames 2 ridges ws.old ws.new (ones_in ridge x (get_or (closed_lists 4 1024 (area desk.shares desk.touched ws.old)) x [])) }
+    requires { SharesLaid desk ws.old × (x < count (shares_part desk ws.old)) × (ridge < 65536) × AreaRoom desk.ones desk.frames 2 ridges ws.old (length (ones_in ridge x (get_or (shares_in desk ws.old) x []))) 1 }
+    ensures { Joined desk.ones desk.frames 2 ridges ws.old ws.new (ones_in ridge x (get_or (shares_in desk ws.old) x [])) }
 {
     let n = pool::list_length(&ws[desk.shares..desk.touched], x) as usize;
     for i in 0..n {
@@ -103,8 +103,8 @@ fn ones_of_facet(ws: &mut [u8], desk: Desk, ridges: usize, ridge: usize, x: usiz
 
 // The facets with shares of 1 in a ridge orbit, as one list more.
 fn ones_of_ridge(ws: &mut [u8], desk: Desk, facets: usize, ridges: usize, ridge: usize)
-    requires { (desk.shares ≤ desk.touched) × (desk.touched ≤ desk.ones) × Sound 4 1024 (area desk.shares desk.touched ws.old) × (facets ≡ count (area desk.shares desk.touched ws.old)) × (ridge < 65536) × (facets ≤ 1024) × AreaEmpty desk.ones desk.frames 2 ridges ws.old (length (ones_to ridge (closed_lists 4 1024 (area desk.shares desk.touched ws.old)) facets)) 1 }
-    ensures { AreaGrown desk.ones desk.frames 2 ridges ws.old ws.new (ones_to ridge (closed_lists 4 1024 (area desk.shares desk.touched ws.old)) facets ∷ []) }
+    requires { SharesLaid desk ws.old × (facets ≡ count (shares_part desk ws.old)) × (ridge < 65536) × AreaEmpty desk.ones desk.frames 2 ridges ws.old (length (ones_to ridge (shares_in desk ws.old) facets)) 1 }
+    ensures { AreaGrown desk.ones desk.frames 2 ridges ws.old ws.new (ones_to ridge (shares_in desk ws.old) facets ∷ []) }
 {
     for x in 0..facets {
         ones_of_facet(ws, desk, ridges, ridge, x);
@@ -114,8 +114,8 @@ fn ones_of_ridge(ws: &mut [u8], desk: Desk, facets: usize, ridges: usize, ridge:
 
 // For each ridge orbit the facets with shares of 1 in it. Every place is looked at once for each ridge orbit.
 fn lay_ones(ws: &mut [u8], desk: Desk, facets: usize, ridges: usize)
-    requires { (desk.shares ≤ desk.touched) × (desk.touched ≤ desk.ones) × Sound 4 1024 (area desk.shares desk.touched ws.old) × (facets ≡ count (area desk.shares desk.touched ws.old)) × (ridges ≤ 190) × Space desk.ones desk.frames 2 ridges (length ws.old) (length (flat (closed_lists 4 1024 (area desk.shares desk.touched ws.old)))) ridges }
-    ensures { Made desk.ones desk.frames 2 ridges ws.old ws.new (lists_to (ones_of (closed_lists 4 1024 (area desk.shares desk.touched ws.old)) facets) ridges) }
+    requires { SharesLaid desk ws.old × (facets ≡ count (shares_part desk ws.old)) × (ridges ≤ 190) × Space desk.ones desk.frames 2 ridges (length ws.old) (length (flat (shares_in desk ws.old))) ridges }
+    ensures { Made desk.ones desk.frames 2 ridges ws.old ws.new (lists_to (ones_of (shares_in desk ws.old) facets) ridges) }
 {
     pool::clear(&mut ws[desk.ones..desk.frames]);
     for ridge in 0..ridges {
@@ -130,31 +130,30 @@ fn areas_from(shelf: Shelf, desk: Desk, known: usize) -> Areas
     requires { (shelf.owners ≤ desk.touched) × (desk.touched ≤ desk.ones) × (desk.ones ≤ desk.frames) × (desk.frames ≤ desk.totals) × (desk.totals + known ≤ desk.lists) × (desk.lists ≤ desk.end) }
     ensures { result ≡ areas_of shelf desk known }
 {
-    let owners = shelf.owners;
-    let totals = desk.totals - owners;
     Areas {
         facets: shelf.facets,
         ridges: known,
         orbits: shelf.orbits,
         bound: 1024,
-        touched: desk.touched - owners,
-        ones: desk.ones - owners,
-        frames: desk.frames - owners,
-        totals: totals,
-        used: totals + known,
-        lists: desk.lists - owners,
-        end: desk.end - owners,
+        touched: desk.touched - shelf.owners,
+        ones: desk.ones - shelf.owners,
+        frames: desk.frames - shelf.owners,
+        totals: desk.totals - shelf.owners,
+        used: desk.totals - shelf.owners + known,
+        lists: desk.lists - shelf.owners,
+        end: desk.end - shelf.owners,
     }
 }
 
 // The tables of the search, from what is kept, and where they lie: the search is called on the workspace from the owners on. The shelf stays as it is.
-pub fn lay_tables(rows: &[u8], m: usize, shelf: Shelf, desk: Desk, ws: &mut [u8]) -> Areas
-    requires { (n : ℕ) × (most : ℕ) × (ridges : ℕ) × (kept : List Kept) × Given n most ridges m rows.now kept shelf desk ws.old }
-    ensures { (result ≡ areas_of shelf desk result.ridges) × ((n : ℕ) (most : ℕ) (ridges : ℕ) (kept : List Kept) → Given n most ridges m rows.now kept shelf desk ws.old → Inputs (kept_table (rows_in n m rows.now) kept) result (drop shelf.owners ws.new) × (take shelf.end ws.new ≡ take shelf.end ws.old)) }
+pub fn lay_tables(rows: Rows, shelf: Shelf, desk: Desk, ws: &mut [u8]) -> Areas
+    requires { (n : ℕ) × (most : ℕ) × (ridges : ℕ) × (kept : List Kept) × Given n most ridges rows.count rows.bytes.now kept shelf desk ws.old }
+    ensures { (result ≡ areas_of shelf desk result.ridges) × ((n : ℕ) (most : ℕ) (ridges : ℕ) (kept : List Kept) → Given n most ridges rows.entry.count rows.entry.bytes.now kept shelf desk ws.old → Inputs (kept_table (rows_in n rows.entry.count rows.entry.bytes.now) kept) result (drop shelf.owners ws.new) × (take shelf.end ws.new ≡ take shelf.end ws.old)) }
 {
-    let opened = shares::number_ridges(rows, m, shelf, desk, ws);
-    shares::share_facets(ws, shelf, desk, &opened.counts);
-    touch_facets(ws, desk, shelf.facets, opened.known);
-    lay_ones(ws, desk, shelf.facets, opened.known);
-    areas_from(shelf, desk, opened.known)
+    let opened = shares::number_ridges(rows, shelf, desk, ws);
+    let ridges = opened.counts.len();
+    shares::share_facets(ws, shelf, desk, opened.counts.as_slice());
+    touch_facets(ws, desk, shelf.facets, ridges);
+    lay_ones(ws, desk, shelf.facets, ridges);
+    areas_from(shelf, desk, ridges)
 }

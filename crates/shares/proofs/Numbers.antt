@@ -188,7 +188,7 @@ module _ {m : ℕ} {rows : List ℕ} {shelf : Shelf} {from to : ℕ} {ws₀ : Li
           }
 
     pub orbits_end : orbits ≤ o → Holds 2 256 (area from to ws₀) [] [] 0 → (s : List ℕ) → length ws₀ ≡ length s → take from ws₀ ≡ take from s
-        → AllNumbered m rows from to (closed_lists 4 256 (ridges_part shelf s)) s ws opened.counts opened.known
+        → AllNumbered m rows from to (closed_lists 4 256 (ridges_part shelf s)) s ws opened.counts.items
     unfolding all lists
     orbits_end h none s long front =
         let e : take o lists ≡ lists = take_all o lists (omega (arith, lists_long)) in
@@ -201,9 +201,7 @@ module _ {m : ℕ} {rows : List ℕ} {shelf : Shelf} {from to : ℕ} {ws₀ : Li
           long = r.grown.long ∙ long;
           front = r.grown.front ∙ front;
           numbers = record { sound = a.sound; lists_are = a.lists_are; open_is = a.open_is; many_are = a.many_are ∙ n };
-          known_is = st.known_is;
           counts_are = st.counts_are;
-          counts_long = st.room;
         }
 
 pub begun : {m : ℕ} {rows : List ℕ} {shelf : Shelf} {from to : ℕ} (s : List ℕ) {orbits : ℕ} → Reads m rows shelf s from → orbits ≡ count (ridges_part shelf s)

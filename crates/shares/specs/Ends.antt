@@ -39,7 +39,6 @@ all_numbered rows = map_with (numbered rows)
 
 -- what numbering reads: rows, and ridges that the rows send to pairs below 20, before the place where it writes
 pub record Reads (m : ℕ) (rows : List ℕ) (shelf : Shelf) (s : List ℕ) (from : ℕ) : Type 0 where
-  pub rows_fit_holds : 32 * m ≤ length rows
   pub rows_few : m ≤ 120
   pub order : shelf.ridges ≤ shelf.places
   pub before : shelf.places ≤ from
@@ -53,7 +52,6 @@ pub reads_kept : (m : ℕ) (rows : List ℕ) (shelf : Shelf) (s t : List ℕ) (f
 reads_kept m rows shelf s t from e l r =
     let p : ridges_part shelf t ≡ ridges_part shelf s = area_kept from shelf.ridges shelf.places s t e r.order r.before in
     record {
-      rows_fit_holds = r.rows_fit_holds;
       rows_few = r.rows_few;
       order = r.order;
       before = r.before;
@@ -101,13 +99,11 @@ numbered_up rows k codes = counts_up (number_ends rows) (number_up rows) k (ends
 -- ---- the ridges of all orbits are numbered
 
 -- each orbit's numbers as lists of a pool, and the ridge orbits' counts
-pub record AllNumbered (m : ℕ) (rows : List ℕ) (from to : ℕ) (lists : List (List ℕ)) (s t counts : List ℕ) (known : ℕ) : Type 0 where
+pub record AllNumbered (m : ℕ) (rows : List ℕ) (from to : ℕ) (lists : List (List ℕ)) (s t counts : List ℕ) : Type 0 where
   pub long : length t ≡ length s
   pub front : take from t ≡ take from s
   pub numbers : Holds 2 256 (area from to t) (all_numbered (rows_in 32 m rows) (no_keys Pair) lists).0 [] (length (flat lists))
-  pub known_is : known ≡ length (all_numbered (rows_in 32 m rows) (no_keys Pair) lists).1.counts
-  pub counts_are : take known counts ≡ (all_numbered (rows_in 32 m rows) (no_keys Pair) lists).1.counts
-  pub counts_long : length counts ≡ 190
+  pub counts_are : counts ≡ (all_numbered (rows_in 32 m rows) (no_keys Pair) lists).1.counts
 
 module _ (rows : List Row) (keys : KnownKeys Pair) where
   pub all_more : (lists : List (List ℕ)) (o : ℕ) → o < length lists

@@ -15,13 +15,15 @@ ghost use Rattle.numbering.specs.Standing.{Standing};
 ghost use Rattle.shares.specs.Ends.{Reads, ridges_at, numbered, all_numbered, AllNumbered};
 
 use numbering::RidgeOrbits;
+use openers::Rows;
 use shelf::Shelf;
 use words::Word;
 
 // ---- the ridges of all orbits
 
 // Where what is made for a search lies in the workspace, behind the shelf: the numbers of the ridges, orbit by orbit, and the shares of the facets, which serve only here; then the tables
-// that the search reads, and what it works in.
+// that the search reads, and what it works in. What writes takes the workspace beside it: a struct that held both would have each contract say besides that the places and the loan are as
+// they were.
 #[derive(Clone, Copy)]
 pub struct Desk {
     pub numbers: usize,
@@ -36,35 +38,34 @@ pub struct Desk {
 
 // The numbers of one orbit's ridges are one list more.
 fn number_orbit(
-    rows: &[u8],
-    m: usize,
+    rows: Rows,
     shelf: Shelf,
     desk: Desk,
     o: usize,
     opened: &mut RidgeOrbits,
     ws: &mut [u8],
 )
-    requires { Reads m rows.now shelf ws.old desk.numbers × (o < count (ridges_part shelf ws.old)) × AreaEmpty desk.numbers desk.shares 2 256 ws.old (length (ridges_at shelf ws.old o)) 1 × ((keys : KnownKeys Pair) × Standing opened.old keys × (length (numbered (rows_in 32 m rows.now) keys (ridges_at shelf ws.old o)).1.counts ≤ 190)) }
-    ensures { (keys : KnownKeys Pair) → Standing opened.old keys → (length (numbered (rows_in 32 m rows.now) keys (ridges_at shelf ws.old o)).1.counts ≤ 190) → Standing opened.new (numbered (rows_in 32 m rows.now) keys (ridges_at shelf ws.old o)).1 × AreaGrown desk.numbers desk.shares 2 256 ws.old ws.new ((numbered (rows_in 32 m rows.now) keys (ridges_at shelf ws.old o)).0 ∷ []) }
+    requires { Reads rows.count rows.bytes.now shelf ws.old desk.numbers × (o < count (ridges_part shelf ws.old)) × AreaEmpty desk.numbers desk.shares 2 256 ws.old (length (ridges_at shelf ws.old o)) 1 × ((keys : KnownKeys Pair) × Standing opened.old keys × (length (numbered (rows_in 32 rows.count rows.bytes.now) keys (ridges_at shelf ws.old o)).1.counts ≤ 190)) }
+    ensures { (keys : KnownKeys Pair) → Standing opened.old keys → (length (numbered (rows_in 32 rows.entry.count rows.entry.bytes.now) keys (ridges_at shelf ws.old o)).1.counts ≤ 190) → Standing opened.new (numbered (rows_in 32 rows.entry.count rows.entry.bytes.now) keys (ridges_at shelf ws.old o)).1 × AreaGrown desk.numbers desk.shares 2 256 ws.old ws.new ((numbered (rows_in 32 rows.entry.count rows.entry.bytes.now) keys (ridges_at shelf ws.old o)).0 ∷ []) }
 {
     let n = pool::list_length(&ws[shelf.ridges..shelf.places], o) as usize;
     for i in 0..n {
         let code = pool::item::<u32>(&ws[shelf.ridges..shelf.places], 256, o, i);
-        let number = opened.number(rows, m, (code % 65536) as usize);
+        let number = opened.number(rows, (code % 65536) as usize);
         pool::push(&mut ws[desk.numbers..desk.shares], 256, number);
     }
     pool::end_list(&mut ws[desk.numbers..desk.shares]);
 }
 
 // The ridges of all orbits in order; returns the ridge orbits that they are in.
-pub fn number_ridges(rows: &[u8], m: usize, shelf: Shelf, desk: Desk, ws: &mut [u8]) -> RidgeOrbits
-    requires { Reads m rows.now shelf ws.old desk.numbers × (shelf.orbits ≡ count (ridges_part shelf ws.old)) × Space desk.numbers desk.shares 2 256 (length ws.old) (length (flat (closed_lists 4 256 (ridges_part shelf ws.old)))) shelf.orbits × (length (all_numbered (rows_in 32 m rows.now) (no_keys Pair) (closed_lists 4 256 (ridges_part shelf ws.old))).1.counts ≤ 190) }
-    ensures { AllNumbered m rows.now desk.numbers desk.shares (closed_lists 4 256 (ridges_part shelf ws.old)) ws.old ws.new result.counts result.known }
+pub fn number_ridges(rows: Rows, shelf: Shelf, desk: Desk, ws: &mut [u8]) -> RidgeOrbits
+    requires { Reads rows.count rows.bytes.now shelf ws.old desk.numbers × (shelf.orbits ≡ count (ridges_part shelf ws.old)) × Space desk.numbers desk.shares 2 256 (length ws.old) (length (flat (closed_lists 4 256 (ridges_part shelf ws.old)))) shelf.orbits × (length (all_numbered (rows_in 32 rows.count rows.bytes.now) (no_keys Pair) (closed_lists 4 256 (ridges_part shelf ws.old))).1.counts ≤ 190) }
+    ensures { AllNumbered rows.entry.count rows.entry.bytes.now desk.numbers desk.shares (closed_lists 4 256 (ridges_part shelf ws.old)) ws.old ws.new result.counts.items }
 {
     pool::clear(&mut ws[desk.numbers..desk.shares]);
     let mut opened = RidgeOrbits::new();
     for o in 0..shelf.orbits {
-        number_orbit(rows, m, shelf, desk, o, &mut opened, ws);
+        number_orbit(rows, shelf, desk, o, &mut opened, ws);
     }
     opened
 }

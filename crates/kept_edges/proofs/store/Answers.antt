@@ -3,16 +3,11 @@ use mathlib.Core.Path.{sym, ap, ◌∙◌}
 use mathlib.Core.List.{map}
 use native.Mathlib.Omega.{arith}
 use Rattle.std.proofs.lemmas.List.{get_or-map, length-map}
-use Rattle.keep.specs.Storing.{growing_none, growing_end, growing_end_room, taking_room, taking_push, taking_end}
+use Rattle.keep.specs.Storing.{growing_none, growing_end_room, taking_push, taking_end}
 use Rattle.kept_edges.proofs.store.Goals as goal
 
 pub loop-v-init : goal.loop-v-init
 loop-v-init g c = growing_none _ _ _ _ _
-
-pub push-requires : goal.push-requires
-push-requires g c =
-    let n = length-map c.args.items.now g.T.Word.number in
-    taking_room c.requires.1 (map g.T.Word.number c.args.items.now) c.loop-v.v-index c.loop-v.invariant (omega (arith, c.loop-v-test.true)) (omega arith)
 
 pub loop-v-preserved : goal.loop-v-preserved
 loop-v-preserved g c =
@@ -23,9 +18,6 @@ loop-v-preserved g c =
 
 pub end_list-requires : goal.end_list-requires
 end_list-requires g c = growing_end_room c.requires.1 c.loop-v.invariant
-
-pub shape_of-ws : goal.shape_of-ws
-shape_of-ws g c = (growing_end c.requires.1 c.loop-v.invariant c.end_list.new.s c.end_list.ensures).beside.long
 
 pub returns : goal.returns
 returns g c =

@@ -5,18 +5,13 @@ use mathlib.Core.Bool.{Bool}
 use mathlib.Core.List.{List}
 use native.Mathlib.Omega.{arith}
 use lib.ListN.{length, length-drop}
-use Rattle.words.specs.Words.{put_length}
 use Rattle.shelf.specs.Keeps.{raised}
 use Rattle.keep.specs.Storing.{room_fewer, room_beside}
-use Rattle.keep.specs.Stocked.{fits_after}
 use Rattle.left_edges.specs.Marked.{marked_codes}
 use Rattle.left_edges.specs.Reading.{lent_tail}
-use Rattle.kept_polygons.specs.Facets.{entry_at, codes_of, codes_many, marked_small, label_read, label_room_holds, label_small, facet_stored}
-use Rattle.kept_polygons.proofs.Laws.{behind_edges, lists_written, behind_lists}
+use Rattle.kept_polygons.specs.Facets.{entry_at, codes_of, codes_many, marked_small, label_read, label_small, facet_stored}
+use Rattle.kept_polygons.proofs.Laws.{behind_edges, behind_lists}
 use Rattle.kept_polygons.proofs.keep_facet.Goals as goal
-
-pub mark_entry-requires : goal.mark_entry-requires
-mark_entry-requires c = rw (lent_tail c.args.at c.args.ws.now) (c.requires.5.0, c.requires.5.1, c.requires.5.2.left, c.requires.4)
 
 pub store_edges-requires : goal.store_edges-requires
 store_edges-requires c =
@@ -24,7 +19,7 @@ store_edges-requires c =
     let src = c.requires.5.2 in
     let marks_are = (rw (lent_tail c.args.at c.args.ws.now) at c.mark_entry.ensures) c.requires.5.0 inner src.left in
     let few = ap (λ (r : List Bool). length (marked_codes r)) marks_are in
-    let same = codes_many c.requires.5.0 c.args.m c.args.rows.now inner c.args.vertices.at (entry_at c.args.level c.args.at c.args.ws.now c.args.k) in
+    let same = codes_many c.requires.5.0 c.args.rows.count c.args.rows.bytes.now inner c.args.vertices.now.items (entry_at c.args.level c.args.at c.args.ws.now c.args.k) in
     (omega (arith, c.requires.0.edge_room), room_fewer c.requires.5.3 _ (omega (arith, few, same)), λ x h t. marked_small src c.args.k c.requires.4 x h _ marks_are t)
 
 pub store_places-requires : goal.store_places-requires
@@ -41,45 +36,10 @@ store_places-requires c =
       rw tail (room_beside c.requires.5.4 a.beside (inr (omega (arith, f.edge_room, f.label_room, f.owner_room, f.ridge_room)))),
     )
 
-pub overflow_add-place : goal.overflow_add-place
-overflow_add-place c = omega (arith, label_room_holds c.requires.5.2 c.args.k c.requires.4, length-drop c.args.at c.args.ws.now)
-
-pub overflow_add-place-2 : goal.overflow_add-place-2
-overflow_add-place-2 c = omega (arith, label_room_holds c.requires.5.2 c.args.k c.requires.4, length-drop c.args.at c.args.ws.now)
-
-pub overflow_add-place-3 : goal.overflow_add-place-3
-overflow_add-place-3 c = omega (arith, label_room_holds c.requires.5.2 c.args.k c.requires.4, length-drop c.args.at c.args.ws.now)
-
-pub slice_bounds-get-count : goal.slice_bounds-get-count
-slice_bounds-get-count c = omega (arith, (lists_written c.requires.0 c.requires.1 c.store_edges.ensures c.store_places.ensures).long, c.requires.5.2.inside)
-
-pub slice_bounds-get-start : goal.slice_bounds-get-start
-slice_bounds-get-start c = omega (arith, (lists_written c.requires.0 c.requires.1 c.store_edges.ensures c.store_places.ensures).long, c.requires.5.2.inside)
-
-pub get-requires : goal.get-requires
-get-requires c = rw (behind_lists c.requires.0 c.requires.1 c.store_edges.ensures c.store_places.ensures) (label_room_holds c.requires.5.2 c.args.k c.requires.4)
-
 pub raise-label-requires : goal.raise-label-requires
 raise-label-requires c =
     let read = rw (behind_lists c.requires.0 c.requires.1 c.store_edges.ensures c.store_places.ensures) at c.get.ensures in
     (omega (arith, c.requires.3), λ g. label_small c.requires.5.2 c.args.k c.requires.4 c.get.result read (omega (arith, c.requires.3)) g)
-
-pub overflow_add-shelf : goal.overflow_add-shelf
-overflow_add-shelf c = omega (arith, c.requires.3, c.requires.4)
-
-pub overflow_cast-shelf : goal.overflow_cast-shelf
-overflow_cast-shelf c = record { fits = omega (arith, c.requires.2) }
-
-pub store_facet-requires : goal.store_facet-requires
-store_facet-requires c =
-    let far = lists_written c.requires.0 c.requires.1 c.store_edges.ensures c.store_places.ensures in
-    (fits_after {shelf = c.args.shelf} c.requires.0 far, omega (arith, c.requires.3, c.requires.4))
-
-pub shape_of-ws : goal.shape_of-ws
-shape_of-ws c =
-    let label = c.raise-label.result in
-    ap length c.store_facet.ensures
-    ∙ (put_length 2 _ _ _ ∙ (put_length 4 _ _ label ∙ (c.store_places.ensures.beside.long ∙ c.store_edges.ensures.beside.long)))
 
 pub returns : goal.returns
 unfolding codes_of

@@ -7,8 +7,5 @@ use Rattle.kept_polygons.proofs.raise.Goals as goal
 pub returns-then-label-lt65536 : goal.returns-then-label-lt65536
 returns-then-label-lt65536 c = raised_none c.args.first c.args.label 0 (omega arith) refl
 
-pub overflow_add-result : goal.overflow_add-result
-overflow_add-result c = let r = c.requires.1 (omega arith) in omega (arith, r.0, r.1, c.requires.0)
-
 pub returns : goal.returns
 returns c = let r = c.requires.1 (omega arith) in raised_some c.args.first c.args.label _ (omega arith) (omega (arith, r.0, c.requires.0)) (omega (arith, r.1, c.requires.0)) refl

@@ -3,13 +3,9 @@ use Prim.Native.Nat.{◌-◌}
 use native.Mathlib.Omega.{arith}
 use lib.ListN.{get_or, drop, length-drop}
 use Rattle.shelf.specs.Leaves.{lists_left}
-use Rattle.keep.specs.Storing.{growing_none, growing_end, growing_end_room, taking_room, taking_push, taking_end, behind_lent}
+use Rattle.keep.specs.Storing.{growing_none, growing_end_room, taking_push, taking_end, behind_lent}
 use Rattle.left_edges.specs.Reading.{lent_tail}
 use Rattle.kept_polygons.proofs.store_places.Goals as goal
-
-pub facets_of-items-requires : goal.facets_of-items-requires
-facets_of-items-requires c = let tail = lent_tail c.args.at c.args.ws.now in
-    rw tail (omega (arith, length-drop c.args.at c.args.ws.now, c.requires.2), c.requires.3, c.requires.4)
 
 pub loop-i-init : goal.loop-i-init
 loop-i-init c = (omega arith, growing_none 2 1024 c.args.from (c.args.to - c.args.from) c.args.ws.now)
@@ -19,11 +15,6 @@ facet_at-x-requires c = let p = c.loop-i in let tail = behind_lent p.invariant.1
     let many = rw (lent_tail c.args.at c.args.ws.now) at c.facets_of-items.ensures in
     rw tail (omega (arith, length-drop c.args.at c.args.ws.now, c.requires.2), c.requires.3, c.requires.4, omega (arith, many))
 
-pub push-requires : goal.push-requires
-push-requires c = let p = c.loop-i in
-    let many = rw (lent_tail c.args.at c.args.ws.now) at c.facets_of-items.ensures in
-    taking_room c.requires.5 (get_or (lists_left c.args.level (drop c.args.at c.args.ws.now)) c.args.k []) p.i p.invariant.1 (omega (arith, many)) (omega arith)
-
 pub loop-i-preserved : goal.loop-i-preserved
 loop-i-preserved c = let p = c.loop-i in let tail = behind_lent p.invariant.1 c.args.at (omega (arith, c.requires.0, c.requires.1)) in
     let many = rw (lent_tail c.args.at c.args.ws.now) at c.facets_of-items.ensures in
@@ -32,9 +23,6 @@ loop-i-preserved c = let p = c.loop-i in let tail = behind_lent p.invariant.1 c.
 
 pub end_list-requires : goal.end_list-requires
 end_list-requires c = let p = c.loop-i in growing_end_room c.requires.5 p.invariant.1
-
-pub shape_of-ws : goal.shape_of-ws
-shape_of-ws c = let p = c.loop-i in (growing_end c.requires.5 p.invariant.1 c.end_list.new.s c.end_list.ensures).beside.long
 
 pub returns : goal.returns
 returns c = let p = c.loop-i in

@@ -29,7 +29,7 @@ pub moved-code-requires : goal.moved-code-requires
 moved-code-requires c = let p = c.loop-a in let n = c.requires.3.0 in let inner = c.requires.3.3 in let l = c.requires.3.4 in let g = p.invariant.1 n c.requires.3.1 c.requires.3.2 inner l in let tail = behind_lent g c.args.at (omega (arith, c.requires.0, c.requires.1)) in
     let a-few : p.a < length inner = omega (arith, orbits_many l) in let known = edge_known l p.a a-few in
     let e = edge_code_holds l p.a a-few c.edge_at.result ((rw tail at c.edge_at.ensures) (map (map pair_code) (edges_of inner)) l.leaves.keeps.edges known.0 known.1) in let apart = code_apart l p.a a-few c.edge_at.result e in
-    (apart.2, c.requires.3.6 _ apart.3, c.requires.3.6 _ apart.4)
+    (c.requires.3.6 _ apart.3, c.requires.3.6 _ apart.4)
 
 pub slice_bounds-get-count : goal.slice_bounds-get-count
 slice_bounds-get-count c = let p = c.loop-a in let n = c.requires.3.0 in let inner = c.requires.3.3 in let l = c.requires.3.4 in let g = p.invariant.1 n c.requires.3.1 c.requires.3.2 inner l in
@@ -38,12 +38,6 @@ slice_bounds-get-count c = let p = c.loop-a in let n = c.requires.3.0 in let inn
 pub slice_bounds-get-start : goal.slice_bounds-get-start
 slice_bounds-get-start c = let p = c.loop-a in let n = c.requires.3.0 in let inner = c.requires.3.3 in let l = c.requires.3.4 in let g = p.invariant.1 n c.requires.3.1 c.requires.3.2 inner l in let tail = behind_lent g c.args.at (omega (arith, c.requires.0, c.requires.1)) in
     omega (arith, g.beside.long, c.requires.2)
-
-pub overflow_mul-a : goal.overflow_mul-a
-overflow_mul-a c = let p = c.loop-a in let l = c.requires.3.4 in omega (arith, l.leaves.keeps.few_orbits)
-
-pub overflow_add-a : goal.overflow_add-a
-overflow_add-a c = let p = c.loop-a in let l = c.requires.3.4 in omega (arith, l.leaves.keeps.few_orbits)
 
 pub get-count-requires : goal.get-count-requires
 get-count-requires c = let p = c.loop-a in let n = c.requires.3.0 in let inner = c.requires.3.3 in let l = c.requires.3.4 in let g = p.invariant.1 n c.requires.3.1 c.requires.3.2 inner l in let tail = behind_lent g c.args.at (omega (arith, c.requires.0, c.requires.1)) in
@@ -67,7 +61,7 @@ overflow_add-code c = let p = c.loop-a in let n = c.requires.3.0 in let inner = 
 pub push-requires : goal.push-requires
 push-requires c = let p = c.loop-a in let n = c.requires.3.0 in let inner = c.requires.3.3 in let l = c.requires.3.4 in let g = p.invariant.1 n c.requires.3.1 c.requires.3.2 inner l in let tail = behind_lent g c.args.at (omega (arith, c.requires.0, c.requires.1)) in
     let a-few : p.a < length inner = omega (arith, orbits_many l) in let known = edge_known l p.a a-few in
-    taking_room c.requires.3.5 (ridges_moved c.args.vertices.at inner) p.a g (omega (arith, ridges_many c.args.vertices.at inner)) (omega (arith, ridges_many c.args.vertices.at inner))
+    taking_room c.requires.3.5 (ridges_moved c.args.vertices.now.items inner) p.a g (omega (arith, ridges_many c.args.vertices.now.items inner)) (omega (arith, ridges_many c.args.vertices.now.items inner))
 
 pub loop-a-preserved : goal.loop-a-preserved
 loop-a-preserved c = let p = c.loop-a in (
@@ -78,9 +72,9 @@ loop-a-preserved c = let p = c.loop-a in (
       let a-few : p.a < length inner = omega (arith, c.loop-a-test.true, orbits_many l) in let known = edge_known l p.a a-few in
       let e = edge_code_holds l p.a a-few c.edge_at.result ((rw tail at c.edge_at.ensures) (map (map pair_code) (edges_of inner)) l.leaves.keeps.edges known.0 known.1) in let apart = code_apart l p.a a-few c.edge_at.result e in
       let count = rw tail at c.get-count.ensures in
-      let many = ridges_many c.args.vertices.at inner in
-      taking_push c.requires.3.5 (ridges_moved c.args.vertices.at inner) p.a g (omega (arith, many)) (omega (arith, many, orbits_many l, orbits_many c.requires.3.4)) _ c.push.new.s
-      (ap (λ (x : ℕ). x + 65536 * c.get-count.result) c.moved-code.ensures.0 ∙ ridge_next l p.a a-few c.args.vertices.at c.edge_at.result c.get-count.result e count)
+      let many = ridges_many c.args.vertices.now.items inner in
+      taking_push c.requires.3.5 (ridges_moved c.args.vertices.now.items inner) p.a g (omega (arith, many)) (omega (arith, many, orbits_many l, orbits_many c.requires.3.4)) _ c.push.new.s
+      (ap (λ (x : ℕ). x + 65536 * c.get-count.result) c.moved-code.ensures.0 ∙ ridge_next l p.a a-few c.args.vertices.now.items c.edge_at.result c.get-count.result e count)
       (omega (arith, count, count_few l p.a a-few, c.moved-code.ensures.1)) c.push.ensures,
 )
 
@@ -99,4 +93,4 @@ shape_of-ws c = let p = c.loop-a in let n = c.requires.3.0 in let inner = c.requ
 pub returns : goal.returns
 returns c = λ n m rows inner l. let p = c.loop-a in
     let g = p.invariant.1 n m rows inner l in
-    taking_end c.requires.3.5 (ridges_moved c.args.vertices.at inner) p.a g (omega (arith, ridges_many c.args.vertices.at inner, orbits_many l)) c.end_list.new.s c.end_list.ensures
+    taking_end c.requires.3.5 (ridges_moved c.args.vertices.now.items inner) p.a g (omega (arith, ridges_many c.args.vertices.now.items inner, orbits_many l)) c.end_list.new.s c.end_list.ensures

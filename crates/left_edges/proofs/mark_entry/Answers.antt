@@ -11,17 +11,11 @@ use Rattle.openers.specs.Marks.{marked}
 use Rattle.openers.specs.Meaning.{pair_code}
 use Rattle.shelf.specs.Leaves.{lists_left}
 use Rattle.left_edges.specs.Polygons.{edge_at, images_of}
-use Rattle.left_edges.specs.Reading.{images_none, images_more, lists_inside, facet_below}
+use Rattle.left_edges.specs.Reading.{images_none, images_more, facet_below}
 use Rattle.left_edges.proofs.mark_entry.Goals as goal
 
-pub facets_of-items-requires : goal.facets_of-items-requires
-facets_of-items-requires c = let l = c.requires.2 in (lists_inside l, l.leaves.area, c.requires.3)
-
 pub loop-i-init : goal.loop-i-init
-loop-i-init c = (omega arith, λ n inner l. images_none (rows_in n c.args.m c.args.rows.now) inner c.args.marks.now (get_or (lists_left c.args.level c.args.s.now) c.args.k []))
-
-pub facet_at-x-requires : goal.facet_at-x-requires
-facet_at-x-requires c = let l = c.requires.2 in (lists_inside l, l.leaves.area, c.requires.3, omega (arith, c.facets_of-items.ensures))
+loop-i-init c = (omega arith, λ n inner l. images_none (rows_in n c.args.rows.count c.args.rows.bytes.now) inner c.args.marks.now (get_or (lists_left c.args.level c.args.s.now) c.args.k []))
 
 pub mark_facet-requires : goal.mark_facet-requires
 mark_facet-requires c = let l = c.requires.2 in (c.requires.0, c.requires.1, l, rw c.facet_at-x.ensures (facet_below l c.args.k c.loop-i.i c.requires.3 (omega (arith, c.facets_of-items.ensures))))
@@ -35,12 +29,12 @@ loop-i-preserved c =
       λ n inner l.
           let below : c.facet_at-x.result < length inner = rw x (facet_below l c.args.k p.i c.requires.3 i-few) in
           c.mark_facet.ensures n inner l below
-          ∙ (ap (λ (q : List Bool). marked q (map pair_code (map (pair_image (edge_at inner c.facet_at-x.result)) (rows_in n c.args.m c.args.rows.now)))) (p.invariant.1 n inner l)
-          ∙ sym (images_more (rows_in n c.args.m c.args.rows.now) inner c.args.marks.now (get_or (lists_left c.args.level c.args.s.now) c.args.k []) p.i c.facet_at-x.result i-few x)),
+          ∙ (ap (λ (q : List Bool). marked q (map pair_code (map (pair_image (edge_at inner c.facet_at-x.result)) (rows_in n c.args.rows.count c.args.rows.bytes.now)))) (p.invariant.1 n inner l)
+          ∙ sym (images_more (rows_in n c.args.rows.count c.args.rows.bytes.now) inner c.args.marks.now (get_or (lists_left c.args.level c.args.s.now) c.args.k []) p.i c.facet_at-x.result i-few x)),
     )
 
 pub returns : goal.returns
 returns c = λ n inner l.
     let p = c.loop-i in
     let list = get_or (lists_left c.args.level c.args.s.now) c.args.k [] in
-    p.invariant.1 n inner l ∙ ap (λ (q : List ℕ). marked c.args.marks.now (map pair_code (images_of (rows_in n c.args.m c.args.rows.now) inner q))) (take_all p.i list (omega (arith, c.facets_of-items.ensures)))
+    p.invariant.1 n inner l ∙ ap (λ (q : List ℕ). marked c.args.marks.now (map pair_code (images_of (rows_in n c.args.rows.count c.args.rows.bytes.now) inner q))) (take_all p.i list (omega (arith, c.facets_of-items.ensures)))

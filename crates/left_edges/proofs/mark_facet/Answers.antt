@@ -18,7 +18,7 @@ mark_pair_images-requires c =
     let e = edge_code_holds l c.args.x c.requires.3 c.edge_at-code.result (c.edge_at-code.ensures _ l.leaves.keeps.edges known.0 known.1) in
     let a = code_apart l c.args.x c.requires.3 c.edge_at-code.result e in
     let f = l.rows_fit in
-    (omega (arith, f.m_fits), omega (arith, a.3, f.n_fits), omega (arith, a.4, f.n_fits), images_under f _ _ a.3 (omega arith), images_under f _ _ a.4 (omega arith))
+    (omega (arith, a.3, f.n_fits), omega (arith, a.4, f.n_fits), images_under f _ _ a.3 (omega arith), images_under f _ _ a.4 (omega arith))
 
 pub returns : goal.returns
 returns c = λ n inner l h.

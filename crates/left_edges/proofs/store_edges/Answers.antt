@@ -8,21 +8,15 @@ use Rattle.left_edges.proofs.store_edges.Goals as goal
 use Rattle.left_edges.proofs.store_edges.Goals.{then-marked, else-marked}
 
 pub loop-c-init : goal.loop-c-init
-loop-c-init c = (omega arith, rw (below_none c.args.vertices.at c.args.marks.now) (growing_none 2 1024 c.args.from (c.args.to - c.args.from) c.args.ws.now))
-
-pub moved-code-requires : goal.moved-code-requires
-moved-code-requires c = let p = c.loop-c in let r = c.requires.2 p.c (omega arith) c.if-marked.true in (omega arith, r.0, r.1)
-
-pub overflow_cast-code : goal.overflow_cast-code
-overflow_cast-code c = record { fits = omega (arith, c.moved-code.ensures.1) }
+loop-c-init c = (omega arith, rw (below_none c.args.vertices.now.items c.args.marks.now) (growing_none 2 1024 c.args.from (c.args.to - c.args.from) c.args.ws.now))
 
 pub push-requires : goal.push-requires
-push-requires c = let p = c.loop-c in growing_room c.requires.1 p.invariant.1 (below_room c.args.vertices.at c.args.marks.now p.c (omega arith) c.if-marked.true)
+push-requires c = let p = c.loop-c in growing_room c.requires.1 p.invariant.1 (below_room c.args.vertices.now.items c.args.marks.now p.c (omega arith) c.if-marked.true)
 
 pub loop-c-preserved : goal.loop-c-preserved
 loop-c-preserved c =
     let p = c.loop-c in
-    let vs = c.args.vertices.at in
+    let vs = c.args.vertices.now.items in
     let marks = c.args.marks.now in
     let now : List ℕ → Type 0 = λ (t : List ℕ). Growing 2 1024 c.args.from (c.args.to - c.args.from) c.args.ws.now t (moved_below vs marks (p.c + 1)) in (
       omega arith,
@@ -37,12 +31,9 @@ loop-c-preserved c =
 pub end_list-requires : goal.end_list-requires
 end_list-requires c = let p = c.loop-c in growing_end_room c.requires.1 p.invariant.1
 
-pub shape_of-ws : goal.shape_of-ws
-shape_of-ws c = let p = c.loop-c in (growing_end c.requires.1 p.invariant.1 c.end_list.new.s c.end_list.ensures).beside.long
-
 pub returns : goal.returns
 returns c =
     let p = c.loop-c in
     let all : p.c ≡ 400 = omega arith in
     let end = growing_end c.requires.1 p.invariant.1 c.end_list.new.s c.end_list.ensures in
-    rw (all, below_all c.args.vertices.at c.args.marks.now) at end
+    rw (all, below_all c.args.vertices.now.items c.args.marks.now) at end

@@ -3,4 +3,4 @@ use Rattle.numbering.proofs.Images.{Opening}
 use Rattle.numbering.proofs.open_ridge.Given as goal
 
 abbrev pub invariant-loop-i : goal.invariant-loop-i
-invariant-loop-i l = Opening l.rows l.m l.key l.number l.initial.marks l.marks l.count l.i
+invariant-loop-i l = Opening l.rows.bytes.now l.rows.count l.key l.number l.initial.marks l.marks l.count l.i

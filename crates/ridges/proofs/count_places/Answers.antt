@@ -1,6 +1,6 @@
 use mathlib.Core.Path.{◌∙◌}
 use mathlib.Core.List.{[]}
-use Prim.Native.Nat.{◌%◌, ◌<◌}
+use Prim.Native.Nat.{◌<◌}
 use native.Mathlib.Omega.{arith}
 use lib.ListN.{length, get_or}
 use Rattle.pool.specs.Pool.{closed_lists}
@@ -11,18 +11,12 @@ use Rattle.ridges.proofs.count_places.Goals.{else-ridge-ridges, then-ridge-ridge
 
 pub loop-i-init : goal.loop-i-init
 loop-i-init c =
-    (c.list_length-n.ensures ∙ length_read 4 1024 _ c.requires.0 c.args.x c.requires.1, omega arith, all_start _ _ _ _ c.requires.3)
+    (c.list_length-n.ensures ∙ length_read 4 1024 _ c.requires.0 c.args.x c.requires.1, omega arith, all_start _ _)
 
 pub item-code-requires : goal.item-code-requires
 item-code-requires c =
     let l = c.loop-i in
     item_asks 4 1024 _ c.requires.0 c.args.x c.requires.1 l.i (omega (arith, l.invariant.0, c.loop-i-test.true))
-
-pub overflow_add-places : goal.overflow_add-places
-overflow_add-places c =
-    let l = c.loop-i in
-    let a = l.invariant.2.each (c.item-code.result % 65536) c.if-ridge-ridges.true in
-    omega (arith, a.few, c.list_length-n.type_inv)
 
 pub loop-i-preserved : goal.loop-i-preserved
 loop-i-preserved c =
@@ -32,8 +26,8 @@ loop-i-preserved c =
       l.invariant.0,
       omega arith,
       elim c.if-ridge-ridges.branch [
-        | then-ridge-ridges w ↦ rw (w.places-is, w.last-is) (all_joins l.invariant.2 h c.item-code.result v (omega (arith, c.item-code.type_inv)) c.requires.2 w.if-ridge-ridges.true)
-        | else-ridge-ridges w ↦ rw (w.places-is, w.last-is) (all_stay l.invariant.2 h c.item-code.result v (omega (arith, c.item-code.type_inv)) c.requires.2 w.if-ridge-ridges.false)
+        | then-ridge-ridges w ↦ rw (w.counted-is) (all_joins l.invariant.2 h c.item-code.result v (omega (arith, c.item-code.type_inv)) c.requires.2 w.if-ridge-ridges.true)
+        | else-ridge-ridges w ↦ rw (w.counted-is) (all_stay l.invariant.2 h c.item-code.result v (omega (arith, c.item-code.type_inv)) c.requires.2 w.if-ridge-ridges.false)
       ],
     )
 

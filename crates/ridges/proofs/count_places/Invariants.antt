@@ -8,4 +8,4 @@ use Rattle.ridges.proofs.Tables.{AddingAll}
 use Rattle.ridges.proofs.count_places.Given as goal
 
 abbrev pub invariant-loop-i : goal.invariant-loop-i
-invariant-loop-i l = (l.n ≡ length (get_or (closed_lists 4 1024 l.shares) l.x [])) × (l.i ≤ l.n) × AddingAll l.ridges (get_or (closed_lists 4 1024 l.shares) l.x []) l.places l.last l.i
+invariant-loop-i l = (l.n ≡ length (get_or (closed_lists 4 1024 l.shares) l.x [])) × (l.i ≤ l.n) × AddingAll l.ridges (get_or (closed_lists 4 1024 l.shares) l.x []) l.counted.places l.counted.last l.i

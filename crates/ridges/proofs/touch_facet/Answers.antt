@@ -4,53 +4,35 @@ use native.Mathlib.Omega.{arith}
 use lib.ListN.{get_or}
 use Rattle.pool.specs.Pool.{closed_lists}
 use Rattle.shares.specs.Areas.{area, end_asks, joined_end}
-use Rattle.ridges.proofs.Tables.{none_counted_holds, counted_amount, touch_start, touch_asks, touch_joins, touch_stays}
+use Rattle.ridges.proofs.Tables.{counted_amount, touch_start, touch_asks, touch_joins, touch_stays}
 use Rattle.ridges.proofs.touch_facet.Goals as goal
 use Rattle.ridges.proofs.touch_facet.Goals.{else-added-gt0, then-added-gt0}
 
-pub count_places-requires : goal.count_places-requires
-count_places-requires c =
-    (c.requires.1, c.requires.2, c.requires.3, none_counted_holds _ c.requires.3)
-
 pub loop-ridge-init : goal.loop-ridge-init
 loop-ridge-init c =
-    (refl, omega arith, touch_start _ c.requires.4)
-
-pub bounds-last-ridge : goal.bounds-last-ridge
-bounds-last-ridge c =
-    omega (arith, c.count_places.ensures.last_long, c.loop-ridge-test.true, c.requires.3)
-
-pub bounds-places-ridge : goal.bounds-places-ridge
-bounds-places-ridge c =
-    omega (arith, c.count_places.ensures.places_long, c.loop-ridge-test.true, c.requires.3)
-
-pub overflow_add-ridge : goal.overflow_add-ridge
-overflow_add-ridge c = omega (arith, c.amount-added.ensures)
-
-pub overflow_cast-ridge : goal.overflow_cast-ridge
-overflow_cast-ridge c = record { fits = omega (arith, c.amount-added.ensures) }
+    (refl, omega arith, touch_start _ c.requires.3)
 
 pub push-requires : goal.push-requires
 push-requires c =
     let l = c.loop-ridge in
-    touch_asks (get_or (closed_lists 4 1024 (area c.args.desk.shares c.args.desk.touched c.args.ws.now)) c.args.x []) c.requires.4 l.ridge l.invariant.2 c.loop-ridge-test.true
+    touch_asks (get_or (closed_lists 4 1024 (area c.args.desk.shares c.args.desk.touched c.args.ws.now)) c.args.x []) c.requires.3 l.ridge l.invariant.2 c.loop-ridge-test.true
 
 pub loop-ridge-preserved : goal.loop-ridge-preserved
 loop-ridge-preserved c =
     let l = c.loop-ridge in
     let codes = get_or (closed_lists 4 1024 (area c.args.desk.shares c.args.desk.touched c.args.ws.now)) c.args.x [] in
-    let v = counted_amount c.count_places.ensures l.ridge c.loop-ridge-test.true _ c.amount-added.ensures in
+    let v = counted_amount c.count_places-counted.ensures l.ridge c.loop-ridge-test.true _ c.amount-added.ensures in
     elim c.if-added-gt0.branch [
-      | then-added-gt0 w ↦ let j = touch_joins codes c.requires.4 l.ridge l.invariant.2 c.loop-ridge-test.true _ v w.if-added-gt0.true c.requires.3 _ w.push.ensures in rw w.ws-is (j.long, omega arith, j)
-      | else-added-gt0 w ↦ let j = touch_stays codes c.requires.4 l.ridge l.invariant.2 _ v w.if-added-gt0.false in rw w.ws-is (j.long, omega arith, j)
+      | then-added-gt0 w ↦ let j = touch_joins codes c.requires.3 l.ridge l.invariant.2 c.loop-ridge-test.true _ v w.if-added-gt0.true c.requires.2 _ w.push.ensures in rw w.ws-is (j.long, omega arith, j)
+      | else-added-gt0 w ↦ let j = touch_stays codes c.requires.3 l.ridge l.invariant.2 _ v w.if-added-gt0.false in rw w.ws-is (j.long, omega arith, j)
     ]
 
 pub end_list-requires : goal.end_list-requires
 end_list-requires c =
-    end_asks c.requires.4 c.loop-ridge.invariant.2 (omega arith)
+    end_asks c.requires.3 c.loop-ridge.invariant.2 (omega arith)
 
 pub returns : goal.returns
 returns c =
     let l = c.loop-ridge in
     let e : l.ridge ≡ c.args.ridges = omega (arith, l.invariant.1, c.loop-ridge-test.false) in
-    rw (← e) (joined_end c.requires.4 l.invariant.2 (omega arith) _ c.end_list.ensures)
+    rw (← e) (joined_end c.requires.3 l.invariant.2 (omega arith) _ c.end_list.ensures)

@@ -13,9 +13,6 @@ use Rattle.shares.proofs.number_orbit.Goals as goal
 pub loop-i-init : goal.loop-i-init
 loop-i-init c = (c.list_length-n.ensures ∙ length_read 4 256 _ c.requires.0.sound c.args.o c.requires.1, numbers_start c.requires.2 _)
 
-pub slice_bounds-item-end : goal.slice_bounds-item-end
-slice_bounds-item-end c = let l = c.loop-i in omega (arith, l.invariant.1.long, c.requires.0.before, c.requires.0.inside)
-
 pub item-code-requires : goal.item-code-requires
 item-code-requires c = let l = c.loop-i in
     let e = area_kept c.args.desk.numbers c.args.shelf.ridges c.args.shelf.places c.args.ws.now l.ws l.invariant.1.front c.requires.0.order c.requires.0.before in
@@ -28,10 +25,7 @@ number-number-requires c = let l = c.loop-i in
     let v = rw e at c.item-code.ensures ∙ item_read 4 256 _ c.requires.0.sound c.args.o c.requires.1 l.i h in
     let k = ap (λ (x : ℕ). x % 65536) v in
     let t = rw (← k) at (c.requires.0.sent c.args.o l.i h) in
-    (c.requires.0.rows_fit_holds, c.requires.0.rows_few, sent_small _ t, t, turn_asks c.requires.2 l.invariant.1 h _ k c.requires.3.0 c.requires.3.1 c.requires.3.2)
-
-pub slice_bounds-push-end : goal.slice_bounds-push-end
-slice_bounds-push-end c = let l = c.loop-i in omega (arith, l.invariant.1.long, c.requires.2.space.inside)
+    (c.requires.0.rows_few, sent_small _ t, t, turn_asks c.requires.2 l.invariant.1 h _ k c.requires.3.0 c.requires.3.1 c.requires.3.2)
 
 pub push-requires : goal.push-requires
 push-requires c = let l = c.loop-i in turn_push c.requires.2 l.invariant.1 (omega (arith, l.invariant.0, c.loop-i-test.true)) c.requires.3.0 c.requires.3.1
@@ -43,9 +37,6 @@ loop-i-preserved c = let l = c.loop-i in
     let v = rw e at c.item-code.ensures ∙ item_read 4 256 _ c.requires.0.sound c.args.o c.requires.1 l.i h in
     let k = ap (λ (x : ℕ). x % 65536) v in
     (l.invariant.0, turn_more c.requires.2 l.invariant.1 h _ k _ (omega (arith, c.number-number.type_inv)) _ c.number-number.ensures _ c.push.ensures c.requires.3.0 c.requires.3.1)
-
-pub slice_bounds-end_list-end : goal.slice_bounds-end_list-end
-slice_bounds-end_list-end c = let l = c.loop-i in omega (arith, l.invariant.1.long, c.requires.2.space.inside)
 
 pub end_list-requires : goal.end_list-requires
 end_list-requires c = let l = c.loop-i in turn_end_asks c.requires.2 l.invariant.1 (omega (arith, l.invariant.0, c.loop-i-test.false)) c.requires.3.0 c.requires.3.1

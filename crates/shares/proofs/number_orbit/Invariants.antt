@@ -8,4 +8,4 @@ use Rattle.pool.specs.Pool.{closed_lists}
 use Rattle.shares.proofs.number_orbit.Given as goal
 
 abbrev pub invariant-loop-i : goal.invariant-loop-i
-invariant-loop-i l = (l.n ≡ length (get_or (closed_lists 4 256 (area l.shelf.ridges l.shelf.places l.initial.ws)) l.o [])) × Numbers l.m l.rows l.desk.numbers l.desk.shares (get_or (closed_lists 4 256 (area l.shelf.ridges l.shelf.places l.initial.ws)) l.o []) l.initial.opened l.initial.ws l.opened l.ws l.i
+invariant-loop-i l = (l.n ≡ length (get_or (closed_lists 4 256 (area l.shelf.ridges l.shelf.places l.initial.ws)) l.o [])) × Numbers l.rows.count l.rows.bytes.now l.desk.numbers l.desk.shares (get_or (closed_lists 4 256 (area l.shelf.ridges l.shelf.places l.initial.ws)) l.o []) l.initial.opened l.initial.ws l.opened l.ws l.i

@@ -5,4 +5,4 @@ use lib.ListN.{length}
 use Rattle.shares.proofs.number_ridges.Given as goal
 
 abbrev pub invariant-loop-o : goal.invariant-loop-o
-invariant-loop-o l = Begun l.m l.rows l.shelf l.desk.numbers l.desk.shares l.initial.ws l.shelf.orbits × Orbits l.m l.rows l.shelf l.desk.numbers l.desk.shares l.initial.ws l.ws l.opened l.o × (length l.ws ≡ length l.initial.ws)
+invariant-loop-o l = Begun l.rows.count l.rows.bytes.now l.shelf l.desk.numbers l.desk.shares l.initial.ws l.shelf.orbits × Orbits l.rows.count l.rows.bytes.now l.shelf l.desk.numbers l.desk.shares l.initial.ws l.ws l.opened l.o × (length l.ws ≡ length l.initial.ws)

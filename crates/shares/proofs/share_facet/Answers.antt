@@ -1,44 +1,17 @@
 use Rattle.shares.specs.Areas.{area_kept, end_asks}
 use Rattle.shares.specs.Shares.{sources_kept, sources_of, places_in}
-use Rattle.shares.proofs.Sharing.{owner_asks, owner_is, facet_length_asks, facet_length, place_asks, place_is, place_requires, codes_start, codes_asks, codes_push, codes_end}
+use Rattle.shares.proofs.Sharing.{owner_is, facet_length_asks, facet_length, place_asks, place_is, place_requires, codes_start, codes_push, codes_end}
 use mathlib.Core.Path.{refl}
 use Prim.Native.Nat.{◌<◌}
 use native.Mathlib.Omega.{arith}
 use lib.ListN.{length}
 use Rattle.shares.proofs.share_facet.Goals as goal
 
-pub slice_bounds-get-start : goal.slice_bounds-get-start
-slice_bounds-get-start c = omega (arith, c.requires.0.orbits, c.requires.0.owners, c.requires.0.ridges, c.requires.0.places, c.requires.0.end, c.requires.0.numbers, c.requires.0.inside)
-
-pub slice_bounds-get-end : goal.slice_bounds-get-end
-slice_bounds-get-end c = omega (arith, c.requires.0.orbits, c.requires.0.owners, c.requires.0.ridges, c.requires.0.places, c.requires.0.end, c.requires.0.numbers, c.requires.0.inside)
-
-pub overflow_mul-x : goal.overflow_mul-x
-overflow_mul-x c = omega (arith, c.requires.2, c.requires.0.orbits, c.requires.0.owners, c.requires.0.ridges, c.requires.0.places, c.requires.0.end, c.requires.0.numbers, c.requires.0.inside)
-
-pub get-o-requires : goal.get-o-requires
-get-o-requires c = owner_asks c.args.shelf c.args.desk c.args.ws.now c.args.counts.now c.requires.0 c.requires.1 c.args.x c.requires.2
-
-pub slice_bounds-list_length-count : goal.slice_bounds-list_length-count
-slice_bounds-list_length-count c = omega (arith, c.requires.0.orbits, c.requires.0.owners, c.requires.0.ridges, c.requires.0.places, c.requires.0.end, c.requires.0.numbers, c.requires.0.inside)
-
-pub slice_bounds-list_length-start : goal.slice_bounds-list_length-start
-slice_bounds-list_length-start c = omega (arith, c.requires.0.orbits, c.requires.0.owners, c.requires.0.ridges, c.requires.0.places, c.requires.0.end, c.requires.0.numbers, c.requires.0.inside)
-
-pub slice_bounds-list_length-end : goal.slice_bounds-list_length-end
-slice_bounds-list_length-end c = omega (arith, c.requires.0.orbits, c.requires.0.owners, c.requires.0.ridges, c.requires.0.places, c.requires.0.end, c.requires.0.numbers, c.requires.0.inside)
-
 pub list_length-n-requires : goal.list_length-n-requires
 list_length-n-requires c = facet_length_asks c.args.shelf c.args.desk c.args.ws.now c.args.counts.now c.requires.0 c.requires.1 c.args.x c.requires.2
 
 pub loop-i-init : goal.loop-i-init
 loop-i-init c = (refl, owner_is c.args.shelf c.args.desk c.args.ws.now c.args.counts.now c.requires.0 c.requires.1 c.args.x c.requires.2 _ c.get-o.ensures, facet_length c.args.shelf c.args.desk c.args.ws.now c.args.counts.now c.requires.0 c.requires.1 c.args.x c.requires.2 _ c.list_length-n.ensures, omega arith, codes_start (sources_of c.args.shelf c.args.desk c.args.ws.now) c.args.counts.now c.args.x c.requires.3)
-
-pub slice_bounds-item-start : goal.slice_bounds-item-start
-slice_bounds-item-start c = omega (arith, c.requires.0.orbits, c.requires.0.owners, c.requires.0.ridges, c.requires.0.places, c.requires.0.end, c.requires.0.numbers, c.requires.0.inside)
-
-pub slice_bounds-item-end : goal.slice_bounds-item-end
-slice_bounds-item-end c = let l = c.loop-i in omega (arith, l.invariant.0, c.requires.0.orbits, c.requires.0.owners, c.requires.0.ridges, c.requires.0.places, c.requires.0.end, c.requires.0.numbers, c.requires.0.inside)
 
 pub item-a-requires : goal.item-a-requires
 item-a-requires c = let l = c.loop-i in
@@ -51,15 +24,6 @@ share_code-code-requires c = let l = c.loop-i in
     let h : l.i < length (places_in (sources_of c.args.shelf c.args.desk c.args.ws.now) c.args.x) = omega (arith, l.invariant.2, c.loop-i-test.true) in
     place_requires c.args.shelf c.args.desk c.args.ws.now c.args.counts.now c.requires.0 c.requires.1 c.args.x c.requires.2 l.i h l.ws l.invariant.0 l.invariant.4.front _ l.invariant.1 _ (place_is c.args.shelf c.args.desk c.args.ws.now c.args.counts.now c.requires.0 c.requires.1 c.args.x c.requires.2 l.i h _ (rw e at c.item-a.ensures))
 
-pub slice_bounds-push-start : goal.slice_bounds-push-start
-slice_bounds-push-start c = omega (arith, c.requires.3.space.order, c.requires.3.space.inside)
-
-pub slice_bounds-push-end : goal.slice_bounds-push-end
-slice_bounds-push-end c = let l = c.loop-i in omega (arith, l.invariant.0, c.requires.3.space.order, c.requires.3.space.inside)
-
-pub push-requires : goal.push-requires
-push-requires c = let l = c.loop-i in codes_asks (sources_of c.args.shelf c.args.desk c.args.ws.now) c.args.counts.now c.args.x c.requires.3 l.i l.invariant.4 (omega (arith, l.invariant.2, c.loop-i-test.true))
-
 pub loop-i-preserved : goal.loop-i-preserved
 loop-i-preserved c = let l = c.loop-i in
     let e = area_kept c.args.desk.shares c.args.shelf.places c.args.shelf.end c.args.ws.now l.ws l.invariant.4.front c.requires.0.places (omega (arith, c.requires.0.orbits, c.requires.0.owners, c.requires.0.ridges, c.requires.0.places, c.requires.0.end, c.requires.0.numbers, c.requires.0.inside)) in
@@ -69,12 +33,6 @@ loop-i-preserved c = let l = c.loop-i in
     let v = rw (k, l.invariant.1, a) at c.share_code-code.ensures in
     let j = codes_push (sources_of c.args.shelf c.args.desk c.args.ws.now) c.args.counts.now c.args.x c.requires.3 l.i l.invariant.4 h _ v (omega (arith, c.share_code-code.type_inv)) _ c.push.ensures in
     (j.long, l.invariant.1, l.invariant.2, omega arith, j)
-
-pub slice_bounds-end_list-start : goal.slice_bounds-end_list-start
-slice_bounds-end_list-start c = omega (arith, c.requires.3.space.order, c.requires.3.space.inside)
-
-pub slice_bounds-end_list-end : goal.slice_bounds-end_list-end
-slice_bounds-end_list-end c = let l = c.loop-i in omega (arith, l.invariant.0, c.requires.3.space.order, c.requires.3.space.inside)
 
 pub end_list-requires : goal.end_list-requires
 end_list-requires c = let l = c.loop-i in end_asks c.requires.3 l.invariant.4 (omega arith)

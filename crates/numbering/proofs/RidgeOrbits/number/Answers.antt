@@ -1,22 +1,17 @@
 -- `RidgeOrbits::number` meets its contract: a mark is the number of a ridge orbit, and where there is none one is opened.
-use mathlib.Core.Path.{refl}
 use native.Mathlib.Omega.{arith}
 use Rattle.numbering.proofs.Images.{ridge_held, ridge_opens, ridge_opened, many_small}
 use Rattle.numbering.proofs.RidgeOrbits.number.Goals as goal
 
 pub returns-in-Some : goal.returns-in-Some
-returns-in-Some c = λ keys st. ridge_held c.args.key c.requires.3 st c.in-Some.number c.in-Some.is
+returns-in-Some c = λ keys st. ridge_held c.args.key c.requires.2 st c.in-Some.number c.in-Some.is
 
-pub overflow_cast-number : goal.overflow_cast-number
-overflow_cast-number c = let k = ridge_opens c.args.key c.requires.3 c.requires.4.1 c.in-None.is c.requires.4.2 in record { fits = omega arith }
+pub overflow_cast-count : goal.overflow_cast-count
+overflow_cast-count c = record { fits = omega (arith, many_small _ c.args.key _ _ _ c.requires.0 c.open_ridge-count.ensures.counts) }
 
-pub overflow_cast-self : goal.overflow_cast-self
-overflow_cast-self c = record { fits = omega (arith, many_small c.args.key c.requires.3 c.requires.4.1 c.open_ridge-count.result c.requires.1 c.open_ridge-count.ensures.counts) }
-
-pub bounds-self-self : goal.bounds-self-self
-bounds-self-self c = ridge_opens c.args.key c.requires.3 c.requires.4.1 c.in-None.is c.requires.4.2
+pub push-requires : goal.push-requires
+push-requires c = (omega arith, ridge_opens c.args.key c.requires.2 c.requires.3.1 c.in-None.is c.requires.3.2)
 
 pub returns-in-None : goal.returns-in-None
 returns-in-None c = λ keys st.
-    let k = ridge_opens c.args.key c.requires.3 c.requires.4.1 c.in-None.is c.requires.4.2 in
-    ridge_opened c.args.key c.requires.3 st c.in-None.is (omega (arith, st.room)) c.args.self.now.known refl _ _ c.open_ridge-count.ensures.marks c.open_ridge-count.ensures.counts
+    ridge_opened c.args.key c.requires.2 st c.in-None.is _ c.len-number.ensures.value _ _ c.open_ridge-count.ensures.marks c.open_ridge-count.ensures.counts _ c.push.ensures.items
