@@ -1,12 +1,12 @@
 -- What is written of a job that was called, from what its call says: the two clauses of `answer_job`, case by case. Leans on Said, Closed and
 -- Loaded.
-use Rattle.std.specs.Prelude.{◌≡◌, Bool, List, ℕ, ◌-◌, ◌≤◌, ◌<◌, length, replicate}
+use Rattle.std.specs.Prelude.{◌≡◌, Bool, List, ℕ, ◌-◌, ◌≤◌, length, replicate}
 use Rattle.std.proofs.Math.Path.{sym, ap}
 use Rattle.std.proofs.Common.{◌∙◌, subst}
 use Rattle.definitions.specs.Outcome.{Outcome, refused, answered, and_then}
 use Rattle.definitions.specs.Recursion.{Answer}
 use Rattle.definitions.specs.Job.{Bytes, read_job, bounds1, call_of, answer_words, answer_bytes, buffer_of, alone}
-use Rattle.words.specs.Writer.{encoded, full}
+use Rattle.words.specs.Writer.{encoded}
 use Rattle.openers.specs.Rows.{rows_in}
 use Rattle.shapes.specs.Kept.{Kept}
 use Rattle.shelf.specs.declared.Level.{Level}
@@ -18,10 +18,11 @@ use Rattle.calls.specs.declared.Called.{Called}
 use Rattle.calls.specs.declared.Called.TheVariants.{Ends, Left}
 use Rattle.refusals.specs.declared.Refusal.{Refusal}
 use Rattle.refusals.specs.Refused.{number_of}
-use Rattle.std.specs.Prelude.{Result, Ok, Err}
-use Rattle.figure_words.specs.Wrote.{Wrote}
+use Rattle.std.specs.Prelude.{Option, Some, Result, Ok, Err}
+use Rattle.words.specs.declared.Writer.{Writer}
+use Rattle.words.specs.Wrote.{Writes}
 use Rattle.job_calls.specs.Writable.{Writable}
-use Rattle.answering.specs.Closed.{written_in, buffer_in, written_to, buffer_to, written_all, buffer_all}
+use Rattle.answering.specs.Closed.{begun_wrote, written_in, buffer_in, written_to, buffer_to, written_all, buffer_all}
 use Rattle.job_calls.specs.Said.{outcome_said, CanWrite, Said}
 use Rattle.job_calls.specs.Loaded.{JobCalled, alone_passed}
 
@@ -80,14 +81,15 @@ module _ (budget : ℕ) (call : Outcome Answer) where
   unfolding written_in buffer_in bytes_of and_then buffer_of
   refused_clauses e answer clear = let o = ap (bytes_of budget) e in (sym (ap (written_in (length answer)) o), clear ∙ sym (ap (buffer_in (length answer)) o))
 
-  pub answered_clauses : {a : Answer} → call ≡ answered a → (from to after : Bytes) (at : ℕ) {r : Outcome ℕ} → from ≡ replicate (length from) 0 → length from < full
-      → Wrote from 0 to at (answer_words budget a) → r ≡ written_to (length to) at → after ≡ buffer_to to at
-      → (r ≡ written_in (length from) (bytes_of budget call)) × (after ≡ buffer_in (length from) (bytes_of budget call))
-  answered_clauses {a} e from to after at clear short wrote r-is after_is =
+  pub answered_clauses : {a : Answer} → call ≡ answered a → (from : Bytes) {before after : Writer} {end : Bytes} {r : Outcome ℕ} → from ≡ replicate (length from) 0 → before.buffer.now ≡ from → before.at ≡ Some 0
+      → Writes before after (answer_words budget a) → r ≡ written_to (length after.buffer.now) after.at → end ≡ buffer_to after.buffer.now after.at
+      → (r ≡ written_in (length from) (bytes_of budget call)) × (end ≡ buffer_in (length from) (bytes_of budget call))
+  answered_clauses {a} e from {before} {after} clear opened first writes r-is end_is =
       let o = called_answered e in
-      let words = answer_words budget a in (
-        r-is ∙ (written_all from to words at clear short wrote ∙ sym (ap (written_in (length from)) o)),
-        after_is ∙ (buffer_all from to words at clear short wrote ∙ sym (ap (buffer_in (length from)) o)),
+      let words = answer_words budget a in
+      let wrote = begun_wrote opened first writes in (
+        r-is ∙ (written_all from after.buffer.now words after.at clear wrote ∙ sym (ap (written_in (length from)) o)),
+        end_is ∙ (buffer_all from after.buffer.now words after.at clear wrote ∙ sym (ap (buffer_in (length from)) o)),
       )
 
 -- what the job gets by itself is what is written of its call

@@ -2,3 +2,4 @@
 pub mod Closed
 pub mod Codes
 pub mod Answered
+pub mod Room

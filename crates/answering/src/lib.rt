@@ -13,125 +13,127 @@ ghost use Rattle.shelf.specs.Leaves.{answer_left};
 ghost use Rattle.kept_edges.specs.Edges.{edge_answer};
 ghost use Rattle.job.specs.Refusal.{checked_of};
 ghost use Rattle.refusals.specs.Refused.{outcome_of};
-ghost use Rattle.figure_words.specs.Wrote.{Wrote};
+ghost use Rattle.words.specs.Wrote.{Writes};
 ghost use Rattle.job_calls.specs.Writable.{Writable};
 ghost use Rattle.job_calls.specs.Said.{Said};
 ghost use Rattle.answering.specs.Answered.{bytes_of};
 ghost use Rattle.answering.specs.Closed.{written_in, buffer_in, written_to, buffer_to};
 
 use calls::Called;
+use facet_images::Ids;
 use load::Fields;
+use openers::Rows;
 use refusals::Refusal;
 use shelf::Level;
+use words::Writer;
+use writing::Left;
 
 // ---- writing what a call leaves
 
 // The answer of a call of rank 2.
-fn write_ends(answer: &mut [u8], swapped: bool, budget: u32, rest: u32) -> usize
+fn write_ends(w: &mut Writer, swapped: bool, budget: u32, rest: u32)
     requires { rest ≤ budget }
-    ensures { Wrote answer.old 0 answer.new result (answer_words budget (edge_answer swapped rest)) }
+    ensures { Writes w.old w.new (answer_words budget (edge_answer swapped rest)) }
 {
     if swapped {
-        return writing::write_swapped(answer, 0, budget, rest);
+        writing::write_swapped(w, budget, rest);
+    } else {
+        writing::write_separate(w, budget, rest);
     }
-    writing::write_separate(answer, 0, budget, rest)
 }
 
 // The answer of a call of rank 4: the images of all its facets are put in order behind its entries, and its figures are written from there.
 fn write_polyhedra(
-    answer: &mut [u8],
+    w: &mut Writer,
     ws: &mut [u8],
     level: Level,
-    rows: &[u8],
-    m: usize,
+    rows: Rows,
     n: usize,
     budget: u32,
     rest: u32,
-) -> usize
-    requires { (kept : List Kept) × Writable 1 n m rows.now kept level budget rest ws.old }
-    ensures { (kept : List Kept) → Writable 1 n m rows.now kept level budget rest ws.old → Wrote answer.old 0 answer.new result (answer_words budget (answer_left 1 n (rows_in n m rows.now) kept level ws.old rest)) }
+)
+    requires { (kept : List Kept) × Writable 1 n rows.count rows.bytes.now kept level budget rest ws.old }
+    ensures { (kept : List Kept) → Writable 1 n rows.entry.count rows.entry.bytes.now kept level budget rest ws.old → Writes w.old w.new (answer_words budget (answer_left 1 n (rows_in n rows.entry.count rows.entry.bytes.now) kept level ws.old rest)) }
 {
-    let edges = level.shelf.edges;
-    let labels = level.shelf.labels;
     let at = level.lists + (level.bytes + 6144);
-    let images = polygons::order_images(ws, edges, labels, at, rows, m);
-    let from = images.at;
-    let many = images.count;
-    let whole = &ws[..];
-    polyhedra::write_solid_answer(
-        answer,
-        0,
-        whole,
-        level,
-        rows,
-        m,
-        n,
-        &whole[from..],
-        many,
-        budget,
-        rest,
-    )
+    let images = polygons::order_images(ws, level.shelf.edges, level.shelf.labels, at, rows);
+    let left = Left { ws: &ws[..], level };
+    let ids = Ids {
+        bytes: &left.ws[images.at..],
+        count: images.count,
+    };
+    polyhedra::write_solid_answer(w, left, rows, n, ids, budget, rest);
 }
 
-// The answer of a call of rank 3 or 4.
+// The answer of a call of rank 3 or 4. A test of the rank and no closure: the two ways differ here alone, and a caller would pick the closure by the same test.
 fn write_left(
-    answer: &mut [u8],
+    w: &mut Writer,
     ws: &mut [u8],
     rank: usize,
     level: Level,
-    rows: &[u8],
-    m: usize,
+    rows: Rows,
     n: usize,
     budget: u32,
     rest: u32,
-) -> usize
-    requires { (3 ≤ rank) × (rank ≤ 4) × ((kept : List Kept) × Writable (rank - 3) n m rows.now kept level budget rest ws.old) }
-    ensures { (kept : List Kept) → Writable (rank - 3) n m rows.now kept level budget rest ws.old → Wrote answer.old 0 answer.new result (answer_words budget (answer_left (rank - 3) n (rows_in n m rows.now) kept level ws.old rest)) }
+)
+    requires { (3 ≤ rank) × (rank ≤ 4) × ((kept : List Kept) × Writable (rank - 3) n rows.count rows.bytes.now kept level budget rest ws.old) }
+    ensures { (kept : List Kept) → Writable (rank - 3) n rows.entry.count rows.entry.bytes.now kept level budget rest ws.old → Writes w.old w.new (answer_words budget (answer_left (rank - 3) n (rows_in n rows.entry.count rows.entry.bytes.now) kept level ws.old rest)) }
 {
     if rank == 3 {
-        return writing::write_answer(answer, 0, ws, level, rows, m, n, budget, rest);
+        writing::write_answer(w, Left { ws, level }, rows, n, budget, rest);
+    } else {
+        write_polyhedra(w, ws, level, rows, n, budget, rest);
     }
-    write_polyhedra(answer, ws, level, rows, m, n, budget, rest)
 }
 
 // ---- the answer
 
-// The cursor behind the last word is the answer's length, or past the buffer: then the buffer is cleared again and refusal 17 is the outcome.
-pub fn close(answer: &mut [u8], at: usize) -> Result<usize, Refusal>
-    ensures result { outcome_of result ≡ written_to (length answer.old) at }
-    ensures buffer { answer.new ≡ buffer_to answer.old at }
+// The cursor behind the last word is the answer's length. Where some word had no room, or the cursor is past the buffer, which is cleared again, refusal 17 is the outcome.
+#[tactic(auto, unfolding(crate::specs::Closed::written_to, crate::specs::Closed::buffer_to))]
+pub fn close(w: Writer) -> Result<usize, Refusal>
+    ensures result { outcome_of result ≡ written_to (length w.entry.buffer.now) w.entry.at }
+    ensures buffer { w.exit.0.now ≡ buffer_to w.entry.buffer.now w.entry.at }
 {
-    if answer.len() < at {
-        answer.fill(0);
-        return Err(Refusal::Room);
+    if let Some(at) = w.at {
+        if at <= w.buffer.len() {
+            return Ok(at);
+        }
     }
-    Ok(at)
+    w.buffer.fill(0);
+    Err(Refusal::Room)
 }
 
 // What a call says, written into the cleared buffer.
 pub fn write_called(
     called: Result<Called, Refusal>,
     fields: Fields,
-    rows: &[u8],
+    rows: Rows,
     ws: &mut [u8],
     answer: &mut [u8],
 ) -> Result<usize, Refusal>
-    requires { (answer.old ≡ replicate (length answer.old) 0) × ((call : Outcome Answer) × Said fields.rank fields.n fields.count rows.now fields.budget call called ws.old) }
-    ensures result { (call : Outcome Answer) → Said fields.rank fields.n fields.count rows.now fields.budget call called ws.old → outcome_of result ≡ written_in (length answer.old) (bytes_of fields.budget call) }
-    ensures buffer { (call : Outcome Answer) → Said fields.rank fields.n fields.count rows.now fields.budget call called ws.old → answer.new ≡ buffer_in (length answer.old) (bytes_of fields.budget call) }
+    requires { (answer.old ≡ replicate (length answer.old) 0) × ((call : Outcome Answer) × Said fields.rank fields.n rows.count rows.bytes.now fields.budget call called ws.old) }
+    ensures result { (call : Outcome Answer) → Said fields.rank fields.n rows.entry.count rows.entry.bytes.now fields.budget call called ws.old → outcome_of result ≡ written_in (length answer.old) (bytes_of fields.budget call) }
+    ensures buffer { (call : Outcome Answer) → Said fields.rank fields.n rows.entry.count rows.entry.bytes.now fields.budget call called ws.old → answer.new ≡ buffer_in (length answer.old) (bytes_of fields.budget call) }
 {
-    let rank = fields.rank;
-    let n = fields.n;
-    let m = fields.count;
-    let budget = fields.budget;
     match called? {
         Called::Ends(swapped, rest) => {
-            let end = write_ends(answer, swapped, budget, rest);
-            close(answer, end)
+            let mut w = Writer::new(answer);
+            write_ends(&mut w, swapped, fields.budget, rest);
+            close(w)
         }
         Called::Left(level, rest) => {
-            let end = write_left(answer, ws, rank, level, rows, m, n, budget, rest);
-            close(answer, end)
+            let mut w = Writer::new(answer);
+            write_left(
+                &mut w,
+                ws,
+                fields.rank,
+                level,
+                rows,
+                fields.n,
+                fields.budget,
+                rest,
+            );
+            close(w)
         }
     }
 }
@@ -144,7 +146,11 @@ fn write_job(job: &[u8], fields: Fields, ws: &mut [u8], answer: &mut [u8]) -> Re
 {
     let mut rows = [0; job_calls::ROWS_ROOM];
     let called = job_calls::call_job(job, fields, ws, &mut rows);
-    write_called(called, fields, &rows, ws, answer)
+    let loaded = Rows {
+        bytes: &rows,
+        count: fields.count,
+    };
+    write_called(called, fields, loaded, ws, answer)
 }
 
 // Any job, answered into a cleared buffer.

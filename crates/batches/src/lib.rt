@@ -19,6 +19,7 @@ use words::Word;
 const LENGTH_BYTES: usize = 4;
 
 // Whether the row is jobs from first to last: no length overruns it, and no one to three bytes are left.
+// No `for`, here and where the jobs are run: each step is as long as the job that it reads.
 pub fn is_cut(row: &[u8]) -> bool
     ensures { result ≡ is_cut (jobs_in row.now) }
 {

@@ -11,6 +11,7 @@ ghost use Rattle.call_search.specs.Searched.{ListsReady, EntriesListed};
 
 use calls::{Called, Rules};
 use facets::Areas;
+use openers::Rows;
 use refusals::Refusal;
 use search::Course;
 use shares::Desk;
@@ -18,6 +19,7 @@ use shelf::{Level, Shelf};
 
 // Where the tables and the search lie behind a shelf of rank 3, or of rank 4. At rank 3 an orbit has at most two ridges, and there are at most 20 ridge orbits and 190 orbits; at rank 4 at most
 // 190 ridges of an orbit, 190 ridge orbits and 256 orbits. The emitted lists have room for 1,024.
+// Told apart by the rank: what is chosen are numbers, no step.
 fn desk_for(rank: usize) -> Desk
     ensures { result ≡ desk_for rank }
 {
@@ -46,6 +48,7 @@ fn desk_for(rank: usize) -> Desk
 }
 
 // The call's entries from the lists that its search emitted. At rank 3 no facet is a compound, and the lists are only put in order.
+// A test of the rank and no closure: the two ways differ here alone, and a caller would pick the closure by the same test.
 fn list_entries(ws: &mut [u8], shelf: Shelf, rank: usize, areas: Areas) -> Level
     requires { ListsReady shelf rank areas ws.old }
     ensures { EntriesListed shelf rank areas ws.old result ws.new }
@@ -64,24 +67,21 @@ pub fn search_call(
     ws: &mut [u8],
     shelf: Shelf,
     rank: usize,
-    rows: &[u8],
-    m: usize,
+    rows: Rows,
     rules: Rules,
     extended: bool,
     left: u32,
 ) -> Result<Called, Refusal>
-    requires { (k : Stock) × Stocked k shelf rank rows.now m rules extended left ws.old }
-    ensures { (k : Stock) → Stocked k shelf rank rows.now m rules extended left ws.old → Searched k rules result ws.new }
+    requires { (k : Stock) × Stocked k shelf rank rows.bytes.now rows.count rules extended left ws.old }
+    ensures { (k : Stock) → Stocked k shelf rank rows.entry.bytes.now rows.entry.count rules extended left ws.old → Searched k rules result ws.new }
 {
-    let owners = shelf.owners;
-    let limit = rules.limit;
-    let course = Course {
-        limit: limit,
-        extended: extended,
-    };
     let desk = desk_for(rank);
-    let areas = ridges::lay_tables(rows, m, shelf, desk, ws);
-    let found = search::search(&mut ws[owners..], areas, course, left)?;
+    let areas = ridges::lay_tables(rows, shelf, desk, ws);
+    let course = Course {
+        limit: rules.limit,
+        extended,
+    };
+    let found = search::search(&mut ws[shelf.owners..], areas, course, left)?;
     let level = list_entries(ws, shelf, rank, areas);
     Ok(Called::Left(level, found.left))
 }

@@ -19,7 +19,7 @@ use Rattle.space.specs.Counts.{points_length}
 use Rattle.orbits.specs.Answers.{answer_in}
 use Rattle.refusals.specs.declared.Refusal.{Refusal}
 use Rattle.refusals.specs.Refused.{number_of}
-use Rattle.std.specs.Prelude.{Result, Ok, Err}
+use Rattle.std.specs.Prelude.{Option, Result, Ok, Err}
 use Rattle.shapes.specs.Calls.{Given}
 use Rattle.shelf.specs.Keeps.{Keeps, Ridges}
 use Rattle.calls.specs.Layouts.{shelf_for}
@@ -29,7 +29,7 @@ use Rattle.call_search.specs.Stocks.{call_rules}
 use Rattle.inner_answers.specs.Says.{Site, all_orbits}
 use Rattle.inner_answers.specs.Turns as turns
 use Rattle.faceting.specs.Begins as begins
-use Rattle.faceting.specs.declared.Way.{Way}
+use Rattle.tallies.specs.declared.Package.{Package}
 use Rattle.faceting.specs.Ways.{way_of, way_takes, taken_or_refusal, found_too_many}
 use Rattle.faceting.proofs.Starts.{loop_starts}
 use Rattle.faceting.proofs.Ways.{found_few, found_count}
@@ -38,11 +38,11 @@ use Rattle.faceting.specs.Loops.{Loop, SaysOf, permute, says_rank, site_in}
 
 -- ---- the start
 
-module _ (rank : ℕ) (plane : stored.Subspace) (points : Points) (rows : List ℕ) (m : ℕ) (rules : Rules) (budget : ℕ) (ws : List ℕ) (way : Way) (globals full : List ℕ) (asked : Asked rank plane points rows m rules ws way globals full) (above : 3 ≤ rank)
+module _ (rank : ℕ) (plane : stored.Subspace) (points : Points) (rows : List ℕ) (m : ℕ) (rules : Rules) (budget : ℕ) (ws : List ℕ) (way : Option Package) (asked : Asked rank plane points rows m rules ws way) (above : 3 ≤ rank)
     (flat : Points) (holds : HoldsPoints flat plane.rank (map (flatten (subspace_of plane)) (points_of points))) (same_n : flat.n ≡ points.n) where
   -- how the call goes
   abbrev goes : def.Way
-  goes = way_of flat.n way globals full
+  goes = way_of flat.n way
 
   abbrev called : Site
   called = site_in goes (subspace_of plane) (points_of points) rank flat rows m rules budget
@@ -55,10 +55,10 @@ module _ (rank : ℕ) (plane : stored.Subspace) (points : Points) (rows : List �
         subst (λ (ps : List Vec). answer_in flat.n r u ≡ taken_or_refusal goes rules.orbits (hyperplane_orbits rules.tolerance (limits_of rules.limits) rules.rule (rank - 3) (points_of points) ps (rows_in flat.n m rows))) holds.means answers
 
     -- refusal 13
-    pub start_refused : (x : Refusal) → r ≡ Err x → SaysOf (way_of points.n way globals full) (rank - 2) rules (subspace_of plane) (points_of points) (rows_in points.n m rows) budget (Err x) u
+    pub start_refused : (x : Refusal) → r ≡ Err x → SaysOf (way_of points.n way) (rank - 2) rules (subspace_of plane) (points_of points) (rows_in points.n m rows) budget (Err x) u
     start_refused x e =
         let k = found_too_many goes (call_rules rules).bounds.orbits (all_orbits called) flat.n u x (subst (λ (a : Result ℕ Refusal). answer_in flat.n a u ≡ taken_or_refusal goes (call_rules rules).bounds.orbits (all_orbits called)) e found_for) in
-        says_rank way globals full rank above flat.n points.n same_n rules (subspace_of plane) (points_of points) rows m budget (Err x) u
+        says_rank way rank above flat.n points.n same_n rules (subspace_of plane) (points_of points) rows m budget (Err x) u
         (finishes.says_thirteen goes (rank - 3) rules (subspace_of plane) (points_of points) (rows_in flat.n m rows) budget x u k.0 k.1)
 
     -- or the loop begins
@@ -74,7 +74,7 @@ module _ (rank : ℕ) (plane : stored.Subspace) (points : Points) (rows : List �
           rank_most = asked.rank_most;
           flat_is = holds.means;
           size = size;
-          permute = permute rank plane points rows m rules budget ws way globals full asked above flat holds same_n;
+          permute = permute rank plane points rows m rules budget ws way asked above flat holds same_n;
           rows_few = asked.rows_few;
           given = subst (λ (n : ℕ). Given (points_of points) (rows_in n m rows)) (sym same_n) asked.given;
           few_orbits_holds = asked.few_orbits_holds;
@@ -82,8 +82,8 @@ module _ (rank : ℕ) (plane : stored.Subspace) (points : Points) (rows : List �
           entries_are = asked.entries_are;
           found = many;
           few_found = found_few goes (call_rules rules).bounds.orbits (all_orbits called) flat.n u count all;
-          takes = way_takes flat.n way globals full;
-          first = loop_starts called (way_takes flat.n way globals full) (shelf_for rank) flat.n count u u size all asked.few_orbits_holds refl (cleared (length (points_of points))).0 (cleared (length (points_of points))).1;
+          takes = way_takes flat.n way;
+          first = loop_starts called (way_takes flat.n way) (shelf_for rank) flat.n count u u size all asked.few_orbits_holds refl (cleared (length (points_of points))).0 (cleared (length (points_of points))).1;
           room_three = λ q. omega (arith, asked.room_three q);
           room_four = λ q. omega (arith, asked.room_four q);
         }

@@ -16,10 +16,10 @@ use Rattle.orbits.specs.Numbers.{orbit_of}
 use Rattle.orbits.specs.Workspace.{orbits_in, orbits_length}
 use Rattle.orbits.specs.Answers.{answer_in, orbits_or_refusal}
 use Rattle.refusals.specs.declared.Refusal.{Refusal}
-use Rattle.std.specs.Prelude.{Ok, Err}
+use Rattle.std.specs.Prelude.{Option, Some, Ok, Err}
 use Rattle.shapes.specs.Answered.{answers_equal}
 use Rattle.tallies.specs.Meaning.{package_in}
-use Rattle.faceting.specs.declared.Way.{Way}
+use Rattle.tallies.specs.declared.Package.{Package}
 use Rattle.faceting.specs.Ways.{all_taken, found_too_many, some_taken, taken_or_refusal, too_many, way_noble, way_of}
 
 module _ (way : def.Way) (bound : ℕ) (orbits : List Orbit) (n : ℕ) (s : List ℕ) where
@@ -46,12 +46,9 @@ module _ (way : def.Way) (bound : ℕ) (orbits : List Orbit) (n : ℕ) (s : List
 
 -- ---- what is kept of the orbits that were found
 
-module _ (n : ℕ) (way : Way) (globals full : List ℕ) (bound : ℕ) (orbits : List Orbit) where
-  abbrev by : def.Way
-  by = way_of n way globals full
-
-  pub kept_refused : (e : Refusal) (s u : List ℕ) → answer_in n (Err e) s ≡ orbits_or_refusal bound orbits → answer_in n (Err e) u ≡ taken_or_refusal by bound orbits
-  kept_refused e s u found = let k = found_too_many plain_way bound orbits n s e (found ∙ all_taken bound orbits) in too_many by bound orbits n u e k.0 k.1
+module _ (n : ℕ) (bound : ℕ) (orbits : List Orbit) where
+  pub kept_refused : (way : Option Package) (e : Refusal) (s u : List ℕ) → answer_in n (Err e) s ≡ orbits_or_refusal bound orbits → answer_in n (Err e) u ≡ taken_or_refusal (way_of n way) bound orbits
+  kept_refused way e s u found = let k = found_too_many plain_way bound orbits n s e (found ∙ all_taken bound orbits) in too_many (way_of n way) bound orbits n u e k.0 k.1
 
   module _ (count : ℕ) (s : List ℕ) (found : answer_in n (Ok count) s ≡ orbits_or_refusal bound orbits) where
     plainly : answer_in n (Ok count) s ≡ taken_or_refusal plain_way bound orbits
@@ -65,8 +62,8 @@ module _ (n : ℕ) (way : Way) (globals full : List ℕ) (bound : ℕ) (orbits :
     unfolding plain_way
     few_counted = let e = found_count plain_way bound orbits n s count plainly in let f = found_few plain_way bound orbits n s count plainly in omega arith
 
-    pub kept_some : (r : ℕ) (u : List ℕ) → way.plain ≡ false → map (orbit_of n) (orbits_in u r) ≡ kept_by (package_in n way.whole globals full) (map (orbit_of n) (orbits_in s count)) → answer_in n (Ok r) u ≡ taken_or_refusal by bound orbits
+    pub kept_some : (pack : Package) (r : ℕ) (u : List ℕ) → map (orbit_of n) (orbits_in u r) ≡ kept_by (package_in n pack) (map (orbit_of n) (orbits_in s count)) → answer_in n (Ok r) u ≡ taken_or_refusal (way_of n (Some pack)) bound orbits
     unfolding noble_way
-    kept_some r u e kept =
-        some_taken by bound orbits n u r (found_few plain_way bound orbits n s count plainly)
-        (kept ∙ (ap (kept_by (package_in n way.whole globals full)) (sym are) ∙ ap (λ (w : def.Way). w.keeps orbits) (sym (way_noble n way globals full e))))
+    kept_some pack r u kept =
+        some_taken (way_of n (Some pack)) bound orbits n u r (found_few plain_way bound orbits n s count plainly)
+        (kept ∙ (ap (kept_by (package_in n pack)) (sym are) ∙ ap (λ (w : def.Way). w.keeps orbits) (sym (way_noble n pack))))

@@ -1,6 +1,6 @@
 -- What the call asks of whoever makes it, at rank 2, 3 and 4: structs that are sound, rows that permute the points, bounds no larger than the layouts have room for, and the workspace of [11.3].
 -- Leans on the stored shapes and on the rules' meaning.
-use Rattle.std.specs.Prelude.{◌≡◌, List, ℕ, ◌≤◌, length}
+use Rattle.std.specs.Prelude.{◌≡◌, List, ℕ, ◌≤◌, length, Option}
 use Rattle.openers.specs.Rows.{rows_in}
 use Rattle.space.specs.declared.Subspace.{Subspace}
 use Rattle.space.specs.declared.Points.{Points}
@@ -8,10 +8,10 @@ use Rattle.space.specs.Meaning.{points_of}
 use Rattle.stabilizers.specs.Permutations.{Permutations}
 use Rattle.shapes.specs.Calls.{Given}
 use Rattle.calls.specs.declared.Rules.{Rules}
-use Rattle.faceting.specs.declared.Way.{Way}
+use Rattle.tallies.specs.declared.Package.{Package}
 use Rattle.faceting.specs.Ways.{WayFits}
 
-pub record Asked (rank : ℕ) (plane : Subspace) (points : Points) (rows : List ℕ) (m : ℕ) (rules : Rules) (ws : List ℕ) (way : Way) (globals full : List ℕ) : Type 0 where
+pub record Asked (rank : ℕ) (plane : Subspace) (points : Points) (rows : List ℕ) (m : ℕ) (rules : Rules) (ws : List ℕ) (way : Option Package) : Type 0 where
   pub rank_least : 2 ≤ rank
   pub rank_most : rank ≤ 4
   pub same_d : points.d ≡ plane.d
@@ -23,4 +23,4 @@ pub record Asked (rank : ℕ) (plane : Subspace) (points : Points) (rows : List 
   pub entries_are : rules.entries ≡ 1024
   pub room_three : rank ≡ 3 → 524288 ≤ length ws
   pub room_four : rank ≡ 4 → 4194304 ≤ length ws
-  pub way_fits : WayFits points.n way globals full
+  pub way_fits : WayFits points.n way

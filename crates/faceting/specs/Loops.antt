@@ -1,6 +1,6 @@
 -- A call above rank 2 from its start to its end, as the loop over its orbits goes through it: what is alike in every turn (`Loop`), what a turn asks of the inner call and learns from it, and what the
 -- call says behind the last turn. It holds for any plane and points that the loop was begun for. Leans on Starts, Begins, Stored and Finishes.
-use Rattle.std.specs.Prelude.{◌≡◌, Bool, true, false, cond, T, eqb, take, drop}
+use Rattle.std.specs.Prelude.{◌≡◌, Bool, true, false, cond, eqb, take, drop}
 use Rattle.std.proofs.Math.Path.{refl, sym, subst}
 use Rattle.std.proofs.Common.{ap, ◌∙◌, ⊎_elim, arith}
 use mathlib.Core.List.{List, [], map}
@@ -36,7 +36,7 @@ use Rattle.calls.specs.declared.Called.{Called}
 use Rattle.calls.specs.declared.Called.TheVariants.{Ends}
 use Rattle.refusals.specs.declared.Refusal.{Refusal}
 use Rattle.refusals.specs.Refused.{number_of}
-use Rattle.std.specs.Prelude.{Result, Ok, Err}
+use Rattle.std.specs.Prelude.{Option, None, Result, Ok, Err}
 use Rattle.kept_edges.specs.Edges.{edge_answer}
 use Rattle.faceting.specs.declared.Next.{Next}
 use Rattle.faceting.specs.Asked.{Asked}
@@ -47,8 +47,8 @@ use Rattle.inner_answers.specs.Says.{Site, SiteState, all_orbits, site_orbits, s
 use Rattle.inner_answers.specs.Turns as turns
 use Rattle.faceting.specs.Begins as begins
 use Rattle.inner_answers.specs.Stored.{OneMore}
-use Rattle.faceting.specs.declared.Way.{Way}
-use Rattle.faceting.specs.Ways.{way_of, WayFits}
+use Rattle.tallies.specs.declared.Package.{Package}
+use Rattle.faceting.specs.Ways.{way_of, WayFits, plain_fits}
 use Rattle.faceting.specs.Starts.{shelf_empty}
 use Rattle.faceting.specs.Finishes as finishes
 use Rattle.faceting.specs.Finishes.{site}
@@ -90,12 +90,12 @@ says_ends way rank rules plane points rows budget swapped s e is =
     subst (λ (more : ℕ). SaysOf way more rules plane points rows budget (Ok (Ends swapped budget)) s) q (ap (λ (b : Bool). result.answered (cond b (swapped_ends budget) (separate_ends budget))) (sym is))
 
 -- a call of rank 3 + more, by its rank, and by any number that is the number of points
-pub says_rank : (way : Way) (globals full : List ℕ) (rank : ℕ) → 3 ≤ rank → (n k : ℕ) → n ≡ k → (rules : Rules) (plane : Subspace) (points : List Vec) (rows : List ℕ) (m budget : ℕ) (r : Result Called Refusal) (s : List ℕ)
-    → SaysOf (way_of n way globals full) (suc (rank - 3)) rules plane points (rows_in n m rows) budget r s → SaysOf (way_of k way globals full) (rank - 2) rules plane points (rows_in k m rows) budget r s
-says_rank way globals full rank least n k e rules plane points rows m budget r s a =
+pub says_rank : (way : Option Package) (rank : ℕ) → 3 ≤ rank → (n k : ℕ) → n ≡ k → (rules : Rules) (plane : Subspace) (points : List Vec) (rows : List ℕ) (m budget : ℕ) (r : Result Called Refusal) (s : List ℕ)
+    → SaysOf (way_of n way) (suc (rank - 3)) rules plane points (rows_in n m rows) budget r s → SaysOf (way_of k way) (rank - 2) rules plane points (rows_in k m rows) budget r s
+says_rank way rank least n k e rules plane points rows m budget r s a =
     let q : suc (rank - 3) ≡ rank - 2 = omega arith in
-    subst (λ (x : ℕ). SaysOf (way_of x way globals full) (rank - 2) rules plane points (rows_in x m rows) budget r s) e
-    (subst (λ (more : ℕ). SaysOf (way_of n way globals full) more rules plane points (rows_in n m rows) budget r s) q a)
+    subst (λ (x : ℕ). SaysOf (way_of x way) (rank - 2) rules plane points (rows_in x m rows) budget r s) e
+    (subst (λ (more : ℕ). SaysOf (way_of n way) more rules plane points (rows_in n m rows) budget r s) q a)
 
 fits_more : (shelf : Shelf) (a b : ℕ) → ShelfFits shelf a → a ≤ b → ShelfFits shelf b
 fits_more shelf a b f h = record {
@@ -123,7 +123,7 @@ behind_four rank e = subst (λ (x : Shelf). x.end ≤ 4194304 - 524288) (at_four
 
 -- ---- the start
 
-module _ (rank : ℕ) (plane : stored.Subspace) (points : Points) (rows : List ℕ) (m : ℕ) (rules : Rules) (budget : ℕ) (ws : List ℕ) (way : Way) (globals full : List ℕ) (asked : Asked rank plane points rows m rules ws way globals full) (above : 3 ≤ rank)
+module _ (rank : ℕ) (plane : stored.Subspace) (points : Points) (rows : List ℕ) (m : ℕ) (rules : Rules) (budget : ℕ) (ws : List ℕ) (way : Option Package) (asked : Asked rank plane points rows m rules ws way) (above : 3 ≤ rank)
     (flat : Points) (holds : HoldsPoints flat plane.rank (map (flatten (subspace_of plane)) (points_of points))) (same_n : flat.n ≡ points.n) where
   pub permute : Permutations flat.n m rows
   permute = subst (λ (n : ℕ). Permutations n m rows) (sym same_n) asked.permute
@@ -132,14 +132,14 @@ module _ (rank : ℕ) (plane : stored.Subspace) (points : Points) (rows : List �
   enough = ⊎_elim (λ h. asked.room_three (omega arith)) (λ h. omega (arith, asked.room_four (omega (arith, asked.rank_most)))) (le_or_lt rank 3)
 
   -- what the start of a call is asked
-  pub start_asks : CallFits points flat m rows × (rules.orbits ≤ 256) × (124928 ≤ length ws) × ShelfFits (shelf_for rank) (length ws) × (3 ≤ rank) × WayFits flat.n way globals full
+  pub start_asks : CallFits points flat m rows × (rules.orbits ≤ 256) × (124928 ≤ length ws) × ShelfFits (shelf_for rank) (length ws) × (3 ≤ rank) × WayFits flat.n way
   start_asks = (
     record { same_n = sym same_n; permute = permute; few = asked.rows_few },
     asked.few_orbits_holds,
     omega (arith, enough),
     shelf_fits rank (length ws) above asked.rank_most asked.room_three asked.room_four,
     above,
-    subst (λ (n : ℕ). WayFits n way globals full) (sym same_n) asked.way_fits,
+    subst (λ (n : ℕ). WayFits n way) (sym same_n) asked.way_fits,
   )
 
 -- ---- a turn
@@ -249,10 +249,14 @@ module _ {way : def.Way} {plane : Subspace} {points : List Vec} {rank : ℕ} {fl
           rows_stored : site_rows g shelf.orbits s ≡ rows_in next.points.n next.m inner
           rows_stored = rows_next ∙ ap (λ (n : ℕ). rows_in n next.m inner) (sym next_holds.n_is)
 
+          -- its rows lie in what is lent for them
+          pub inner_room : 32 * next.m ≤ length inner
+          inner_room = permute_next.long
+
           -- so the inner call may be made, behind the shelf
           pub inner_asks : (tail : List ℕ) → Laid shelf (shelf_for rank) → length s ≡ length ws → length tail ≡ length s - shelf.end
-              → (plain : Way) (globals full : List ℕ) → plain.plain ≡ true → Asked (rank - 1) inner_plane next.points inner next.m rules tail plain globals full
-          inner_asks tail laid long rest plain globals full is_plain = record {
+              → Asked (rank - 1) inner_plane next.points inner next.m rules tail None
+          inner_asks tail laid long rest = record {
             rank_least = omega (arith, l.rank_least);
             rank_most = omega (arith, l.rank_most);
             same_d = sym (plane_holds.same_d (omega (arith, next_holds.n_is, given_next.two)));
@@ -264,7 +268,7 @@ module _ {way : def.Way} {plane : Subspace} {points : List Vec} {rank : ℕ} {fl
             entries_are = l.entries_are;
             room_three = λ q. let four : rank ≡ 4 = omega (arith, l.rank_least) in omega (arith, l.room_four four, behind_four rank four, laid.end, long, rest);
             room_four = λ q. omega (arith, q, l.rank_most);
-            way_fits = record { pack = λ e. absurd (subst T (sym is_plain ∙ e) tt) };
+            way_fits = plain_fits next.points.n;
           }
 
           -- and what it says is the turn's

@@ -1,60 +1,66 @@
--- The way of a call by what the code holds: plain, or by the package of a full set whose global numbers and rows are lent [17.8]. What is taken of the orbits that were found, and what 13 counts: all
+-- The way of a call by what the code holds: no package, which is the plain way, or the package of a full set whose global numbers and rows are lent [17.8]. What is taken of the orbits that were found, and what 13 counts: all
 -- of them. Leans on the package in bytes and on the orbits' answer.
-use Rattle.std.specs.Prelude.{◌≡◌, Bool, List, map, ℕ, ◌≤◌, ◌<◌, ltb, length}
+use Rattle.std.specs.Prelude.{◌≡◌, Bool, not, List, map, ℕ, ◌≤◌, ◌<◌, ltb, length}
 use Rattle.std.proofs.Math.Path.{refl, sym, ap}
 use Rattle.std.proofs.Common.{◌∙◌, subst, le-ltb, lt-ltb}
-use Rattle.std.proofs.Math.Bool.{true, false, cond}
+use Rattle.std.proofs.Math.Bool.{true, false}
 use Rattle.std.proofs.Math.Logic.{⊎_elim}
-use Rattle.std.proofs.Math.Dec.{T}
 use Rattle.definitions.specs.Outcome.{Outcome, refused, answered, refuse_if}
 use Rattle.definitions.specs.Orbits.{Orbit}
 use Rattle.definitions.specs.Faceting as def
 use Rattle.definitions.specs.Faceting.{plain_way}
 use Rattle.definitions.specs.NobleCalls.{noble_way}
 use Rattle.laws.specs.Segments.{le_or_lt}
-use Rattle.laws.specs.Outcomes.{not_refused_if}
 use Rattle.orbits.specs.Numbers.{orbit_of}
 use Rattle.orbits.specs.Workspace.{orbits_in}
 use Rattle.orbits.specs.Answers.{answer_in, orbits_or_refusal}
 use Rattle.refusals.specs.declared.Refusal.{Refusal}
 use Rattle.refusals.specs.Refused.{number_of}
-use Rattle.std.specs.Prelude.{Result, Ok, Err}
+use Rattle.std.specs.Prelude.{Option, None, Some, is_some, Result, Ok, Err}
 use Rattle.shapes.specs.Answered.{TakesSome, plain_takes, noble_takes}
 use Rattle.tallies.specs.Meaning.{PackageFits, package_in}
-use Rattle.faceting.specs.declared.Way.{Way}
+use Rattle.tallies.specs.declared.Package.{Package}
 
--- the definition's way
-unfoldable pub way_of : ℕ → Way → List ℕ → List ℕ → def.Way
-way_of n way globals full = cond way.plain plain_way (noble_way (package_in n way.whole globals full))
+-- the definition's way: plain, or by the package that is lent
+unfoldable pub way_of : ℕ → Option Package → def.Way
+way_of n None = plain_way
+way_of n (Some pack) = noble_way (package_in n pack)
 
--- a way that is not plain has a package that can be counted by
-pub record WayFits (n : ℕ) (way : Way) (globals full : List ℕ) : Type 0 where
-  pub pack : way.plain ≡ false → PackageFits n way.whole globals full
+-- the package, where there is one, can be counted by
+pub record WayFits (n : ℕ) (way : Option Package) : Type 0 where
+  pub pack : (whole : Package) → way ≡ Some whole → PackageFits n whole
 
-module _ (n : ℕ) (way : Way) (globals full : List ℕ) where
-  pub way_takes : TakesSome (way_of n way globals full)
+-- a plain way asks nothing
+pub plain_fits : (n : ℕ) → WayFits n None
+plain_fits n = record { pack = λ whole e. let no : ⊥ = cc in absurd no }
+
+-- nor does the way of a package that can be counted by
+pub package_fits : {n : ℕ} {pack : Package} → PackageFits n pack → WayFits n (Some pack)
+package_fits {n} {pack} f = record {
+  pack = λ other e. let same : pack ≡ other = cc in subst (PackageFits n) same f;
+}
+
+module _ (n : ℕ) where
+  pub way_takes : (way : Option Package) → TakesSome (way_of n way)
   unfolding way_of
-  way_takes = go way.plain
-    where
-      go : (b : Bool) → TakesSome (cond b plain_way (noble_way (package_in n way.whole globals full)))
-      go true = plain_takes
-      go false = noble_takes (package_in n way.whole globals full)
+  way_takes None = plain_takes
+  way_takes (Some pack) = noble_takes (package_in n pack)
 
-  pub way_extended : way.plain ≡ (way_of n way globals full).extended
+  -- without a package closed lists are extended
+  pub way_extended : (way : Option Package) (plain : Bool) → is_some way ≡ not plain → plain ≡ (way_of n way).extended
   unfolding way_of plain_way noble_way
-  way_extended = go way.plain
-    where
-      go : (b : Bool) → b ≡ (cond b plain_way (noble_way (package_in n way.whole globals full))).extended
-      go true = refl
-      go false = refl
+  way_extended None true e = refl
+  way_extended None false e = cc
+  way_extended (Some pack) true e = cc
+  way_extended (Some pack) false e = refl
 
-  pub way_plain : way.plain ≡ true → way_of n way globals full ≡ plain_way
+  pub way_plain : way_of n None ≡ plain_way
   unfolding way_of
-  way_plain e = ap (λ (b : Bool). cond b plain_way (noble_way (package_in n way.whole globals full))) e
+  way_plain = refl
 
-  pub way_noble : way.plain ≡ false → way_of n way globals full ≡ noble_way (package_in n way.whole globals full)
+  pub way_noble : (pack : Package) → way_of n (Some pack) ≡ noble_way (package_in n pack)
   unfolding way_of
-  way_noble e = ap (λ (b : Bool). cond b plain_way (noble_way (package_in n way.whole globals full))) e
+  way_noble pack = refl
 
 -- the orbits that a way keeps, unless there are more than the bound in all
 unfoldable pub taken_or_refusal : def.Way → ℕ → List Orbit → Outcome (List Orbit)
@@ -89,9 +95,6 @@ module _ (way : def.Way) (bound : ℕ) (orbits : List Orbit) (n : ℕ) (s : List
 
 -- ---- what is kept of the orbits that were found
 
-module _ (n : ℕ) (way : Way) (globals full : List ℕ) (bound : ℕ) (orbits : List Orbit) where
-  abbrev by : def.Way
-  by = way_of n way globals full
-
-  pub kept_plain : (r : Result ℕ Refusal) (s : List ℕ) → way.plain ≡ true → answer_in n r s ≡ orbits_or_refusal bound orbits → answer_in n r s ≡ taken_or_refusal by bound orbits
-  kept_plain r s e found = found ∙ (all_taken bound orbits ∙ ap (λ (w : def.Way). taken_or_refusal w bound orbits) (sym (way_plain n way globals full e)))
+module _ (n bound : ℕ) (orbits : List Orbit) where
+  pub kept_plain : (r : Result ℕ Refusal) (s : List ℕ) → answer_in n r s ≡ orbits_or_refusal bound orbits → answer_in n r s ≡ taken_or_refusal (way_of n None) bound orbits
+  kept_plain r s found = found ∙ (all_taken bound orbits ∙ ap (λ (w : def.Way). taken_or_refusal w bound orbits) (sym (way_plain n)))

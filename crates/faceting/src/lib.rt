@@ -21,74 +21,65 @@ ghost use Rattle.stabilizers.specs.Permutations.{Permutations};
 ghost use Rattle.call_search.specs.Stocks.{call_rules};
 
 use calls::{Called, Rules};
+use openers::Rows;
 use refusals::Refusal;
 use space::{Points, Subspace};
-use tallies::FullSet;
+use tallies::Package;
 
 // ---- the orbits
 
-// How a call goes [17.8]: plain, or by the package of this full set, whose global numbers and rows it is lent. A plain call reads neither.
-#[derive(Clone, Copy)]
-pub struct Way {
-    pub plain: bool,
-    pub whole: FullSet,
-}
-
-// Of so many orbits that were found those that the way keeps, moved together: how many they are.
-fn keep_found(count: usize, way: Way, globals: &[u8], full: &[u8], n: usize, ws: &mut [u8]) -> usize
-    requires { WayFits n way globals.now full.now × (124928 ≤ length ws.old) × ((bound : ℕ) × (orbits : List Orbit) × (bound ≤ 256) × (answer_in n (Ok count) ws.old ≡ orbits_or_refusal bound orbits)) }
-    ensures { (bound : ℕ) (orbits : List Orbit) → answer_in n (Ok count) ws.old ≡ orbits_or_refusal bound orbits → answer_in n (Ok result) ws.new ≡ taken_or_refusal (way_of n way globals.now full.now) bound orbits }
+// Of so many orbits that were found those that the way keeps, moved together: how many they are. A call goes plain or by a package [17.8]; without one every orbit stays.
+fn keep_found(count: usize, way: Option<Package>, n: usize, ws: &mut [u8]) -> usize
+    requires { WayFits n way × (124928 ≤ length ws.old) × ((bound : ℕ) × (orbits : List Orbit) × (bound ≤ 256) × (answer_in n (Ok count) ws.old ≡ orbits_or_refusal bound orbits)) }
+    ensures { (bound : ℕ) (orbits : List Orbit) → answer_in n (Ok count) ws.old ≡ orbits_or_refusal bound orbits → answer_in n (Ok result) ws.new ≡ taken_or_refusal (way_of n way.entry) bound orbits }
 {
-    if way.plain {
-        return count;
+    match way {
+        Some(package) => tallies::keep_orbits(package, n, count, ws),
+        None => count,
     }
-    tallies::keep_orbits(globals, full, way.whole, n, count, ws)
 }
 
 // A call's hyperplane orbits are found, or refused: 13 counts them all. Then those are kept that its way keeps.
 fn find_kept(
     ws: &mut [u8],
     rank: usize,
-    points: Points,
-    flat: Points,
-    rows: &[u8],
-    m: usize,
+    points: &Points,
+    flat: &Points,
+    rows: Rows,
     rules: Rules,
-    way: Way,
-    globals: &[u8],
-    full: &[u8],
+    way: Option<Package>,
 ) -> Result<usize, Refusal>
-    requires { CallFits points flat m rows.now × (rules.orbits ≤ 256) × (124928 ≤ length ws.old) × (3 ≤ rank) × WayFits flat.n way globals.now full.now }
-    ensures { answer_in flat.n result ws.new ≡ taken_or_refusal (way_of flat.n way globals.now full.now) rules.orbits (hyperplane_orbits rules.tolerance (limits_of rules.limits) rules.rule (rank - 3) (points_of points) (points_of flat) (rows_in flat.n m rows.now)) }
+    requires { CallFits points.now flat.now rows.count rows.bytes.now × (rules.orbits ≤ 256) × (124928 ≤ length ws.old) × (3 ≤ rank) × WayFits flat.now.n way }
+    ensures { answer_in flat.now.n result ws.new ≡ taken_or_refusal (way_of flat.now.n way.entry) rules.orbits (hyperplane_orbits rules.tolerance (limits_of rules.limits) rules.rule (rank - 3) (points_of points.now) (points_of flat.now) (rows_in flat.now.n rows.entry.count rows.entry.bytes.now)) }
 {
-    let limits = rules.limits;
-    let tolerance = rules.tolerance;
-    let rule = rules.rule;
-    let bound = rules.orbits;
-    let more = rank - 3;
     let found = orbits::find_orbits(
-        points, flat, more, rows, m, limits, tolerance, rule, bound, ws,
+        points,
+        flat,
+        rank - 3,
+        rows,
+        rules.limits,
+        rules.tolerance,
+        rules.rule,
+        rules.orbits,
+        ws,
     )?;
-    Ok(keep_found(found, way, globals, full, flat.n, ws))
+    Ok(keep_found(found, way, flat.n, ws))
 }
 
 // A call's orbits, or a refusal, and the shelf of its rank is cleared behind them.
 fn start_call(
     ws: &mut [u8],
     rank: usize,
-    points: Points,
-    flat: Points,
-    rows: &[u8],
-    m: usize,
+    points: &Points,
+    flat: &Points,
+    rows: Rows,
     rules: Rules,
-    way: Way,
-    globals: &[u8],
-    full: &[u8],
+    way: Option<Package>,
 ) -> Result<usize, Refusal>
-    requires { CallFits points flat m rows.now × (rules.orbits ≤ 256) × (124928 ≤ length ws.old) × ShelfFits (shelf_for rank) (length ws.old) × (3 ≤ rank) × WayFits flat.n way globals.now full.now }
-    ensures { (answer_in flat.n result ws.new ≡ taken_or_refusal (way_of flat.n way globals.now full.now) rules.orbits (hyperplane_orbits rules.tolerance (limits_of rules.limits) rules.rule (rank - 3) (points_of points) (points_of flat) (rows_in flat.n m rows.now))) × ((k : ℕ) → Keeps k (shelf_for rank) [] ws.new × Ridges (shelf_for rank) [] ws.new) }
+    requires { CallFits points.now flat.now rows.count rows.bytes.now × (rules.orbits ≤ 256) × (124928 ≤ length ws.old) × ShelfFits (shelf_for rank) (length ws.old) × (3 ≤ rank) × WayFits flat.now.n way }
+    ensures { (answer_in flat.now.n result ws.new ≡ taken_or_refusal (way_of flat.now.n way.entry) rules.orbits (hyperplane_orbits rules.tolerance (limits_of rules.limits) rules.rule (rank - 3) (points_of points.now) (points_of flat.now) (rows_in flat.now.n rows.entry.count rows.entry.bytes.now))) × ((k : ℕ) → Keeps k (shelf_for rank) [] ws.new × Ridges (shelf_for rank) [] ws.new) }
 {
-    let answer = find_kept(ws, rank, points, flat, rows, m, rules, way, globals, full);
+    let answer = find_kept(ws, rank, points, flat, rows, rules, way);
     let shelf = calls::shelf_for(rank);
     keep::clear_shelf(ws, shelf);
     answer
@@ -106,93 +97,79 @@ pub struct Next {
 
 // The inner call on a set: its points from the flattened ones, its plane fitted anew, and the rows that keep it, written.
 fn next_call(
-    flat: Points,
+    flat: &Points,
     set: u32,
-    rows: &[u8],
-    m: usize,
+    rows: Rows,
     tolerance: f64,
     wanted: usize,
     inner: &mut [u8],
 ) -> Next
-    requires { Permutations flat.n m rows.now × (set < 2 ^ flat.n) × (32 * m ≤ length inner.old) }
-    ensures points { HoldsPoints result.points flat.d (map (point_at (points_of flat)) (vertices_of flat.n set)) }
-    ensures plane { Refitted result.plane result.points (from_points tolerance (map (point_at (points_of flat)) (vertices_of flat.n set))) wanted }
-    ensures count { result.m ≡ length (rows_within (vertices_of flat.n set) (rows_in flat.n m rows.now)) }
-    ensures rows { inner.new ≡ written_rows (rows_within (vertices_of flat.n set) (rows_in flat.n m rows.now)) 0 inner.old }
+    requires { Permutations flat.now.n rows.count rows.bytes.now × (set < 2 ^ flat.now.n) × (32 * rows.count ≤ length inner.old) }
+    ensures points { HoldsPoints result.points flat.now.d (map (point_at (points_of flat.now)) (vertices_of flat.now.n set)) }
+    ensures plane { Refitted result.plane result.points (from_points tolerance (map (point_at (points_of flat.now)) (vertices_of flat.now.n set))) wanted }
+    ensures count { result.m ≡ length (rows_within (vertices_of flat.now.n set) (rows_in flat.now.n rows.entry.count rows.entry.bytes.now)) }
+    ensures rows { inner.new ≡ written_rows (rows_within (vertices_of flat.now.n set) (rows_in flat.now.n rows.entry.count rows.entry.bytes.now)) 0 inner.old }
 {
-    let n = flat.n;
-    let points = sets::chosen_points(&flat, set);
+    let points = sets::chosen_points(flat, set);
     let plane = sets::refit(points, tolerance, wanted);
-    let count = stabilizers::rows_within(rows, m, n, set, inner);
-    Next {
-        plane: plane,
-        points: points,
-        m: count,
-    }
+    let m = stabilizers::rows_within(rows, flat.n, set, inner);
+    Next { plane, points, m }
 }
 
 // ---- the call
 
 // The call of every rank [9.1]. At rank 2 the rows alone answer. Above, the hyperplane orbits are found, each orbit's set is faceted in its own plane by the call itself at the rank below, behind the shelf,
 // and what that answers is kept; then the search. The inner calls are plain, whatever the way. The first refusal met is the call's.
+// No `for`: the shelf, which each turn hands back, counts the orbits. The rank ends the recursion, a form that was asked for.
 pub fn faceting(
     rank: usize,
     plane: Subspace,
     points: Points,
-    rows: &[u8],
-    m: usize,
+    rows: Rows,
     rules: Rules,
     budget: u32,
     ws: &mut [u8],
-    way: Way,
-    globals: &[u8],
-    full: &[u8],
+    way: Option<Package>,
 ) -> Result<Called, Refusal>
-    requires { Asked rank plane points rows.now m rules ws.old way globals.now full.now }
-    ensures { Says (way_of points.n way globals.now full.now) (rank - 2) (call_rules rules) (subspace_of plane) (points_of points) (rows_in points.n m rows.now) budget result ws.new }
+    requires { Asked rank plane points rows.bytes.now rows.count rules ws.old way }
+    ensures { Says (way_of points.n way.entry) (rank - 2) (call_rules rules) (subspace_of plane) (points_of points) (rows_in points.n rows.entry.count rows.entry.bytes.now) budget result ws.new }
 {
     if rank == 2 {
-        return Ok(Called::Ends(calls::swaps_ends(rows, m), budget));
+        return Ok(Called::Ends(calls::swaps_ends(rows), budget));
     }
-    let whole = way.whole;
     let flat = points.flatten_all(&plane);
-    let count = start_call(ws, rank, points, flat, rows, m, rules, way, globals, full)?;
+    let count = start_call(ws, rank, &points, &flat, rows, rules, way)?;
     let mut shelf = calls::shelf_for(rank);
     let mut left = budget;
     while shelf.orbits < count {
         let mut kept = [0; 3840];
         let set = orbits::set_at(ws, shelf.orbits, flat.n);
-        let next = next_call(flat, set, rows, m, rules.tolerance, rank - 2, &mut kept);
+        let next = next_call(&flat, set, rows, rules.tolerance, rank - 2, &mut kept);
         let inner_plane = next.plane?;
-        let behind = shelf.end;
-        let inner_way = Way {
-            plain: true,
-            whole: whole,
+        let inner_rows = Rows {
+            bytes: &kept,
+            count: next.m,
         };
         let called = faceting(
             rank - 1,
             inner_plane,
             next.points,
-            &kept,
-            next.m,
+            inner_rows,
             rules,
             left,
-            &mut ws[behind..],
-            inner_way,
-            globals,
-            full,
+            &mut ws[shelf.end..],
+            None,
         );
         let stored = inner_answers::keep_inner(
             ws,
             shelf,
             flat.n,
-            called?,
-            &kept,
-            next.m,
+            called,
+            inner_rows,
             rules.facets,
         )?;
         shelf = stored.shelf;
         left = stored.left;
     }
-    call_search::search_call(ws, shelf, rank, rows, m, rules, way.plain, left)
+    call_search::search_call(ws, shelf, rank, rows, rules, way.is_none(), left)
 }

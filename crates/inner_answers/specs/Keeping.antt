@@ -35,7 +35,7 @@ use Rattle.keep.specs.Rooms.{RoomFor}
 use Rattle.kept_polygons.specs.Whole.{next_vertices, vertex_in, PolygonRoom}
 use Rattle.left_edges.specs.Polygons.{EdgesLeft, polygon_kept, polygon_kept_holds, entry_edges}
 use Rattle.left_edges.specs.Reading.{lists_below, lists_many}
-use Rattle.keep.specs.Vertices.{vertex_rises}
+use Rattle.sets.specs.Vertices.{vertex_rises}
 use Rattle.kept_polygons.specs.Totals.{joined_few}
 use Rattle.labels.specs.Labels.{labels_in}
 use Rattle.inner_answers.specs.InnerLeft.{edges_left}

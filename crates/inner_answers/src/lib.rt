@@ -1,5 +1,5 @@
-// What becomes of an inner call's answer: the orbit's facets and ridges are stored on the shelf, or there are too many
-// facets, 15. The laws of a call's state after so many orbits stand in specs/.
+// What becomes of an inner call's answer: its refusal is the call's, or the orbit's facets and ridges are stored on
+// the shelf, or there are too many facets, 15. The laws of a call's state after so many orbits stand in specs/.
 
 #![tactic(auto)]
 
@@ -9,6 +9,7 @@ ghost use Rattle.inner_answers.specs.Stored.{Storing};
 ghost use Rattle.calls.specs.declared.Called.TheVariants.{Ends, Left};
 
 use calls::Called;
+use openers::Rows;
 use refusals::Refusal;
 use shelf::{Level, Shelf};
 
@@ -31,8 +32,7 @@ fn keep_ends(
     requires { (g : Site) × (left : ℕ) × (rows : List ℕ) × (m : ℕ) × Turn g shelf left shelf.orbits (Ok (Ends swapped rest)) rows m ws.old × (n ≡ length g.points) × (bound ≡ g.rules.bounds.facets) }
     ensures { (g : Site) (left : ℕ) (rows : List ℕ) (m : ℕ) → Turn g shelf left shelf.orbits (Ok (Ends swapped rest)) rows m ws.old → n ≡ length g.points → bound ≡ g.rules.bounds.facets → Storing g shelf result ws.new }
 {
-    let facets = shelf.facets;
-    if bound < facets + 1 {
+    if bound < shelf.facets + 1 {
         return Err(Refusal::Bound);
     }
     let more = kept_edges::keep_edge(ws, shelf, n, swapped);
@@ -49,41 +49,36 @@ fn keep_left(
     n: usize,
     level: Level,
     rest: u32,
-    rows: &[u8],
-    m: usize,
+    rows: Rows,
     bound: usize,
 ) -> Result<Stored, Refusal>
-    requires { (g : Site) × (left : ℕ) × Turn g shelf left shelf.orbits (Ok (Left level rest)) rows.now m ws.old × (n ≡ length g.points) × (bound ≡ g.rules.bounds.facets) }
-    ensures { (g : Site) (left : ℕ) → Turn g shelf left shelf.orbits (Ok (Left level rest)) rows.now m ws.old → n ≡ length g.points → bound ≡ g.rules.bounds.facets → Storing g shelf result ws.new }
+    requires { (g : Site) × (left : ℕ) × Turn g shelf left shelf.orbits (Ok (Left level rest)) rows.bytes.now rows.count ws.old × (n ≡ length g.points) × (bound ≡ g.rules.bounds.facets) }
+    ensures { (g : Site) (left : ℕ) → Turn g shelf left shelf.orbits (Ok (Left level rest)) rows.entry.bytes.now rows.entry.count ws.old → n ≡ length g.points → bound ≡ g.rules.bounds.facets → Storing g shelf result ws.new }
 {
-    let facets = shelf.facets;
-    let count = level.count;
-    let end = shelf.end;
-    if bound < facets + count {
+    if bound < shelf.facets + level.count {
         return Err(Refusal::Bound);
     }
-    let more = kept_polygons::keep_polygons(ws, shelf, n, end, level, rows, m);
+    let more = kept_polygons::keep_polygons(ws, shelf, n, shelf.end, level, rows);
     Ok(Stored {
         shelf: more,
         left: rest,
     })
 }
 
-// What the inner call on the next orbit's set answers is kept.
+// What the inner call on the next orbit's set says: a refusal is passed on, and else its answer is kept.
 pub fn keep_inner(
     ws: &mut [u8],
     shelf: Shelf,
     n: usize,
-    called: Called,
-    rows: &[u8],
-    m: usize,
+    called: Result<Called, Refusal>,
+    rows: Rows,
     bound: usize,
 ) -> Result<Stored, Refusal>
-    requires { (g : Site) × (left : ℕ) × Turn g shelf left shelf.orbits (Ok called) rows.now m ws.old × (n ≡ length g.points) × (bound ≡ g.rules.bounds.facets) }
-    ensures { (g : Site) (left : ℕ) → Turn g shelf left shelf.orbits (Ok called) rows.now m ws.old → n ≡ length g.points → bound ≡ g.rules.bounds.facets → Storing g shelf result ws.new }
+    requires { (g : Site) × (left : ℕ) × Turn g shelf left shelf.orbits called rows.bytes.now rows.count ws.old × (n ≡ length g.points) × (bound ≡ g.rules.bounds.facets) }
+    ensures { (g : Site) (left : ℕ) → Turn g shelf left shelf.orbits called rows.entry.bytes.now rows.entry.count ws.old → n ≡ length g.points → bound ≡ g.rules.bounds.facets → Storing g shelf result ws.new }
 {
-    match called {
+    match called? {
         Called::Ends(swapped, rest) => keep_ends(ws, shelf, n, swapped, rest, bound),
-        Called::Left(level, rest) => keep_left(ws, shelf, n, level, rest, rows, m, bound),
+        Called::Left(level, rest) => keep_left(ws, shelf, n, level, rest, rows, bound),
     }
 }

@@ -23,13 +23,13 @@ use Rattle.load.specs.Places.{Exact}
 use Rattle.load.specs.Meaning.{fields_of, Loadable}
 use Rattle.load.proofs.Meaning.{loadable}
 use Rattle.refusals.specs.declared.Refusal.{Refusal}
-use Rattle.std.specs.Prelude.{Result}
+use Rattle.std.specs.Prelude.{Option, Result}
+use Rattle.tallies.specs.declared.Package.{Package}
 use Rattle.job.specs.Refusal.{checked_of}
 use Rattle.job.specs.Passed.{refused_means, passed_means, own_passed, passed_exact, passed_rows, passed_workspace}
 use Rattle.calls.specs.declared.Rules.{Rules}
 use Rattle.call_search.specs.Stocks.{call_rules}
 use Rattle.calls.specs.declared.Called.{Called}
-use Rattle.faceting.specs.declared.Way as code
 use Rattle.faceting.specs.Ways.{way_of, WayFits, way_takes}
 use Rattle.faceting.specs.Asked.{Asked}
 use Rattle.inner_answers.specs.Says.{Says}
@@ -120,9 +120,9 @@ module _ (bytes : Bytes) (workspace : ℕ) (f : Fields) (passed : answered f ≡
     permute = permutations_of f.n f.count rows counts.n_most l.rows_room (rw (l.rows_held, counts.n_is) (passed_rows bytes workspace none_fails))
 
     -- what the call is asked
-    pub call_asked : (ws : List ℕ) → length ws ≡ workspace → (way : code.Way) (globals full : List ℕ) → WayFits f.n way globals full → Asked f.rank plane points rows f.count rules ws way globals full
+    pub call_asked : (ws : List ℕ) → length ws ≡ workspace → (way : Option Package) → WayFits f.n way → Asked f.rank plane points rows f.count rules ws way
     unfolding job_rules bounds1 call_rules workspace_for
-    call_asked ws long way globals full fits = record {
+    call_asked ws long way fits = record {
       rank_least = counts.rank_least;
       rank_most = counts.rank_most;
       same_d = l.points_held.d_is ∙ sym l.plane_d;
@@ -134,7 +134,7 @@ module _ (bytes : Bytes) (workspace : ℕ) (f : Fields) (passed : answered f ≡
       entries_are = ap (λ (r : recursion.Rules). r.bounds.entries) l.rules_are;
       room_three = λ e. let k = room_at 3 e in omega arith;
       room_four = λ e. let k = room_at 4 e in omega arith;
-      way_fits = subst (λ (n : ℕ). WayFits n way globals full) (sym l.points_n) fits;
+      way_fits = subst (λ (n : ℕ). WayFits n way) (sym l.points_n) fits;
     }
 
     -- the rules are the job's
@@ -143,18 +143,18 @@ module _ (bytes : Bytes) (workspace : ℕ) (f : Fields) (passed : answered f ≡
     rules_job = l.rules_are ∙ (λ i. record { tolerance = counts.tolerance_is i; lengths = record { shortest = counts.shortest_is i; longest = counts.longest_is i }; entry_limit = counts.entries_is i; bounds = bounds1; rule = counts.rule_is i })
 
     -- what the call on what is loaded says
-    module _ (way : code.Way) (globals full : List ℕ) (fits : WayFits f.n way globals full) (called : Result Called Refusal) (s : List ℕ) (long : length s ≡ workspace)
-        (h : Says (way_of points.n way globals full) (f.rank - 2) (call_rules rules) (subspace_of plane) (points_of points) (rows_in points.n f.count rows) f.budget called s) where
+    module _ (way : Option Package) (fits : WayFits f.n way) (called : Result Called Refusal) (s : List ℕ) (long : length s ≡ workspace)
+        (h : Says (way_of points.n way) (f.rank - 2) (call_rules rules) (subspace_of plane) (points_of points) (rows_in points.n f.count rows) f.budget called s) where
       abbrev goes : ℕ → Way
-      goes n = way_of n way globals full
+      goes n = way_of n way
 
       call_said : Said f.rank f.n f.count rows f.budget (faceting_with (goes f.n) (f.rank - 2) (call_rules rules) (subspace_of plane) (points_of points) (rows_in f.n f.count rows) f.budget) called s
       call_said =
-          let asked = call_asked s long way globals full fits in
+          let asked = call_asked s long way fits in
           let n_is : points.n ≡ length (points_of points) = l.points_held.n_is ∙ ap length (sym l.points_held.means) in
           let own : length (points_of points) ≡ f.n = sym n_is ∙ l.points_n in
           subst (λ (n : ℕ). Said f.rank n f.count rows f.budget (faceting_with (goes n) (f.rank - 2) (call_rules rules) (subspace_of plane) (points_of points) (rows_in n f.count rows) f.budget) called s) own
-          (said.call_said (goes (length (points_of points))) (way_takes (length (points_of points)) way globals full) (call_rules rules) (subspace_of plane) (points_of points) f.count rows f.budget s asked.rank_least asked.rank_most (rw (← n_is) asked.given) (rw (← n_is) (rows_fit_holds asked.permute)) asked.rows_few asked.room_four called (rw (← n_is) h))
+          (said.call_said (goes (length (points_of points))) (way_takes (length (points_of points)) way) (call_rules rules) (subspace_of plane) (points_of points) f.count rows f.budget s asked.rank_least asked.rank_most (rw (← n_is) asked.given) (rw (← n_is) (rows_fit_holds asked.permute)) asked.rows_few asked.room_four called (rw (← n_is) h))
 
       -- the same, of the definition's own rules, plane, points and rows
       pub job_called : CalledIn (goes f.n) bytes f rows called s

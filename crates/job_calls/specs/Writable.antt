@@ -20,7 +20,8 @@ use Rattle.shelf.specs.Leaves.{Leaves, answer_left}
 use Rattle.shelf.specs.declared.Level.{Level}
 use Rattle.words.specs.Words.{words}
 use Rattle.words.specs.Lent.{lent_tail}
-use Rattle.figure_words.specs.Wrote.{Wrote}
+use Rattle.words.specs.declared.Writer.{Writer}
+use Rattle.words.specs.Wrote.{Writes}
 use Rattle.writing.specs.Standing.{Standing}
 use Rattle.writing.specs.Written.{EdgesKept, standing, WroteAnswer}
 use Rattle.polyhedra.specs.Solids.{ImagesStand}
@@ -80,11 +81,11 @@ module _ {n m : ℕ} {rows : List ℕ} {kept : List Kept} {level : Level} {budge
     )
 
     -- and what it writes is the answer of [12.3]
-    pub solid_wrote : (from : List ℕ) (to : List ℕ) (end : ℕ) → WroteSolidAnswer n m rows level t (words 4 images_in r.count) budget rest from 0 to end
-        → Wrote from 0 to end (answer_words budget (answer_left 1 n (rows_in n m rows) kept level s rest))
-    solid_wrote from to end h =
+    pub solid_wrote : {before after : Writer} → WroteSolidAnswer n m rows level t (words 4 images_in r.count) budget rest before after
+        → Writes before after (answer_words budget (answer_left 1 n (rows_in n m rows) kept level s rest))
+    solid_wrote {before} {after} h =
         answer_written w.rows_fit_holds w.edges w.few_rows w.leaves images_behind images_fit o
-        (subst (λ (l : List ℕ). WroteSolidAnswer n m rows level t (words 4 l r.count) budget rest from 0 to end) (lent_tail r.at t) h)
+        (subst (λ (l : List ℕ). WroteSolidAnswer n m rows level t (words 4 l r.count) budget rest before after) (lent_tail r.at t) h)
 
 -- ---- rank 3
 
@@ -93,9 +94,8 @@ module _ {n m : ℕ} {rows : List ℕ} {kept : List Kept} {level : Level} {budge
   pub polygons_asked : Standing m rows level s × (n ≤ 20) × (rest ≤ budget)
   polygons_asked = (standing w.rows_fit_holds w.edges w.leaves, omega (arith, w.rows_fit_holds.n_fits), w.spent)
 
-  pub polygons_wrote : (from : List ℕ) (to : List ℕ) (end : ℕ) → WroteAnswer n m rows level s budget rest from 0 to end
-      → Wrote from 0 to end (answer_words budget (answer_left 0 n (rows_in n m rows) kept level s rest))
-  polygons_wrote from to end h = h.wrote kept (record { rows = w.rows_fit_holds; edges = w.edges; leaves = w.leaves })
+  pub polygons_wrote : {before after : Writer} → WroteAnswer n m rows level s budget rest before after → Writes before after (answer_words budget (answer_left 0 n (rows_in n m rows) kept level s rest))
+  polygons_wrote h = h.wrote kept (record { rows = w.rows_fit_holds; edges = w.edges; leaves = w.leaves })
 
 -- ---- what a call leaves is so
 

@@ -19,7 +19,7 @@ use Rattle.load.proofs.Meaning.{loadable}
 use Rattle.job.specs.Refusal.{checked_as, checked_by, checked_of}
 use Rattle.job.specs.Passed.{checked_passed, refused_as, rank_loaded, header_passed}
 use Rattle.tallies.specs.Meaning.{package_in}
-use Rattle.faceting.specs.declared.Way as code
+use Rattle.tallies.specs.declared.Package.{Package}
 use Rattle.faceting.specs.Ways.{way_of, way_noble}
 use Rattle.job_calls.specs.Loaded.{call_by, counts}
 use Rattle.answering.specs.Answered.{bytes_of}
@@ -69,12 +69,12 @@ module _ (bytes pack : Bytes) (workspace : ℕ) where
     pack_fits = subst (λ (n : ℕ). T (package_good n pack)) (sym n_is) pack_good
 
     -- what is loaded is the definition's package, and the call by it the definition's
-    pub noble_call : (way : code.Way) (globals full : List ℕ) → way.plain ≡ false → package_in f.n way.whole globals full ≡ read_package f.n pack
-        → call_by (way_of f.n way globals full) (read_job bytes) ≡ noble_call_of bounds1 (read_job bytes) (read_package (read_job bytes).n pack)
+    pub noble_call : (whole : Package) → package_in f.n whole ≡ read_package f.n pack
+        → call_by (way_of f.n (Some whole)) (read_job bytes) ≡ noble_call_of bounds1 (read_job bytes) (read_package (read_job bytes).n pack)
     unfolding call_by noble_call_of
-    noble_call way globals full e is =
-        let same : way_of f.n way globals full ≡ noble_way (read_package (read_job bytes).n pack) =
-        way_noble f.n way globals full e ∙ ap noble_way (is ∙ ap (λ (n : ℕ). read_package n pack) n_is) in
+    noble_call whole is =
+        let same : way_of f.n (Some whole) ≡ noble_way (read_package (read_job bytes).n pack) =
+        way_noble f.n whole ∙ ap noble_way (is ∙ ap (λ (n : ℕ). read_package n pack) n_is) in
         ap (λ (w : Way). call_by w (read_job bytes)) same
 
     pub alone_is : noble_alone bytes pack workspace ≡ bytes_of f.budget (noble_call_of bounds1 (read_job bytes) (read_package (read_job bytes).n pack))

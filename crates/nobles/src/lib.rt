@@ -10,9 +10,9 @@ ghost use Rattle.definitions.specs.Outcome.{answered};
 ghost use Rattle.refusals.specs.Refused.{outcome_of};
 ghost use Rattle.answering.specs.Closed.{written_in, buffer_in};
 
-use faceting::Way;
 use job_calls::ROWS_ROOM;
 use load::Fields;
+use openers::Rows;
 use refusals::Refusal;
 
 // The bytes of a package's global numbers, as one row.
@@ -48,12 +48,12 @@ fn write_noble(
     let mut globals = [0; GLOBALS_ROOM];
     let mut full = [0; ROWS_ROOM];
     let whole = packages::load_package(pack, fields.n, &mut globals, &mut full);
-    let way = Way {
-        plain: false,
-        whole: whole,
+    let called = job_calls::call_in_way(job, fields, ws, &mut rows, Some(whole));
+    let loaded = Rows {
+        bytes: &rows,
+        count: fields.count,
     };
-    let called = job_calls::call_in_way(job, fields, ws, &mut rows, way, &globals, &full);
-    answering::write_called(called, fields, &rows, ws, answer)
+    answering::write_called(called, fields, loaded, ws, answer)
 }
 
 // Any job with any package, answered into a cleared buffer.

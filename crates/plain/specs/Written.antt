@@ -1,5 +1,5 @@
 -- What is written of a job that was called, from what its call says: the two clauses of `plain_job`, case by case. Leans on what is called, and on the end of writing.
-use Rattle.std.specs.Prelude.{◌≡◌, refl, ℕ, ◌<◌, length, replicate}
+use Rattle.std.specs.Prelude.{◌≡◌, refl, ℕ, length, replicate, Some}
 use Rattle.std.proofs.Math.Path.{sym, ap}
 use Rattle.std.proofs.Common.{◌∙◌}
 use Rattle.definitions.specs.Outcome.{Outcome, refused, answered, and_then}
@@ -8,12 +8,13 @@ use Rattle.definitions.specs.Job.{Bytes, read_job, bounds1, call_of, tests, buff
 use Rattle.definitions.specs.Prices.{answer_of}
 use Rattle.definitions.specs.Plain.{plain_bytes, plain_alone}
 use Rattle.laws.specs.Refusals.{pass_all_refused, pass_all_passed}
-use Rattle.words.specs.Writer.{encoded, full}
+use Rattle.words.specs.Writer.{encoded}
 use Rattle.load.specs.declared.Fields.{Fields}
 use Rattle.job.specs.Refusal.{checked_of}
 use Rattle.job.specs.Passed.{refused_means, passed_means}
-use Rattle.figure_words.specs.Wrote.{Wrote}
-use Rattle.answering.specs.Closed.{written_in, buffer_in, written_to, buffer_to, written_all, buffer_all}
+use Rattle.words.specs.declared.Writer.{Writer}
+use Rattle.words.specs.Wrote.{Writes}
+use Rattle.answering.specs.Closed.{begun_wrote, written_in, buffer_in, written_to, buffer_to, written_all, buffer_all}
 use Rattle.plain.specs.Numbers.{number_words, plain_words}
 
 -- the bytes of the words
@@ -52,11 +53,12 @@ module _ (job : Bytes) (workspace : ℕ) where
     unfolding and_then
     answered_is {a} e = called e ∙ ap answered (plain_encoded a)
 
-    pub answered_clauses : {a : Answer} → call_of bounds1 (read_job job) ≡ answered a → (from to after : Bytes) (at : ℕ) {r : Outcome ℕ} → from ≡ replicate (length from) 0 → length from < full
-        → Wrote from 0 to at (plain_words a) → r ≡ written_to (length to) at → after ≡ buffer_to to at
-        → (r ≡ written_in (length from) (plain_alone job workspace)) × (after ≡ buffer_in (length from) (plain_alone job workspace))
-    answered_clauses {a} e from to after at clear short wrote r-is after_is =
-        let o = answered_is e in (
-          r-is ∙ (written_all from to (plain_words a) at clear short wrote ∙ sym (ap (written_in (length from)) o)),
-          after_is ∙ (buffer_all from to (plain_words a) at clear short wrote ∙ sym (ap (buffer_in (length from)) o)),
+    pub answered_clauses : {a : Answer} → call_of bounds1 (read_job job) ≡ answered a → (from : Bytes) {before after : Writer} {end : Bytes} {r : Outcome ℕ} → from ≡ replicate (length from) 0 → before.buffer.now ≡ from → before.at ≡ Some 0
+        → Writes before after (plain_words a) → r ≡ written_to (length after.buffer.now) after.at → end ≡ buffer_to after.buffer.now after.at
+        → (r ≡ written_in (length from) (plain_alone job workspace)) × (end ≡ buffer_in (length from) (plain_alone job workspace))
+    answered_clauses {a} e from {before} {after} clear opened first writes r-is end_is =
+        let o = answered_is e in
+        let wrote = begun_wrote opened first writes in (
+          r-is ∙ (written_all from after.buffer.now (plain_words a) after.at clear wrote ∙ sym (ap (written_in (length from)) o)),
+          end_is ∙ (buffer_all from after.buffer.now (plain_words a) after.at clear wrote ∙ sym (ap (buffer_in (length from)) o)),
         )

@@ -12,7 +12,7 @@ ghost use Rattle.shelf.specs.Leaves.{Leaves, answer_left};
 ghost use Rattle.job.specs.Refusal.{checked_of};
 ghost use Rattle.definitions.specs.Outcome.{answered};
 ghost use Rattle.refusals.specs.Refused.{outcome_of};
-ghost use Rattle.figure_words.specs.Wrote.{Wrote};
+ghost use Rattle.words.specs.Wrote.{Writes};
 ghost use Rattle.answering.specs.Closed.{written_in, buffer_in};
 ghost use Rattle.plain.specs.Numbers.{number_words, plain_words};
 
@@ -20,37 +20,35 @@ use calls::Called;
 use load::Fields;
 use refusals::Refusal;
 use shelf::Level;
-use words::Word;
+use words::{Word, Writer};
 
 // So many numbers that stand from a place on: their count, and each.
-fn write_numbers(answer: &mut [u8], at: usize, s: &[u8], from: usize, many: usize) -> usize
+fn write_numbers(w: &mut Writer, s: &[u8], from: usize, many: usize)
     requires { (from + 4 * many ≤ length s.now) × (many < 4294967296) }
-    ensures { Wrote answer.old at answer.new result (number_words (words 4 (drop from s.now) many)) }
+    ensures { Writes w.old w.new (number_words (words 4 (drop from s.now) many)) }
 {
-    let mut cursor = figure_words::push(answer, at, many as u32);
+    w.push(many as u32);
     for i in 0..many {
-        cursor = figure_words::push(answer, cursor, u32::get(s, from + 4 * i));
+        w.push(u32::get(s, from + 4 * i));
     }
-    cursor
 }
 
 // The one entry of a call of rank 2.
-fn write_one(answer: &mut [u8], at: usize) -> usize
-    ensures { Wrote answer.old at answer.new result (1 ∷ 0 ∷ []) }
+fn write_one(w: &mut Writer)
+    ensures { Writes w.old w.new (1 ∷ 0 ∷ []) }
 {
-    let first = figure_words::push(answer, at, 1);
-    figure_words::push(answer, first, 0)
+    w.push(1);
+    w.push(0);
 }
 
 // The plain entries of what a call above rank 2 left. Their numbers are put where its labels stand, which are not needed here.
-fn write_plain(answer: &mut [u8], at: usize, ws: &mut [u8], level: Level) -> usize
+fn write_plain(w: &mut Writer, ws: &mut [u8], level: Level)
     requires { (more n : ℕ) × (rows : List Row) × (kept : List Kept) × Leaves more n rows kept level ws.old }
-    ensures { (more n rest : ℕ) (rows : List Row) (kept : List Kept) → Leaves more n rows kept level ws.old → Wrote answer.old at answer.new result (plain_words (answer_left more n rows kept level ws.old rest)) }
+    ensures { (more n rest : ℕ) (rows : List Row) (kept : List Kept) → Leaves more n rows kept level ws.old → Writes w.old w.new (plain_words (answer_left more n rows kept level ws.old rest)) }
 {
-    let lists = level.lists;
     let labels = level.bytes + 2048;
-    let many = filter::filter_irc(&mut ws[lists..], level.area(), labels);
-    write_numbers(answer, at, ws, lists + labels, many)
+    let many = filter::filter_irc(&mut ws[level.lists..], level.area(), labels);
+    write_numbers(w, ws, level.lists + labels, many);
 }
 
 // A job that passed the refusals before the call, called, and its plain entries written into the cleared buffer.
@@ -68,12 +66,14 @@ fn plain_passed(
     let called = job_calls::call_job(job, fields, ws, &mut rows)?;
     match called {
         Called::Ends(_, _) => {
-            let end = write_one(answer, 0);
-            answering::close(answer, end)
+            let mut w = Writer::new(answer);
+            write_one(&mut w);
+            answering::close(w)
         }
         Called::Left(level, _) => {
-            let end = write_plain(answer, 0, ws, level);
-            answering::close(answer, end)
+            let mut w = Writer::new(answer);
+            write_plain(&mut w, ws, level);
+            answering::close(w)
         }
     }
 }

@@ -17,7 +17,7 @@ ghost use Rattle.register.specs.Batches.{Promised};
 
 use refusals::Refusal;
 
-// [12.7] minus the refusal's number
+// [12.7] minus the refusal's number. A number, not a `Refusal`: the two programs give it numbers that they counted or read, and it keeps what it promised them.
 pub fn refusal(number: u8) -> i64
     ensures { result ≡ neg_ℤ (pos number) }
 {

@@ -11,8 +11,8 @@ returns-then-swapped c =
     let e : c.args.swapped ≡ true = search rules in
     rw e c.write_swapped.ensures
 
-pub returns : goal.returns
+pub returns-else-swapped : goal.returns-else-swapped
 unfolding edge_answer
-returns c =
+returns-else-swapped c =
     let e : c.args.swapped ≡ false = search rules in
     rw e c.write_separate.ensures

@@ -5,6 +5,12 @@ use native.Mathlib.Omega.{arith}
 use Rattle.job_calls.specs.Writable.{polygons_asked, polygons_wrote}
 use Rattle.answering.proofs.write_left.Goals as goal
 
+pub invariant_of-write_answer : goal.invariant_of-write_answer
+invariant_of-write_answer c =
+    let e : c.args.rank - 3 ≡ 0 = omega arith in
+    let h = polygons_asked (rw e at c.requires.2.1) in
+    record { standing = h.0.listed }
+
 pub write_answer-requires : goal.write_answer-requires
 write_answer-requires c =
     let e : c.args.rank - 3 ≡ 0 = omega arith in
@@ -14,14 +20,14 @@ write_answer-requires c =
 pub returns-then-rank-eq3 : goal.returns-then-rank-eq3
 returns-then-rank-eq3 c =
     let e : c.args.rank - 3 ≡ 0 = omega arith in
-    λ kept w. rw e (polygons_wrote (rw e at w) _ _ _ c.write_answer.ensures)
+    λ kept w. rw e (polygons_wrote (rw e at w) c.write_answer.ensures)
 
 pub write_polyhedra-requires : goal.write_polyhedra-requires
 write_polyhedra-requires c =
     let e : c.args.rank - 3 ≡ 1 = omega arith in
     (c.requires.2.0, rw e at c.requires.2.1)
 
-pub returns : goal.returns
-returns c =
+pub returns-else-rank-eq3 : goal.returns-else-rank-eq3
+returns-else-rank-eq3 c =
     let e : c.args.rank - 3 ≡ 1 = omega arith in
     λ kept w. rw e (c.write_polyhedra.ensures kept (rw e at w))

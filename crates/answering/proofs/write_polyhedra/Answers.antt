@@ -6,16 +6,22 @@ use Rattle.answering.proofs.write_polyhedra.Goals as goal
 pub order_images-images-requires : goal.order_images-images-requires
 order_images-images-requires c = images_asked c.requires.1
 
-pub slice_bounds-write_solid_answer-count : goal.slice_bounds-write_solid_answer-count
-slice_bounds-write_solid_answer-count c = images_inside c.requires.1 c.order_images-images.ensures
+pub slice_bounds-ids-count : goal.slice_bounds-ids-count
+slice_bounds-ids-count c = images_inside c.requires.1 c.order_images-images.ensures
 
-pub slice_bounds-write_solid_answer-start : goal.slice_bounds-write_solid_answer-start
-slice_bounds-write_solid_answer-start c =
+pub slice_bounds-ids-start : goal.slice_bounds-ids-start
+slice_bounds-ids-start c =
     let h = images_inside c.requires.1 c.order_images-images.ensures in
     search rules
+
+pub invariant_of-left : goal.invariant_of-left
+invariant_of-left c = let asked = solid_asked c.requires.1 c.order_images-images.ensures in record { standing = asked.0.listed }
+
+pub invariant_of-ids : goal.invariant_of-ids
+invariant_of-ids c = let asked = solid_asked c.requires.1 c.order_images-images.ensures in record { room = asked.1.room }
 
 pub write_solid_answer-requires : goal.write_solid_answer-requires
 write_solid_answer-requires c = solid_asked c.requires.1 c.order_images-images.ensures
 
 pub returns : goal.returns
-returns c = λ kept w. solid_wrote w c.order_images-images.ensures _ _ _ c.write_solid_answer.ensures
+returns c = λ kept w. solid_wrote w c.order_images-images.ensures c.write_solid_answer.ensures

@@ -1,5 +1,5 @@
 use borrow.Author.Rules.{rules}
-use mathlib.Core.Path.{◌≡◌, refl, ap, ◌∙◌, subst}
+use mathlib.Core.Path.{◌≡◌, refl, ap, ◌∙◌}
 use mathlib.Core.List.{List, ◌++◌}
 use Prim.Native.Nat.{ℕ, ◌-◌, ◌≤◌}
 use native.Mathlib.Omega.{arith}
@@ -11,13 +11,11 @@ use Rattle.words.specs.Lent.{lent_tail, back_front, back_tail, back_length}
 use Rattle.space.specs.Meaning.{subspace_of, points_of}
 use Rattle.space.specs.Counts.{points_length}
 use Rattle.inner_answers.specs.Spaces.{laid_same, laid_as}
-use Rattle.inner_answers.specs.Stored.{Storing, refusal_stored}
-use Rattle.refusals.specs.declared.Refusal.{Refusal}
-use Rattle.refusals.specs.Refused.{number_of, handed_on}
-use Rattle.std.specs.Prelude.{Result, Ok, Err}
+use Rattle.inner_answers.specs.Stored.{Storing}
+use Rattle.refusals.specs.Refused.{handed_on}
+use Rattle.std.specs.Prelude.{Err}
 use Rattle.shelf.specs.declared.Shelf.{Shelf}
-use Rattle.calls.specs.declared.Called.{Called}
-use Rattle.inner_answers.specs.Says.{Site, site_whole, Turn}
+use Rattle.inner_answers.specs.Says.{Turn}
 use Rattle.faceting.specs.Ways.{way_of, way_extended}
 use Rattle.faceting.specs.Loops as loops
 use Rattle.faceting.proofs.Loops as loops_proved
@@ -26,14 +24,14 @@ use Rattle.faceting.proofs.+faceting.Goals as goal
 use Rattle.faceting.proofs.+faceting.Goals.{After-shelf_for-shelf, After-faceting-called}
 
 -- the loop of this call has begun for the call's own plane and points
-begun : (t : ℕ) (c : After-shelf_for-shelf t) → Loop (way_of c.flatten_all-flat.result.n c.args.way c.args.globals.now c.args.full.now) (subspace_of c.args.plane) (points_of c.args.points) c.args.rank c.flatten_all-flat.result c.args.rows.now c.args.m c.args.rules c.args.budget c.in_ok-count.count c.start_call.new.ws
+begun : (t : ℕ) (c : After-shelf_for-shelf t) → Loop (way_of c.flatten_all-flat.result.n c.args.way) (subspace_of c.args.plane) (points_of c.args.points) c.args.rank c.flatten_all-flat.result c.args.rows.bytes.now c.args.rows.count c.args.rules c.args.budget c.in_ok-count.count c.start_call.new.ws
 begun t c =
     let a = c.args in
     let asked = c.requires in
     let start = c.start_call in
     let flat = c.flatten_all-flat in
     let above : 3 ≤ a.rank = omega (arith, c.if-rank-eq2.false, asked.rank_least) in
-    loops_proved.begun a.rank a.plane a.points a.rows.now a.m a.rules a.budget a.ws.now a.way a.globals.now a.full.now asked above flat.result flat.ensures.0 flat.ensures.1 start.result start.new.ws start.ensures.0 _ c.in_ok-count.was start.ensures.1 start.auto.ws
+    loops_proved.begun a.rank a.plane a.points a.rows.bytes.now a.rows.count a.rules a.budget a.ws.now a.way asked above flat.result flat.ensures.0 flat.ensures.1 start.result start.new.ws start.ensures.0 _ c.in_ok-count.was start.ensures.1 start.auto.ws
 
 -- ---- the inner call was made
 
@@ -41,8 +39,8 @@ begun t c =
 abbrev behind : Shelf → List ℕ → List ℕ → List ℕ
 behind shelf ws tail = take shelf.end ws ++ (tail ++ drop (length ws - shelf.end) (drop shelf.end ws))
 
-module _ (t : ℕ) (c : After-faceting-called t) {plane : Subspace} {points : List Vec} (b : Loop (way_of c.flatten_all-flat.result.n c.args.way c.args.globals.now c.args.full.now) plane points c.args.rank c.flatten_all-flat.result c.args.rows.now c.args.m c.args.rules c.args.budget c.in_ok-count.count c.start_call.new.ws) where
-  turn_at : Turn (site_in (way_of c.flatten_all-flat.result.n c.args.way c.args.globals.now c.args.full.now) plane points c.args.rank c.flatten_all-flat.result c.args.rows.now c.args.m c.args.rules c.args.budget) c.loop-shelf.shelf c.loop-shelf.left c.loop-shelf.shelf.orbits c.faceting-called.result c.next_call-next.new.inner c.next_call-next.result.m (behind c.loop-shelf.shelf c.loop-shelf.ws c.faceting-called.new.ws)
+module _ (t : ℕ) (c : After-faceting-called t) {plane : Subspace} {points : List Vec} (b : Loop (way_of c.flatten_all-flat.result.n c.args.way) plane points c.args.rank c.flatten_all-flat.result c.args.rows.bytes.now c.args.rows.count c.args.rules c.args.budget c.in_ok-count.count c.start_call.new.ws) where
+  turn_at : Turn (site_in (way_of c.flatten_all-flat.result.n c.args.way) plane points c.args.rank c.flatten_all-flat.result c.args.rows.bytes.now c.args.rows.count c.args.rules c.args.budget) c.loop-shelf.shelf c.loop-shelf.left c.loop-shelf.shelf.orbits c.faceting-called.result c.next_call-next.new.inner c.next_call-next.result.m (behind c.loop-shelf.shelf c.loop-shelf.ws c.faceting-called.new.ws)
   unfolding way_of
   turn_at =
       let l = c.loop-shelf in
@@ -55,10 +53,6 @@ module _ (t : ℕ) (c : After-faceting-called t) {plane : Subspace} {points : Li
       loops.turned b l.shelf l.left l.ws st c.loop-shelf-test.true c.set_at-set.result c.set_at-set.ensures.0 next.result _ next.new.inner (search rules)
       next.ensures.points next.ensures.plane next.ensures.count next.ensures.rows _ c.in_ok-inner_plane.was inner.result (behind l.shelf l.ws tail) l.invariant.1 (back_front l.shelf.end l.ws tail end tail_long) (back_length l.shelf.end l.ws tail end tail_long)
       (rw (back_tail l.shelf.end l.ws tail end tail_long) inner.ensures)
-
-  -- by what it answered
-  turn_as : (r : Result Called Refusal) → c.faceting-called.result ≡ r → Turn (site_in (way_of c.flatten_all-flat.result.n c.args.way c.args.globals.now c.args.full.now) plane points c.args.rank c.flatten_all-flat.result c.args.rows.now c.args.m c.args.rules c.args.budget) c.loop-shelf.shelf c.loop-shelf.left c.loop-shelf.shelf.orbits r c.next_call-next.new.inner c.next_call-next.result.m (behind c.loop-shelf.shelf c.loop-shelf.ws c.faceting-called.new.ws)
-  turn_as r e = subst (λ (x : Result Called Refusal). Turn (site_in (way_of c.flatten_all-flat.result.n c.args.way c.args.globals.now c.args.full.now) plane points c.args.rank c.flatten_all-flat.result c.args.rows.now c.args.m c.args.rules c.args.budget) c.loop-shelf.shelf c.loop-shelf.left c.loop-shelf.shelf.orbits x c.next_call-next.new.inner c.next_call-next.result.m (behind c.loop-shelf.shelf c.loop-shelf.ws c.faceting-called.new.ws)) e turn_at
 
   behind_long : length (behind c.loop-shelf.shelf c.loop-shelf.ws c.faceting-called.new.ws) ≡ length c.start_call.new.ws
   behind_long =
@@ -73,21 +67,21 @@ pub returns-then-rank-eq2 : goal.returns-then-rank-eq2
 returns-then-rank-eq2 t c =
     let a = c.args in
     let asked = c.requires in
-    loops.says_ends (way_of a.points.n a.way a.globals.now a.full.now) a.rank a.rules (subspace_of a.plane) (points_of a.points) (rows_in a.points.n a.m a.rows.now) a.budget c.swaps_ends.result a.ws.now c.if-rank-eq2.true
+    loops.says_ends (way_of a.points.n a.way) a.rank a.rules (subspace_of a.plane) (points_of a.points) (rows_in a.points.n a.rows.count a.rows.bytes.now) a.budget c.swaps_ends.result a.ws.now c.if-rank-eq2.true
     (c.swaps_ends.ensures a.points.n (omega (arith, asked.given.two, points_length a.points)) (omega (arith, a.points.fits.n_fits)))
 
 pub start_call-requires : goal.start_call-requires
 start_call-requires t c =
     let a = c.args in
     let flat = c.flatten_all-flat in
-    loops.start_asks a.rank a.plane a.points a.rows.now a.m a.rules a.budget a.ws.now a.way a.globals.now a.full.now c.requires (omega (arith, c.if-rank-eq2.false, c.requires.rank_least)) flat.result flat.ensures.0 flat.ensures.1
+    loops.start_asks a.rank a.plane a.points a.rows.bytes.now a.rows.count a.rules a.budget a.ws.now a.way c.requires (omega (arith, c.if-rank-eq2.false, c.requires.rank_least)) flat.result flat.ensures.0 flat.ensures.1
 
 pub returns-in_err-count : goal.returns-in_err-count
 returns-in_err-count t c =
     let a = c.args in
     let flat = c.flatten_all-flat in
     let start = c.start_call in
-    rw (handed_on _ _ c.from_residual.ensures.1) (loops_proved.start_refused a.rank a.plane a.points a.rows.now a.m a.rules a.budget a.ws.now a.way a.globals.now a.full.now c.requires (omega (arith, c.if-rank-eq2.false, c.requires.rank_least)) flat.result flat.ensures.0 flat.ensures.1
+    rw (handed_on _ _ c.from_residual.ensures.1) (loops_proved.start_refused a.rank a.plane a.points a.rows.bytes.now a.rows.count a.rules a.budget a.ws.now a.way c.requires (omega (arith, c.if-rank-eq2.false, c.requires.rank_least)) flat.result flat.ensures.0 flat.ensures.1
     start.result start.new.ws start.ensures.0 _ c.in_err-count.was)
 
 pub loop-shelf-init : goal.loop-shelf-init
@@ -119,9 +113,19 @@ returns-in_err-inner_plane t c =
     let b = begun t (goal.at.returns-in_err-inner_plane t c).After-shelf_for-shelf in
     let l = c.loop-shelf in
     let next = c.next_call-next in
-    rw (handed_on _ _ c.from_residual-in_err-inner_plane.ensures.1) (loops.says_rank a.way a.globals.now a.full.now a.rank b.rank_least c.flatten_all-flat.result.n a.points.n c.flatten_all-flat.ensures.1 a.rules (subspace_of a.plane) (points_of a.points) a.rows.now a.m a.budget (Err _) l.ws
+    rw (handed_on _ _ c.from_residual-in_err-inner_plane.ensures.1) (loops.says_rank a.way a.rank b.rank_least c.flatten_all-flat.result.n a.points.n c.flatten_all-flat.ensures.1 a.rules (subspace_of a.plane) (points_of a.points) a.rows.bytes.now a.rows.count a.budget (Err _) l.ws
     (loops.loop_refused b _ l.ws
     (loops.refit_refused b l.shelf l.left l.ws (l.invariant.2 _ _ b) c.loop-shelf-test.true c.set_at-set.result c.set_at-set.ensures.0 next.result _ next.new.inner (search rules) next.ensures.points next.ensures.plane next.ensures.count next.ensures.rows _ c.in_err-inner_plane.was)))
+
+pub invariant_of-inner_rows : goal.invariant_of-inner_rows
+invariant_of-inner_rows t c =
+    let b = begun t (goal.at.invariant_of-inner_rows t c).After-shelf_for-shelf in
+    let l = c.loop-shelf in
+    let next = c.next_call-next in
+    record {
+      room = loops.inner_room b l.shelf l.left l.ws (l.invariant.2 _ _ b) c.loop-shelf-test.true c.set_at-set.result c.set_at-set.ensures.0 next.result _ next.new.inner (search rules)
+          next.ensures.points next.ensures.plane next.ensures.count next.ensures.rows _ c.in_ok-inner_plane.was;
+    }
 
 pub overflow_sub-rank-in-loop-shelf : goal.overflow_sub-rank-in-loop-shelf
 overflow_sub-rank-in-loop-shelf t c = omega (arith, c.requires.rank_least)
@@ -139,29 +143,14 @@ faceting-called-requires t c =
     let b = begun t (goal.at.faceting-called-requires t c).After-shelf_for-shelf in (
       omega (arith, c.decreases, b.rank_least),
       loops.inner_asks b l.shelf l.left l.ws (l.invariant.2 _ _ b) c.loop-shelf-test.true c.set_at-set.result c.set_at-set.ensures.0 next.result _ next.new.inner (search rules)
-          next.ensures.points next.ensures.plane next.ensures.count next.ensures.rows _ c.in_ok-inner_plane.was _ l.invariant.1 l.invariant.0 (ap length (lent_tail l.shelf.end l.ws) ∙ length-drop l.shelf.end l.ws) _ _ _ refl,
+          next.ensures.points next.ensures.plane next.ensures.count next.ensures.rows _ c.in_ok-inner_plane.was _ l.invariant.1 l.invariant.0 (ap length (lent_tail l.shelf.end l.ws) ∙ length-drop l.shelf.end l.ws),
     )
-
-pub shape_of-ws-in_err-called : goal.shape_of-ws-in_err-called
-shape_of-ws-in_err-called t c =
-    let at = goal.at.shape_of-ws-in_err-called t c in
-    behind_long t at.After-faceting-called (begun t at.After-shelf_for-shelf) ∙ c.start_call.auto.ws
-
-pub returns-in_err-called : goal.returns-in_err-called
-returns-in_err-called t c =
-    let at = goal.at.returns-in_err-called t c in
-    let a = c.args in
-    let flat = c.flatten_all-flat in
-    let b = begun t at.After-shelf_for-shelf in
-    let turn = turn_as t at.After-faceting-called b (Err _) c.in_err-called.was in
-    rw (handed_on _ _ c.from_residual-in_err-called.ensures.1) (loops.says_rank a.way a.globals.now a.full.now a.rank b.rank_least flat.result.n a.points.n flat.ensures.1 a.rules (subspace_of a.plane) (points_of a.points) a.rows.now a.m a.budget (Err _) _
-    (loops.loop_refused b _ _ (refusal_stored _ _ _ _ _ _ _ turn)))
 
 pub keep_inner-requires : goal.keep_inner-requires
 keep_inner-requires t c =
     let at = goal.at.keep_inner-requires t c in
     let b = begun t at.After-shelf_for-shelf in
-    (_, c.loop-shelf.left, turn_as t at.After-faceting-called b (Ok _) c.in_ok-called.was, b.size, loops.bound_is b)
+    (_, c.loop-shelf.left, turn_at t at.After-faceting-called b, b.size, loops.bound_is b)
 
 pub shape_of-ws-in_err-stored : goal.shape_of-ws-in_err-stored
 shape_of-ws-in_err-stored t c =
@@ -175,9 +164,9 @@ returns-in_err-stored t c =
     let a = c.args in
     let flat = c.flatten_all-flat in
     let b = begun t at.After-shelf_for-shelf in
-    let stored = c.in_err-stored.ensures _ c.loop-shelf.left (turn_as t at.After-faceting-called b (Ok _) c.in_ok-called.was) b.size (loops.bound_is b) in
+    let stored = c.in_err-stored.ensures _ c.loop-shelf.left (turn_at t at.After-faceting-called b) b.size (loops.bound_is b) in
     let u = c.keep_inner.new.ws in
-    rw (handed_on _ _ c.from_residual-in_err-stored.ensures.1) (loops.says_rank a.way a.globals.now a.full.now a.rank b.rank_least flat.result.n a.points.n flat.ensures.1 a.rules (subspace_of a.plane) (points_of a.points) a.rows.now a.m a.budget (Err _) u
+    rw (handed_on _ _ c.from_residual-in_err-stored.ensures.1) (loops.says_rank a.way a.rank b.rank_least flat.result.n a.points.n flat.ensures.1 a.rules (subspace_of a.plane) (points_of a.points) a.rows.bytes.now a.rows.count a.budget (Err _) u
     (loops.loop_refused b _ u stored))
 
 pub loop-shelf-smaller : goal.loop-shelf-smaller
@@ -185,7 +174,7 @@ unfolding Storing
 loop-shelf-smaller t c =
     let at = goal.at.loop-shelf-smaller t c in
     let b = begun t at.After-shelf_for-shelf in
-    let stored = c.in_ok-stored.ensures _ c.loop-shelf.left (turn_as t at.After-faceting-called b (Ok _) c.in_ok-called.was) b.size (loops.bound_is b) in
+    let stored = c.in_ok-stored.ensures _ c.loop-shelf.left (turn_at t at.After-faceting-called b) b.size (loops.bound_is b) in
     omega (arith, (loops.one_further b _ _ _ _ stored).0, c.loop-shelf-test.true)
 
 pub loop-shelf-preserved : goal.loop-shelf-preserved
@@ -193,17 +182,17 @@ unfolding Storing
 loop-shelf-preserved t c =
     let at = goal.at.loop-shelf-preserved t c in
     let own = begun t at.After-shelf_for-shelf in
-    let stored = c.in_ok-stored.ensures _ c.loop-shelf.left (turn_as t at.After-faceting-called own (Ok _) c.in_ok-called.was) own.size (loops.bound_is own) in (
+    let stored = c.in_ok-stored.ensures _ c.loop-shelf.left (turn_at t at.After-faceting-called own) own.size (loops.bound_is own) in (
       c.keep_inner.auto.ws ∙ behind_long t at.After-faceting-called own,
       laid_as stored.laid c.loop-shelf.invariant.1,
-      λ plane points b. (loops.one_further b _ _ _ _ (c.in_ok-stored.ensures _ c.loop-shelf.left (turn_as t at.After-faceting-called b (Ok _) c.in_ok-called.was) b.size (loops.bound_is b))).1,
+      λ plane points b. (loops.one_further b _ _ _ _ (c.in_ok-stored.ensures _ c.loop-shelf.left (turn_at t at.After-faceting-called b) b.size (loops.bound_is b))).1,
     )
 
 pub search_call-requires : goal.search_call-requires
 search_call-requires t c =
     let l = c.loop-shelf in
     let b = begun t (goal.at.search_call-requires t c).After-shelf_for-shelf in
-    (_, loops.all_kept b l.shelf l.left l.ws (l.invariant.2 _ _ b) l.invariant.1 (omega (arith, c.loop-shelf-test.false)) l.invariant.0 _ (way_extended _ _ _ _))
+    (_, loops.all_kept b l.shelf l.left l.ws (l.invariant.2 _ _ b) l.invariant.1 (omega (arith, c.loop-shelf-test.false)) l.invariant.0 _ (way_extended _ _ _ c.is_none.ensures))
 
 pub returns : goal.returns
 returns t c =
@@ -213,6 +202,6 @@ returns t c =
     let b = begun t (goal.at.returns t c).After-shelf_for-shelf in
     let all : c.in_ok-count.count ≤ l.shelf.orbits = omega (arith, c.loop-shelf-test.false) in
     let r = c.search_call in
-    loops.says_rank a.way a.globals.now a.full.now a.rank b.rank_least flat.result.n a.points.n flat.ensures.1 a.rules (subspace_of a.plane) (points_of a.points) a.rows.now a.m a.budget r.result r.new.ws
+    loops.says_rank a.way a.rank b.rank_least flat.result.n a.points.n flat.ensures.1 a.rules (subspace_of a.plane) (points_of a.points) a.rows.bytes.now a.rows.count a.budget r.result r.new.ws
     (loops.loop_searched b l.shelf l.left l.ws (l.invariant.2 _ _ b) l.invariant.1 all l.invariant.0 r.result r.new.ws
-    (r.ensures _ (loops.all_kept b l.shelf l.left l.ws (l.invariant.2 _ _ b) l.invariant.1 all l.invariant.0 _ (way_extended _ _ _ _))))
+    (r.ensures _ (loops.all_kept b l.shelf l.left l.ws (l.invariant.2 _ _ b) l.invariant.1 all l.invariant.0 _ (way_extended _ _ _ c.is_none.ensures))))

@@ -7,11 +7,10 @@ use Rattle.sets.specs.Refitting.{Refitted}
 use Rattle.laws.specs.Clauses.{of_four}
 use Rattle.faceting.proofs.next_call.Goals as goal
 
--- src/lib.rt:111:1
 pub returns : goal.returns
 returns c = of_four (λ x0 x1 x2 x3. record { points = x0; plane = x1; count = x2; rows = x3 })
     (let chosen = c.chosen_points-points in
     let refit = c.refit-plane in
-    let within = c.rows_within-count in
+    let within = c.rows_within-m in
     let plane = subst (λ (ps : List Vec). Refitted refit.result chosen.result (from_points c.args.tolerance ps) c.args.wanted) chosen.ensures.means refit.ensures in
     (chosen.ensures, plane, within.ensures.count, within.ensures.rows))

@@ -24,5 +24,5 @@ returns c =
     let found = c.find_kept-answer in
     let clear = c.clear_shelf in
     let same : length found.new.ws ≡ length c.args.ws.now = search rules in
-    start_kept (way_of c.args.flat.n c.args.way c.args.globals.now c.args.full.now) (way_takes c.args.flat.n c.args.way c.args.globals.now c.args.full.now) c.args.rules.orbits _ c.args.flat.n found.result c.args.rank c.shelf_for-shelf.result found.new.ws clear.new.ws c.shelf_for-shelf.ensures
+    start_kept (way_of c.args.flat.now.n c.args.way) (way_takes c.args.flat.now.n c.args.way) c.args.rules.orbits _ c.args.flat.now.n found.result c.args.rank c.shelf_for-shelf.result found.new.ws clear.new.ws c.shelf_for-shelf.ensures
     (subst (ShelfFits (shelf_for c.args.rank)) (sym same) c.requires.3) c.requires.1 clear.ensures.within clear.ensures.keeps found.ensures

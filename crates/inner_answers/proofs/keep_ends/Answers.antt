@@ -3,18 +3,15 @@ use native.Mathlib.Omega.{arith}
 use Rattle.inner_answers.specs.Stored.{Storing, edge_asked, edge_full, edge_stored}
 use Rattle.inner_answers.proofs.keep_ends.Goals as goal
 
--- src/lib.rt:112:9
-pub returns-then-bound-facets : goal.returns-then-bound-facets
+pub returns-then-bound-shelf : goal.returns-then-bound-shelf
 unfolding Storing
-returns-then-bound-facets c =
+returns-then-bound-shelf c =
     λ g left rows m t e b. edge_full g c.args.shelf left c.args.swapped c.args.rest rows m c.args.ws.now t c.args.n e c.args.bound b (omega arith)
 
--- src/lib.rt:114:9
 pub keep_edge-more-requires : goal.keep_edge-more-requires
 keep_edge-more-requires c =
     let g = c.requires.0 in let left = c.requires.1 in let rows = c.requires.2 in let m = c.requires.3 in let t = c.requires.4 in edge_asked g c.args.shelf left c.args.swapped c.args.rest rows m c.args.ws.now t c.args.n c.requires.5
 
--- src/lib.rt:99:1
 pub returns : goal.returns
 unfolding Storing
 returns c =

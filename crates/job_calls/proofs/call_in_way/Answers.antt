@@ -24,13 +24,19 @@ load_rows-requires c =
       omega (arith, (counts job _ fields c.requires.0).count_most, c.requires.1),
     )
 
+pub invariant_of-loaded : goal.invariant_of-loaded
+invariant_of-loaded c =
+    let rows = c.load_rows.ensures.rows in
+    let loaded = loads c.args.job.now (length c.args.ws.now) c.args.fields c.requires.0 c.plane_of-plane.ensures c.points_of-points.ensures (rows.0, omega (arith, rows.1, c.requires.1)) c.rules_of-rules.ensures in
+    record { room = loaded.rows_room }
+
 pub faceting-requires : goal.faceting-requires
 faceting-requires c =
     let job = c.args.job.now in
     let size = length c.args.ws.now in
     let rows = c.load_rows.ensures.rows in
     let loaded = loads job size c.args.fields c.requires.0 c.plane_of-plane.ensures c.points_of-points.ensures (rows.0, omega (arith, rows.1, c.requires.1)) c.rules_of-rules.ensures in
-    call_asked job size c.args.fields c.requires.0 loaded _ (search rules) _ _ _ c.requires.2
+    call_asked job size c.args.fields c.requires.0 loaded _ (search rules) _ c.requires.2
 
 pub returns : goal.returns
 returns c =
@@ -40,4 +46,4 @@ returns c =
     let loaded = loads job size c.args.fields c.requires.0 c.plane_of-plane.ensures c.points_of-points.ensures (rows.0, omega (arith, rows.1, c.requires.1)) c.rules_of-rules.ensures in
     let left = c.faceting.new.ws in
     let long : length left ≡ size = search rules in
-    job_called job size c.args.fields c.requires.0 loaded _ _ _ c.requires.2 _ left long c.faceting.ensures
+    job_called job size c.args.fields c.requires.0 loaded _ c.requires.2 _ left long c.faceting.ensures

@@ -1,8 +1,11 @@
 -- `nobles::write_noble` meets its contract: the package is loaded, the call by it is the definition's, and what is written of it is what the job gets by itself. Assumes nothing.
-use mathlib.Core.Path.{refl, sym, ap, ◌∙◌}
+use mathlib.Core.Path.{◌≡◌, refl, sym, ap, ◌∙◌}
+use native.Mathlib.Omega.{arith}
+use borrow.Author.Rules.{rules}
 use lib.ListN.{length}
 use Rattle.answering.specs.Closed.{written_in, buffer_in}
 use Rattle.answering.specs.Answered.{bytes_of}
+use Rattle.faceting.specs.Ways.{package_fits}
 use Rattle.job_calls.specs.Loaded.{counts}
 use Rattle.nobles.specs.Passed.{job_passes, pack_fits, noble_call, alone_is}
 use Rattle.laws.specs.Clauses.{of_two}
@@ -17,7 +20,14 @@ load_package-whole-requires c =
 pub call_in_way-called-requires : goal.call_in_way-called-requires
 call_in_way-called-requires c =
     let a = c.args in
-    (job_passes a.job.now a.pack.now (length a.ws.now) a.fields c.requires.0, refl, record { pack = λ e. c.load_package-whole.ensures.fits })
+    (job_passes a.job.now a.pack.now (length a.ws.now) a.fields c.requires.0, refl, package_fits c.load_package-whole.ensures.fits)
+
+pub invariant_of-loaded : goal.invariant_of-loaded
+invariant_of-loaded c =
+    let a = c.args in
+    let few = (counts a.job.now (length a.ws.now) a.fields (job_passes a.job.now a.pack.now (length a.ws.now) a.fields c.requires.0)).count_most in
+    let long : length c.call_in_way-called.new.rows ≡ 3840 = search rules in
+    record { room = omega (arith, few, long) }
 
 pub write_called-requires : goal.write_called-requires
 write_called-requires c =
@@ -29,7 +39,7 @@ returns c = of_two (λ x0 x1. record { result = x0; buffer = x1 })
     let room = length a.answer.now in
     let load = c.load_package-whole in
     let said = c.call_in_way-called.ensures.said in
-    let is = noble_call a.job.now a.pack.now (length a.ws.now) a.fields c.requires.0 _ _ _ refl load.ensures.is in
+    let is = noble_call a.job.now a.pack.now (length a.ws.now) a.fields c.requires.0 _ load.ensures.is in
     let whole = ap (bytes_of a.fields.budget) is ∙ sym (alone_is a.job.now a.pack.now (length a.ws.now) a.fields c.requires.0) in (
       c.write_called.ensures.result _ said ∙ ap (written_in room) whole,
       c.write_called.ensures.buffer _ said ∙ ap (buffer_in room) whole,

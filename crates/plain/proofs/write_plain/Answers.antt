@@ -1,5 +1,5 @@
 -- `plain::write_plain` meets its contract: the rest of the workspace is lent, and the numbers are written from where `filter_irc` puts them. Assumes nothing.
-use Rattle.figure_words.specs.Wrote.{wrote_as}
+use Rattle.words.specs.Wrote.{writes_as}
 use Rattle.plain.specs.Numbers.{filter_asked, numbers_asked, words_are}
 use Rattle.plain.proofs.write_plain.Goals as goal
 
@@ -14,4 +14,4 @@ write_numbers-requires c =
 pub returns : goal.returns
 returns c =
     let g = c.filter_irc-many in
-    λ more n rest rows kept l. wrote_as c.write_numbers.ensures (words_are l g.result g.new.ws (rw c.area.ensures at g.ensures.many) (rw c.area.ensures at g.ensures.numbers) rest)
+    λ more n rest rows kept l. writes_as c.write_numbers.ensures (words_are l g.result g.new.ws (rw c.area.ensures at g.ensures.many) (rw c.area.ensures at g.ensures.numbers) rest)
