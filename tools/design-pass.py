@@ -1,16 +1,19 @@
 #!/usr/bin/env python3
 """Counts the places of the eight points of the design pass in src/, as docs/DESIGN-PASS.md lists them.
 
-    tools/design-pass.py [FOLDER]
+    tools/design-pass.py [-v] [--together] [FOLDER]
 
 FOLDER is the root of a checkout (this one, where none is given). Each line has a point, what is counted and how often it
-was found; with -v each place follows. Lines that hold only a comment are left out."""
+was found; with -v each place follows. Lines that hold only a comment are left out. With --together the second way to
+count point 5: each two parameters, with their types, that stand together in six functions or more."""
 import re
 import sys
+from collections import Counter
+from itertools import combinations
 from pathlib import Path
 
 verbose = "-v" in sys.argv
-folders = [a for a in sys.argv[1:] if a != "-v"]
+folders = [a for a in sys.argv[1:] if not a.startswith("-")]
 root = Path(folders[0]) if folders else Path(__file__).resolve().parent.parent
 sources = sorted(root.glob("crates/*/src/**/*.rt"))
 
@@ -50,6 +53,21 @@ def widths():
 def having_name(pattern):
     return [f"{p.relative_to(root)}: {name}" for p, name, params in functions() if re.search(pattern, name)]
 
+
+def together():
+    """How many functions each two parameters stand together in; a lifetime counts as nothing."""
+    found = Counter()
+    for _, _, params in functions():
+        texts = sorted(f"{name}: {re.sub(r'&.[a-z] ', '&', kind)}" for name, kind in params.items())
+        found.update(combinations(texts, 2))
+    return found
+
+
+if "--together" in sys.argv:
+    for pair, often in together().most_common():
+        if 6 <= often:
+            print(f"{often:3}  {', '.join(pair)}")
+    sys.exit()
 
 points = [
     ("1", "own enums", lines(r"^\s*(pub )?enum \w+")),
