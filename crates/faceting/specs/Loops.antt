@@ -21,9 +21,9 @@ use Rattle.laws.specs.Sets.{vertices_of}
 use Rattle.openers.specs.Rows.{rows_in, RowsFit, written_rows}
 use Rattle.space.specs.declared.Subspace as stored
 use Rattle.space.specs.declared.Points.{Points}
-use Rattle.space.specs.Meaning.{subspace_of, points_of, HoldsPoints}
+use Rattle.space.specs.Meaning.{subspace_of, points_of, HoldsPoints, HoldsSubspace}
 use Rattle.stabilizers.specs.Permutations.{Permutations, rows_fit_holds}
-use Rattle.sets.specs.Refitting.{Refitted, FittedPlane, HoldsPlane, refitted_plane}
+use Rattle.sets.specs.Refitting.{Refitted, plane_in, refitted_plane}
 use Rattle.orbits.specs.Answers.{CallFits}
 use Rattle.shapes.specs.Answered.{TakesSome}
 use Rattle.shapes.specs.Calls.{Given}
@@ -131,10 +131,13 @@ module _ (rank : ℕ) (plane : stored.Subspace) (points : Points) (rows : List �
   enough : 524288 ≤ length ws
   enough = ⊎_elim (λ h. asked.room_three (omega arith)) (λ h. omega (arith, asked.room_four (omega (arith, asked.rank_most)))) (le_or_lt rank 3)
 
+  -- the rows fit the points of the call, as passed and flattened
+  pub call_fits : CallFits points flat m rows
+  call_fits = record { same_n = sym same_n; permute = permute; few = asked.rows_few }
+
   -- what the start of a call is asked
-  pub start_asks : CallFits points flat m rows × (rules.orbits ≤ 256) × (124928 ≤ length ws) × ShelfFits (shelf_for rank) (length ws) × (3 ≤ rank) × WayFits flat.n way
+  pub start_asks : (rules.orbits ≤ 256) × (124928 ≤ length ws) × ShelfFits (shelf_for rank) (length ws) × (3 ≤ rank) × WayFits flat.n way
   start_asks = (
-    record { same_n = sym same_n; permute = permute; few = asked.rows_few },
     asked.few_orbits_holds,
     omega (arith, enough),
     shelf_fits rank (length ws) above asked.rank_most asked.room_three asked.room_four,
@@ -145,9 +148,9 @@ module _ (rank : ℕ) (plane : stored.Subspace) (points : Points) (rows : List �
 -- ---- a turn
 
 -- a refit that is refused has another number of basis vectors, and one that is not has the number wanted
-not_fitted : (e : Refusal) (p : Subspace) (b : Bool) → result.refused (number_of e) ≡ cond b (result.answered p) (result.refused 14) → (b ≡ false) × (number_of e ≡ 14)
-not_fitted e p true q = (cc, cc)
-not_fitted e p false q = (refl, cc)
+not_fitted : (p : Subspace) (b : Bool) → result.refused 14 ≡ cond b (result.answered p) (result.refused 14) → b ≡ false
+not_fitted p true q = cc
+not_fitted p false q = refl
 
 is_fitted : (x p : Subspace) (b : Bool) → result.answered x ≡ cond b (result.answered p) (result.refused 14) → b ≡ true
 is_fitted x p true q = refl
@@ -217,15 +220,20 @@ module _ {way : def.Way} {plane : Subspace} {points : List Vec} {rank : ℕ} {fl
         enough_basis = eqb (length (site_plane g shelf.orbits s).basis) (suc (rank - 3))
 
         -- refusal 14
-        pub refit_refused : (e : Refusal) → next.plane ≡ Err e → site_whole g ≡ result.refused (number_of e)
+        pub refit_refused : (unwanted : stored.Subspace) → next.plane ≡ Err unwanted → site_whole g ≡ result.refused 14
         unfolding refitted_plane
-        refit_refused e is =
-            let k = not_fitted e (site_plane g shelf.orbits s) enough_basis (ap refitted_plane (sym is) ∙ next_refits.answer) in
-            turns.turn_refit way (rank - 3) (call_rules rules) plane points (rows_in flat.n m rows) budget (length points) shelf left shelf.orbits s st next_below k.0 ∙ ap result.refused (sym k.1)
+        refit_refused unwanted is =
+            turns.turn_refit way (rank - 3) (call_rules rules) plane points (rows_in flat.n m rows) budget (length points) shelf left shelf.orbits s st next_below
+            (not_fitted (site_plane g shelf.orbits s) enough_basis (ap refitted_plane (sym is) ∙ next_refits.answer))
 
         module _ (inner_plane : stored.Subspace) (e : next.plane ≡ Ok inner_plane) where
-          plane_holds : FittedPlane inner_plane next.points (site_plane g shelf.orbits s)
-          plane_holds = subst (λ (r : Result stored.Subspace Refusal). HoldsPlane r next.points (site_plane g shelf.orbits s)) e next_refits.fitted
+          plane_holds : HoldsSubspace inner_plane (site_plane g shelf.orbits s)
+          unfolding plane_in
+          plane_holds = subst (λ (r : Result stored.Subspace stored.Subspace). HoldsSubspace (plane_in r) (site_plane g shelf.orbits s)) e next_refits.holds
+
+          plane_d : 0 < next.points.n → inner_plane.d ≡ next.points.d
+          unfolding plane_in
+          plane_d = subst (λ (r : Result stored.Subspace stored.Subspace). 0 < next.points.n → (plane_in r).d ≡ next.points.d) e next_refits.same_d
 
           fits_so : enough_basis ≡ true
           unfolding refitted_plane
@@ -259,7 +267,7 @@ module _ {way : def.Way} {plane : Subspace} {points : List Vec} {rank : ℕ} {fl
           inner_asks tail laid long rest = record {
             rank_least = omega (arith, l.rank_least);
             rank_most = omega (arith, l.rank_most);
-            same_d = sym (plane_holds.same_d (omega (arith, next_holds.n_is, given_next.two)));
+            same_d = sym (plane_d (omega (arith, next_holds.n_is, given_next.two)));
             permute = subst (λ (n : ℕ). Permutations n next.m inner) (sym next_holds.n_is) permute_next;
             rows_few = few_next;
             given = subst (λ (ps : List Vec). Given ps (rows_in next.points.n next.m inner)) (sym next_holds.means) (subst (Given (site_points g shelf.orbits s)) rows_stored given_next);
@@ -279,7 +287,7 @@ module _ {way : def.Way} {plane : Subspace} {points : List Vec} {rank : ℕ} {fl
               let q : rank - 1 - 2 ≡ rank - 3 = omega arith in
               let r : rank ≡ 3 + (rank - 3) = omega (arith, l.rank_least) in
               let at_rank = subst (λ (more : ℕ). SaysOf plain_way more rules (subspace_of inner_plane) (points_of next.points) (rows_in next.points.n next.m inner) left called (drop shelf.end u)) q says in
-              let at-plane = subst (λ (p : Subspace). SaysOf plain_way (rank - 3) rules p (points_of next.points) (rows_in next.points.n next.m inner) left called (drop shelf.end u)) plane_holds.holds.means at_rank in
+              let at-plane = subst (λ (p : Subspace). SaysOf plain_way (rank - 3) rules p (points_of next.points) (rows_in next.points.n next.m inner) left called (drop shelf.end u)) plane_holds.means at_rank in
               let at-points = subst (λ (ps : List Vec). SaysOf plain_way (rank - 3) rules (site_plane g shelf.orbits s) ps (rows_in next.points.n next.m inner) left called (drop shelf.end u)) next_holds.means at-plane in
               let at_rows = subst (λ (rs : List Row). SaysOf plain_way (rank - 3) rules (site_plane g shelf.orbits s) (site_points g shelf.orbits s) rs left called (drop shelf.end u)) (sym rows_stored) at-points in
               begins.turn_called g shelf left shelf.orbits s u fitting_is st front long next_below called inner next.m fits_so at_rows rows_next (rows_fit_holds permute_next) few_next given_next

@@ -13,22 +13,25 @@ ghost use Rattle.definitions.specs.Recursion.{rows_within};
 ghost use Rattle.laws.specs.Sets.{vertices_of};
 ghost use Rattle.openers.specs.Rows.{rows_in, written_rows};
 ghost use Rattle.space.specs.Meaning.{points_of, subspace_of, HoldsPoints, limits_of};
-ghost use Rattle.orbits.specs.Answers.{CallFits, answer_in, orbits_or_refusal};
+ghost use Rattle.orbits.specs.Answers.{answer_in, orbits_or_refusal};
 ghost use Rattle.shelf.specs.Keeps.{ShelfFits, Keeps, Ridges};
 ghost use Rattle.calls.specs.Layouts.{shelf_for};
 ghost use Rattle.sets.specs.Refitting.{Refitted};
-ghost use Rattle.stabilizers.specs.Permutations.{Permutations};
 ghost use Rattle.call_search.specs.Stocks.{call_rules};
 
 use calls::{Called, Rules};
-use openers::Rows;
+use inner_answers::Stored;
+use openers::{PairSearch, Rows};
+use orbits::Search;
 use refusals::Refusal;
 use space::{Points, Subspace};
+use stabilizers::Symmetries;
 use tallies::Package;
 
 // ---- the orbits
 
 // Of so many orbits that were found those that the way keeps, moved together: how many they are. A call goes plain or by a package [17.8]; without one every orbit stays.
+// They lie in the bytes of the workspace, so that their number goes beside it.
 fn keep_found(count: usize, way: Option<Package>, n: usize, ws: &mut [u8]) -> usize
     requires { WayFits n way × (124928 ≤ length ws.old) × ((bound : ℕ) × (orbits : List Orbit) × (bound ≤ 256) × (answer_in n (Ok count) ws.old ≡ orbits_or_refusal bound orbits)) }
     ensures { (bound : ℕ) (orbits : List Orbit) → answer_in n (Ok count) ws.old ≡ orbits_or_refusal bound orbits → answer_in n (Ok result) ws.new ≡ taken_or_refusal (way_of n way.entry) bound orbits }
@@ -43,43 +46,29 @@ fn keep_found(count: usize, way: Option<Package>, n: usize, ws: &mut [u8]) -> us
 fn find_kept(
     ws: &mut [u8],
     rank: usize,
-    points: &Points,
-    flat: &Points,
-    rows: Rows,
+    search: Search,
     rules: Rules,
     way: Option<Package>,
 ) -> Result<usize, Refusal>
-    requires { CallFits points.now flat.now rows.count rows.bytes.now × (rules.orbits ≤ 256) × (124928 ≤ length ws.old) × (3 ≤ rank) × WayFits flat.now.n way }
-    ensures { answer_in flat.now.n result ws.new ≡ taken_or_refusal (way_of flat.now.n way.entry) rules.orbits (hyperplane_orbits rules.tolerance (limits_of rules.limits) rules.rule (rank - 3) (points_of points.now) (points_of flat.now) (rows_in flat.now.n rows.entry.count rows.entry.bytes.now)) }
+    requires { (rules.orbits ≤ 256) × (124928 ≤ length ws.old) × (3 ≤ rank) × WayFits search.flat.now.n way }
+    ensures { answer_in search.entry.flat.now.n result ws.new ≡ taken_or_refusal (way_of search.entry.flat.now.n way.entry) rules.orbits (hyperplane_orbits search.entry.pairs.tolerance (limits_of search.entry.pairs.limits) rules.rule (rank - 3) (points_of search.entry.pairs.points.now) (points_of search.entry.flat.now) (rows_in search.entry.flat.now.n search.entry.pairs.rows.count search.entry.pairs.rows.bytes.now)) }
 {
-    let found = orbits::find_orbits(
-        points,
-        flat,
-        rank - 3,
-        rows,
-        rules.limits,
-        rules.tolerance,
-        rules.rule,
-        rules.orbits,
-        ws,
-    )?;
-    Ok(keep_found(found, way, flat.n, ws))
+    let found = orbits::find_orbits(search, rank - 3, rules.rule, rules.orbits, ws)?;
+    Ok(keep_found(found, way, search.flat.n, ws))
 }
 
 // A call's orbits, or a refusal, and the shelf of its rank is cleared behind them.
 fn start_call(
     ws: &mut [u8],
     rank: usize,
-    points: &Points,
-    flat: &Points,
-    rows: Rows,
+    search: Search,
     rules: Rules,
     way: Option<Package>,
 ) -> Result<usize, Refusal>
-    requires { CallFits points.now flat.now rows.count rows.bytes.now × (rules.orbits ≤ 256) × (124928 ≤ length ws.old) × ShelfFits (shelf_for rank) (length ws.old) × (3 ≤ rank) × WayFits flat.now.n way }
-    ensures { (answer_in flat.now.n result ws.new ≡ taken_or_refusal (way_of flat.now.n way.entry) rules.orbits (hyperplane_orbits rules.tolerance (limits_of rules.limits) rules.rule (rank - 3) (points_of points.now) (points_of flat.now) (rows_in flat.now.n rows.entry.count rows.entry.bytes.now))) × ((k : ℕ) → Keeps k (shelf_for rank) [] ws.new × Ridges (shelf_for rank) [] ws.new) }
+    requires { (rules.orbits ≤ 256) × (124928 ≤ length ws.old) × ShelfFits (shelf_for rank) (length ws.old) × (3 ≤ rank) × WayFits search.flat.now.n way }
+    ensures { (answer_in search.entry.flat.now.n result ws.new ≡ taken_or_refusal (way_of search.entry.flat.now.n way.entry) rules.orbits (hyperplane_orbits search.entry.pairs.tolerance (limits_of search.entry.pairs.limits) rules.rule (rank - 3) (points_of search.entry.pairs.points.now) (points_of search.entry.flat.now) (rows_in search.entry.flat.now.n search.entry.pairs.rows.count search.entry.pairs.rows.bytes.now))) × ((k : ℕ) → Keeps k (shelf_for rank) [] ws.new × Ridges (shelf_for rank) [] ws.new) }
 {
-    let answer = find_kept(ws, rank, points, flat, rows, rules, way);
+    let answer = find_kept(ws, rank, search, rules, way);
     let shelf = calls::shelf_for(rank);
     keep::clear_shelf(ws, shelf);
     answer
@@ -87,10 +76,10 @@ fn start_call(
 
 // ---- the inner calls
 
-// What an inner call is given: the plane of its set, or refusal 14, its points, and how many rows keep the set.
+// What an inner call is given: the plane of its set, an error where it has not the rank that is wanted, its points, and how many rows keep the set.
 #[derive(Clone, Copy)]
 pub struct Next {
-    pub plane: Result<Subspace, Refusal>,
+    pub plane: Result<Subspace, Subspace>,
     pub points: Points,
     pub m: usize,
 }
@@ -99,20 +88,20 @@ pub struct Next {
 fn next_call(
     flat: &Points,
     set: u32,
-    rows: Rows,
+    full: Symmetries,
     tolerance: f64,
     wanted: usize,
     inner: &mut [u8],
 ) -> Next
-    requires { Permutations flat.now.n rows.count rows.bytes.now × (set < 2 ^ flat.now.n) × (32 * rows.count ≤ length inner.old) }
+    requires { (set < 2 ^ full.n) × (full.n ≡ flat.now.n) × (32 * full.rows.count ≤ length inner.old) }
     ensures points { HoldsPoints result.points flat.now.d (map (point_at (points_of flat.now)) (vertices_of flat.now.n set)) }
     ensures plane { Refitted result.plane result.points (from_points tolerance (map (point_at (points_of flat.now)) (vertices_of flat.now.n set))) wanted }
-    ensures count { result.m ≡ length (rows_within (vertices_of flat.now.n set) (rows_in flat.now.n rows.entry.count rows.entry.bytes.now)) }
-    ensures rows { inner.new ≡ written_rows (rows_within (vertices_of flat.now.n set) (rows_in flat.now.n rows.entry.count rows.entry.bytes.now)) 0 inner.old }
+    ensures count { result.m ≡ length (rows_within (vertices_of full.entry.n set) (rows_in full.entry.n full.entry.rows.count full.entry.rows.bytes.now)) }
+    ensures rows { inner.new ≡ written_rows (rows_within (vertices_of full.entry.n set) (rows_in full.entry.n full.entry.rows.count full.entry.rows.bytes.now)) 0 inner.old }
 {
     let points = sets::chosen_points(flat, set);
     let plane = sets::refit(points, tolerance, wanted);
-    let m = stabilizers::rows_within(rows, flat.n, set, inner);
+    let m = full.rows_within(set, inner);
     Next { plane, points, m }
 }
 
@@ -120,7 +109,7 @@ fn next_call(
 
 // The call of every rank [9.1]. At rank 2 the rows alone answer. Above, the hyperplane orbits are found, each orbit's set is faceted in its own plane by the call itself at the rank below, behind the shelf,
 // and what that answers is kept; then the search. The inner calls are plain, whatever the way. The first refusal met is the call's.
-// No `for`: the shelf, which each turn hands back, counts the orbits. The rank ends the recursion, a form that was asked for.
+// Behind each turn `done` is the shelf with one orbit more, and what is left of the budget. The rank ends the recursion, a form that was asked for.
 pub fn faceting(
     rank: usize,
     plane: Subspace,
@@ -138,14 +127,24 @@ pub fn faceting(
         return Ok(Called::Ends(calls::swaps_ends(rows), budget));
     }
     let flat = points.flatten_all(&plane);
-    let count = start_call(ws, rank, &points, &flat, rows, rules, way)?;
-    let mut shelf = calls::shelf_for(rank);
-    let mut left = budget;
-    while shelf.orbits < count {
+    let full = Symmetries { rows, n: flat.n };
+    let pairs = PairSearch {
+        points: &points,
+        rows,
+        limits: rules.limits,
+        tolerance: rules.tolerance,
+    };
+    let search = Search { pairs, flat: &flat };
+    let count = start_call(ws, rank, search, rules, way)?;
+    let mut done = Stored {
+        shelf: calls::shelf_for(rank),
+        left: budget,
+    };
+    for k in 0..count {
         let mut kept = [0; 3840];
-        let set = orbits::set_at(ws, shelf.orbits, flat.n);
-        let next = next_call(&flat, set, rows, rules.tolerance, rank - 2, &mut kept);
-        let inner_plane = next.plane?;
+        let set = orbits::set_at(ws, k, flat.n);
+        let next = next_call(&flat, set, full, rules.tolerance, rank - 2, &mut kept);
+        let inner_plane = next.plane.map_err(|_| Refusal::Plane)?;
         let inner_rows = Rows {
             bytes: &kept,
             count: next.m,
@@ -156,20 +155,11 @@ pub fn faceting(
             next.points,
             inner_rows,
             rules,
-            left,
-            &mut ws[shelf.end..],
+            done.left,
+            &mut ws[done.shelf.end..],
             None,
         );
-        let stored = inner_answers::keep_inner(
-            ws,
-            shelf,
-            flat.n,
-            called,
-            inner_rows,
-            rules.facets,
-        )?;
-        shelf = stored.shelf;
-        left = stored.left;
+        done = inner_answers::keep_inner(ws, done.shelf, flat.n, called, inner_rows, rules.facets)?;
     }
-    call_search::search_call(ws, shelf, rank, rows, rules, way.is_none(), left)
+    call_search::search_call(ws, done.shelf, rank, rows, rules, way.is_none(), done.left)
 }

@@ -13,16 +13,10 @@ use Rattle.laws.specs.Lists.{Mem, here, there, of_map, of_flat_map, at_member, c
 use Rattle.laws.specs.Parts.{rows, take_more}
 use Rattle.openers.specs.Rows.{rows_in, RowsFit}
 use Rattle.openers.specs.Marks.{marked, marked_more, marked_at_holds, marked_length, passed, walked, marks_after, walked_append, marks_append, walked_fewer, one_passed, one_opened}
-use Rattle.openers.specs.Codes.{pair_of_code, codes_more, code_small, member_codes, map_codes}
+use Rattle.openers.specs.Codes.{codes_more, code_small, member_codes, map_codes}
 use Rattle.openers.proofs.Codes.{codes_wide, image_small}
-use Rattle.openers.specs.Meaning.{pair_code, pair_of, pair_codes, pairs_above}
+use Rattle.openers.specs.Meaning.{pair_code, pair_codes, pairs_above}
 use Rattle.openers.proofs.Laws.{same_cond}
-
--- ---- codes
-
--- a code that is pushed behind the others is one pair more
-pub pair_pushed : (codes : List ℕ) (v w : ℕ) → w < 20 → map pair_of (codes ++ ((20 * v + w) ∷ [])) ≡ map pair_of codes ++ ((v, w) ∷ [])
-pair_pushed codes v w h = map-append pair_of codes ((20 * v + w) ∷ []) ∙ ap (λ (p : Pair). map pair_of codes ++ (p ∷ [])) (pair_of_code v w h)
 
 -- ---- images
 
@@ -200,10 +194,10 @@ module _ (images : Pair → List ℕ) (skip : Pair → Bool) (marks : List Bool)
       let f = count_length (suc v) (w - suc v) in
       omega (arith, walked_fewer pair_code images skip marks (up_to v w))
 
-  pub up_room : (before codes : List ℕ) (v w : ℕ) → map pair_of codes ≡ map pair_of before ++ found_up v w → length codes ≤ length before + (w - suc v)
-  up_room before codes v w e =
+  pub up_room : (before pairs : List Pair) (v w : ℕ) → pairs ≡ before ++ found_up v w → length pairs ≤ length before + (w - suc v)
+  up_room before pairs v w e =
       let same = ap length e in
-      omega (arith, same, length-map codes pair_of, length-map before pair_of, length-append (map pair_of before) (found_up v w), up_few v w)
+      omega (arith, same, length-append before (found_up v w), up_few v w)
 
   pub up_all : (n v w : ℕ) → w ≡ n → up_to v w ≡ pairs_above n v
   unfolding pairs_above above

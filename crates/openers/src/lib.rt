@@ -3,13 +3,13 @@
 
 #![tactic(auto)]
 
-ghost use Rattle.std.specs.Prelude.{◌≡◌, ◌∷◌, [], ◌++◌, map, ℕ, ◌+◌, ◌*◌, ◌-◌, ◌≤◌, ◌<◌, min, max, length, get_or};
+ghost use Rattle.std.specs.Prelude.{◌≡◌, ◌∷◌, [], ◌++◌, ◌+◌, ◌*◌, ◌-◌, ◌≤◌, ◌<◌, min, max, length, get_or};
 ghost use Rattle.definitions.specs.Lists.{count_from};
-ghost use Rattle.definitions.specs.Orbits.{vertex_openers, pair_openers, pairs_from, above};
+ghost use Rattle.definitions.specs.Orbits.{vertex_openers, breaks_limit, pair_openers, pairs_from};
 ghost use Rattle.space.specs.Meaning.{points_of, limits_of};
 ghost use Rattle.openers.specs.Rows.{rows_in, RowsFit, ImagesBelow};
 ghost use Rattle.openers.specs.Marks.{marked, walked, marks_after};
-ghost use Rattle.openers.specs.Meaning.{vertex_images, none_skipped, pair_of, pair_code, pair_codes, breaks, pairs_above};
+ghost use Rattle.openers.specs.Meaning.{vertex_images, none_skipped, pair_code, pair_codes, breaks, pairs_above};
 
 use arrayvec::ArrayVec;
 use space::{Limits, Points};
@@ -59,19 +59,6 @@ fn try_vertex(rows: Rows, v: usize, marks: &mut [bool; 20], found: &mut ArrayVec
     }
 }
 
-// [5.2] the vertices that open an orbit, upward; what the rows carry one to is marked
-fn vertex_openers(rows: Rows, n: usize) -> ArrayVec<usize, 20>
-    requires { RowsFit n rows.count rows.bytes.now }
-    ensures { result.items ≡ vertex_openers (rows_in n rows.entry.count rows.entry.bytes.now) [] (count_from 0 n) }
-{
-    let mut marks = [false; 20];
-    let mut found = ArrayVec::new();
-    for v in 0..n {
-        try_vertex(rows, v, &mut marks, &mut found);
-    }
-    found
-}
-
 // ---- pairs
 
 // The code of the pair of a and b, smaller first.
@@ -93,65 +80,82 @@ pub fn mark_pair_images(rows: Rows, v: usize, w: usize, marks: &mut [bool; 400])
     }
 }
 
-// A pair that is marked or whose length breaks a limit opens nothing and marks nothing; any other opens an orbit, and its code joins the pairs. The length is taken on the points as passed.
-fn try_pair(
-    points: &Points,
-    rows: Rows,
-    v: usize,
-    w: usize,
-    limits: Limits,
-    tolerance: f64,
-    marks: &mut [bool; 400],
-    pairs: &mut ArrayVec<usize, 190>,
-)
-    requires { (v < points.now.n) × (w < points.now.n) × RowsFit points.now.n rows.count rows.bytes.now × (length pairs.old.items < 190) }
-    ensures joins { map pair_of pairs.new.items ≡ map pair_of pairs.old.items ++ walked pair_code (pair_codes (rows_in 32 rows.entry.count rows.entry.bytes.now)) (breaks tolerance (limits_of limits) (points_of points.now)) marks.old ((v, w) ∷ []) }
-    ensures marks { marks.new ≡ marks_after pair_code (pair_codes (rows_in 32 rows.entry.count rows.entry.bytes.now)) (breaks tolerance (limits_of limits) (points_of points.now)) marks.old ((v, w) ∷ []) }
-{
-    if marks[20 * v + w] {
-        return;
-    }
-    if points.breaks_limit(v, w, limits, tolerance) {
-        return;
-    }
-    mark_pair_images(rows, v, w, marks);
-    pairs.push(20 * v + w);
+// ---- a call's openers
+
+// What the openers of a call go by: its points as passed, on which lengths are taken, its rows, which send these points' vertices to one another, the limits on lengths and the tolerance.
+#[derive(Clone, Copy)]
+pub struct PairSearch<'a> {
+    pub points: &'a Points,
+    pub rows: Rows<'a>,
+    pub limits: Limits,
+    pub tolerance: f64,
+    pub ghost fit: { RowsFit points.now.n rows.count rows.bytes.now },
 }
 
-// The pairs (v, w) for each w > v, in order.
-fn pairs_above(
-    points: &Points,
-    rows: Rows,
-    v: usize,
-    limits: Limits,
-    tolerance: f64,
-    marks: &mut [bool; 400],
-    pairs: &mut ArrayVec<usize, 190>,
-)
-    requires { (v < points.now.n) × RowsFit points.now.n rows.count rows.bytes.now × (length pairs.old.items + (points.now.n - (v + 1)) ≤ 190) }
-    ensures joins { map pair_of pairs.new.items ≡ map pair_of pairs.old.items ++ walked pair_code (pair_codes (rows_in 32 rows.entry.count rows.entry.bytes.now)) (breaks tolerance (limits_of limits) (points_of points.now)) marks.old (pairs_above points.now.n v) }
-    ensures marks { marks.new ≡ marks_after pair_code (pair_codes (rows_in 32 rows.entry.count rows.entry.bytes.now)) (breaks tolerance (limits_of limits) (points_of points.now)) marks.old (pairs_above points.now.n v) }
-{
-    for w in v + 1..points.n {
-        try_pair(points, rows, v, w, limits, tolerance, marks, pairs);
+impl<'a> PairSearch<'a> {
+    // [5.2] the vertices that open an orbit, upward; what the rows carry one to is marked
+    fn vertex_openers(self) -> ArrayVec<usize, 20>
+        ensures { result.items ≡ vertex_openers (rows_in self.entry.points.now.n self.entry.rows.count self.entry.rows.bytes.now) [] (count_from 0 self.entry.points.now.n) }
+    {
+        let mut marks = [false; 20];
+        let mut found = ArrayVec::new();
+        for v in 0..self.points.n {
+            try_vertex(self.rows, v, &mut marks, &mut found);
+        }
+        found
     }
-}
 
-// [5.4] the codes of the pairs that open an orbit, for each opener and each vertex above it: a pair (v, w) has the code 20 · v + w
-pub fn pair_openers(
-    points: &Points,
-    rows: Rows,
-    limits: Limits,
-    tolerance: f64,
-) -> ArrayVec<usize, 190>
-    requires { RowsFit points.now.n rows.count rows.bytes.now }
-    ensures { map pair_of result.items ≡ pair_openers (breaks tolerance (limits_of limits) (points_of points.now)) (rows_in points.now.n rows.entry.count rows.entry.bytes.now) [] (pairs_from points.now.n (vertex_openers (rows_in points.now.n rows.entry.count rows.entry.bytes.now) [] (count_from 0 points.now.n))) }
-{
-    let openers = vertex_openers(rows, points.n);
-    let mut marks = [false; 400];
-    let mut pairs = ArrayVec::new();
-    for v in openers.as_slice() {
-        pairs_above(points, rows, *v, limits, tolerance, &mut marks, &mut pairs);
+    // Whether the length of the pair (v, w) breaks a limit.
+    pub fn breaks_limit(self, v: usize, w: usize) -> bool
+        requires { (v < self.points.now.n) × (w < self.points.now.n) }
+        ensures { result ≡ breaks_limit self.entry.tolerance (limits_of self.entry.limits) (points_of self.entry.points.now) v w }
+    {
+        self.points.breaks_limit(v, w, self.limits, self.tolerance)
     }
-    pairs
+
+    // A pair that is marked or whose length breaks a limit opens nothing and marks nothing; any other opens an orbit and joins the pairs.
+    fn try_pair(
+        self,
+        v: usize,
+        w: usize,
+        marks: &mut [bool; 400],
+        pairs: &mut ArrayVec<(u8, u8), 190>,
+    )
+        requires { (v < self.points.now.n) × (w < self.points.now.n) × (length pairs.old.items < 190) }
+        ensures joins { pairs.new.items ≡ pairs.old.items ++ walked pair_code (pair_codes (rows_in 32 self.entry.rows.count self.entry.rows.bytes.now)) (breaks self.entry.tolerance (limits_of self.entry.limits) (points_of self.entry.points.now)) marks.old ((v, w) ∷ []) }
+        ensures marks { marks.new ≡ marks_after pair_code (pair_codes (rows_in 32 self.entry.rows.count self.entry.rows.bytes.now)) (breaks self.entry.tolerance (limits_of self.entry.limits) (points_of self.entry.points.now)) marks.old ((v, w) ∷ []) }
+    {
+        if marks[20 * v + w] {
+            return;
+        }
+        if self.breaks_limit(v, w) {
+            return;
+        }
+        mark_pair_images(self.rows, v, w, marks);
+        pairs.push((v as u8, w as u8));
+    }
+
+    // The pairs (v, w) for each w > v, in order.
+    fn pairs_above(self, v: usize, marks: &mut [bool; 400], pairs: &mut ArrayVec<(u8, u8), 190>)
+        requires { (v < self.points.now.n) × (length pairs.old.items + (self.points.now.n - (v + 1)) ≤ 190) }
+        ensures joins { pairs.new.items ≡ pairs.old.items ++ walked pair_code (pair_codes (rows_in 32 self.entry.rows.count self.entry.rows.bytes.now)) (breaks self.entry.tolerance (limits_of self.entry.limits) (points_of self.entry.points.now)) marks.old (pairs_above self.entry.points.now.n v) }
+        ensures marks { marks.new ≡ marks_after pair_code (pair_codes (rows_in 32 self.entry.rows.count self.entry.rows.bytes.now)) (breaks self.entry.tolerance (limits_of self.entry.limits) (points_of self.entry.points.now)) marks.old (pairs_above self.entry.points.now.n v) }
+    {
+        for w in v + 1..self.points.n {
+            self.try_pair(v, w, marks, pairs);
+        }
+    }
+
+    // [5.4] the pairs that open an orbit, for each opener and each vertex above it. Vertices stand in bytes, since the list is handed out by value once a facet.
+    pub fn pair_openers(self) -> ArrayVec<(u8, u8), 190>
+        ensures { result.items ≡ pair_openers (breaks self.entry.tolerance (limits_of self.entry.limits) (points_of self.entry.points.now)) (rows_in self.entry.points.now.n self.entry.rows.count self.entry.rows.bytes.now) [] (pairs_from self.entry.points.now.n (vertex_openers (rows_in self.entry.points.now.n self.entry.rows.count self.entry.rows.bytes.now) [] (count_from 0 self.entry.points.now.n))) }
+    {
+        let openers = self.vertex_openers();
+        let mut marks = [false; 400];
+        let mut pairs = ArrayVec::new();
+        for v in openers.as_slice() {
+            self.pairs_above(*v, &mut marks, &mut pairs);
+        }
+        pairs
+    }
 }

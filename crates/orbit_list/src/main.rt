@@ -6,11 +6,12 @@
 ghost use Rattle.std.specs.Prelude.{◌≡◌, ◌+◌, ◌*◌, ◌^◌, ◌≤◌, ◌<◌, length};
 ghost use Rattle.job.specs.Refusal.{checked_of};
 ghost use Rattle.definitions.specs.Outcome.{answered};
-ghost use Rattle.stabilizers.specs.Permutations.{Permutations};
 
-use load::Fields;
-use openers::Rows;
-use space::Points;
+use load::{Fields, Job};
+use openers::{PairSearch, Rows};
+use orbits::Search;
+use refusals::Refusal;
+use stabilizers::Symmetries;
 use std::io;
 use words::Word;
 
@@ -53,6 +54,7 @@ fn put_rows(rt: &impl Print, rows: Rows, size: usize) -> io::Result<()>
 
 // ---- orbits
 
+// The orbits lie in the bytes of the workspace, so that their number goes beside it.
 fn list_orbits(rt: &impl Print, ws: &[u8], count: usize, n: usize) -> io::Result<()>
     requires { (8 * count ≤ length ws.now) × (n ≤ 20) }
 {
@@ -68,11 +70,11 @@ fn list_orbits(rt: &impl Print, ws: &[u8], count: usize, n: usize) -> io::Result
 // ---- inner calls
 
 // The rows that keep a set of so many vertices.
-fn list_rows(rt: &impl Print, rows: Rows, n: usize, set: u32, size: usize) -> io::Result<()>
-    requires { Permutations n rows.count rows.bytes.now × (rows.count ≤ 120) × (set < 2 ^ n) × (size ≤ 20) }
+fn list_rows(rt: &impl Print, full: Symmetries, set: u32, size: usize) -> io::Result<()>
+    requires { (full.rows.count ≤ 120) × (set < 2 ^ full.n) × (size ≤ 20) }
 {
     let mut inner = [0; 3840];
-    let count = stabilizers::rows_within(rows, n, set, &mut inner);
+    let count = full.rows_within(set, &mut inner);
     let within = Rows {
         bytes: &inner,
         count,
@@ -82,43 +84,37 @@ fn list_rows(rt: &impl Print, rows: Rows, n: usize, set: u32, size: usize) -> io
 }
 
 // Whether a set's refit was not refused.
-fn list_inner(
-    rt: &impl Print,
-    flat: &Points,
-    fields: Fields,
-    rows: Rows,
-    set: u32,
-) -> io::Result<bool>
-    requires { (2 ≤ fields.rank) × Permutations flat.now.n rows.count rows.bytes.now × (rows.count ≤ 120) × (set < 2 ^ flat.now.n) }
+fn list_inner(rt: &impl Print, search: Search, rank: usize, set: u32) -> io::Result<bool>
+    requires { (2 ≤ rank) × (set < 2 ^ search.flat.now.n) }
 {
-    let chosen = sets::chosen_points(flat, set);
+    let chosen = sets::chosen_points(search.flat, set);
     let size = chosen.n;
-    match sets::refit(chosen, fields.tolerance, fields.rank - 2) {
-        Err(e) => {
-            println!(rt; " refused {e}")?;
-            Ok(false)
-        }
-        Ok(_) => {
-            list_rows(rt, rows, flat.n, set, size)?;
-            Ok(true)
-        }
+    if sets::refit(chosen, search.pairs.tolerance, rank - 2).is_err() {
+        let e = Refusal::Plane;
+        println!(rt; " refused {e}")?;
+        return Ok(false);
     }
+    let full = Symmetries {
+        rows: search.pairs.rows,
+        n: search.flat.n,
+    };
+    list_rows(rt, full, set, size)?;
+    Ok(true)
 }
 
 // Orbit by orbit, up to the first refit that is refused.
 fn list_inners(
     rt: &impl Print,
-    flat: &Points,
-    fields: Fields,
-    rows: Rows,
+    search: Search,
+    rank: usize,
     ws: &[u8],
     count: usize,
 ) -> io::Result<()>
-    requires { (2 ≤ fields.rank) × Permutations flat.now.n rows.count rows.bytes.now × (rows.count ≤ 120) × (8 * count ≤ length ws.now) }
+    requires { (2 ≤ rank) × (8 * count ≤ length ws.now) }
 {
     for k in 0..count {
         print!(rt; "inner {k}:")?;
-        if !list_inner(rt, flat, fields, rows, orbits::set_at(ws, k, flat.n))? {
+        if !list_inner(rt, search, rank, orbits::set_at(ws, k, search.flat.n))? {
             return Ok(());
         }
     }
@@ -130,44 +126,42 @@ fn list_inners(
 // How many orbits were found, the orbits, and what comes of each.
 fn list_found(
     rt: &impl Print,
-    flat: &Points,
-    fields: Fields,
-    rows: Rows,
+    search: Search,
+    rank: usize,
     ws: &[u8],
     count: usize,
 ) -> io::Result<()>
-    requires { (2 ≤ fields.rank) × Permutations flat.now.n rows.count rows.bytes.now × (rows.count ≤ 120) × (8 * count ≤ length ws.now) }
+    requires { (2 ≤ rank) × (8 * count ≤ length ws.now) }
 {
     println!(rt; " {count} orbits")?;
-    list_orbits(rt, ws, count, flat.n)?;
-    list_inners(rt, flat, fields, rows, ws, count)
+    list_orbits(rt, ws, count, search.flat.n)?;
+    list_inners(rt, search, rank, ws, count)
 }
 
-// A job of rank 3 or 4 that passes the refusals before the call.
+// A job of rank 3 or 4 that passes the refusals before the call. That it passes stays a clause: this function alone asks it, of the one that checked it. So does the length of the workspace, here and
+// below: the function writes the workspace that it speaks of.
 fn list_call(rt: &impl Print, job: &[u8], fields: Fields, ws: &mut [u8]) -> io::Result<()>
     requires { (answered fields ≡ checked_of job.now 4194304) × (3 ≤ fields.rank) × (124928 ≤ length ws.old) }
 {
-    let points = load::points_of(job, fields);
-    let flat = points.flatten_all(&load::plane_of(job, fields));
+    let job = Job { bytes: job, fields };
+    let points = job.points();
+    let flat = points.flatten_all(&job.plane());
     let mut loaded = [0; 3840];
-    load::load_rows(job, fields, &mut loaded);
+    job.load_rows(&mut loaded);
     let rows = Rows {
         bytes: &loaded,
         count: fields.count,
     };
-    match orbits::find_orbits(
-        &points,
-        &flat,
-        fields.rank - 3,
+    let pairs = PairSearch {
+        points: &points,
         rows,
-        fields.limits,
-        fields.tolerance,
-        fields.rule,
-        256,
-        ws,
-    ) {
+        limits: fields.limits,
+        tolerance: fields.tolerance,
+    };
+    let search = Search { pairs, flat: &flat };
+    match orbits::find_orbits(search, fields.rank - 3, fields.rule, 256, ws) {
         Err(e) => println!(rt; " refused {e}"),
-        Ok(count) => list_found(rt, &flat, fields, rows, ws, count),
+        Ok(count) => list_found(rt, search, fields.rank, ws, count),
     }
 }
 
@@ -206,9 +200,12 @@ fn list_jobs(rt: &impl Print, input: &[u8], ws: &mut [u8]) -> io::Result<()>
     Ok(())
 }
 
+// The bytes that `orbits::find_orbits` asks for.
+const ORBITS_ROOM: usize = 124928;
+
 fn main(rt: HostRuntime) -> io::Result<()> {
     let mut input = [0; 65536];
     let n = buffers::read_full(&mut rt.stdin(), &mut input)?;
-    let mut ws = [0; 124928];
+    let mut ws = [0; ORBITS_ROOM];
     list_jobs(&rt, &input[..n], &mut ws)
 }

@@ -11,9 +11,8 @@ use Rattle.definitions.specs.Orbits.{Row, Limits, pair_openers, pairs_from, vert
 use Rattle.laws.specs.Lists.{Mem}
 use Rattle.words.specs.Words.{words}
 use Rattle.sorted.specs.Ascending.{Ascending, ascending_nil}
-use Rattle.openers.specs.Rows.{rows_in, RowsFit}
+use Rattle.openers.specs.Rows.{rows_in}
 use Rattle.openers.specs.Meaning.{breaks}
-use Rattle.stabilizers.specs.Permutations.{Permutations, rows_fit_holds}
 use Rattle.orbits.specs.Hyperplanes.{Permutes}
 use Rattle.orbits.specs.Workspace.{seen_in}
 use Rattle.orbits.specs.Walks.{Walked}
@@ -28,9 +27,6 @@ unfolding seen_in words
 none_ascend ws = ascending_nil
 
 -- ---- n is said in two ways
-
-pub rows_fit_as : {n k m : ℕ} {s : List ℕ} → Permutations n m s → n ≡ k → RowsFit k m s
-rows_fit_as {n} {k} {m} {s} fits e = subst (λ (j : ℕ). RowsFit j m s) e (rows_fit_holds fits)
 
 pub openers_rise_as : (skip : Pair → Bool) (rows : List Row) (k n : ℕ) (openers : List ℕ) (ps : List Pair) → ps ≡ pair_openers skip rows [] (pairs_from k openers) → k ≡ n → PairsRise n ps
 openers_rise_as skip rows k n openers ps h e = subst (λ (j : ℕ). PairsRise j ps) e (subst (PairsRise k) (sym h) (openers_rise skip rows k openers))

@@ -1,30 +1,20 @@
 -- The walk along pairs, one pair more. Leans on Answers.
 use mathlib.Core.Path.{◌≡◌, sym, ap, subst, ◌∙◌}
-use mathlib.Core.List.{List, [], ◌∷◌, ◌++◌, map, flat_map, append-nil}
-use Prim.Native.Nat.{ℕ, ◌+◌, ◌/◌, ◌%◌, ◌<◌}
-use native.Mathlib.Omega.{arith}
-use lib.ListN.{length, get_or, take, drop, take-append-drop, length-map}
+use mathlib.Core.List.{List, [], ◌∷◌, ◌++◌, flat_map, append-nil}
+use Prim.Native.Nat.{ℕ, ◌+◌, ◌<◌}
+use lib.ListN.{length, get_or, take, drop, take-append-drop}
 use lib.Ieee.{Float}
 use Rattle.definitions.specs.Lists.{Pair}
 use Rattle.definitions.specs.Vectors.{Vec}
 use Rattle.definitions.specs.Orbits.{Row, Limits, point_at}
-use Rattle.laws.specs.Lists.{Mem, member_at, map_at_holds, flat_map_append}
+use Rattle.laws.specs.Lists.{flat_map_append}
 use Rattle.laws.specs.Parts.{take_more}
-use Rattle.openers.specs.Meaning.{pair_of}
 use Rattle.orbits.specs.Workspace.{OrbitsRoom}
 use Rattle.orbits.specs.Walks.{Walked, walked_none, walked_append, walked_refused, extensions, keeps_limits}
 use Rattle.orbits.specs.Answers.{tuples_of, pair_tuples}
 use Rattle.orbits.specs.declared.Progress.{Progress}
 use Rattle.std.specs.Prelude.{Result, Ok, Err}
 use Rattle.refusals.specs.declared.Refusal.{Refusal}
-
-module _ (codes : List ℕ) where
-  pub pair_at : (k : ℕ) → k < length codes → get_or (map pair_of codes) k (0, 0) ≡ (get_or codes k 0 / 20, get_or codes k 0 % 20)
-  unfolding pair_of
-  pair_at k h = map_at_holds pair_of codes k (0, 0) 0 h
-
-  pub pair_in : (k : ℕ) → k < length codes → Mem (get_or codes k 0 / 20, get_or codes k 0 % 20) (map pair_of codes)
-  pair_in k h = subst (λ (p : Pair). Mem p (map pair_of codes)) (pair_at k h) (member_at (map pair_of codes) k (0, 0) (omega (arith, length-map codes pair_of)))
 
 module _ (tolerance : Float) (most : ℕ) (limits : Limits) (points flat : List Vec) (n more : ℕ) (rows : List Row) (bound : ℕ) (state : Progress) (ws : List ℕ) where
   pub walk_start : (l : List Pair) → OrbitsRoom bound state.known state.count ws → Walked tolerance most flat rows bound state ws (pair_tuples tolerance limits points flat n more (take 0 l)) (Ok state) ws

@@ -1,7 +1,7 @@
 -- What the whole answers: the hyperplane orbits of a call [5.7], or refusal 13. Leans on Hyperplanes and Walks.
 use Rattle.std.specs.Prelude.{◌≡◌, Bool, true, false, cond, not, ◌||◌, ℕ, suc, ◌+◌, ◌*◌, ◌-◌, ◌≤◌, ◌<◌, ltb, get_or, take, drop, Float, Result, Ok, Err}
 use Rattle.std.proofs.Math.Path.{refl, sym, ap}
-use Rattle.std.proofs.Common.{◌∙◌, arith, add-one}
+use Rattle.std.proofs.Common.{◌∙◌, arith, add-one, subst}
 use mathlib.Core.List.{List, [], ◌∷◌, ◌++◌, map, flat_map, map-append, Memᴰ}
 use borrow.Author.Tests.{lt-ltb, le-ltb}
 use Rattle.std.proofs.Math.ListN.{length}
@@ -15,9 +15,9 @@ use Rattle.laws.specs.Parts.{rows, get_d_rows, length_rows}
 use Rattle.space.specs.declared.Points.{Points}
 use Rattle.words.specs.Words.{words}
 use Rattle.sorted.specs.Ascending.{ascending_nil}
-use Rattle.openers.specs.Rows.{rows_in, image_at_holds}
+use Rattle.openers.specs.Rows.{rows_in, RowsFit, image_at_holds}
 use Rattle.openers.specs.Meaning.{breaks}
-use Rattle.stabilizers.specs.Permutations.{Permutations}
+use Rattle.stabilizers.specs.Permutations.{Permutations, rows_fit_holds}
 use Rattle.orbits.specs.Numbers.{orbit_of, orbits_from, seen_after}
 use Rattle.orbits.specs.Hyperplanes.{Permutes, SeenAs, orbits_are}
 use Rattle.orbits.specs.Workspace.{seen_in, orbits_in, HoldsOrbits, orbits_length}
@@ -65,6 +65,10 @@ unfoldable pub pair_tuples : Float → Limits → List Vec → List Vec → ℕ 
 pair_tuples tolerance limits points flat n more ps = flat_map (tuples_of tolerance limits points flat n more) ps
 
 -- ---- laws
+
+-- Rows that permute the flattened points fit the points as passed, of which there are as many.
+pub rows_fit_as : {n k m : ℕ} {s : List ℕ} → Permutations n m s → n ≡ k → RowsFit k m s
+rows_fit_as {n} {k} {m} {s} fits e = subst (λ (j : ℕ). RowsFit j m s) e (rows_fit_holds fits)
 
 -- openers are pairs that were walked
 opener_in : (skip : Pair → Bool) (rows : List Row) (marked ps : List Pair) (p : Pair) → Mem p (pair_openers skip rows marked ps) → Mem p ps

@@ -3,7 +3,7 @@
 
 #![tactic(auto)]
 
-ghost use Rattle.std.specs.Prelude.{◌≡◌, ◌∷◌, [], map, ◌+◌, ◌*◌, ◌%◌, ◌^◌, ◌≤◌, ◌<◌, length};
+ghost use Rattle.std.specs.Prelude.{◌≡◌, ◌∷◌, [], ◌+◌, ◌*◌, ◌%◌, ◌^◌, ◌≤◌, ◌<◌, length};
 ghost use Rattle.definitions.specs.Job.{number_at};
 ghost use Rattle.definitions.specs.Orbits.{point_at, most_vertices, hyperplane_orbits};
 ghost use Rattle.space.specs.Meaning.{points_of, HoldsPoints, limits_of};
@@ -11,19 +11,18 @@ ghost use Rattle.words.specs.Words.{words};
 ghost use Rattle.sorted.specs.Ascending.{Ascending};
 ghost use Rattle.sorted.specs.Gathering.{Gathering};
 ghost use Rattle.openers.specs.Rows.{rows_in};
-ghost use Rattle.openers.specs.Meaning.{pair_of};
-ghost use Rattle.stabilizers.specs.Permutations.{Permutations};
 ghost use Rattle.orbits.specs.Numbers.{image_numbers, may_open};
 ghost use Rattle.orbits.specs.Workspace.{seen_in, OrbitsRoom, Opened};
 ghost use Rattle.orbits.specs.Walks.{Walked, extensions, keeps_limits};
 ghost use Rattle.orbits.specs.Answers.{CallFits, PairsRise, pair_tuples, answer_in, orbits_or_refusal};
 
 use arrayvec::ArrayVec;
-use openers::{Rows, pair_openers};
+use openers::PairSearch;
 use refusals::Refusal;
 use sets::{points_near, set_image, vertices_of};
 use sorted::Sorted;
-use space::{Limits, Points, Subspace};
+use space::{Points, Subspace};
+use stabilizers::Symmetries;
 use words::Word;
 
 // How many sets were seen and how many orbits found.
@@ -35,7 +34,7 @@ pub struct Progress {
 
 // ---- sets seen
 
-// The sets seen, as they lie in the workspace.
+// The sets seen, as they lie in the workspace: in its bytes, so that their number goes beside it.
 fn seen(ws: &[u8], known: usize) -> Sorted
     requires { (2048 + 4 * known ≤ length ws.now) × Ascending (seen_in known ws.now) }
     ensures { words 4 result.bytes.now result.count ≡ seen_in known ws.now }
@@ -55,34 +54,33 @@ fn may_open(seen: Sorted, set: u32, n: usize, most: usize) -> bool
 }
 
 // The images of a set that were not seen, ascending.
-fn gather_images(rows: Rows, n: usize, set: u32, seen: Sorted) -> ArrayVec<u32, 120>
-    requires { Permutations n rows.count rows.bytes.now × (rows.count ≤ 120) }
-    ensures { Gathering (words 4 seen.entry.bytes.now seen.entry.count) (image_numbers n set (rows_in n rows.entry.count rows.entry.bytes.now)) result.items }
+fn gather_images(full: Symmetries, set: u32, seen: Sorted) -> ArrayVec<u32, 120>
+    requires { full.rows.count ≤ 120 }
+    ensures { Gathering (words 4 seen.entry.bytes.now seen.entry.count) (image_numbers full.entry.n set (rows_in full.entry.n full.entry.rows.count full.entry.rows.bytes.now)) result.items }
 {
-    let vertices = vertices_of(set, n);
+    let vertices = vertices_of(set, full.n);
     let mut new = ArrayVec::new();
-    for i in 0..rows.count {
-        seen.gather(&mut new, set_image(rows, i, &vertices));
+    for i in 0..full.rows.count {
+        seen.gather(&mut new, set_image(full.rows.bytes, i, &vertices));
     }
     new
 }
 
 // An orbit more, or refusal 13 where there are as many as the bound allows: its first set, how many sets it has, and its sets among those seen.
 fn open_orbit(
-    rows: Rows,
-    n: usize,
+    full: Symmetries,
     set: u32,
     bound: usize,
     state: Progress,
     ws: &mut [u8],
 ) -> Result<Progress, Refusal>
-    requires { Permutations n rows.count rows.bytes.now × (rows.count ≤ 120) × OrbitsRoom bound state.known state.count ws.old }
-    ensures { Opened bound state.known state.count ws.old set (image_numbers n set (rows_in n rows.entry.count rows.entry.bytes.now)) result ws.new }
+    requires { (full.rows.count ≤ 120) × OrbitsRoom bound state.known state.count ws.old }
+    ensures { Opened bound state.known state.count ws.old set (image_numbers full.entry.n set (rows_in full.entry.n full.entry.rows.count full.entry.rows.bytes.now)) result ws.new }
 {
     if state.count == bound {
         return Err(Refusal::Orbits);
     }
-    let new = gather_images(rows, n, set, seen(ws, state.known));
+    let new = gather_images(full, set, seen(ws, state.known));
     let many = new.len();
     u32::put(ws, 8 * state.count, set);
     u32::put(ws, 8 * state.count + 4, many as u32);
@@ -95,18 +93,20 @@ fn open_orbit(
 
 // ---- tuples
 
-// What a walk along tuples of points goes by: the points as passed and flattened, the rows, the limits on lengths and the tolerance, how many vertices a set may have that opens an orbit, and how many
-// orbits there may be.
+// What the orbits of a call are found by: what its pairs are chosen by, the points as passed among it, and these points flattened, which the rows permute.
+#[derive(Clone, Copy)]
+pub struct Search<'a> {
+    pub pairs: PairSearch<'a>,
+    pub flat: &'a Points,
+    pub ghost fits: { CallFits pairs.points.now flat.now pairs.rows.count pairs.rows.bytes.now },
+}
+
+// What a walk along tuples of points goes by: the search that it is part of, how many vertices a set may have that opens an orbit, and how many orbits there may be.
 #[derive(Clone, Copy)]
 struct Walk<'a> {
-    points: &'a Points,
-    flat: &'a Points,
-    rows: Rows<'a>,
-    limits: Limits,
-    tolerance: f64,
+    search: Search<'a>,
     most: usize,
     bound: usize,
-    ghost fits: { CallFits points.now flat.now rows.count rows.bytes.now },
 }
 
 // [5.6] [5.7] A tuple opens an orbit where it makes a hyperplane whose set may open one.
@@ -116,19 +116,24 @@ fn fit_tuple(
     state: Progress,
     ws: &mut [u8],
 ) -> Result<Progress, Refusal>
-    requires { (0 < tuple.now.n) × (tuple.now.d ≡ walk.flat.now.d) × OrbitsRoom walk.bound state.known state.count ws.old }
-    ensures { Walked walk.entry.tolerance walk.entry.most (points_of walk.entry.flat.now) (rows_in walk.entry.flat.now.n walk.entry.rows.count walk.entry.rows.bytes.now) walk.entry.bound state ws.old (points_of tuple.now ∷ []) result ws.new }
+    requires { (0 < tuple.now.n) × (tuple.now.d ≡ walk.search.flat.now.d) × OrbitsRoom walk.bound state.known state.count ws.old }
+    ensures { Walked walk.entry.search.pairs.tolerance walk.entry.most (points_of walk.entry.search.flat.now) (rows_in walk.entry.search.flat.now.n walk.entry.search.pairs.rows.count walk.entry.search.pairs.rows.bytes.now) walk.entry.bound state ws.old (points_of tuple.now ∷ []) result ws.new }
 {
-    let plane = Subspace::from_points(tuple, walk.tolerance);
+    let flat = walk.search.flat;
+    let tolerance = walk.search.pairs.tolerance;
+    let plane = Subspace::from_points(tuple, tolerance);
     if !plane.is_hyperplane() {
         return Ok(state);
     }
-    let n = walk.flat.n;
-    let set = points_near(walk.flat, &plane, walk.tolerance);
-    if !may_open(seen(ws, state.known), set, n, walk.most) {
+    let set = points_near(flat, &plane, tolerance);
+    if !may_open(seen(ws, state.known), set, flat.n, walk.most) {
         return Ok(state);
     }
-    open_orbit(walk.rows, n, set, walk.bound, state, ws)
+    let full = Symmetries {
+        rows: walk.search.pairs.rows,
+        n: flat.n,
+    };
+    open_orbit(full, set, walk.bound, state, ws)
 }
 
 // A tuple that begins with v is extended by as many vertices as are wanted, ascending from one on [5.5]; a vertex that breaks a limit with v is passed over.
@@ -141,19 +146,20 @@ fn extend(
     state: Progress,
     ws: &mut [u8],
 ) -> Result<Progress, Refusal>
-    requires { (0 < tuple.now.n) × (tuple.now.d ≡ walk.flat.now.d) × OrbitsRoom walk.bound state.known state.count ws.old × (v < walk.points.now.n) × (tuple.now.n ≤ from) }
-    ensures { Walked walk.entry.tolerance walk.entry.most (points_of walk.entry.flat.now) (rows_in walk.entry.flat.now.n walk.entry.rows.count walk.entry.rows.bytes.now) walk.entry.bound state ws.old (extensions (keeps_limits walk.entry.tolerance (limits_of walk.entry.limits) (points_of walk.entry.points.now) v) (points_of walk.entry.flat.now) (points_of tuple.now) walk.entry.flat.now.n from more) result ws.new }
+    requires { (0 < tuple.now.n) × (tuple.now.d ≡ walk.search.flat.now.d) × OrbitsRoom walk.bound state.known state.count ws.old × (v < walk.search.pairs.points.now.n) × (tuple.now.n ≤ from) }
+    ensures { Walked walk.entry.search.pairs.tolerance walk.entry.most (points_of walk.entry.search.flat.now) (rows_in walk.entry.search.flat.now.n walk.entry.search.pairs.rows.count walk.entry.search.pairs.rows.bytes.now) walk.entry.bound state ws.old (extensions (keeps_limits walk.entry.search.pairs.tolerance (limits_of walk.entry.search.pairs.limits) (points_of walk.entry.search.pairs.points.now) v) (points_of walk.entry.search.flat.now) (points_of tuple.now) walk.entry.search.flat.now.n from more) result ws.new }
 {
     if more == 0 {
         return fit_tuple(walk, tuple, state, ws);
     }
+    let pairs = walk.search.pairs;
     let mut reached = state;
-    for u in from..walk.points.n {
-        if walk.points.breaks_limit(v, u, walk.limits, walk.tolerance) {
+    for u in from..pairs.points.n {
+        if pairs.breaks_limit(v, u) {
             continue;
         }
         let mut longer = *tuple;
-        longer.push(walk.flat.point(u));
+        longer.push(walk.search.flat.point(u));
         reached = extend(walk, &longer, v, u + 1, more - 1, reached, ws)?;
     }
     Ok(reached)
@@ -175,19 +181,19 @@ fn pair_points(flat: &Points, v: usize, w: usize) -> Points
 // Each pair's opener, in order, extended by so many vertices. The walk ends at a refusal.
 fn walk_pairs(
     walk: Walk,
-    pairs: &ArrayVec<usize, 190>,
+    pairs: &ArrayVec<(u8, u8), 190>,
     more: usize,
     state: Progress,
     ws: &mut [u8],
 ) -> Result<Progress, Refusal>
-    requires { PairsRise walk.flat.now.n (map pair_of pairs.now.items) × OrbitsRoom walk.bound state.known state.count ws.old }
-    ensures { Walked walk.entry.tolerance walk.entry.most (points_of walk.entry.flat.now) (rows_in walk.entry.flat.now.n walk.entry.rows.count walk.entry.rows.bytes.now) walk.entry.bound state ws.old (pair_tuples walk.entry.tolerance (limits_of walk.entry.limits) (points_of walk.entry.points.now) (points_of walk.entry.flat.now) walk.entry.flat.now.n more (map pair_of pairs.now.items)) result ws.new }
+    requires { PairsRise walk.search.flat.now.n pairs.now.items × OrbitsRoom walk.bound state.known state.count ws.old }
+    ensures { Walked walk.entry.search.pairs.tolerance walk.entry.most (points_of walk.entry.search.flat.now) (rows_in walk.entry.search.flat.now.n walk.entry.search.pairs.rows.count walk.entry.search.pairs.rows.bytes.now) walk.entry.bound state ws.old (pair_tuples walk.entry.search.pairs.tolerance (limits_of walk.entry.search.pairs.limits) (points_of walk.entry.search.pairs.points.now) (points_of walk.entry.search.flat.now) walk.entry.search.flat.now.n more pairs.now.items) result ws.new }
 {
     let mut reached = state;
-    for code in pairs.as_slice() {
-        let v = *code / 20;
-        let w = *code % 20;
-        let pair = pair_points(walk.flat, v, w);
+    for &(first, second) in pairs.as_slice() {
+        let v = first as usize;
+        let w = second as usize;
+        let pair = pair_points(walk.search.flat, v, w);
         reached = extend(walk, &pair, v, w + 1, more, reached, ws)?;
     }
     Ok(reached)
@@ -205,27 +211,19 @@ fn most_vertices(rule: usize, more: usize, n: usize) -> usize
 
 // How many hyperplane orbits a call has, or refusal 13 where there are more than the bound.
 pub fn find_orbits(
-    points: &Points,
-    flat: &Points,
+    search: Search,
     more: usize,
-    rows: Rows,
-    limits: Limits,
-    tolerance: f64,
     rule: usize,
     bound: usize,
     ws: &mut [u8],
 ) -> Result<usize, Refusal>
-    requires { CallFits points.now flat.now rows.count rows.bytes.now × (bound ≤ 256) × (124928 ≤ length ws.old) }
-    ensures { answer_in flat.now.n result ws.new ≡ orbits_or_refusal bound (hyperplane_orbits tolerance (limits_of limits) rule more (points_of points.now) (points_of flat.now) (rows_in flat.now.n rows.entry.count rows.entry.bytes.now)) }
+    requires { (bound ≤ 256) × (124928 ≤ length ws.old) }
+    ensures { answer_in search.entry.flat.now.n result ws.new ≡ orbits_or_refusal bound (hyperplane_orbits search.entry.pairs.tolerance (limits_of search.entry.pairs.limits) rule more (points_of search.entry.pairs.points.now) (points_of search.entry.flat.now) (rows_in search.entry.flat.now.n search.entry.pairs.rows.count search.entry.pairs.rows.bytes.now)) }
 {
-    let pairs = pair_openers(points, rows, limits, tolerance);
+    let pairs = search.pairs.pair_openers();
     let walk = Walk {
-        points,
-        flat,
-        rows,
-        limits,
-        tolerance,
-        most: most_vertices(rule, more, flat.n),
+        search,
+        most: most_vertices(rule, more, search.flat.n),
         bound,
     };
     let none = Progress { known: 0, count: 0 };

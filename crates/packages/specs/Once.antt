@@ -1,7 +1,8 @@
 -- Numbers below a bound, none twice, tested one after the other: what is left decides. Leans on the definitions of packages.
 use Rattle.std.specs.Prelude.{◌≡◌, refl, Bool, true, false, not, ◌&&◌, ◌||◌, List, [], ◌∷◌, ℕ, zero, suc, ◌+◌, ◌-◌, ◌≤◌, ◌<◌, T, ltb, eqb, length, get_or, take, drop}
 use Rattle.std.proofs.Math.Path.{sym, ap}
-use Rattle.std.proofs.Common.{subst, ◌∙◌, ⊎_elim, arith, eq-eqb, T_not, drop-cons}
+use Rattle.std.specs.List.{list_any}
+use Rattle.std.proofs.Common.{subst, ◌∙◌, ⊎_elim, arith, eq-eqb, ne_eqb, T_not, drop-cons}
 use Rattle.std.proofs.Math.Decide.{ℕ_discrete}
 use Rattle.definitions.specs.Lists.{any_of, all_of, member_nat}
 use Rattle.definitions.specs.Noble.{distinct}
@@ -102,6 +103,16 @@ module _ (g : ℕ) (l : List ℕ) (at n i : ℕ) (so_far : Decides (once_below g
     pub once_goes_on : ltb (get_or l (at + i) 0) g ≡ true → member_nat (get_or l (at + i) 0) (rest_at l at n (i + 1)) ≡ false → Decides (once_below g) l at n (i + 1)
     unfolding Decides
     once_goes_on e f = decides_next (once_below g) l at n i so_far h k (once_on g (get_or l (at + i) 0) (rest_at l at n (i + 1)) e f)
+
+-- whether an item equals v, asked of the items from the first on
+pub any_is_member : (v : ℕ) (l : List ℕ) → list_any (λ (y : ℕ). eqb y v) l ≡ member_nat v l
+unfolding member_nat any_of
+any_is_member v [] = refl
+any_is_member v (y ∷ l) = rw (either_way (ℕ_discrete y v), any_is_member v l) refl
+  where
+    either_way : Dec (y ≡ v) → eqb y v ≡ eqb v y
+    either_way (yes e) = eq-eqb y v e ∙ sym (eq-eqb v y (sym e))
+    either_way (no n) = ne_eqb y v n ∙ sym (ne_eqb v y (λ e. n (sym e)))
 
 -- ---- places of different numbers
 

@@ -150,14 +150,15 @@ module _ (n : ℕ) (bytes : Bytes) where
     numbers_long : length global_numbers ≡ n
     numbers_long = let k = loaded_numbers.long in length-take-le n (drop 5 bytes) (rw length-drop (omega arith))
 
-    module _ (whole : Package) (size_is : whole.size ≡ size_of) (rows_is : whole.full.count ≡ rows_of) (count_is : whole.count ≡ count_of)
+    -- the full rows permute the points of the full set
+    pub full_permute : (full : List ℕ) → rows_in size_of rows_of full ≡ rows_at bytes (5 + n) size_of rows_of → length full ≡ 3840 → Permutations size_of rows_of full
+    full_permute full are long = permutations_of size_of rows_of full loaded_numbers.size_most (omega (arith, loaded_numbers.rows_most)) (rw are rows_pass)
+
+    module _ (whole : Package) (size_is : whole.full.n ≡ size_of) (rows_is : whole.full.rows.count ≡ rows_of) (count_is : whole.count ≡ count_of)
         (globals-are : rows_in n 1 whole.globals.now ≡ rows_at bytes 5 n 1) (globals-long : length whole.globals.now ≡ 32)
-        (full-are : rows_in size_of rows_of whole.full.bytes.now ≡ rows_at bytes (5 + n) size_of rows_of) (full-long : length whole.full.bytes.now ≡ 3840) where
+        (full-are : rows_in size_of rows_of whole.full.rows.bytes.now ≡ rows_at bytes (5 + n) size_of rows_of) where
       abbrev globals : List ℕ
       globals = whole.globals.now
-
-      abbrev full : List ℕ
-      full = whole.full.bytes.now
 
       row_is : row_at n 0 globals ≡ global_numbers
       unfolding rows_in row_at rows_at count_from
@@ -182,13 +183,9 @@ module _ (n : ℕ) (bytes : Bytes) where
             distinct_places global_numbers (second (all_of (λ (x : ℕ). ltb x size_of) global_numbers) (distinct global_numbers) once) u w (omega (arith, numbers_long)) (omega (arith, numbers_long)) (sym (at u h) ∙ (e ∙ at w k));
       }
 
-      permute : Permutations size_of rows_of full
-      permute = permutations_of size_of rows_of full loaded_numbers.size_most (omega (arith, loaded_numbers.rows_most)) (rw full-are rows_pass)
-
       pub package_fits : PackageFits n whole
       package_fits = record {
         numbered = rw size_is globals_fit;
-        permute = rw (size_is, rows_is) permute;
         some_row = omega (arith, loaded_numbers.rows_least);
         few_rows = omega (arith, loaded_numbers.rows_most);
         small_count = omega (arith, loaded_numbers.count_most);

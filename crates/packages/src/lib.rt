@@ -2,42 +2,28 @@
 
 #![tactic(auto)]
 
-ghost use Rattle.std.specs.Prelude.{◌≡◌, ◌+◌, ◌≤◌, T, length, take, drop};
-ghost use Rattle.definitions.specs.Lists.{member_nat};
+ghost use Rattle.std.specs.Prelude.{◌≡◌, ◌+◌, ◌≤◌, T, length};
 ghost use Rattle.definitions.specs.Noble.{read_package, package_counts, package_good};
 ghost use Rattle.tallies.specs.Meaning.{PackageFits, package_in};
 ghost use Rattle.packages.specs.Once.{once_below};
 
 use openers::Rows;
+use stabilizers::Symmetries;
 use tallies::Package;
 use words::Word;
 
 // ---- the test
 
-// Whether a number stands among so many bytes from a place on.
-fn stands_among(pack: &[u8], at: usize, many: usize, v: usize) -> bool
-    requires { at + many ≤ length pack.now }
-    ensures { result ≡ member_nat v (take many (drop at pack.now)) }
+// Whether numbers are below g, and none stands twice.
+fn globals_good(globals: &[u8], g: usize) -> bool
+    ensures { result ≡ once_below g globals.now }
 {
-    for i in 0..many {
-        if usize::from(pack[at + i]) == v {
-            return true;
-        }
-    }
-    false
-}
-
-// Whether so many bytes from a place on are below g, and no number stands twice.
-fn globals_good(pack: &[u8], at: usize, n: usize, g: usize) -> bool
-    requires { at + n ≤ length pack.now }
-    ensures { result ≡ once_below g (take n (drop at pack.now)) }
-{
-    for i in 0..n {
-        let v = usize::from(pack[at + i]);
-        if g <= v {
+    for i in 0..globals.len() {
+        if g <= usize::from(globals[i]) {
             return false;
         }
-        if stands_among(pack, at + (i + 1), n - (i + 1), v) {
+        let again = globals[i + 1..].contains(&globals[i]);
+        if again {
             return false;
         }
     }
@@ -77,7 +63,7 @@ pub fn package_good(pack: &[u8], n: usize) -> bool
     }
     let rows = u16::get(pack, 0) as usize;
     let size = usize::from(pack[2]);
-    if !globals_good(pack, 5, n, size) {
+    if !globals_good(&pack[5..5 + n], size) {
         return false;
     }
     if !job::is_identity(pack, 5 + n, size) {
@@ -104,14 +90,14 @@ pub fn load_package<'a>(
     let count = u16::get(pack, 3) as u32;
     load::copy_rows(pack, 5, n, 1, globals);
     load::copy_rows(pack, 5 + n, size, rows, full);
-    let full = Rows {
+    let rows = Rows {
         bytes: full,
         count: rows,
     };
+    let full = Symmetries { rows, n: size };
     Package {
         globals,
         full,
-        size,
         count,
     }
 }

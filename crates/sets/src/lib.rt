@@ -13,8 +13,6 @@ ghost use Rattle.sets.specs.Refitting.{Refitted};
 ghost use Rattle.sets.specs.Vertices.{Below, RowSends};
 
 use arrayvec::ArrayVec;
-use openers::Rows;
-use refusals::Refusal;
 use space::{Points, Subspace};
 
 // 2 ^ v
@@ -45,14 +43,14 @@ pub fn vertices_of(set: u32, n: usize) -> ArrayVec<usize, 20>
 
 // ---- images
 
-// The image of a set's vertices under row i, as a set.
-pub fn set_image(rows: Rows, i: usize, vertices: &ArrayVec<usize, 20>) -> u32
-    requires { RowSends i rows.bytes.now vertices.now.items }
-    ensures { (n : ℕ) → Below n vertices.now.items → result ≡ set_number (set_image vertices.now.items (row_at n i rows.entry.bytes.now)) }
+// The image of a set's vertices under row i, as a set. It takes the bytes and no `Rows`: it reads row i alone, and asks for no room of the others.
+pub fn set_image(rows: &[u8], i: usize, vertices: &ArrayVec<usize, 20>) -> u32
+    requires { RowSends i rows.now vertices.now.items }
+    ensures { (n : ℕ) → Below n vertices.now.items → result ≡ set_number (set_image vertices.now.items (row_at n i rows.now)) }
 {
     let mut sum = 0;
     for v in vertices.as_slice() {
-        sum += power(rows.image(i, *v));
+        sum += power(usize::from(rows[32 * i + *v]));
     }
     sum
 }
@@ -89,14 +87,14 @@ pub fn chosen_points(flat: &Points, set: u32) -> Points
 
 // ---- a set's plane
 
-// [6.4] the plane made from a set's points in their order, refused where it has another rank than the one wanted
-pub fn refit(points: Points, tolerance: f64, wanted: usize) -> Result<Subspace, Refusal>
+// [6.4] the plane made from a set's points in their order: an error where it has another rank than the one wanted, which hands the plane back all the same
+pub fn refit(points: Points, tolerance: f64, wanted: usize) -> Result<Subspace, Subspace>
     ensures { Refitted result points (from_points tolerance (points_of points)) wanted }
 {
     let plane = Subspace::from_points(&points, tolerance);
     if plane.rank == wanted {
         Ok(plane)
     } else {
-        Err(Refusal::Plane)
+        Err(plane)
     }
 }

@@ -2,9 +2,8 @@
 use mathlib.Core.Path.{◌≡◌, refl, sym, ap, ◌∙◌}
 use mathlib.Core.Bool.{Bool, true, false, cond}
 use mathlib.Core.List.{List, [], ◌∷◌, ◌++◌, map, map-append, append-nil}
-use Prim.Native.Nat.{ℕ, suc, ◌+◌, ◌*◌, ◌-◌, ◌/◌, ◌%◌, ◌≤◌, ◌<◌}
+use Prim.Native.Nat.{ℕ, ◌+◌, ◌*◌, ◌-◌, ◌≤◌, ◌<◌}
 use native.Mathlib.Omega.{arith}
-use native.Mathlib.Numerals.{add-one}
 use borrow.Rule.Slice.PartMut.{put_mid}
 use lib.ListN.{length, get_or, set, take, drop, length-append, length-map, take-append-drop}
 use lib.Seq.{sets, length-take-le}
@@ -92,21 +91,19 @@ module _ (vertices : List ℕ) (n : ℕ) (s out : List ℕ) where
   unfolding rows_within rows_in rows keep written_rows
   rows_none = (refl, refl)
 
-  -- row i joins, or not
-  pub rows_turn : (i count : ℕ) (now : List ℕ) → count ≡ length (kept i) → now ≡ written_rows (kept i) 0 out
-      → (cond (keeps_set vertices (row i)) (count + 1) count ≡ length (kept (i + 1)))
-      × (cond (keeps_set vertices (row i)) (sets now (32 * count) (row_within vertices (row i))) now ≡ written_rows (kept (i + 1)) 0 out)
-  rows_turn i count now e f = rw (kept_more i) (go (keeps_set vertices (row i)))
-    where
-      go : (b : Bool)
-          → (cond b (count + 1) count ≡ length (kept i ++ map (row_within vertices) (cond b (row i ∷ []) [])))
-          × (cond b (sets now (32 * count) (row_within vertices (row i))) now ≡ written_rows (kept i ++ map (row_within vertices) (cond b (row i ∷ []) [])) 0 out)
-      go true = let k : 0 + length (kept i) ≡ count = omega arith in (
-        omega (arith, length-append (kept i) (row_within vertices (row i) ∷ [])),
-        ap (λ (l : List ℕ). sets l (32 * count) (row_within vertices (row i))) f ∙ (ap (λ (j : ℕ). sets (written_rows (kept i) 0 out) (32 * j) (row_within vertices (row i))) (sym k) ∙ sym (written_more (kept i) (row_within vertices (row i)) 0 out)),
-      )
-      go false = rw append-nil (e, f)
+  module _ (i count : ℕ) (now : List ℕ) (counted : count ≡ length (kept i)) (is : now ≡ written_rows (kept i) 0 out) where
+    -- row i joins where it keeps the set
+    pub row_joins : keeps_set vertices (row i) ≡ true → (count + 1 ≡ length (kept (i + 1))) × (sets now (32 * count) (row_within vertices (row i)) ≡ written_rows (kept (i + 1)) 0 out)
+    row_joins keeps =
+        let more : kept (i + 1) ≡ kept i ++ (row_within vertices (row i) ∷ []) = kept_more i ∙ rw keeps refl in
+        let k : 0 + length (kept i) ≡ count = omega arith in
+        rw more (
+          omega (arith, length-append (kept i) (row_within vertices (row i) ∷ [])),
+          ap (λ (l : List ℕ). sets l (32 * count) (row_within vertices (row i))) is ∙ (ap (λ (j : ℕ). sets (written_rows (kept i) 0 out) (32 * j) (row_within vertices (row i))) (sym k) ∙ sym (written_more (kept i) (row_within vertices (row i)) 0 out)),
+        )
 
-pub one_more : (b : Bool) (count : ℕ) → cond b (count + 1) count ≤ count + 1
-one_more true count = omega arith
-one_more false count = omega arith
+    -- and is passed over where it doesn't
+    pub row_passed : keeps_set vertices (row i) ≡ false → (count ≡ length (kept (i + 1))) × (now ≡ written_rows (kept (i + 1)) 0 out)
+    row_passed leaves =
+        let same : kept (i + 1) ≡ kept i = kept_more i ∙ rw (leaves, append-nil) refl in
+        rw same (counted, is)

@@ -23,7 +23,7 @@ use Rattle.openers.specs.Rows.{rows_in, row_at, image_at_holds}
 use Rattle.sets.specs.Vertices.{RowSends, row_sends}
 use Rattle.stabilizers.specs.Permutations.{Permutation}
 use Rattle.orbits.specs.Numbers.{image_numbers}
-use Rattle.tallies.specs.Marks.{mark_number, latest, latest_is, none_before, last_marks, last_other, mark_more, marks_ascend, new_marks}
+use Rattle.tallies.specs.Marks.{mark_number, latest, latest_is, TalliesBelow, none_before, last_marks, last_other, mark_more, marks_ascend, new_marks}
 use Rattle.tallies.specs.Counts.{Counted, count_by, count_one, sum_by, most_weight, added_few, images_few, found_opened}
 use Rattle.tallies.specs.Meaning.{GlobalsFit, counted_in, TallyFits}
 
@@ -125,17 +125,24 @@ module _ (known tally : ℕ) (marks images sums : List ℕ) (f : TallyFits known
   marks_up_holds = f.ready.fits.ascends
 
   pub found_fits : (key k weight : ℕ) → latest 256 (words 4 marks known) key ≡ Some k → weight ≤ most_weight
-      → (k < 256) × (0 < get_or images k 0) × (get_or sums k 0 + weight ≤ 18446744073709551615)
+      → (k < tally) × (0 < get_or images k 0) × (get_or sums k 0 + weight ≤ 18446744073709551615)
   unfolding counted_in
   found_fits key k weight e light =
       let fit = f.ready.fits in
       let r = found_opened f.ready.done (counted_in known tally marks images sums) key k fit e in
-      (r.1, fit.some_images k r.0, omega (arith, fit.small_sums k r.1, f.ready.free))
+      (r.0, fit.some_images k r.0, omega (arith, fit.small_sums k r.1, f.ready.free))
 
 -- ---- what a tally has added up to
 
 pub latest_small : (l : List ℕ) (key k : ℕ) → latest 256 l key ≡ Some k → k < 256
 latest_small l key k e = (latest_is 256 l key k e).below
+
+pub latest_opened : (n : ℕ) (l : List ℕ) (key k : ℕ) → TalliesBelow n l → latest 256 l key ≡ Some k → k < n
+latest_opened n l key k b e =
+    let r = latest_is 256 l key k e in
+    let h = r.below in
+    let w : (256 * key + k) % 256 ≡ k = omega arith in
+    omega (arith, b.under (256 * key + k) r.there)
 
 pub sum_found : (l sums : List ℕ) (key k : ℕ) → latest 256 l key ≡ Some k → get_or sums k 0 ≡ sum_by (latest 256 l key) sums
 unfolding sum_by

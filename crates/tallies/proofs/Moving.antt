@@ -25,7 +25,7 @@ use Rattle.openers.specs.Rows.{rows_in, row_at}
 use Rattle.orbits.specs.Numbers.{orbit_of}
 use Rattle.orbits.specs.Workspace.{orbits_in, orbits_length, orbits_front}
 use Rattle.orbits.specs.Answers.{rows_permute}
-use Rattle.tallies.specs.Marks.{latest}
+use Rattle.tallies.specs.Marks.{latest, TalliesBelow}
 use Rattle.tallies.specs.Counts.{Counted, count_one, count_all, count_more, none_counted, pair_key, sum_by, keeps_pair, keep_pairs, most_weight, CountFits, none_fits, one_fits, all_fit}
 use Rattle.tallies.specs.Agreement.{kept_are}
 use Rattle.tallies.specs.Meaning.{PackageFits, package_in, counted_in, TallyFits, WeightsFit, key_set}
@@ -152,9 +152,9 @@ module _ (n count : ℕ) (globals : Row) (g : ℕ) (rows : List Row) (ws₀ : Li
 
 -- as many full rows as there are to be
 pub rows_some : (n : ℕ) (whole : Package) → PackageFits n whole
-    → (0 < length (rows_in whole.size whole.full.count whole.full.bytes.now)) × (length (rows_in whole.size whole.full.count whole.full.bytes.now) ≤ 120)
+    → (0 < length (rows_in whole.full.n whole.full.rows.count whole.full.rows.bytes.now)) × (length (rows_in whole.full.n whole.full.rows.count whole.full.rows.bytes.now) ≤ 120)
 unfolding rows_in
-rows_some n whole f = let e = length_rows 32 whole.size whole.full.count whole.full.bytes.now in (omega (arith, f.some_row), omega (arith, f.few_rows))
+rows_some n whole f = let e = length_rows 32 whole.full.n whole.full.rows.count whole.full.rows.bytes.now in (omega (arith, f.some_row), omega (arith, f.few_rows))
 
 -- what is asked for a look at the marks
 pub marks_asked : (ws ws₀ : List ℕ) (known : ℕ) → length ws ≡ length ws₀ → drop 2048 ws ≡ drop 2048 ws₀ → 2048 + 4 * known ≤ length ws₀ → Ascending (words 4 (drop 2048 ws₀) known)
@@ -164,6 +164,10 @@ marks_asked ws ws₀ known long behind room a =
     let d : take (length ws - 2048) (drop 2048 ws) ≡ drop 2048 ws₀ = e ∙ behind in
     let n = length-drop 2048 ws₀ in
     (subst (λ (l : List ℕ). 4 * known ≤ length l) (sym d) (omega arith), subst (λ (l : List ℕ). Ascending (words 4 l known)) (sym d) a)
+
+pub below_asked : (ws ws₀ : List ℕ) (known tallies : ℕ) → 2048 ≤ length ws → drop 2048 ws ≡ drop 2048 ws₀ → TalliesBelow tallies (words 4 (drop 2048 ws₀) known)
+    → TalliesBelow tallies (words 4 (take (length ws - 2048) (drop 2048 ws)) known)
+below_asked ws ws₀ known tallies h behind b = subst (λ (l : List ℕ). TalliesBelow tallies (words 4 l known)) (sym (lent ws h ∙ behind)) b
 
 pub sum_here : (ws ws₀ : List ℕ) (known key : ℕ) (sums : List ℕ) (sum : ℕ) → 2048 ≤ length ws → drop 2048 ws ≡ drop 2048 ws₀
     → sum ≡ sum_by (latest 256 (words 4 (take (length ws - 2048) (drop 2048 ws)) known) key) sums → sum ≡ sum_by (latest 256 (words 4 (drop 2048 ws₀) known) key) sums
@@ -267,14 +271,14 @@ module _ (n : ℕ) (globals : Row) (marks sums ws₀ : List ℕ) (orbits : ℕ) 
 module _ (n orbits : ℕ) (whole : Package) (ws₀ : List ℕ) (f : PackageFits n whole) (few : orbits ≤ 256) (room : 124928 ≤ length ws₀)
     (light : WeightsFit whole.count orbits ws₀) where
   abbrev rows : List Row
-  rows = rows_in whole.size whole.full.count whole.full.bytes.now
+  rows = rows_in whole.full.n whole.full.rows.count whole.full.rows.bytes.now
 
-  rows_many : length rows ≡ whole.full.count
+  rows_many : length rows ≡ whole.full.rows.count
   unfolding rows_in
-  rows_many = length_rows 32 whole.size whole.full.count whole.full.bytes.now
+  rows_many = length_rows 32 whole.full.n whole.full.rows.count whole.full.rows.bytes.now
 
   abbrev end : Counted
-  end = count_all n (row_at n 0 whole.globals.now) whole.size rows whole.count none_counted (orbits_in ws₀ orbits)
+  end = count_all n (row_at n 0 whole.globals.now) whole.full.n rows whole.count none_counted (orbits_in ws₀ orbits)
 
   all_light : (i : ℕ) → i < length (orbits_in ws₀ orbits) → whole.count * (get_or (orbits_in ws₀ orbits) i (0, 0)).1 ≤ most_weight
   all_light i h =
@@ -283,7 +287,7 @@ module _ (n orbits : ℕ) (whole : Package) (ws₀ : List ℕ) (f : PackageFits 
 
   end_fits : CountFits (0 + length (orbits_in ws₀ orbits)) end
   end_fits =
-      all_fit n (row_at n 0 whole.globals.now) whole.size rows whole.count (omega (arith, rows_many, f.some_row)) (omega (arith, rows_many, f.few_rows)) 0 none_counted (orbits_in ws₀ orbits) all_light
+      all_fit n (row_at n 0 whole.globals.now) whole.full.n rows whole.count (omega (arith, rows_many, f.some_row)) (omega (arith, rows_many, f.few_rows)) 0 none_counted (orbits_in ws₀ orbits) all_light
       (omega (arith, orbits_length ws₀ orbits)) none_fits
 
   module _ (known tallies : ℕ) (ws images sums : List ℕ) (counted : counted_in known tallies (drop 2048 ws) images sums ≡ end) (front : take 2048 ws ≡ take 2048 ws₀) where
@@ -298,6 +302,10 @@ module _ (n orbits : ℕ) (whole : Package) (ws₀ : List ℕ) (f : PackageFits 
     pub marks_ascending : Ascending (words 4 (drop 2048 ws) known)
     marks_ascending = subst Ascending (sym marks_are) end_fits.ascends
 
+    pub marks_below : TalliesBelow tallies (words 4 (drop 2048 ws) known)
+    unfolding counted_in
+    marks_below = rw (marks_are, ap (λ (c : Counted). c.tallies) counted) end_fits.below
+
     pub marks_few : 2048 + 4 * known ≤ 124928
     marks_few =
         let a : known ≡ length end.marks = sym (words_length 4 (drop 2048 ws) known) ∙ ap length marks_are in
@@ -310,7 +318,7 @@ module _ (n orbits : ℕ) (whole : Package) (ws₀ : List ℕ) (f : PackageFits 
         let same : keep_pairs n (row_at n 0 whole.globals.now) (words 4 (drop 2048 ws) known) sums (orbits_in ws orbits) ≡ keep_pairs n (row_at n 0 whole.globals.now) end.marks end.sums (orbits_in ws₀ orbits) =
         keep_same marks_are sums_are (same_front ws ws₀ orbits few front) in
         ap (map (orbit_of n)) (e ∙ same)
-        ∙ kept_are (package_in n whole) (rows_permute f.permute) n (key_set n whole.size whole.globals.now f.numbered) (omega (arith, rows_many, f.some_row)) (omega (arith, rows_many, f.few_rows))
+        ∙ kept_are (package_in n whole) (rows_permute whole.full.permute) n (key_set n whole.full.n whole.globals.now f.numbered) (omega (arith, rows_many, f.some_row)) (omega (arith, rows_many, f.few_rows))
         (orbits_in ws₀ orbits) all_light (omega (arith, orbits_length ws₀ orbits))
       where
         keep_same : {a b c d : List ℕ} {x y : List Pair} → a ≡ b → c ≡ d → x ≡ y → keep_pairs n (row_at n 0 whole.globals.now) a c x ≡ keep_pairs n (row_at n 0 whole.globals.now) b d y

@@ -1,4 +1,4 @@
--- Tallies as the code keeps them: marks as ascending numbers, and two arrays of numbers by tally. What one orbit
+-- Tallies as numbers: ascending marks, and two rows of numbers by tally. What one orbit
 -- changes, what all do, and that nothing runs over. Leans on Marks. Assumes nothing.
 use Rattle.std.specs.Prelude.{◌≡◌, Bool, true, false, cond, ℕ, suc, ◌+◌, ◌*◌, ◌/◌, ◌%◌, ◌≤◌, ◌<◌, leb, eqb, set, replicate}
 use Rattle.std.proofs.Math.Path.{refl}

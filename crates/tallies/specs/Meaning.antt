@@ -1,6 +1,6 @@
 -- What the code is given: a package, with its global numbers and full rows in bytes, rows at a stride of 32.
 -- What they mean is a package [17.1]. Leans on the rows in bytes and on Counts.
-use Rattle.std.specs.Prelude.{◌≡◌, List, map, ℕ, ◌+◌, ◌*◌, ◌^◌, ◌≤◌, ◌<◌, length, get_or, take, drop}
+use Rattle.std.specs.Prelude.{◌≡◌, List, ◌++◌, map, ℕ, ◌+◌, ◌-◌, ◌*◌, ◌^◌, ◌≤◌, ◌<◌, length, get_or, take, drop, replicate}
 use Rattle.std.proofs.Common.{sym, ap, subst, ◌∙◌, arith}
 use Rattle.std.proofs.Math.Nat.{pow-le-pow_right}
 use Rattle.definitions.specs.Orbits.{image, set_image}
@@ -11,9 +11,9 @@ use Rattle.laws.specs.Pairs.{pairs_map}
 use Rattle.laws.specs.Sets.{set_number, number_small, vertices_of, SetFrom, vertices_set, set_range, set_rises, sorted_set}
 use Rattle.words.specs.Words.{words}
 use Rattle.openers.specs.Rows.{rows_in, row_at, image_at_holds}
-use Rattle.stabilizers.specs.Permutations.{Permutations}
 use Rattle.tallies.specs.Counts.{Counted, most_weight, Ready}
 use Rattle.tallies.specs.declared.Package.{Package}
+use Rattle.tallies.specs.declared.Tally.{Tally}
 
 -- the global numbers of n vertices in a full set of g points, none twice
 pub record GlobalsFit (n g : ℕ) (globals : List ℕ) : Type 0 where
@@ -25,22 +25,21 @@ pub record GlobalsFit (n g : ℕ) (globals : List ℕ) : Type 0 where
 
 -- a package that can be counted by
 pub record PackageFits (n : ℕ) (whole : Package) : Type 0 where
-  pub numbered : GlobalsFit n whole.size whole.globals.now
-  pub permute : Permutations whole.size whole.full.count whole.full.bytes.now
-  pub some_row : 0 < whole.full.count
-  pub few_rows : whole.full.count ≤ 120
+  pub numbered : GlobalsFit n whole.full.n whole.globals.now
+  pub some_row : 0 < whole.full.rows.count
+  pub few_rows : whole.full.rows.count ≤ 120
   pub small_count : whole.count ≤ 65535
 
 -- the package
 unfoldable pub package_in : ℕ → Package → def.Package
 package_in n whole = record {
-  size = whole.size;
+  size = whole.full.n;
   count = whole.count;
   globals = row_at n 0 whole.globals.now;
-  rows = rows_in whole.size whole.full.count whole.full.bytes.now;
+  rows = rows_in whole.full.n whole.full.rows.count whole.full.rows.bytes.now;
 }
 
--- the tallies that the code holds
+-- what marks in bytes and two rows of numbers count
 unfoldable pub counted_in : ℕ → ℕ → List ℕ → List ℕ → List ℕ → Counted
 counted_in known tallies marks images sums = record { marks = words 4 marks known; tallies = tallies; images = images; sums = sums }
 
@@ -48,6 +47,24 @@ counted_in known tallies marks images sums = record { marks = words 4 marks know
 pub record TallyFits (known tallies : ℕ) (marks images sums : List ℕ) : Type 0 where
   pub long : 122880 ≤ length marks
   pub ready : Ready (counted_in known tallies marks images sums)
+
+-- a number of each tally; the places that are not used yet count as 0
+abbrev pub column_in : (Tally → ℕ) → List Tally → List ℕ
+column_in f tallies = map f tallies ++ replicate (256 - length tallies) 0
+
+abbrev pub images_in : List Tally → List ℕ
+images_in tallies = column_in (λ t. t.images) tallies
+
+abbrev pub sums_in : List Tally → List ℕ
+sums_in tallies = column_in (λ t. t.sum) tallies
+
+-- the tallies that the code holds
+abbrev pub listed_in : ℕ → List ℕ → List Tally → Counted
+listed_in known marks tallies = counted_in known (length tallies) marks (images_in tallies) (sums_in tallies)
+
+-- an orbit more may be counted with them
+abbrev pub ListFits : ℕ → List ℕ → List Tally → Type 0
+ListFits known marks tallies = TallyFits known (length tallies) marks (images_in tallies) (sums_in tallies)
 
 -- what the first orbits of a workspace count for does not run over
 pub record WeightsFit (count orbits : ℕ) (ws : List ℕ) : Type 0 where

@@ -15,17 +15,16 @@ ghost use Rattle.words.specs.Words.{words, put};
 ghost use Rattle.sorted.specs.Ascending.{Ascending};
 ghost use Rattle.sorted.specs.Gathering.{added};
 ghost use Rattle.openers.specs.Rows.{rows_in, row_at};
-ghost use Rattle.stabilizers.specs.Permutations.{Permutations};
 ghost use Rattle.orbits.specs.Numbers.{image_numbers, orbit_of};
 ghost use Rattle.orbits.specs.Workspace.{orbits_in};
-ghost use Rattle.tallies.specs.Marks.{latest, mark_number};
+ghost use Rattle.tallies.specs.Marks.{latest, mark_number, TalliesBelow};
 ghost use Rattle.tallies.specs.Counts.{count_by, count_one, count_all, sum_by, none_counted, keep_pairs, most_weight};
-ghost use Rattle.tallies.specs.Meaning.{GlobalsFit, PackageFits, package_in, counted_in, TallyFits, WeightsFit};
+ghost use Rattle.tallies.specs.Meaning.{GlobalsFit, PackageFits, package_in, images_in, sums_in, listed_in, ListFits, WeightsFit};
 
 use arrayvec::ArrayVec;
-use openers::Rows;
 use sets::{set_image, vertices_of};
 use sorted::Sorted;
+use stabilizers::Symmetries;
 use words::Word;
 
 // ---- marks
@@ -47,65 +46,75 @@ fn mark_of(marks: Sorted, key: u32) -> Option<usize>
 }
 
 // The marks of all images of a key with a tally, ascending.
-fn gather_marks(full: Rows, g: usize, key: u32, tally: u32) -> ArrayVec<u32, 120>
-    requires { Permutations g full.count full.bytes.now × (full.count ≤ 120) × (tally < 256) }
-    ensures { result.items ≡ map (mark_number tally) (added [] (image_numbers g key (rows_in g full.entry.count full.entry.bytes.now))) }
+fn gather_marks(full: Symmetries, key: u32, tally: u32) -> ArrayVec<u32, 120>
+    requires { (full.rows.count ≤ 120) × (tally < 256) }
+    ensures { result.items ≡ map (mark_number tally) (added [] (image_numbers full.entry.n key (rows_in full.entry.n full.entry.rows.count full.entry.rows.bytes.now))) }
 {
-    let vertices = vertices_of(key, g);
+    let vertices = vertices_of(key, full.n);
     let mut new = ArrayVec::new();
-    for i in 0..full.count {
-        sorted::insert(&mut new, 256 * set_image(full, i, &vertices) + tally);
+    for i in 0..full.rows.count {
+        let image = set_image(full.rows.bytes, i, &vertices);
+        sorted::insert(&mut new, 256 * image + tally);
     }
     new
 }
 
 // ---- tallies
 
-// The package of a full set [17.1]: the global numbers of a call's vertices, the full rows, how many points the full set has, and what each set of an orbit counts for.
+// The package of a full set [17.1]: the global numbers of a call's vertices, the full rows, which permute the points of the full set, and what each set of an orbit counts for.
 #[derive(Clone, Copy)]
 pub struct Package<'a> {
     pub globals: &'a [u8],
-    pub full: Rows<'a>,
-    pub size: usize,
+    pub full: Symmetries<'a>,
     pub count: u32,
 }
 
-// How many marks and tallies there are; by tally, how many images its key has, and what it has added up to.
+// A tally: how many images its key has, and what it has added up to.
+#[derive(Clone, Copy, Default)]
+struct Tally {
+    images: u64,
+    sum: u64,
+}
+
+// How many marks there are, and the tallies in the order in which they were opened.
 #[derive(Drop)]
 struct Tallies {
     known: usize,
-    count: usize,
-    images: [u64; 256],
-    sums: [u64; 256],
+    tallies: ArrayVec<Tally, 256>,
 }
 
 impl Tallies {
     // An unmarked key opens a tally: its images are marked with it, and it begins with its part of the weight.
     fn open(&mut self, whole: Package, key: u32, weight: u64, marks: &mut [u8])
-        requires { Permutations whole.size whole.full.count whole.full.bytes.now × (0 < whole.full.count) × (whole.full.count ≤ 120) × TallyFits self.old.known self.old.count marks.old self.old.images self.old.sums }
-        ensures { counted_in self.new.known self.new.count marks.new self.new.images self.new.sums ≡ count_by None whole.entry.size (rows_in whole.entry.size whole.entry.full.count whole.entry.full.bytes.now) (counted_in self.old.known self.old.count marks.old self.old.images self.old.sums) key weight }
+        requires { (0 < whole.full.rows.count) × (whole.full.rows.count ≤ 120) × ListFits self.old.known marks.old self.old.tallies.items }
+        ensures { listed_in self.new.known marks.new self.new.tallies.items ≡ count_by None whole.entry.full.n (rows_in whole.entry.full.n whole.entry.full.rows.count whole.entry.full.rows.bytes.now) (listed_in self.old.known marks.old self.old.tallies.items) key weight }
     {
-        let new = gather_marks(whole.full, whole.size, key, self.count as u32);
+        let new = gather_marks(whole.full, key, self.tallies.len() as u32);
         let many = new.len();
         sorted::merge(marks, self.known, new.as_slice());
-        self.images[self.count] = many as u64;
-        self.sums[self.count] = weight / (many as u64);
         self.known += many;
-        self.count += 1;
+        self.tallies.push(Tally {
+            images: many as u64,
+            sum: weight / (many as u64),
+        });
     }
 
     // A marked key adds its part of the weight to its tally.
     fn add_portion(&mut self, k: usize, weight: u64)
-        requires { (k < 256) × (0 < get_or self.old.images k 0) × (get_or self.old.sums k 0 + weight ≤ 18446744073709551615) }
-        ensures { self.new ≡ record self.old { sums = set self.old.sums k (get_or self.old.sums k 0 + weight / get_or self.old.images k 0) } }
+        requires { (k < length self.old.tallies.items) × (0 < get_or (images_in self.old.tallies.items) k 0) × (get_or (sums_in self.old.tallies.items) k 0 + weight ≤ 18446744073709551615) }
+        ensures known { self.new.known ≡ self.old.known }
+        ensures many { length self.new.tallies.items ≡ length self.old.tallies.items }
+        ensures images { images_in self.new.tallies.items ≡ images_in self.old.tallies.items }
+        ensures sums { sums_in self.new.tallies.items ≡ set (sums_in self.old.tallies.items) k (get_or (sums_in self.old.tallies.items) k 0 + weight / get_or (images_in self.old.tallies.items) k 0) }
     {
-        self.sums[k] += weight / self.images[k];
+        let tally = &mut self.tallies.as_mut_slice()[k];
+        tally.sum += weight / tally.images;
     }
 
     // One orbit more.
     fn add_orbit(&mut self, whole: Package, key: u32, weight: u64, marks: &mut [u8])
-        requires { Permutations whole.size whole.full.count whole.full.bytes.now × (0 < whole.full.count) × (whole.full.count ≤ 120) × TallyFits self.old.known self.old.count marks.old self.old.images self.old.sums × (key < 1048576) × (weight ≤ most_weight) }
-        ensures { counted_in self.new.known self.new.count marks.new self.new.images self.new.sums ≡ count_one whole.entry.size (rows_in whole.entry.size whole.entry.full.count whole.entry.full.bytes.now) (counted_in self.old.known self.old.count marks.old self.old.images self.old.sums) key weight }
+        requires { (0 < whole.full.rows.count) × (whole.full.rows.count ≤ 120) × ListFits self.old.known marks.old self.old.tallies.items × (key < 1048576) × (weight ≤ most_weight) }
+        ensures { listed_in self.new.known marks.new self.new.tallies.items ≡ count_one whole.entry.full.n (rows_in whole.entry.full.n whole.entry.full.rows.count whole.entry.full.rows.bytes.now) (listed_in self.old.known marks.old self.old.tallies.items) key weight }
     {
         let marked = Sorted {
             bytes: marks,
@@ -120,28 +129,22 @@ impl Tallies {
 
 // The key of a set: its global numbers, as a set's number.
 fn key_of(whole: Package, n: usize, set: u32) -> u32
-    requires { GlobalsFit n whole.size whole.globals.now }
+    requires { GlobalsFit n whole.full.n whole.globals.now }
     ensures { (result ≡ set_number (set_image (vertices_of n set) (row_at n 0 whole.entry.globals.now))) × (result < 1048576) }
 {
-    let globals = Rows {
-        bytes: whole.globals,
-        count: 1,
-    };
-    set_image(globals, 0, &vertices_of(set, n))
+    set_image(whole.globals, 0, &vertices_of(set, n))
 }
 
 // The tallies of all orbits, in order.
 fn tally_orbits(whole: Package, n: usize, orbits: usize, ws: &mut [u8]) -> Tallies
     requires { PackageFits n whole × (orbits ≤ 256) × (124928 ≤ length ws.old) }
-    ensures counted { counted_in result.known result.count (drop 2048 ws.new) result.images result.sums ≡ count_all n (row_at n 0 whole.entry.globals.now) whole.entry.size (rows_in whole.entry.size whole.entry.full.count whole.entry.full.bytes.now) whole.entry.count none_counted (orbits_in ws.old orbits) }
+    ensures counted { listed_in result.known (drop 2048 ws.new) result.tallies.items ≡ count_all n (row_at n 0 whole.entry.globals.now) whole.entry.full.n (rows_in whole.entry.full.n whole.entry.full.rows.count whole.entry.full.rows.bytes.now) whole.entry.count none_counted (orbits_in ws.old orbits) }
     ensures front { take 2048 ws.new ≡ take 2048 ws.old }
     ensures light { WeightsFit whole.entry.count orbits ws.old }
 {
     let mut tallies = Tallies {
         known: 0,
-        count: 0,
-        images: [0; 256],
-        sums: [0; 256],
+        tallies: ArrayVec::new(),
     };
     for i in 0..orbits {
         let key = key_of(whole, n, u32::get(ws, 8 * i));
@@ -154,12 +157,12 @@ fn tally_orbits(whole: Package, n: usize, orbits: usize, ws: &mut [u8]) -> Talli
 // ---- kept orbits
 
 // What the tally of a key has added up to; 0 where it has no mark.
-fn sum_of(marks: Sorted, key: u32, sums: &[u64]) -> u64
-    requires { (key < 1048576) × (256 ≤ length sums.now) }
-    ensures { result ≡ sum_by (latest 256 (words 4 marks.entry.bytes.now marks.entry.count) key) sums.now }
+fn sum_of(marks: Sorted, key: u32, tallies: &[Tally]) -> u64
+    requires { (key < 1048576) × TalliesBelow (length tallies.now) (words 4 marks.bytes.now marks.count) }
+    ensures { result ≡ sum_by (latest 256 (words 4 marks.entry.bytes.now marks.entry.count) key) (sums_in tallies.now) }
 {
     match mark_of(marks, key) {
-        Some(k) => sums[k],
+        Some(k) => tallies[k].sum,
         None => 0,
     }
 }
@@ -177,10 +180,11 @@ fn move_orbit(ws: &mut [u8], from: usize, to: usize)
 }
 
 // The orbits whose key's tally is 2 or more, moved together; returns how many there are.
+// Counted by hand: the count is the place of the next orbit that is written, and in the end the answer. No `filter`: it would hold on to the region that the loop writes.
 fn move_together(whole: Package, n: usize, orbits: usize, tallies: &Tallies, ws: &mut [u8]) -> usize
-    requires { GlobalsFit n whole.size whole.globals.now × (orbits ≤ 256) × (2048 + 4 * tallies.now.known ≤ length ws.old) × Ascending (words 4 (drop 2048 ws.old) tallies.now.known) }
+    requires { GlobalsFit n whole.full.n whole.globals.now × (orbits ≤ 256) × (2048 + 4 * tallies.now.known ≤ length ws.old) × Ascending (words 4 (drop 2048 ws.old) tallies.now.known) × TalliesBelow (length tallies.now.tallies.items) (words 4 (drop 2048 ws.old) tallies.now.known) }
     ensures few { result ≤ orbits }
-    ensures kept { orbits_in ws.new result ≡ keep_pairs n (row_at n 0 whole.entry.globals.now) (words 4 (drop 2048 ws.old) tallies.now.known) tallies.now.sums (orbits_in ws.old orbits) }
+    ensures kept { orbits_in ws.new result ≡ keep_pairs n (row_at n 0 whole.entry.globals.now) (words 4 (drop 2048 ws.old) tallies.now.known) (sums_in tallies.now.tallies.items) (orbits_in ws.old orbits) }
 {
     let mut kept = 0;
     for i in 0..orbits {
@@ -189,7 +193,7 @@ fn move_together(whole: Package, n: usize, orbits: usize, tallies: &Tallies, ws:
             bytes: &ws[2048..],
             count: tallies.known,
         };
-        if 2 <= sum_of(marks, key, &tallies.sums) {
+        if 2 <= sum_of(marks, key, tallies.tallies.as_slice()) {
             move_orbit(ws, i, kept);
             kept += 1;
         }

@@ -16,9 +16,7 @@ use Rattle.faceting.proofs.+faceting.Given as goal
 abbrev pub decreases-faceting : goal.decreases-faceting
 decreases-faceting l = l.rank
 
-abbrev pub invariant-loop-shelf : goal.invariant-loop-shelf
-invariant-loop-shelf l = (length l.ws ≡ length l.initial.ws) × Laid l.shelf (shelf_for l.rank)
-    × ((plane : Subspace) (points : List Vec) → Loop (way_of l.flat.n l.way) plane points l.rank l.flat l.rows.bytes.now l.rows.count l.rules l.budget l.count l.initial.ws → SiteState (site_in (way_of l.flat.n l.way) plane points l.rank l.flat l.rows.bytes.now l.rows.count l.rules l.budget) l.shelf l.left l.shelf.orbits l.ws)
-
-abbrev pub decreases-loop-shelf : goal.decreases-loop-shelf
-decreases-loop-shelf l = l.count - l.shelf.orbits
+abbrev pub invariant-loop-k : goal.invariant-loop-k
+invariant-loop-k l = (length l.ws ≡ length l.initial.ws) × Laid l.done.shelf (shelf_for l.rank)
+    × ((plane : Subspace) (points : List Vec) → Loop (way_of l.flat.n l.way) plane points l.rank l.flat l.rows.bytes.now l.rows.count l.rules l.budget l.count l.initial.ws → SiteState (site_in (way_of l.flat.n l.way) plane points l.rank l.flat l.rows.bytes.now l.rows.count l.rules l.budget) l.done.shelf l.done.left l.done.shelf.orbits l.ws)
+    × (l.done.shelf.orbits ≡ l.k)

@@ -10,13 +10,13 @@ use Rattle.faceting.proofs.Starts.{start_kept}
 use Rattle.faceting.proofs.start_call.Goals as goal
 
 pub find_kept-answer-requires : goal.find_kept-answer-requires
-find_kept-answer-requires c = (c.requires.0, c.requires.1, c.requires.2, c.requires.4, c.requires.5)
+find_kept-answer-requires c = (c.requires.0, c.requires.1, c.requires.3, c.requires.4)
 
 pub clear_shelf-requires : goal.clear_shelf-requires
 clear_shelf-requires c =
     let found = c.find_kept-answer in
     let same : length found.new.ws ≡ length c.args.ws.now = search rules in
-    let fits = subst (ShelfFits (shelf_for c.args.rank)) (sym same) c.requires.3 in
+    let fits = subst (ShelfFits (shelf_for c.args.rank)) (sym same) c.requires.2 in
     subst (λ (x : Shelf). ShelfFits x (length found.new.ws)) (sym c.shelf_for-shelf.ensures) fits
 
 pub returns : goal.returns
@@ -24,5 +24,5 @@ returns c =
     let found = c.find_kept-answer in
     let clear = c.clear_shelf in
     let same : length found.new.ws ≡ length c.args.ws.now = search rules in
-    start_kept (way_of c.args.flat.now.n c.args.way) (way_takes c.args.flat.now.n c.args.way) c.args.rules.orbits _ c.args.flat.now.n found.result c.args.rank c.shelf_for-shelf.result found.new.ws clear.new.ws c.shelf_for-shelf.ensures
-    (subst (ShelfFits (shelf_for c.args.rank)) (sym same) c.requires.3) c.requires.1 clear.ensures.within clear.ensures.keeps found.ensures
+    start_kept (way_of c.args.search.flat.now.n c.args.way) (way_takes c.args.search.flat.now.n c.args.way) c.args.rules.orbits _ c.args.search.flat.now.n found.result c.args.rank c.shelf_for-shelf.result found.new.ws clear.new.ws c.shelf_for-shelf.ensures
+    (subst (ShelfFits (shelf_for c.args.rank)) (sym same) c.requires.2) c.requires.0 clear.ensures.within clear.ensures.keeps found.ensures

@@ -13,4 +13,4 @@ decreases-extend l = l.more
 
 abbrev pub invariant-loop-u : goal.invariant-loop-u
 invariant-loop-u l =
-    (l.from ≤ l.u) × (length l.ws ≡ length l.initial.ws) × Extending l.walk.tolerance l.walk.most (points_of l.walk.flat.now) (rows_in l.walk.flat.now.n l.walk.rows.count l.walk.rows.bytes.now) l.walk.bound l.initial.reached l.initial.ws (extensions (keeps_limits l.walk.tolerance (limits_of l.walk.limits) (points_of l.walk.points.now) l.v) (points_of l.walk.flat.now) (points_of l.tuple) l.walk.flat.now.n l.from l.more) (extensions (keeps_limits l.walk.tolerance (limits_of l.walk.limits) (points_of l.walk.points.now) l.v) (points_of l.walk.flat.now) (points_of l.tuple) l.walk.flat.now.n l.u l.more) l.reached l.ws
+    (l.from ≤ l.u) × (length l.ws ≡ length l.initial.ws) × Extending l.walk.search.pairs.tolerance l.walk.most (points_of l.walk.search.flat.now) (rows_in l.walk.search.flat.now.n l.walk.search.pairs.rows.count l.walk.search.pairs.rows.bytes.now) l.walk.bound l.initial.reached l.initial.ws (extensions (keeps_limits l.walk.search.pairs.tolerance (limits_of l.walk.search.pairs.limits) (points_of l.walk.search.pairs.points.now) l.v) (points_of l.walk.search.flat.now) (points_of l.tuple) l.walk.search.flat.now.n l.from l.more) (extensions (keeps_limits l.walk.search.pairs.tolerance (limits_of l.walk.search.pairs.limits) (points_of l.walk.search.pairs.points.now) l.v) (points_of l.walk.search.flat.now) (points_of l.tuple) l.walk.search.flat.now.n l.u l.more) l.reached l.ws

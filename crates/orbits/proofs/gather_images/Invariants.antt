@@ -8,4 +8,4 @@ use Rattle.orbits.specs.Numbers.{image_numbers}
 use Rattle.orbits.proofs.gather_images.Given as goal
 
 abbrev pub invariant-loop-i : goal.invariant-loop-i
-invariant-loop-i l = (length l.new.items ≤ l.i) × Gathering (words 4 l.seen.bytes.now l.seen.count) (image_numbers l.n l.set (rows_in l.n l.i l.rows.bytes.now)) l.new.items
+invariant-loop-i l = (length l.new.items ≤ l.i) × Gathering (words 4 l.seen.bytes.now l.seen.count) (image_numbers l.full.n l.set (rows_in l.full.n l.i l.full.rows.bytes.now)) l.new.items

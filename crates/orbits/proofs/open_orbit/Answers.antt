@@ -8,11 +8,11 @@ use Rattle.orbits.proofs.Laws.{opened_none}
 use Rattle.orbits.proofs.open_orbit.Goals as goal
 
 pub returns-then-state-bound : goal.returns-then-state-bound
-returns-then-state-bound c = opened_none c.args.bound c.args.state.known c.args.state.count c.args.ws.now c.args.set _ c.requires.2 c.if-state-bound.true
+returns-then-state-bound c = opened_none c.args.bound c.args.state.known c.args.state.count c.args.ws.now c.args.set _ c.requires.1 c.if-state-bound.true
 
 pub merge-requires : goal.merge-requires
 merge-requires c =
-    let room = c.requires.2 in
+    let room = c.requires.1 in
     let items = c.gather_images-new.result.items in
     let few : length items ≤ 120 = omega (arith, c.len-many.ensures.value, c.len-many.ensures.fits) in
     let free : c.args.state.count < c.args.bound = omega (arith, room.count_fits, c.if-state-bound.false) in
@@ -23,7 +23,7 @@ merge-requires c =
 
 pub returns : goal.returns
 returns c =
-    let room = c.requires.2 in
+    let room = c.requires.1 in
     let items = c.gather_images-new.result.items in
     let few : length items ≤ 120 = omega (arith, c.len-many.ensures.value, c.len-many.ensures.fits) in
     let free : c.args.state.count < c.args.bound = omega (arith, room.count_fits, c.if-state-bound.false) in

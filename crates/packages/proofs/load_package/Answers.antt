@@ -1,7 +1,7 @@
 -- `packages::load_package` meets its contract: global numbers and full rows are copied from where they stand. Assumes nothing.
 use mathlib.Core.Path.{◌∙◌}
 use native.Mathlib.Omega.{arith}
-use Rattle.packages.specs.Passed.{loaded_numbers, package_fits, package_is}
+use Rattle.packages.specs.Passed.{loaded_numbers, full_permute, package_fits, package_is}
 use Rattle.packages.proofs.load_package.Goals as goal
 
 pub get-rows-requires : goal.get-rows-requires
@@ -29,19 +29,24 @@ copy_rows-requires-2 c =
     let k = loaded_numbers c.args.n c.args.pack.now c.requires.0 c.requires.1 in
     rw (c.from-size.ensures, c.get-rows.ensures) (omega (arith, k.size_most), omega (arith, k.long), omega (arith, k.rows_most, c.requires.3))
 
-pub invariant_of-full : goal.invariant_of-full
-invariant_of-full c =
+pub invariant_of-rows : goal.invariant_of-rows
+invariant_of-rows c =
     let k = loaded_numbers c.args.n c.args.pack.now c.requires.0 c.requires.1 in
     record { room = omega (arith, c.get-rows.ensures, k.rows_most, c.copy_rows-2.ensures.rows.1, c.requires.3) }
+
+pub invariant_of-full : goal.invariant_of-full
+invariant_of-full c =
+    let full = rw (c.from-size.ensures, c.get-rows.ensures) at c.copy_rows-2.ensures.rows in
+    record { permute = rw (c.from-size.ensures, c.get-rows.ensures) (full_permute c.args.n c.args.pack.now c.requires.0 c.requires.1 c.copy_rows-2.new.region full.0 (full.1 ∙ c.requires.3)) }
 
 pub returns-clause-fits : goal.returns-clause-fits
 returns-clause-fits c =
     let globals = c.copy_rows.ensures.rows in
     let full = rw (c.from-size.ensures, c.get-rows.ensures) at c.copy_rows-2.ensures.rows in
-    package_fits c.args.n c.args.pack.now c.requires.0 c.requires.1 _ c.from-size.ensures c.get-rows.ensures c.get-count.ensures globals.0 (globals.1 ∙ c.requires.2) full.0 (full.1 ∙ c.requires.3)
+    package_fits c.args.n c.args.pack.now c.requires.0 c.requires.1 _ c.from-size.ensures c.get-rows.ensures c.get-count.ensures globals.0 (globals.1 ∙ c.requires.2) full.0
 
 pub returns-clause-is : goal.returns-clause-is
 returns-clause-is c =
     let globals = c.copy_rows.ensures.rows in
     let full = rw (c.from-size.ensures, c.get-rows.ensures) at c.copy_rows-2.ensures.rows in
-    package_is c.args.n c.args.pack.now c.requires.0 c.requires.1 _ c.from-size.ensures c.get-rows.ensures c.get-count.ensures globals.0 (globals.1 ∙ c.requires.2) full.0 (full.1 ∙ c.requires.3)
+    package_is c.args.n c.args.pack.now c.requires.0 c.requires.1 _ c.from-size.ensures c.get-rows.ensures c.get-count.ensures globals.0 (globals.1 ∙ c.requires.2) full.0

@@ -1,6 +1,6 @@
 -- `packages::package_good` meets its contract: the first of the tests that fails decides. Assumes nothing.
 use mathlib.Core.Path.{◌≡◌, sym, ◌∙◌}
-use Prim.Native.Nat.{ℕ, zero, suc, ◌+◌, ◌*◌, ◌≤◌}
+use Prim.Native.Nat.{ℕ, zero, suc, ◌+◌, ◌-◌, ◌*◌, ◌≤◌}
 use native.Mathlib.Omega.{arith}
 use lib.ListN.{length}
 use Rattle.laws.specs.Bools.{true→holds}
@@ -24,8 +24,8 @@ bounds-pack-2 c =
     let k = numbers a.n a.pack.now (true→holds (sym c.counts_good.ensures ∙ c.if-not-counts_good.false)) in
     omega (arith, k.long)
 
-pub globals_good-requires : goal.globals_good-requires
-globals_good-requires c =
+pub slice_bounds-globals_good-end : goal.slice_bounds-globals_good-end
+slice_bounds-globals_good-end c =
     let a = c.args in
     let k = numbers a.n a.pack.now (true→holds (sym c.counts_good.ensures ∙ c.if-not-counts_good.false)) in
     omega (arith, k.long)
@@ -34,8 +34,9 @@ pub returns-then-not-globals_good : goal.returns-then-not-globals_good
 returns-then-not-globals_good c =
     let a = c.args in
     let counts = sym c.counts_good.ensures ∙ c.if-not-counts_good.false in
+    let m : (5 + a.n) - 5 ≡ a.n = omega arith in
     let once = sym c.globals_good.ensures ∙ c.if-not-globals_good.true in
-    good_globals a.n a.pack.now counts (rw c.from-size.ensures at once)
+    good_globals a.n a.pack.now counts (rw (c.from-size.ensures, m) at once)
 
 pub is_identity-requires : goal.is_identity-requires
 is_identity-requires c =
@@ -51,9 +52,10 @@ pub returns-then-not-is_identity : goal.returns-then-not-is_identity
 returns-then-not-is_identity c =
     let a = c.args in
     let counts = sym c.counts_good.ensures ∙ c.if-not-counts_good.false in
+    let m : (5 + a.n) - 5 ≡ a.n = omega arith in
     let once = sym c.globals_good.ensures ∙ c.if-not-globals_good.false in
     let other = sym c.is_identity.ensures ∙ c.if-not-is_identity.true in
-    good_identity a.n a.pack.now counts (rw c.from-size.ensures at once) (rw c.from-size.ensures at other)
+    good_identity a.n a.pack.now counts (rw (c.from-size.ensures, m) at once) (rw c.from-size.ensures at other)
 
 pub rows_good-requires : goal.rows_good-requires
 rows_good-requires c =
@@ -65,7 +67,8 @@ pub returns : goal.returns
 returns c =
     let a = c.args in
     let counts = sym c.counts_good.ensures ∙ c.if-not-counts_good.false in
+    let m : (5 + a.n) - 5 ≡ a.n = omega arith in
     let once = sym c.globals_good.ensures ∙ c.if-not-globals_good.false in
     let first = sym c.is_identity.ensures ∙ c.if-not-is_identity.false in
     let all = rw (c.from-size.ensures, c.get-rows.ensures) at c.rows_good.ensures in
-    all ∙ good_rows a.n a.pack.now counts (rw c.from-size.ensures at once) (rw c.from-size.ensures at first)
+    all ∙ good_rows a.n a.pack.now counts (rw (c.from-size.ensures, m) at once) (rw c.from-size.ensures at first)

@@ -8,4 +8,4 @@ use Rattle.sets.proofs.Laws.{image_in}
 use Rattle.sets.proofs.set_image.Given as goal
 
 abbrev pub invariant-loop-v : goal.invariant-loop-v
-invariant-loop-v l = (l.sum ≡ set_number (map (image_in l.rows.bytes.now l.i) (take l.v-index l.v-items))) × (l.sum ≤ 524288 * l.v-index)
+invariant-loop-v l = (l.sum ≡ set_number (map (image_in l.rows l.i) (take l.v-index l.v-items))) × (l.sum ≤ 524288 * l.v-index)

@@ -6,4 +6,4 @@ use Rattle.tallies.proofs.Laws.{images_to}
 use Rattle.tallies.proofs.gather_marks.Given as goal
 
 abbrev pub invariant-loop-i : goal.invariant-loop-i
-invariant-loop-i l = l.new.items ≡ map (mark_number l.tally) (images_to l.g l.key l.full.bytes.now l.i)
+invariant-loop-i l = l.new.items ≡ map (mark_number l.tally) (images_to l.full.n l.key l.full.rows.bytes.now l.i)
