@@ -1,15 +1,20 @@
 -- What the proofs of the functions cite: each test one step at a time, and the order of the refusals. Assumes nothing.
 use mathlib.Core.Path.{◌≡◌, refl, sym, ap, ◌∙◌}
 use mathlib.Core.Bool.{Bool, true, false, ◌&&◌}
-use mathlib.Core.List.{List, [], ◌∷◌, ◌++◌}
-use Rattle.std.specs.Prelude.{Option, Some, None}
-use Prim.Native.Nat.{ℕ, suc, ◌+◌, ◌-◌, ◌*◌, ◌≤◌, ◌<◌}
+use mathlib.Core.List.{List, [], ◌∷◌, ◌++◌, map}
+use Rattle.std.specs.Prelude.{Option, Some, None, MatchOption}
+use Rattle.std.proofs.Common.{drop-cons}
+use Rattle.std.specs.List.{list_all, range_with_len}
+use Rattle.std.specs.Float.{float_is_finite}
+use native.Mathlib.Numerals.{add-one}
+use lib.Pointwise.{pointwise}
+use Prim.Native.Nat.{ℕ, zero, suc, ◌+◌, ◌-◌, ◌*◌, ◌≤◌, ◌<◌}
 use native.Mathlib.Omega.{arith}
 use borrow.Author.Tests.{lt-leb, le-leb, eq-eqb, ne_eqb}
-use lib.Dec.{leb, eqb, leb→le}
+use lib.Dec.{leb, eqb, leb→le, eqb→eq}
 use lib.IntN.{pos}
 use lib.ListN.{length, get_or, take, drop}
-use lib.Ieee.{Float, nan, inf, fin, binary64, of_bits, neg, div, lt, le}
+use lib.Ieee.{Float, nan, inf, fin, binary64, of_bits, le}
 use Rattle.definitions.specs.Lists.{all_of, count_from}
 use Rattle.definitions.specs.Vectors.{zero64}
 use Rattle.definitions.specs.Job.{Bytes, read_job, float_at, floats_at, vectors_at, between, within, all_within, limit_good, is_finite, floats_good, same_nats, is_permutation, Test}
@@ -20,38 +25,30 @@ use Rattle.load.specs.declared.Header.{Header}
 use Rattle.load.specs.declared.Fields.{Fields}
 use Rattle.load.specs.Places.{Counted}
 use Rattle.load.specs.Meaning.{fields_of, rows_at, Loadable}
-use Rattle.definitions.specs.Outcome.{Outcome, refused, answered}
+use Rattle.definitions.specs.Outcome.{refused, answered}
 use Rattle.job.specs.Refusal.{checked_as, checked_by, has_mark, size_within}
 use Rattle.job.specs.Passed.{refused_as, passed_as}
 
 -- ---- the mark
 
-mark_is : (bytes : Bytes) → 11 ≤ length bytes → has_mark bytes ≡ (eqb (get_or bytes 0 0) 70 && (eqb (get_or bytes 1 0) 67 && eqb (get_or bytes 2 0) 84))
-unfolding has_mark
-mark_is [] h = absurd (omega arith)
-mark_is (a ∷ []) h = absurd (omega arith)
-mark_is (a ∷ b ∷ []) h = absurd (omega arith)
-mark_is (a ∷ b ∷ c ∷ rest) h = rw (le-leb 11 (length (a ∷ b ∷ c ∷ rest)) h, same_first, same_first, same_first, same_none) (ends (eqb a 70) (eqb b 67) (eqb c 84))
+eqb_comm : (a b : ℕ) → eqb a b ≡ eqb b a
+eqb_comm a b = go (eqb a b) refl
   where
-    ends : (x y z : Bool) → (x && (y && (z && true))) ≡ (x && (y && z))
-    ends true true true = refl
-    ends true true false = refl
-    ends true false z = refl
-    ends false y z = refl
+    go : (r : Bool) → eqb a b ≡ r → eqb a b ≡ eqb b a
+    go true e = let same : a ≡ b = eqb→eq a b (true→holds e) in rw same refl
+    go false e = e ∙ sym (ne_eqb b a (λ (same : b ≡ a). let no : true ≡ false = sym (eq-eqb a b (sym same)) ∙ e in cc))
 
-module _ (bytes : Bytes) where
-  pub too_short_for_a_mark : length bytes < 11 → false ≡ has_mark bytes
-  unfolding has_mark
-  too_short_for_a_mark h = rw (lt-leb 11 (length bytes) h) refl
+-- the letters, as the slice compares them
+pub mark_told : (bytes : Bytes) → 11 ≤ length bytes → pointwise eqb (70 ∷ 67 ∷ 84 ∷ []) (take 3 bytes) ≡ has_mark bytes
+unfolding has_mark
+mark_told [] h = absurd (omega arith)
+mark_told (a ∷ []) h = absurd (omega arith)
+mark_told (a ∷ b ∷ []) h = absurd (omega arith)
+mark_told (a ∷ b ∷ c ∷ rest) h = rw (le-leb 11 (length (a ∷ b ∷ c ∷ rest)) h, same_first, same_first, same_first, same_none, eqb_comm 70 a, eqb_comm 67 b, eqb_comm 84 c) refl
 
-  pub first_byte_wrong : 11 ≤ length bytes → (get_or bytes 0 0 ≡ 70 → ⊥) → false ≡ has_mark bytes
-  first_byte_wrong h a = rw (mark_is bytes h, ne_eqb (get_or bytes 0 0) 70 a) refl
-
-  pub second_byte_wrong : 11 ≤ length bytes → get_or bytes 0 0 ≡ 70 → (get_or bytes 1 0 ≡ 67 → ⊥) → false ≡ has_mark bytes
-  second_byte_wrong h a b = rw (mark_is bytes h, eq-eqb (get_or bytes 0 0) 70 a, ne_eqb (get_or bytes 1 0) 67 b) refl
-
-  pub third_byte_decides : 11 ≤ length bytes → get_or bytes 0 0 ≡ 70 → get_or bytes 1 0 ≡ 67 → eqb (get_or bytes 2 0) 84 ≡ has_mark bytes
-  third_byte_decides h a b = rw (mark_is bytes h, eq-eqb (get_or bytes 0 0) 70 a, eq-eqb (get_or bytes 1 0) 67 b) refl
+pub too_short_for_a_mark : (bytes : Bytes) → length bytes < 11 → false ≡ has_mark bytes
+unfolding has_mark
+too_short_for_a_mark bytes h = rw (lt-leb 11 (length bytes) h) refl
 
 pub marked_long : (bytes : Bytes) → has_mark bytes ≡ true → 11 ≤ length bytes
 unfolding has_mark
@@ -72,22 +69,38 @@ pub within_1 : (x : Float) → size_within (of_bits binary64 0x3ff0000000000000)
 unfolding size_within of_bits
 within_1 x = between_opposites 1 1 (pos 0) refl x
 
-module _ (x : Float) (r : Bool) (told : r ≡ size_within (of_bits binary64 0x4100000000000000) x) where
-  pub length_in_size : r ≡ true → le zero64 x ≡ limit_good (Some x)
-  unfolding limit_good
-  length_in_size e = rw (← (within_131072 x), ← told, e) refl
+pub limit_told : {P : Float → Type 0} (o : Option Float) (r : Bool) → MatchOption o (r ≡ true) P
+    → ((x : Float) → P x → r ≡ (size_within (of_bits binary64 0x4100000000000000) x && le zero64 x)) → r ≡ limit_good o
+unfolding limit_good
+limit_told None r d told = d
+limit_told (Some x) r d told = told x d ∙ ap (λ (b : Bool). b && le zero64 x) (within_131072 x)
 
-  pub length_beyond : r ≡ false → r ≡ limit_good (Some x)
-  unfolding limit_good
-  length_beyond e = rw (← (within_131072 x), ← told, e) refl
+-- the library's test, and the definition's
+pub finite_same : (x : Float) → float_is_finite x ≡ is_finite x
+unfolding float_is_finite is_finite
+finite_same nan = refl
+finite_same (inf s) = refl
+finite_same (fin s m e) = refl
 
--- the two comparisons with an infinity: of what is below it, and of what is not
-pub finite_between : (x : Float) → (lt x (div binary64 (of_bits binary64 0x3ff0000000000000) (of_bits binary64 0)) && lt (neg (div binary64 (of_bits binary64 0x3ff0000000000000) (of_bits binary64 0))) x) ≡ is_finite x
-unfolding is_finite lt neg div of_bits
-finite_between nan = refl
-finite_between (inf true) = refl
-finite_between (inf false) = refl
-finite_between (fin s m e) = refl
+-- a test of each of so many that stand apart
+pub each_spaced : {A : Type 0} (test : A → Bool) (f : ℕ → A) (stride at many : ℕ) → list_all (λ (i : ℕ). test (f (at + stride * i))) (range_with_len 0 many) ≡ all_of test (spaced f stride at many)
+unfolding spaced all_of count_from
+each_spaced test f stride at many = go 0 many
+  where
+    go : (a many : ℕ) → list_all (λ (i : ℕ). test (f (at + stride * i))) (range_with_len a many) ≡ all_of test (map (λ (i : ℕ). f (at + stride * i)) (count_from a many))
+    go a zero = refl
+    go a (suc many) = rw (add-one a) (ap (λ (b : Bool). test (f (at + stride * a)) && b) (go (suc a) many))
+
+-- each of n bytes from a place on is its own number
+pub each_own : (l : List ℕ) (at n : ℕ) → at + n ≤ length l → list_all (λ (i : ℕ). eqb (get_or l (at + i) 0) i) (range_with_len 0 n) ≡ same_nats (take n (drop at l)) (count_from 0 n)
+unfolding count_from
+each_own l at n fits = let e : at + 0 ≡ at = omega arith in go 0 n (omega arith) ∙ ap (λ (k : ℕ). same_nats (take n (drop k l)) (count_from 0 n)) e
+  where
+    go : (a many : ℕ) → at + a + many ≤ length l → list_all (λ (i : ℕ). eqb (get_or l (at + i) 0) i) (range_with_len a many) ≡ same_nats (take many (drop (at + a) l)) (count_from a many)
+    go a zero h = sym same_none
+    go a (suc many) h =
+        let e : at + suc a ≡ suc (at + a) = omega arith in
+        rw (add-one a, drop-cons l (at + a) 0 (omega arith), same_first) (ap (λ (b : Bool). eqb (get_or l (at + a) 0) a && b) (go (suc a) many (omega arith) ∙ ap (λ (k : ℕ). same_nats (take many (drop k l)) (count_from (suc a) many)) e))
 
 -- a run of numbers, as one vector and as several
 module _ (c : Float) (most : ℕ) (same : (x : Float) → size_within c x ≡ within most x) (bytes : Bytes) (at : ℕ) where

@@ -1,5 +1,5 @@
 // Whether a job is refused, and with which number: the refusals before the call in the order of [11.1], for every byte slice and every length of the workspace. A job that passes is handed on as its
-// fields. Each test equals the definition's; what it requires are the tests before it.
+// fields. Each test equals the definition's; what it asks are the tests before it, by a clause or by the facts of the `load::Job` that it takes.
 
 #![tactic(auto)]
 
@@ -7,11 +7,10 @@ ghost use Rattle.std.specs.Prelude.{◌≡◌, ◌&&◌, ◌+◌, ◌*◌, ◌�
 ghost use Rattle.definitions.specs.Lists.{all_of, count_from};
 ghost use Rattle.definitions.specs.Job.{read_job, floats_at, between, limit_good, is_finite, tolerance_good, floats_good, same_nats, is_permutation, workspace_for, header_tests, value_tests, job_tests};
 ghost use Rattle.refusals.specs.Refused.{outcome_of};
-ghost use Rattle.load.specs.Places.{Exact};
-ghost use Rattle.load.specs.Meaning.{fields_of, rows_at};
+ghost use Rattle.load.specs.Meaning.{rows_at};
 ghost use Rattle.job.specs.Refusal.{has_mark, size_within, checked_by, checked_of};
 
-use load::Fields;
+use load::{Fields, Job};
 use refusals::Refusal;
 
 // ---- single tests
@@ -20,16 +19,7 @@ use refusals::Refusal;
 fn has_mark(job: &[u8]) -> bool
     ensures { result ≡ has_mark job.now }
 {
-    if job.len() < 11 {
-        return false;
-    }
-    if job[0] != 70 {
-        return false;
-    }
-    if job[1] != 67 {
-        return false;
-    }
-    job[2] == 84
+    11 <= job.len() && job.starts_with(b"FCT")
 }
 
 pub fn between(lowest: usize, highest: usize, x: usize) -> bool
@@ -49,18 +39,7 @@ fn within(x: f64, most: f64) -> bool
 fn limit_good(limit: Option<f64>) -> bool
     ensures { result ≡ limit_good limit }
 {
-    match limit {
-        None => true,
-        Some(x) => within(x, 131072.0) && 0.0 <= x,
-    }
-}
-
-// Neither an infinity nor a NaN, which passes no comparison.
-fn is_finite(x: f64) -> bool
-    ensures { result ≡ is_finite x }
-{
-    let infinity = 1.0 / 0.0;
-    x < infinity && -infinity < x
+    limit.is_none_or(|x| within(x, 131072.0) && 0.0 <= x)
 }
 
 // The ends of the range of tolerances, both in it.
@@ -82,7 +61,7 @@ fn limits_good(fields: Fields) -> bool
 {
     limit_good(fields.limits.shortest)
         && limit_good(fields.limits.longest)
-        && is_finite(fields.tolerance)
+        && fields.tolerance.is_finite()
 }
 
 // So many numbers from a place on.
@@ -90,31 +69,25 @@ fn all_within(job: &[u8], at: usize, many: usize, most: f64) -> bool
     requires { at + 8 * many ≤ length job.now }
     ensures { result ≡ all_of (size_within most) (floats_at job.now at many) }
 {
-    for i in 0..many {
-        if !within(load::float_at(job, at + 8 * i), most) {
-            return false;
-        }
-    }
-    true
+    (0..many).all(|i| within(load::float_at(job, at + 8 * i), most))
 }
 
 // The vectors of the basis and the points stand one behind the other, so that each of them is one run of numbers.
-fn floats_good(job: &[u8], fields: Fields) -> bool
-    requires { Exact job.now × (fields ≡ fields_of job.now) }
-    ensures { result ≡ floats_good (read_job job.now) }
+fn floats_good(job: Job) -> bool
+    ensures { result ≡ floats_good (read_job job.entry.bytes.now) }
 {
-    let in_basis = fields.d * (fields.rank - 1);
-    let in_points = fields.d * fields.n;
-    if !limits_good(fields) {
+    let in_basis = job.fields.d * (job.fields.rank - 1);
+    let in_points = job.fields.d * job.fields.n;
+    if !limits_good(job.fields) {
         return false;
     }
-    if !all_within(job, fields.offset, fields.d, 65536.0) {
+    if !all_within(job.bytes, job.fields.offset, job.fields.d, 65536.0) {
         return false;
     }
-    if !all_within(job, fields.basis, in_basis, 1.0) {
+    if !all_within(job.bytes, job.fields.basis, in_basis, 1.0) {
         return false;
     }
-    all_within(job, fields.points, in_points, 65536.0)
+    all_within(job.bytes, job.fields.points, in_points, 65536.0)
 }
 
 // ---- rows
@@ -124,12 +97,7 @@ pub fn is_identity(job: &[u8], at: usize, n: usize) -> bool
     requires { at + n ≤ length job.now }
     ensures { result ≡ same_nats (take n (drop at job.now)) (count_from 0 n) }
 {
-    for i in 0..n {
-        if usize::from(job[at + i]) != i {
-            return false;
-        }
-    }
-    true
+    (0..n).all(|i| usize::from(job[at + i]) == i)
 }
 
 // Each image is below n and was not met before.
@@ -155,12 +123,7 @@ pub fn rows_good(job: &[u8], at: usize, n: usize, count: usize) -> bool
     requires { (n ≤ 20) × (at + n * count ≤ length job.now) }
     ensures { result ≡ all_of (is_permutation n) (rows_at job.now at n count) }
 {
-    for i in 0..count {
-        if !is_permutation(job, at + n * i, n) {
-            return false;
-        }
-    }
-    true
+    (0..count).all(|i| is_permutation(job, at + n * i, n))
 }
 
 // ---- workspace
@@ -214,26 +177,25 @@ fn check_header(job: &[u8]) -> Result<Fields, Refusal>
 }
 
 // Refusals 9, 22, 25, 10 and 11, of a job whose header passes: its floats, its tolerance, its rule and its rows.
-fn check_values(job: &[u8], fields: Fields) -> Result<Fields, Refusal>
-    requires { Exact job.now × (fields ≡ fields_of job.now) }
-    ensures { outcome_of result ≡ checked_by (value_tests job.now) job.now }
+fn check_values(job: Job) -> Result<Fields, Refusal>
+    ensures { outcome_of result ≡ checked_by (value_tests job.entry.bytes.now) job.entry.bytes.now }
 {
-    if !floats_good(job, fields) {
+    if !floats_good(job) {
         return Err(Refusal::Number);
     }
-    if !tolerance_good(fields.tolerance) {
+    if !tolerance_good(job.fields.tolerance) {
         return Err(Refusal::Tolerance);
     }
-    if !between(1, 2, fields.rule) {
+    if !between(1, 2, job.fields.rule) {
         return Err(Refusal::Rule);
     }
-    if !is_identity(job, fields.rows, fields.n) {
+    if !is_identity(job.bytes, job.fields.rows, job.fields.n) {
         return Err(Refusal::FirstRow);
     }
-    if !rows_good(job, fields.rows, fields.n, fields.count) {
+    if !rows_good(job.bytes, job.fields.rows, job.fields.n, job.fields.count) {
         return Err(Refusal::Row);
     }
-    Ok(fields)
+    Ok(job.fields)
 }
 
 // The job's own refusals: what its bytes alone decide.
@@ -241,7 +203,7 @@ pub fn check_job(job: &[u8]) -> Result<Fields, Refusal>
     ensures { outcome_of result ≡ checked_by (job_tests job.now) job.now }
 {
     let fields = check_header(job)?;
-    check_values(job, fields)
+    check_values(Job { bytes: job, fields })
 }
 
 // All refusals before the call.

@@ -10,7 +10,7 @@ ghost use Rattle.faceting.specs.Ways.{way_of, WayFits};
 ghost use Rattle.job_calls.specs.Loaded.{job_rules, JobCalled, CalledIn};
 
 use calls::{Called, Rules};
-use load::Fields;
+use load::{Fields, Job};
 use openers::Rows;
 use refusals::Refusal;
 use tallies::Package;
@@ -36,6 +36,8 @@ fn rules_of(fields: Fields) -> Rules
 pub const ROWS_ROOM: usize = 3840;
 
 // A job that passed the refusals before the call, loaded and called, by a package or by none [12.1] [17.10]. Its rows stay with the caller, who needs them for what the call leaves.
+// That the job passed stays a clause, here and below: it speaks of the length of the workspace too, which the function writes. So does `WayFits`: it speaks of a package that may be there or not, and
+// of the number of vertices, which the fields hold.
 pub fn call_in_way(
     job: &[u8],
     fields: Fields,
@@ -46,10 +48,11 @@ pub fn call_in_way(
     requires { (answered fields ≡ checked_of job.now (length ws.old)) × (length rows.old ≡ 3840) × WayFits fields.n way }
     ensures { CalledIn (way_of fields.n way.entry) job.now fields rows.new result ws.new }
 {
-    let plane = load::plane_of(job, fields);
-    let points = load::points_of(job, fields);
+    let job = Job { bytes: job, fields };
+    let plane = job.plane();
+    let points = job.points();
     let rules = rules_of(fields);
-    load::load_rows(job, fields, rows);
+    job.load_rows(rows);
     let loaded = Rows {
         bytes: rows,
         count: fields.count,

@@ -1,4 +1,5 @@
 -- The fields of a job as the code hands them on, and what they mean: the definition's `Job`, its plane, its points and its rows. Leans on Places and on what the crate of spaces says.
+use Rattle.std.proofs.Props.{props}
 use Rattle.std.specs.Prelude.{◌≡◌, refl, List, map, ℕ, ◌+◌, ◌-◌, ◌*◌, ◌≤◌, length, take, drop, Float}
 use Rattle.definitions.specs.Lists.{count_from}
 use Rattle.definitions.specs.Orbits.{Row}
@@ -28,6 +29,10 @@ fields_of bytes =
       points = places.points;
       rows = places.rows;
     }
+
+-- that fields are a job's has one proof at most: they are numbers, floats and options of these
+pub read_once : (f : Fields) (bytes : Bytes) → IsProp (f ≡ fields_of bytes)
+read_once f bytes = Prim.hlevel props
 
 -- ---- rows
 

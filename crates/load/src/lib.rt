@@ -11,7 +11,7 @@ ghost use Rattle.vectors.specs.Meaning.{five};
 ghost use Rattle.space.specs.Meaning.{HoldsSubspace, HoldsPoints};
 ghost use Rattle.load.specs.Places.{header_of, places_of, Counted, Exact};
 ghost use Rattle.openers.specs.Rows.{rows_in, written_rows};
-ghost use Rattle.load.specs.Meaning.{fields_of, rows_at};
+ghost use Rattle.load.specs.Meaning.{fields_of, read_once, rows_at};
 
 use space::{Limits, Points, Subspace};
 use words::Word;
@@ -176,29 +176,6 @@ fn vector_at(job: &[u8], at: usize, d: usize) -> [f64; 5]
     v
 }
 
-pub fn plane_of(job: &[u8], fields: Fields) -> Subspace
-    requires { Exact job.now × (fields ≡ fields_of job.now) }
-    ensures { HoldsSubspace result (plane_of (read_job job.now)) × (result.d ≡ fields.d) × (result.rank ≡ fields.rank - 1) }
-{
-    let offset = vector_at(job, fields.offset, fields.d);
-    let mut plane = Subspace::new(offset, fields.d);
-    for j in 0..fields.rank - 1 {
-        plane.push(vector_at(job, fields.basis + 8 * fields.d * j, fields.d));
-    }
-    plane
-}
-
-pub fn points_of(job: &[u8], fields: Fields) -> Points
-    requires { Exact job.now × (fields ≡ fields_of job.now) }
-    ensures { HoldsPoints result fields.d (read_job job.now).points × (result.n ≡ fields.n) }
-{
-    let mut points = Points::new(fields.d);
-    for i in 0..fields.n {
-        points.push(vector_at(job, fields.points + 8 * fields.d * i, fields.d));
-    }
-    points
-}
-
 // Rows of n bytes that stand one behind the other from a place on, copied to 32 bytes each.
 pub fn copy_rows(bytes: &[u8], at: usize, n: usize, count: usize, region: &mut [u8])
     requires { (n ≤ 32) × (at + n * count ≤ length bytes.now) × (32 * count ≤ length region.old) }
@@ -212,11 +189,57 @@ pub fn copy_rows(bytes: &[u8], at: usize, n: usize, count: usize, region: &mut [
     }
 }
 
-// Each row to a place of its own, 32 bytes apart, so that a row's number times a constant finds it. What stands between the rows and behind them stays.
-pub fn load_rows(job: &[u8], fields: Fields, region: &mut [u8])
-    requires { Exact job.now × (fields ≡ fields_of job.now) × (32 * fields.count ≤ length region.old) }
-    ensures rows { (rows_in fields.n fields.count region.new ≡ (read_job job.now).rows) × (length region.new ≡ length region.old) }
-    ensures region { region.new ≡ written_rows (read_job job.now).rows 0 region.old }
-{
-    copy_rows(job, fields.rows, fields.n, fields.count, region);
+// A job of its exact length, and its fields: what the plane, the points and the rows are read from.
+#[derive(Clone, Copy)]
+pub struct Job<'a> {
+    pub bytes: &'a [u8],
+    pub fields: Fields,
+    pub ghost exact: { Exact bytes.now },
+    pub ghost read: { fields ≡ fields_of bytes.now } by { read_once fields bytes.now },
+}
+
+impl<'a> Job<'a> {
+    pub fn plane(self) -> Subspace
+        ensures { HoldsSubspace result (plane_of (read_job self.entry.bytes.now)) × (result.d ≡ self.entry.fields.d) × (result.rank ≡ self.entry.fields.rank - 1) }
+    {
+        let offset = vector_at(self.bytes, self.fields.offset, self.fields.d);
+        let mut plane = Subspace::new(offset, self.fields.d);
+        for j in 0..self.fields.rank - 1 {
+            plane.push(vector_at(
+                self.bytes,
+                self.fields.basis + 8 * self.fields.d * j,
+                self.fields.d,
+            ));
+        }
+        plane
+    }
+
+    pub fn points(self) -> Points
+        ensures { HoldsPoints result self.entry.fields.d (read_job self.entry.bytes.now).points × (result.n ≡ self.entry.fields.n) }
+    {
+        let mut points = Points::new(self.fields.d);
+        for i in 0..self.fields.n {
+            points.push(vector_at(
+                self.bytes,
+                self.fields.points + 8 * self.fields.d * i,
+                self.fields.d,
+            ));
+        }
+        points
+    }
+
+    // Each row to a place of its own, 32 bytes apart, so that a row's number times a constant finds it. What stands between the rows and behind them stays.
+    pub fn load_rows(self, region: &mut [u8])
+        requires { 32 * self.fields.count ≤ length region.old }
+        ensures rows { (rows_in self.entry.fields.n self.entry.fields.count region.new ≡ (read_job self.entry.bytes.now).rows) × (length region.new ≡ length region.old) }
+        ensures region { region.new ≡ written_rows (read_job self.entry.bytes.now).rows 0 region.old }
+    {
+        copy_rows(
+            self.bytes,
+            self.fields.rows,
+            self.fields.n,
+            self.fields.count,
+            region,
+        );
+    }
 }

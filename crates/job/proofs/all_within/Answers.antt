@@ -1,21 +1,18 @@
-use mathlib.Core.Path.{sym, ap, ◌∙◌}
+-- `job::all_within` meets its contract: each number is tested by itself. Assumes nothing.
+use Prim.Native.Nat.{ℕ, ◌+◌, ◌*◌}
 use native.Mathlib.Omega.{arith}
+use mathlib.Core.Path.{refl, ◌∙◌}
+use Rattle.std.proofs.Common.{rules}
+use Rattle.std.proofs.lemmas.Iterator.{YieldsList-from_range}
+use Rattle.std.proofs.lemmas.Iterator.Search.{all_from_yields_List}
 use Rattle.definitions.specs.Job.{float_at, floats_at}
-use Rattle.laws.specs.Tests.{spaced, test_starts, test_stops, test_goes_on, test_ends}
+use Rattle.laws.specs.Tests.{spaced}
 use Rattle.job.specs.Refusal.{size_within}
+use Rattle.job.proofs.Laws.{each_spaced}
 use Rattle.job.proofs.all_within.Goals as goal
-
-pub returns-then-not-within : goal.returns-then-not-within
-unfolding floats_at spaced
-returns-then-not-within c =
-    let l = c.loop-i in
-    test_stops (size_within _) (float_at _) 8 _ _ l.i (omega arith) (sym (ap (size_within _) c.float_at.ensures) ∙ sym c.within.ensures ∙ c.if-not-within.true) l.invariant.1
-
-pub loop-i-preserved : goal.loop-i-preserved
-loop-i-preserved c =
-    let l = c.loop-i in
-    (omega arith, test_goes_on (size_within _) (float_at _) 8 _ _ l.i (omega arith) (sym (ap (size_within _) c.float_at.ensures) ∙ sym c.within.ensures ∙ c.if-not-within.false) l.invariant.1)
 
 pub returns : goal.returns
 unfolding floats_at spaced
-returns c = test_ends (size_within _) (float_at _) 8 _ _ _ (omega arith) c.loop-i.invariant.1
+returns c =
+    all_from_yields_List (λ (i : ℕ). size_within c.args.most (float_at c.args.job.now (c.args.at + 8 * i))) _ _ _ c.all.ensures.ran (YieldsList-from_range 0 c.args.many c.args.many refl (omega arith)) (λ x b q k. search rules)
+    ∙ each_spaced (size_within c.args.most) (float_at c.args.job.now) 8 c.args.at c.args.many

@@ -7,11 +7,11 @@ use Rattle.job.specs.Passed.{checked_passed, header_passed}
 use Rattle.job.proofs.Laws.{refused_before, left_to_second}
 use Rattle.job.proofs.check_job.Goals as goal
 
-pub check_values-requires : goal.check_values-requires
-check_values-requires c =
+pub invariant_of-check_values : goal.invariant_of-check_values
+invariant_of-check_values c =
     let job = c.args.job.now in
     let passes = checked_passed (header_tests job) job _ (c.in_ok-fields.ensures) in
-    (header_passed job (none_refused (header_tests job) passes.0), passes.1)
+    record { exact = header_passed job (none_refused (header_tests job) passes.0); read = passes.1 }
 
 pub returns-in_err-fields : goal.returns-in_err-fields
 unfolding job_tests

@@ -1,22 +1,17 @@
-use mathlib.Core.Path.{sym, ◌∙◌}
+-- `job::is_identity` meets its contract: each byte is tested by itself. Assumes nothing.
+use Prim.Native.Nat.{ℕ, ◌+◌}
 use native.Mathlib.Omega.{arith}
-use borrow.Author.Tests.{eq-eqb, ne_eqb}
-use Rattle.laws.specs.Tests.{count_stops, count_goes_on, count_ends}
+use mathlib.Core.Path.{refl, ◌∙◌}
+use borrow.Author.Tests.{tests}
+use lib.Dec.{eqb}
+use lib.ListN.{get_or}
+use Rattle.std.proofs.Common.{rules}
+use Rattle.std.proofs.lemmas.Iterator.{YieldsList-from_range}
+use Rattle.std.proofs.lemmas.Iterator.Search.{all_from_yields_List}
+use Rattle.job.proofs.Laws.{each_own}
 use Rattle.job.proofs.is_identity.Goals as goal
-
-pub returns-then-from-i : goal.returns-then-from-i
-returns-then-from-i c =
-    let a = c.args in
-    let l = c.loop-i in
-    count_stops a.job.now a.at a.n l.i (omega arith) (omega arith) (ne_eqb _ _ (λ e. c.if-from-i.true (c.from.ensures ∙ e))) l.invariant.1
-
-pub loop-i-preserved : goal.loop-i-preserved
-loop-i-preserved c =
-    let a = c.args in
-    let l = c.loop-i in
-    (omega arith, count_goes_on a.job.now a.at a.n l.i (omega arith) (omega arith) (eq-eqb _ _ (sym c.from.ensures ∙ c.if-from-i.false)) l.invariant.1)
 
 pub returns : goal.returns
 returns c =
-    let a = c.args in
-    count_ends a.job.now a.at a.n c.loop-i.i (omega arith) c.loop-i.invariant.1
+    all_from_yields_List (λ (i : ℕ). eqb (get_or c.args.job.now (c.args.at + i) 0) i) _ _ _ c.all.ensures.ran (YieldsList-from_range 0 c.args.n c.args.n refl (omega arith)) (λ x b q k. search (rules, tests))
+    ∙ each_own c.args.job.now c.args.at c.args.n c.requires

@@ -1,27 +1,19 @@
-use mathlib.Core.Path.{sym, ◌∙◌}
-use Prim.Native.Nat.{ℕ}
+-- `job::rows_good` meets its contract: each row is tested by itself. Assumes nothing.
+use Prim.Native.Nat.{ℕ, ◌+◌, ◌*◌}
 use native.Mathlib.Omega.{arith}
+use mathlib.Core.Path.{refl, ◌∙◌}
 use lib.ListN.{take, drop}
+use Rattle.std.proofs.Common.{rules}
+use Rattle.std.proofs.lemmas.Iterator.{YieldsList-from_range}
+use Rattle.std.proofs.lemmas.Iterator.Search.{all_from_yields_List}
 use Rattle.definitions.specs.Job.{is_permutation}
-use Rattle.laws.specs.Tests.{spaced, test_stops, test_goes_on, test_ends}
+use Rattle.laws.specs.Tests.{spaced}
 use Rattle.load.specs.Meaning.{rows_at}
+use Rattle.job.proofs.Laws.{each_spaced}
 use Rattle.job.proofs.rows_good.Goals as goal
-
-pub returns-then-not-is_permutation : goal.returns-then-not-is_permutation
-unfolding rows_at spaced
-returns-then-not-is_permutation c =
-    let a = c.args in
-    let l = c.loop-i in
-    test_stops (is_permutation a.n) (λ (q : ℕ). take a.n (drop q a.job.now)) a.n a.at a.count l.i (omega arith) (sym c.is_permutation.ensures ∙ c.if-not-is_permutation.true) l.invariant.1
-
-pub loop-i-preserved : goal.loop-i-preserved
-loop-i-preserved c =
-    let a = c.args in
-    let l = c.loop-i in
-    (omega arith, test_goes_on (is_permutation a.n) (λ (q : ℕ). take a.n (drop q a.job.now)) a.n a.at a.count l.i (omega arith) (sym c.is_permutation.ensures ∙ c.if-not-is_permutation.false) l.invariant.1)
 
 pub returns : goal.returns
 unfolding rows_at spaced
 returns c =
-    let a = c.args in
-    test_ends (is_permutation a.n) (λ (q : ℕ). take a.n (drop q a.job.now)) a.n a.at a.count c.loop-i.i (omega arith) c.loop-i.invariant.1
+    all_from_yields_List (λ (i : ℕ). is_permutation c.args.n (take c.args.n (drop (c.args.at + c.args.n * i) c.args.job.now))) _ _ _ c.all.ensures.ran (YieldsList-from_range 0 c.args.count c.args.count refl (omega arith)) (λ x b q k. search rules)
+    ∙ each_spaced (is_permutation c.args.n) (λ (q : ℕ). take c.args.n (drop q c.args.job.now)) c.args.n c.args.at c.args.count

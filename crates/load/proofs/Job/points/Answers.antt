@@ -8,32 +8,32 @@ use Rattle.vectors.specs.Wholes.{five_means}
 use Rattle.vectors.proofs.Wholes.{five_own}
 use Rattle.load.proofs.Meaning.{loadable}
 use Rattle.load.proofs.Laws.{floats_length, points_turn}
-use Rattle.load.proofs.points_of.Goals as goal
+use Rattle.load.proofs.Job.points.Goals as goal
 
 pub new-points-requires : goal.new-points-requires
 new-points-requires c =
-    let k = loadable _ _ c.requires.0 c.requires.1 in
+    let k = loadable _ _ c.args.self.exact c.args.self.read in
     omega arith
 
 pub loop-i-init : goal.loop-i-init
 unfolding vectors_at count_from
 loop-i-init c = (omega arith, c.new-points.ensures, c.new-points.ensures.n_is)
 
-pub overflow_add-fields : goal.overflow_add-fields
-overflow_add-fields c =
-    let k = loadable _ _ c.requires.0 c.requires.1 in
-    let m = next_fits (8 * c.args.fields.d) c.loop-i.i c.args.fields.n (omega arith) in
+pub overflow_add-self : goal.overflow_add-self
+overflow_add-self c =
+    let k = loadable _ _ c.args.self.exact c.args.self.read in
+    let m = next_fits (8 * c.args.self.fields.d) c.loop-i.i c.args.self.fields.n (omega arith) in
     omega arith
 
 pub vector_at-requires : goal.vector_at-requires
 vector_at-requires c =
-    let k = loadable _ _ c.requires.0 c.requires.1 in
-    let m = next_fits (8 * c.args.fields.d) c.loop-i.i c.args.fields.n (omega arith) in
+    let k = loadable _ _ c.args.self.exact c.args.self.read in
+    let m = next_fits (8 * c.args.self.fields.d) c.loop-i.i c.args.self.fields.n (omega arith) in
     (omega arith, omega arith)
 
 pub push-requires : goal.push-requires
 push-requires c =
-    let k = loadable _ _ c.requires.0 c.requires.1 in
+    let k = loadable _ _ c.args.self.exact c.args.self.read in
     let l = c.loop-i in
     (omega arith, five_own _ _ l.points.d c.vector_at.ensures (floats_length _ _ _ ∙ sym l.invariant.1.d_is))
 
@@ -45,7 +45,7 @@ loop-i-preserved c =
 
 pub returns : goal.returns
 returns c =
-    let k = loadable _ _ c.requires.0 c.requires.1 in
+    let k = loadable _ _ c.args.self.exact c.args.self.read in
     let l = c.loop-i in
-    let end : l.i ≡ c.args.fields.n = omega arith in
+    let end : l.i ≡ c.args.self.fields.n = omega arith in
     (rw (k.points_is, ← end) l.invariant.1, l.invariant.2 ∙ end)

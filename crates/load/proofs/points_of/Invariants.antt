@@ -1,9 +1,0 @@
--- `load::points_of` meets its contract. The invariant: the first i points stand in the struct. Assumes nothing.
-use mathlib.Core.Path.{◌≡◌}
-use Prim.Native.Nat.{◌-◌, ◌≤◌}
-use Rattle.definitions.specs.Job.{vectors_at}
-use Rattle.space.specs.Meaning.{HoldsPoints}
-use Rattle.load.proofs.points_of.Given as goal
-
-abbrev pub invariant-loop-i : goal.invariant-loop-i
-invariant-loop-i l = (l.i ≤ l.fn.fields.n) × HoldsPoints l.points l.fn.fields.d (vectors_at l.job l.fn.fields.points l.fn.fields.d l.i) × (l.points.n ≡ l.i)
