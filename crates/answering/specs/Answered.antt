@@ -81,7 +81,7 @@ module _ (budget : ℕ) (call : Outcome Answer) where
   unfolding written_in buffer_in bytes_of and_then buffer_of
   refused_clauses e answer clear = let o = ap (bytes_of budget) e in (sym (ap (written_in (length answer)) o), clear ∙ sym (ap (buffer_in (length answer)) o))
 
-  pub answered_clauses : {a : Answer} → call ≡ answered a → (from : Bytes) {before after : Writer} {end : Bytes} {r : Outcome ℕ} → from ≡ replicate (length from) 0 → before.buffer.now ≡ from → before.at ≡ Some 0
+  pub answered_clauses : {a : Answer} → call ≡ answered a → (from : Bytes) {before after : Writer} {end : Bytes} {r : Outcome (Option ℕ)} → from ≡ replicate (length from) 0 → before.buffer.now ≡ from → before.at ≡ Some 0
       → Writes before after (answer_words budget a) → r ≡ written_to (length after.buffer.now) after.at → end ≡ buffer_to after.buffer.now after.at
       → (r ≡ written_in (length from) (bytes_of budget call)) × (end ≡ buffer_in (length from) (bytes_of budget call))
   answered_clauses {a} e from {before} {after} clear opened first writes r-is end_is =

@@ -14,20 +14,20 @@ use Rattle.words.specs.Wrote as writing
 
 -- ---- what is written of a job's outcome by itself
 
--- so many bytes, where there is room for them
-unfoldable pub written_in : ℕ → Outcome Bytes → Outcome ℕ
+-- so many bytes, or none where there is no room for them
+unfoldable pub written_in : ℕ → Outcome Bytes → Outcome (Option ℕ)
 written_in room (refused number) = refused number
-written_in room (answered bytes) = cond (ltb room (length bytes)) (refused 17) (answered (length bytes))
+written_in room (answered bytes) = answered (cond (ltb room (length bytes)) None (Some (length bytes)))
 
--- the buffer behind it
+-- the buffer behind it: that of the call whose refusal 17 is `None`
 unfoldable pub buffer_in : ℕ → Outcome Bytes → Bytes
 buffer_in room o = buffer_of room (and_then o (fitting room))
 
 -- ---- the same by the cursor
 
-unfoldable pub written_to : ℕ → Option ℕ → Outcome ℕ
-written_to room None = refused 17
-written_to room (Some at) = cond (ltb room at) (refused 17) (answered at)
+unfoldable pub written_to : ℕ → Option ℕ → Outcome (Option ℕ)
+written_to room None = answered None
+written_to room (Some at) = answered (cond (ltb room at) None (Some at))
 
 -- what has no room is cleared again
 unfoldable pub buffer_to : Bytes → Option ℕ → Bytes

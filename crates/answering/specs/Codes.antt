@@ -1,6 +1,6 @@
 -- The return code and the buffer of the first call, by what came of its job. Leans on what is written of a job, and on the law that the buffer's
 -- length matters last.
-use Rattle.std.specs.Prelude.{◌≡◌, Bool, ◌++◌, ℕ, ◌-◌, ◌≤◌, ◌<◌, ℤ, pos, neg_ℤ, replicate}
+use Rattle.std.specs.Prelude.{◌≡◌, Bool, ◌++◌, ℕ, ◌-◌, ◌≤◌, ◌<◌, ℤ, pos, neg_ℤ, replicate, Option, Some, None}
 use Rattle.std.proofs.Math.Path.{refl, ap}
 use Rattle.std.proofs.Common.{sym, ◌∙◌, arith, lt-ltb, le-ltb}
 use Rattle.std.proofs.Math.Bool.{true, false, cond}
@@ -12,17 +12,18 @@ use Rattle.laws.specs.Bools.{false→fails, true→holds}
 use Rattle.completeness.specs.Lengths.{outcome_alone}
 use Rattle.answering.specs.Closed.{written_in, buffer_in}
 
--- [12.7] [11.5] minus the refusal's number, or the length
-unfoldable pub code_written : Outcome ℕ → ℤ
+-- [12.7] [11.5] minus the refusal's number, 17 where there is no room, or the length
+unfoldable pub code_written : Outcome (Option ℕ) → ℤ
 code_written (refused number) = neg_ℤ (pos number)
-code_written (answered many) = pos many
+code_written (answered None) = neg_ℤ (pos 17)
+code_written (answered (Some many)) = pos many
 
 -- of any outcome of which so much is written
-pub written_code : (room : ℕ) (o : Outcome Bytes) {w : Outcome ℕ} → w ≡ written_in room o → code_written w ≡ code_of (and_then o (fitting room))
+pub written_code : (room : ℕ) (o : Outcome Bytes) {w : Outcome (Option ℕ)} → w ≡ written_in room o → code_written w ≡ code_of (and_then o (fitting room))
 unfolding code_written written_in code_of fitting refuse_if and_then
 written_code room o {w} e = ap code_written e ∙ go o
   where
-    by_room : (bytes : Bytes) (b : Bool) → code_written (cond b (refused 17) (answered (length bytes))) ≡ code_of (refuse_if b 17 (λ u. answered bytes))
+    by_room : (bytes : Bytes) (b : Bool) → code_written (answered (cond b None (Some (length bytes)))) ≡ code_of (refuse_if b 17 (λ u. answered bytes))
     by_room bytes true = refl
     by_room bytes false = refl
 
@@ -30,7 +31,7 @@ written_code room o {w} e = ap code_written e ∙ go o
     go (refused number) = refl
     go (answered bytes) = by_room bytes (ltb room (length bytes))
 
-pub code_is : (job : Bytes) (workspace room : ℕ) {w : Outcome ℕ} → w ≡ written_in room (alone job workspace) → code_written w ≡ code_of (outcome job workspace room)
+pub code_is : (job : Bytes) (workspace room : ℕ) {w : Outcome (Option ℕ)} → w ≡ written_in room (alone job workspace) → code_written w ≡ code_of (outcome job workspace room)
 code_is job workspace room e = written_code room (alone job workspace) e ∙ sym (ap code_of (outcome_alone job workspace room))
 
 pub buffer_is : (job : Bytes) (workspace room : ℕ) → buffer_in room (alone job workspace) ≡ buffer_of room (outcome job workspace room)
@@ -40,32 +41,26 @@ buffer_is job workspace room = sym (ap (buffer_of room) (outcome_alone job works
 -- ---- what the job gets by itself, from what came of it
 
 module _ (room : ℕ) where
-  -- a refusal that is not 17 is the outcome's own
-  pub says_refused : (o : Outcome Bytes) (number : ℕ) → (number ≡ 17 → ⊥) → refused number ≡ written_in room o → o ≡ refused number
+  pub says_refused : (o : Outcome Bytes) (number : ℕ) → refused number ≡ written_in room o → o ≡ refused number
   unfolding written_in
-  says_refused (refused n) number other e = cc
-  says_refused (answered bytes) number other e = go (ltb room (length bytes)) e
-    where
-      go : (b : Bool) → refused number ≡ cond b (refused 17) (answered (length bytes)) → answered bytes ≡ refused number
-      go true q = let same : number ≡ 17 = cc in absurd (other same)
-      go false q = cc
+  says_refused (refused n) number e = cc
+  says_refused (answered bytes) number e = let no : ⊥ = cc in absurd no
 
-  -- 17 is an answer that does not fit, where it is not the outcome's own
-  pub says_short : (o : Outcome Bytes) → (o ≡ refused 17 → ⊥) → refused 17 ≡ written_in room o → (bytes : Bytes) × (o ≡ answered bytes) × (room < length bytes)
+  pub says_short : (o : Outcome Bytes) → answered None ≡ written_in room o → (bytes : Bytes) × (o ≡ answered bytes) × (room < length bytes)
   unfolding written_in
-  says_short (refused n) other e = let same : n ≡ 17 = cc in absurd (other (ap refused same))
-  says_short (answered bytes) other e = go (ltb room (length bytes)) refl e
+  says_short (refused n) e = let no : ⊥ = cc in absurd no
+  says_short (answered bytes) e = go (ltb room (length bytes)) refl e
     where
-      go : (b : Bool) → ltb room (length bytes) ≡ b → refused 17 ≡ cond b (refused 17) (answered (length bytes)) → (l : Bytes) × (answered bytes ≡ answered l) × (room < length l)
+      go : (b : Bool) → ltb room (length bytes) ≡ b → answered None ≡ answered (cond b None (Some (length bytes))) → (l : Bytes) × (answered bytes ≡ answered l) × (room < length l)
       go true t q = (bytes, refl, ltb→lt room (length bytes) (true→holds t))
       go false t q = let no : ⊥ = cc in absurd no
 
-  pub says_wrote : (o : Outcome Bytes) (many : ℕ) → answered many ≡ written_in room o → (bytes : Bytes) × (o ≡ answered bytes) × (many ≡ length bytes) × (many ≤ room)
+  pub says_wrote : (o : Outcome Bytes) (many : ℕ) → answered (Some many) ≡ written_in room o → (bytes : Bytes) × (o ≡ answered bytes) × (many ≡ length bytes) × (many ≤ room)
   unfolding written_in
   says_wrote (refused n) many e = let no : ⊥ = cc in absurd no
   says_wrote (answered bytes) many e = go (ltb room (length bytes)) refl e
     where
-      go : (b : Bool) → ltb room (length bytes) ≡ b → answered many ≡ cond b (refused 17) (answered (length bytes)) → (l : Bytes) × (answered bytes ≡ answered l) × (many ≡ length l) × (many ≤ room)
+      go : (b : Bool) → ltb room (length bytes) ≡ b → answered (Some many) ≡ answered (cond b None (Some (length bytes))) → (l : Bytes) × (answered bytes ≡ answered l) × (many ≡ length l) × (many ≤ room)
       go true t q = let no : ⊥ = cc in absurd no
       go false t q =
           let same : many ≡ length bytes = cc in

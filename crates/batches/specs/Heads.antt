@@ -1,6 +1,6 @@
 -- The head of a record in front of what stands behind it, in a buffer that was zero [15.2]: the clauses of `write_record`, case by case. Leans on
 -- Records, on what is written of a job, and on the laws of lent parts.
-use Rattle.std.specs.Prelude.{◌≡◌, ◌∷◌, ◌++◌, ℕ, ◌+◌, ◌-◌, ◌≤◌, ◌<◌, take, drop, replicate}
+use Rattle.std.specs.Prelude.{◌≡◌, ◌∷◌, ◌++◌, ℕ, ◌+◌, ◌-◌, ◌≤◌, ◌<◌, take, drop, replicate, Some, None}
 use Rattle.std.proofs.Math.Path.{refl, sym, ap}
 use Rattle.std.proofs.Common.{◌∙◌, take_at}
 use native.Mathlib.Omega.{arith}
@@ -91,24 +91,24 @@ module _ (records : Bytes) (clear : records ≡ zeros (length records)) (h : 6 �
   p_in = p-is ∙ ap (λ (k : ℕ). buffer_in k o) behind_length_holds
 
   -- a refusal
-  pub refused_clauses : (number : ℕ) → (number ≡ 17 → ⊥) → refused number ≡ written_in (length (lent records clear 6 h)) o → Clauses room o (answered 6) (put 2 back 4 number)
+  pub refused_clauses : (number : ℕ) → refused number ≡ written_in (length (lent records clear 6 h)) o → Clauses room o (answered 6) (put 2 back 4 number)
   unfolding buffer_in and_then buffer_of word_bytes half_bytes
-  refused_clauses number other told =
-      let is = says_refused (length (lent records clear 6 h)) o number other told in
+  refused_clauses number told =
+      let is = says_refused (length (lent records clear 6 h)) o number told in
       let zero-behind : p ≡ zeros (room - 6) = p_in ∙ ap (buffer_in (room - 6)) is in
       wrote_clauses room o (word_bytes 0 ++ half_bytes number) (ap (record_in room) is ∙ refused_record room number h) 6 refl (put 2 back 4 number)
       (ap (λ (l : Bytes). put 2 l 4 number) (back_is ∙ ap (λ (l : Bytes). zeros 6 ++ l) zero-behind) ∙ put_number (zeros (room - 6)) number)
 
   -- an answer without room
-  pub short_clauses : (o ≡ refused 17 → ⊥) → refused 17 ≡ written_in (length (lent records clear 6 h)) o → Clauses room o (refused 27) back
-  short_clauses never told =
-      let s = says_short (length (lent records clear 6 h)) o never told in
+  pub short_clauses : answered None ≡ written_in (length (lent records clear 6 h)) o → Clauses room o (refused 27) back
+  short_clauses told =
+      let s = says_short (length (lent records clear 6 h)) o told in
       let whole : 6 + (room - 6) ≡ room = omega arith in
       let zero-behind : p ≡ zeros (room - 6) = p_in ∙ (ap (buffer_in (room - 6)) s.1 ∙ short_buffer (room - 6) s.0 (omega (arith, s.2, behind_length_holds))) in
       too_long_clauses room o (ap (record_in room) s.1 ∙ no_room room s.0 (omega (arith, s.2, behind_length_holds))) back
       (back_is ∙ (ap (λ (l : Bytes). zeros 6 ++ l) zero-behind ∙ (replicate-append-replicate 6 (room - 6) 0 ∙ ap zeros whole)))
 
-  module _ (many : ℕ) (told : answered many ≡ written_in (length (lent records clear 6 h)) o) where
+  module _ (many : ℕ) (told : answered (Some many) ≡ written_in (length (lent records clear 6 h)) o) where
     -- an answer whose length is no u32: everything is cleared
     pub long_clauses : 4294967295 < many → (buffer : Bytes) → buffer ≡ zeros room → Clauses room o (refused 27) buffer
     long_clauses k =

@@ -44,6 +44,7 @@ pub fn is_cut(row: &[u8]) -> bool
 const HEAD_BYTES: usize = 6;
 
 // The record of a job at the front of a cleared buffer: how many bytes it has, or refusal 27 where it has no room or no u32 for its length. Of a refused job only the number is written, of an accepted one only the length: the rest of the head is zero already.
+// That the buffer is cleared stays a clause, here and below: the function writes the buffer that it speaks of.
 fn write_record(job: &[u8], workspace: &mut [u8], records: &mut [u8]) -> Result<usize, Refusal>
     requires { records.old ≡ replicate (length records.old) 0 }
     ensures result { outcome_of result ≡ recorded_as (record_in (length records.old) (alone job.now (length workspace.old))) }
@@ -54,13 +55,11 @@ fn write_record(job: &[u8], workspace: &mut [u8], records: &mut [u8]) -> Result<
     }
     match answering::answer_job(job, workspace, &mut records[HEAD_BYTES..]) {
         Err(refusal) => {
-            if let Refusal::Room = refusal {
-                return Err(Refusal::Records);
-            }
             u16::put(records, LENGTH_BYTES, refusal.number() as u16);
             Ok(HEAD_BYTES)
         }
-        Ok(many) => {
+        Ok(None) => Err(Refusal::Records),
+        Ok(Some(many)) => {
             if 4294967295 < many {
                 records.fill(0);
                 return Err(Refusal::Records);
@@ -71,7 +70,7 @@ fn write_record(job: &[u8], workspace: &mut [u8], records: &mut [u8]) -> Result<
     }
 }
 
-// The records of a row's jobs, into a cleared buffer, which is cleared again where one has no room.
+// The records of a row's jobs, into a cleared buffer, which is cleared again where one has no room. That the row is cut stays a clause: this function alone asks it, of the one that tested it.
 fn write_records(row: &[u8], workspace: &mut [u8], records: &mut [u8]) -> Result<usize, Refusal>
     requires { (is_cut (jobs_in row.now) ≡ true) × (records.old ≡ replicate (length records.old) 0) }
     ensures result { outcome_of result ≡ recorded_as (batch row.now (length workspace.old) (length records.old)) }

@@ -4,12 +4,11 @@
 
 use std::io;
 
-// Says which refusal a return code is; their numbers are below 28.
+// Says which refusal a return code is: minus its number.
 fn tell_refusal(rt: &impl Eprint, code: i64) -> io::Result<()> {
-    for number in 1..28 {
-        if code == register::refusal(number) {
-            eprintln!(rt; "facetings: refused {number}")?;
-        }
+    if code < 0 {
+        let number = code.unsigned_abs();
+        eprintln!(rt; "facetings: refused {number}")?;
     }
     Ok(())
 }

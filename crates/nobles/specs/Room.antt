@@ -1,5 +1,5 @@
--- What a job with a package gets by itself is never refused with 17: the job's tests have the numbers 1 to 12, 22 and 25, the package's has 18, the call has 13 to 16. So what
--- `noble_job` tells as 17 is always an answer that has no room. Leans on the numbers of refusals.
+-- What a job with a package gets by itself is never refused with 17: the job's tests have the numbers 1 to 12, 22 and 25, the package's has 18, the call has 13 to 16. So 17
+-- among its return codes is always an answer that has no room (`code_short`). Leans on the numbers of refusals.
 use Rattle.std.specs.Prelude.{◌≡◌, ℕ, T, not, eqb}
 use Rattle.std.proofs.Common.{subst, arith}
 use Rattle.definitions.specs.Lists.{all_of}

@@ -12,7 +12,6 @@ ghost use Rattle.answering.specs.Closed.{written_in, buffer_in};
 
 use job_calls::ROWS_ROOM;
 use load::Fields;
-use openers::Rows;
 use refusals::Refusal;
 
 // The bytes of a package's global numbers, as one row.
@@ -32,14 +31,15 @@ fn check_noble(job: &[u8], pack: &[u8], workspace: usize) -> Result<Fields, Refu
     Ok(fields)
 }
 
-// A job and a package that passed, called, and what the call says written into the cleared buffer.
+// A job and a package that passed, called, and what the call says written into the cleared buffer. That they passed stays a clause: it speaks of the length of the workspace too, which the function writes.
+// That the buffer is cleared stays a clause, here and below: the function writes the buffer that it speaks of.
 fn write_noble(
     job: &[u8],
     pack: &[u8],
     fields: Fields,
     ws: &mut [u8],
     answer: &mut [u8],
-) -> Result<usize, Refusal>
+) -> Result<Option<usize>, Refusal>
     requires { (answered fields ≡ checked_by (noble_tests job.now pack.now (length ws.old)) job.now) × (answer.old ≡ replicate (length answer.old) 0) }
     ensures result { outcome_of result ≡ written_in (length answer.old) (noble_alone job.now pack.now (length ws.old)) }
     ensures buffer { answer.new ≡ buffer_in (length answer.old) (noble_alone job.now pack.now (length ws.old)) }
@@ -49,11 +49,7 @@ fn write_noble(
     let mut full = [0; ROWS_ROOM];
     let whole = packages::load_package(pack, fields.n, &mut globals, &mut full);
     let called = job_calls::call_in_way(job, fields, ws, &mut rows, Some(whole));
-    let loaded = Rows {
-        bytes: &rows,
-        count: fields.count,
-    };
-    answering::write_called(called, fields, loaded, ws, answer)
+    answering::write_called(called, fields, &rows, ws, answer)
 }
 
 // Any job with any package, answered into a cleared buffer.
@@ -62,7 +58,7 @@ pub fn noble_job(
     pack: &[u8],
     workspace: &mut [u8],
     answer: &mut [u8],
-) -> Result<usize, Refusal>
+) -> Result<Option<usize>, Refusal>
     requires { answer.old ≡ replicate (length answer.old) 0 }
     ensures result { outcome_of result ≡ written_in (length answer.old) (noble_alone job.now pack.now (length workspace.old)) }
     ensures buffer { answer.new ≡ buffer_in (length answer.old) (noble_alone job.now pack.now (length workspace.old)) }

@@ -1,5 +1,5 @@
--- The plain entries of a job, before any room for them is asked, are never refused with 17: a job's tests have the numbers 1 to 12, 22 and 25, its call has 13 to 16. So what
--- `plain_job` tells as 17 is always an answer that has no room. Leans on the numbers of refusals.
+-- The plain entries of a job, before any room for them is asked, are never refused with 17: a job's tests have the numbers 1 to 12, 22 and 25, its call has 13 to 16. So 17
+-- among its return codes is always an answer that has no room (`code_short`). Leans on the numbers of refusals.
 use Rattle.std.specs.Prelude.{◌≡◌, ℕ, T}
 use Rattle.std.proofs.Common.{subst, arith}
 use Rattle.definitions.specs.Job.{Bytes, between, tests, call_of}

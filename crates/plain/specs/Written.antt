@@ -1,5 +1,5 @@
 -- What is written of a job that was called, from what its call says: the two clauses of `plain_job`, case by case. Leans on what is called, and on the end of writing.
-use Rattle.std.specs.Prelude.{◌≡◌, refl, ℕ, length, replicate, Some}
+use Rattle.std.specs.Prelude.{◌≡◌, refl, ℕ, length, replicate, Option, Some}
 use Rattle.std.proofs.Math.Path.{sym, ap}
 use Rattle.std.proofs.Common.{◌∙◌}
 use Rattle.definitions.specs.Outcome.{Outcome, refused, answered, and_then}
@@ -53,7 +53,7 @@ module _ (job : Bytes) (workspace : ℕ) where
     unfolding and_then
     answered_is {a} e = called e ∙ ap answered (plain_encoded a)
 
-    pub answered_clauses : {a : Answer} → call_of bounds1 (read_job job) ≡ answered a → (from : Bytes) {before after : Writer} {end : Bytes} {r : Outcome ℕ} → from ≡ replicate (length from) 0 → before.buffer.now ≡ from → before.at ≡ Some 0
+    pub answered_clauses : {a : Answer} → call_of bounds1 (read_job job) ≡ answered a → (from : Bytes) {before after : Writer} {end : Bytes} {r : Outcome (Option ℕ)} → from ≡ replicate (length from) 0 → before.buffer.now ≡ from → before.at ≡ Some 0
         → Writes before after (plain_words a) → r ≡ written_to (length after.buffer.now) after.at → end ≡ buffer_to after.buffer.now after.at
         → (r ≡ written_in (length from) (plain_alone job workspace)) × (end ≡ buffer_in (length from) (plain_alone job workspace))
     answered_clauses {a} e from {before} {after} clear opened first writes r-is end_is =

@@ -51,13 +51,14 @@ fn write_plain(w: &mut Writer, ws: &mut [u8], level: Level)
     write_numbers(w, ws, level.lists + labels, many);
 }
 
-// A job that passed the refusals before the call, called, and its plain entries written into the cleared buffer.
+// A job that passed the refusals before the call, called, and its plain entries written into the cleared buffer. That the job passed stays a clause: it speaks of the length of the workspace too, which the function writes.
+// That the buffer is cleared stays a clause, here and below: the function writes the buffer that it speaks of.
 fn plain_passed(
     job: &[u8],
     fields: Fields,
     ws: &mut [u8],
     answer: &mut [u8],
-) -> Result<usize, Refusal>
+) -> Result<Option<usize>, Refusal>
     requires { (answered fields ≡ checked_of job.now (length ws.old)) × (answer.old ≡ replicate (length answer.old) 0) }
     ensures result { outcome_of result ≡ written_in (length answer.old) (plain_alone job.now (length ws.old)) }
     ensures buffer { answer.new ≡ buffer_in (length answer.old) (plain_alone job.now (length ws.old)) }
@@ -79,7 +80,11 @@ fn plain_passed(
 }
 
 // The plain entries of any job, written into a cleared buffer.
-pub fn plain_job(job: &[u8], workspace: &mut [u8], answer: &mut [u8]) -> Result<usize, Refusal>
+pub fn plain_job(
+    job: &[u8],
+    workspace: &mut [u8],
+    answer: &mut [u8],
+) -> Result<Option<usize>, Refusal>
     requires { answer.old ≡ replicate (length answer.old) 0 }
     ensures result { outcome_of result ≡ written_in (length answer.old) (plain_alone job.now (length workspace.old)) }
     ensures buffer { answer.new ≡ buffer_in (length answer.old) (plain_alone job.now (length workspace.old)) }

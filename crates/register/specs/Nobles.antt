@@ -49,7 +49,7 @@ module _ (job pack : Bytes) (workspace room : ℕ) where
       let ts = noble_tests job pack workspace in
       pass_all_holds ts _ ∙ (room_last (first_refused ts) (read_job job).budget room (noble_call_of bounds1 (read_job job) full) ∙ ap (λ (o : Outcome Bytes). and_then o (fitting room)) (sym (pass_all_holds ts _)))
 
-  pub code_is : {w : Outcome ℕ} → w ≡ written_in room alone → code_written w ≡ code_of outcome
+  pub code_is : {w : Outcome (Option ℕ)} → w ≡ written_in room alone → code_written w ≡ code_of outcome
   code_is e = written_code room alone e ∙ sym (ap code_of outcome_alone)
 
   pub buffer_is : buffer_in room alone ≡ buffer_of room outcome

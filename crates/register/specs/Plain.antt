@@ -1,6 +1,6 @@
 -- What is promised of the plain entries [18.4], from the two equations of the exported function: the numbers that stand in its buffer, beside the entries read back from the bytes of the first
 -- call's answer. Leans on Reading, on what an answered job says, and on Filtered.
-use Rattle.std.specs.Prelude.{◌≡◌, refl, ℕ, ◌-◌, ◌<◌, ltb, ℤ}
+use Rattle.std.specs.Prelude.{◌≡◌, refl, ℕ, ◌-◌, ◌<◌, ltb, ℤ, Option}
 use Rattle.std.proofs.Common.{sym, ◌∙◌, arith}
 use Rattle.std.proofs.Math.Path.{ap, subst}
 use mathlib.Core.List.{List, [], ◌∷◌, ◌++◌, flat_map, append-nil, Memᴰ}
@@ -29,7 +29,7 @@ use Rattle.register.specs.Demands.{called, entries_in_holds}
 
 -- ---- code and buffer, by what came of the job
 
-pub plain_code : (job : Bytes) (workspace room : ℕ) {w : Outcome ℕ} → w ≡ written_in room (plain_alone job workspace) → code_written w ≡ code_of (plain_ones job workspace room)
+pub plain_code : (job : Bytes) (workspace room : ℕ) {w : Outcome (Option ℕ)} → w ≡ written_in room (plain_alone job workspace) → code_written w ≡ code_of (plain_ones job workspace room)
 unfolding plain_ones
 plain_code job workspace room e = written_code room (plain_alone job workspace) e
 

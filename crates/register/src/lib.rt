@@ -1,7 +1,7 @@
 // The register's functions, thin ones: a job's bytes in, its answer's bytes out, whatever the lengths of the slices are. The work is done in the crates below; the crate `register_c` exports them to C.
 #![tactic(auto)]
 
-ghost use Rattle.std.specs.Prelude.{◌≡◌, ℕ, ◌≤◌, ◌<◌, pos, neg_ℤ, length, take, IfOk};
+ghost use Rattle.std.specs.Prelude.{◌≡◌, ℕ, ◌≤◌, ◌<◌, pos, neg_ℤ, length, take, IfOk, IfSome};
 ghost use Rattle.definitions.specs.Outcome.{answered};
 ghost use Rattle.definitions.specs.Job.{Bytes, outcome, code_of, buffer_of};
 ghost use Rattle.definitions.specs.Demands.{Demand1, Demand2, Demand3};
@@ -17,20 +17,21 @@ ghost use Rattle.register.specs.Batches.{Promised};
 
 use refusals::Refusal;
 
-// [12.7] minus the refusal's number. A number, not a `Refusal`: the two programs give it numbers that they counted or read, and it keeps what it promised them.
+// [12.7] minus the refusal's number. A number, not a `Refusal`: the crate `replay` gives it numbers that it read, and it keeps what it promised.
 pub fn refusal(number: u8) -> i64
     ensures { result ≡ neg_ℤ (pos number) }
 {
     -(number as i64)
 }
 
-// [12.7] the return value of what was written: minus the refusal's number, or so many bytes
-fn code(written: Result<usize, Refusal>) -> i64
-    requires { IfOk written (λ many. many < 9223372036854775808) }
+// [12.7] [11.5] the return value of what was written: minus the refusal's number, 17 where there is no room, or so many bytes
+fn code(written: Result<Option<usize>, Refusal>) -> i64
+    requires { IfOk written (λ some. IfSome some (λ many. many < 9223372036854775808)) }
     ensures { result ≡ code_written (outcome_of written) }
 {
     match written {
-        Ok(many) => many as i64,
+        Ok(Some(many)) => many as i64,
+        Ok(None) => refusal(Refusal::Room.number()),
         Err(e) => refusal(e.number()),
     }
 }
@@ -57,7 +58,7 @@ pub fn register_batch(row: &[u8], workspace: &mut [u8], answer: &mut [u8]) -> i6
     ensures buffer { answer.new ≡ buffer_of (length answer.old) (batch row.now (length workspace.old) (length answer.old)) }
     ensures each { (bytes : Bytes) → batch row.now (length workspace.old) (length answer.old) ≡ answered bytes → Batched (Promised (length workspace.old)) row.now (take (length bytes) answer.new) }
 {
-    code(batches::answer_row(row, workspace, answer))
+    code(batches::answer_row(row, workspace, answer).map(Some))
 }
 
 // The quote of an entry of a job of rank 4, counted from 0, at a tariff: its total in pence, or minus the number of the refusal. The slip stands at the front of the buffer, which is zero behind it, and

@@ -25,7 +25,7 @@ fn hash(bytes: &[u8]) -> u64 {
     sum
 }
 
-// The return code of a refusal, or of an answer of so many bytes.
+// The return code of a refusal, or of an answer of so many bytes. Two numbers and no `Result`: so the file has them, with 0 for no refusal.
 fn code_of(refused: u32, length: u32) -> i64 {
     if refused == 0 {
         length as i64
@@ -40,13 +40,21 @@ fn has_result(job: &[u8], workspace: &mut [u8], answer: &mut [u8], code: i64, su
     got == code && hash(answer) == sum
 }
 
-// Whether the job that comes next, which is as long as its slice, has the result recorded behind it.
-fn replay_job(
-    input: &mut impl Read,
-    job: &mut [u8],
-    workspace: &mut [u8],
-    answer: &mut [u8],
-) -> io::Result<bool> {
+// The buffers that all records share, each at its full length.
+#[derive(Drop)]
+struct Buffers<'a> {
+    job: &'a mut [u8],
+    workspace: &'a mut [u8],
+    answer: &'a mut [u8],
+}
+
+// Whether the job that comes next has the result recorded behind it, where the buffers are long enough.
+fn replay(input: &mut impl Read, buffers: &mut Buffers) -> io::Result<bool> {
+    let end = next_number(input)? as usize;
+    if buffers.job.len() < end {
+        return Ok(false);
+    }
+    let job = &mut buffers.job[..end];
     buffers::read_full(input, job)?;
     let size = next_number(input)? as usize;
     let room = next_number(input)? as usize;
@@ -54,24 +62,12 @@ fn replay_job(
     let length = next_number(input)?;
     let sum = next_number(input)? as u64;
     let code = code_of(refused, length);
-    if workspace.len() < size || answer.len() < room {
+    if buffers.workspace.len() < size || buffers.answer.len() < room {
         return Ok(false);
     }
-    Ok(has_result(job, &mut workspace[..size], &mut answer[..room], code, sum))
-}
-
-// The next record, in buffers that are long enough.
-fn replay(
-    input: &mut impl Read,
-    job: &mut [u8],
-    workspace: &mut [u8],
-    answer: &mut [u8],
-) -> io::Result<bool> {
-    let end = next_number(input)? as usize;
-    if job.len() < end {
-        return Ok(false);
-    }
-    replay_job(input, &mut job[..end], workspace, answer)
+    let workspace = &mut buffers.workspace[..size];
+    let answer = &mut buffers.answer[..room];
+    Ok(has_result(job, workspace, answer, code, sum))
 }
 
 // One more that is the same, or a line with the number of the record that is not.
@@ -85,18 +81,16 @@ fn tell(rt: &impl Print, same: bool, record: u32) -> io::Result<u32>
     Ok(0)
 }
 
-// How many of so many records are the same.
+// How many of so many records are the same. The count is how many the input says that it has, and no length of a buffer.
 fn replay_all(
     rt: &impl Print,
     input: &mut impl Read,
     count: u32,
-    job: &mut [u8],
-    workspace: &mut [u8],
-    answer: &mut [u8],
+    buffers: &mut Buffers,
 ) -> io::Result<u32> {
     let mut same = 0;
     for i in 0..count {
-        same += tell(rt, replay(input, job, workspace, answer)?, i)?;
+        same += tell(rt, replay(input, buffers)?, i)?;
     }
     Ok(same)
 }
@@ -107,13 +101,11 @@ fn main(rt: HostRuntime) -> io::Result<()> {
     let mut job = [0; 4096];
     let mut workspace = buffers::workspace(rt.alloc())?;
     let mut answer = buffers::room(rt.alloc())?;
-    let same = replay_all(
-        &rt,
-        &mut input,
-        count,
-        &mut job,
-        &mut workspace,
-        &mut answer,
-    )?;
+    let mut buffers = Buffers {
+        job: &mut job,
+        workspace: &mut workspace,
+        answer: &mut answer,
+    };
+    let same = replay_all(&rt, &mut input, count, &mut buffers)?;
     println!(rt; "{same} of {count} results are the Rust's")
 }

@@ -14,9 +14,8 @@ returns-in_err-swapped c = of_two (λ x0 x1. record { result = x0; buffer = x1 }
       (λ call d. (refused_clauses c.args.fields.budget call (said_refuses (said_as d c.in_err-swapped.was)) _ c.requires.0).1),
     ))
 
-pub write_ends-requires : goal.write_ends-requires
-write_ends-requires c =
-    (said_ends (said_as c.requires.1.1 (c.in_ok-swapped.was ∙ ap Ok c.in-Ends.is))).1
+pub invariant_of-budget : goal.invariant_of-budget
+invariant_of-budget c = record { within = (said_ends (said_as c.requires.1.1 (c.in_ok-swapped.was ∙ ap Ok c.in-Ends.is))).1 }
 
 pub returns-in-Ends : goal.returns-in-Ends
 returns-in-Ends c = of_two (λ x0 x1. record { result = x0; buffer = x1 })
@@ -29,6 +28,17 @@ returns-in-Ends c = of_two (λ x0 x1. record { result = x0; buffer = x1 })
           ∙ (answered_clauses c.args.fields.budget call (said_ends (said_as d (c.in_ok-swapped.was ∙ ap Ok c.in-Ends.is))).0 c.args.answer.now c.requires.0 (search rules) c.new-w.ensures.1 c.write_ends.ensures
           c.close.ensures.result c.close.ensures.buffer).1),
     ))
+
+-- the rows have room where there is an answer of rank 3 or 4
+pub invariant_of-loaded : goal.invariant_of-loaded
+invariant_of-loaded c =
+    let left = said_leaves (said_as c.requires.1.1 (c.in_ok-swapped.was ∙ ap Ok c.in-Left.is)) in
+    record { room = left.4.rows_fit_holds.m_fits }
+
+pub invariant_of-budget-in-Left : goal.invariant_of-budget-in-Left
+invariant_of-budget-in-Left c =
+    let left = said_leaves (said_as c.requires.1.1 (c.in_ok-swapped.was ∙ ap Ok c.in-Left.is)) in
+    record { within = left.4.spent }
 
 pub write_left-requires : goal.write_left-requires
 write_left-requires c =

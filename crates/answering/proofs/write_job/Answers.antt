@@ -1,20 +1,10 @@
 -- `answering::write_job` meets its contract: what is written of the job's call is what the job gets by itself. Assumes nothing.
-use mathlib.Core.Path.{◌≡◌, sym, ap, ◌∙◌}
-use native.Mathlib.Omega.{arith}
-use borrow.Author.Rules.{rules}
-use Rattle.job_calls.specs.Loaded.{counts}
+use mathlib.Core.Path.{sym, ap, ◌∙◌}
 use lib.ListN.{length}
 use Rattle.answering.specs.Closed.{written_in, buffer_in}
 use Rattle.answering.specs.Answered.{alone_written}
 use Rattle.laws.specs.Clauses.{of_two}
 use Rattle.answering.proofs.write_job.Goals as goal
-
-pub invariant_of-loaded : goal.invariant_of-loaded
-invariant_of-loaded c =
-    let a = c.args in
-    let few = (counts a.job.now (length a.ws.now) a.fields c.requires.0).count_most in
-    let long : length c.call_job-called.new.rows ≡ 3840 = search rules in
-    record { room = omega (arith, few, long) }
 
 pub write_called-requires : goal.write_called-requires
 write_called-requires c =

@@ -15,7 +15,7 @@ pub write_answer-requires : goal.write_answer-requires
 write_answer-requires c =
     let e : c.args.rank - 3 ≡ 0 = omega arith in
     let h = polygons_asked (rw e at c.requires.2.1) in
-    (h.0, h.1, omega (arith, h.2))
+    (h.0, h.1)
 
 pub returns-then-rank-eq3 : goal.returns-then-rank-eq3
 returns-then-rank-eq3 c =

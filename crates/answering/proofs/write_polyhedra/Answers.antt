@@ -3,25 +3,27 @@ use borrow.Author.Rules.{rules}
 use Rattle.job_calls.specs.Writable.{images_asked, images_inside, solid_asked, solid_wrote}
 use Rattle.answering.proofs.write_polyhedra.Goals as goal
 
-pub order_images-images-requires : goal.order_images-images-requires
-order_images-images-requires c = images_asked c.requires.1
+pub order_left-images-requires : goal.order_left-images-requires
+order_left-images-requires c = images_asked c.requires.1
 
 pub slice_bounds-ids-count : goal.slice_bounds-ids-count
-slice_bounds-ids-count c = images_inside c.requires.1 c.order_images-images.ensures
+slice_bounds-ids-count c = images_inside c.requires.1 c.order_left-images.ensures
 
 pub slice_bounds-ids-start : goal.slice_bounds-ids-start
 slice_bounds-ids-start c =
-    let h = images_inside c.requires.1 c.order_images-images.ensures in
+    let h = images_inside c.requires.1 c.order_left-images.ensures in
     search rules
 
 pub invariant_of-left : goal.invariant_of-left
-invariant_of-left c = let asked = solid_asked c.requires.1 c.order_images-images.ensures in record { standing = asked.0.listed }
+invariant_of-left c = let asked = solid_asked c.requires.1 c.order_left-images.ensures in record { standing = asked.0.listed }
 
 pub invariant_of-ids : goal.invariant_of-ids
-invariant_of-ids c = let asked = solid_asked c.requires.1 c.order_images-images.ensures in record { room = asked.1.room }
+invariant_of-ids c = let asked = solid_asked c.requires.1 c.order_left-images.ensures in record { room = asked.1.room }
 
 pub write_solid_answer-requires : goal.write_solid_answer-requires
-write_solid_answer-requires c = solid_asked c.requires.1 c.order_images-images.ensures
+write_solid_answer-requires c =
+    let asked = solid_asked c.requires.1 c.order_left-images.ensures in
+    (asked.0, asked.1, asked.2)
 
 pub returns : goal.returns
-returns c = λ kept w. solid_wrote w c.order_images-images.ensures c.write_solid_answer.ensures
+returns c = λ kept w. solid_wrote w c.order_left-images.ensures c.write_solid_answer.ensures

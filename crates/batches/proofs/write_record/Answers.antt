@@ -7,8 +7,6 @@ use Rattle.definitions.specs.Job.{alone}
 use Rattle.words.specs.Lent.{lent_tail, back_length}
 use Rattle.batches.specs.Heads.{lent_clear, head_clauses, refused_clauses, short_clauses, long_clauses, answered_clauses}
 use Rattle.laws.specs.Clauses.{of_two}
-use Rattle.completeness.specs.Lengths.{never_17}
-use Rattle.refusals.specs.Refused.{only_room}
 use Rattle.batches.proofs.write_record.Goals as goal
 
 -- ---- no room for a head
@@ -20,20 +18,19 @@ pub answer_job-requires : goal.answer_job-requires
 answer_job-requires c =
     lent_clear c.args.records.now c.requires 6 (omega arith)
 
-pub returns-in-Room : goal.returns-in-Room
-returns-in-Room c = of_two (λ x0 x1. record { result = x0; buffer = x1 })
+pub returns-in-Ok-None : goal.returns-in-Ok-None
+returns-in-Ok-None c = of_two (λ x0 x1. record { result = x0; buffer = x1 })
     (let records = c.args.records.now in
     let inside : 6 ≤ length records = omega arith in
-    let told = rw c.in-Room.is at c.in-Err.ensures.result in
     short_clauses records c.requires inside (alone c.args.job.now (length c.args.workspace.now)) c.answer_job.new.answer
-    c.answer_job.auto.answer c.answer_job.ensures.buffer (λ e. (never_17 c.args.job.now (length c.args.workspace.now)).number_is 17 e refl) told)
+    c.answer_job.auto.answer c.answer_job.ensures.buffer (rw c.in-Ok-None.field-0-is at c.in-Ok-None.ensures.result))
 
-pub returns-in_default : goal.returns-in_default
-returns-in_default c = of_two (λ x0 x1. record { result = x0; buffer = x1 })
+pub returns-in-Err : goal.returns-in-Err
+returns-in-Err c = of_two (λ x0 x1. record { result = x0; buffer = x1 })
     (let records = c.args.records.now in
     let inside : 6 ≤ length records = omega arith in
     let k = refused_clauses records c.requires inside (alone c.args.job.now (length c.args.workspace.now)) c.answer_job.new.answer
-    c.answer_job.auto.answer c.answer_job.ensures.buffer _ (λ e. c.in_default.not-Room (only_room _ e)) c.in-Err.ensures.result in
+    c.answer_job.auto.answer c.answer_job.ensures.buffer _ c.in-Err.ensures.result in
     (k.0, c.put.ensures ∙ rw c.number.ensures k.1))
 
 -- too long for a u32
@@ -45,12 +42,12 @@ returns-then-many-gt4294967295 c = of_two (λ x0 x1. record { result = x0; buffe
     let same = c.answer_job.auto.answer in
     let whole = back_length 6 records p inside (same ∙ ap length (lent_tail 6 records)) in
     long_clauses records c.requires inside (alone c.args.job.now (length c.args.workspace.now)) p same c.answer_job.ensures.buffer
-    _ (c.in-Ok.ensures.result) (omega arith) _ (c.fill.ensures.after (λ y e. e) ∙ ap (λ (k : ℕ). replicate k 0) whole))
+    _ (rw c.in-Ok-Some.field-0-is at c.in-Ok-Some.ensures.result) (omega arith) _ (c.fill.ensures.after (λ y e. e) ∙ ap (λ (k : ℕ). replicate k 0) whole))
 
 pub returns-else-many-gt4294967295 : goal.returns-else-many-gt4294967295
 returns-else-many-gt4294967295 c = of_two (λ x0 x1. record { result = x0; buffer = x1 })
     (let records = c.args.records.now in
     let inside : 6 ≤ length records = omega arith in
     let k = answered_clauses records c.requires inside (alone c.args.job.now (length c.args.workspace.now)) c.answer_job.new.answer
-    c.answer_job.auto.answer c.answer_job.ensures.buffer _ (c.in-Ok.ensures.result) (omega arith) in
-    (k.0, c.put-in-Ok.ensures ∙ k.1))
+    c.answer_job.auto.answer c.answer_job.ensures.buffer _ (rw c.in-Ok-Some.field-0-is at c.in-Ok-Some.ensures.result) (omega arith) in
+    (k.0, c.put-in-Ok-Some.ensures ∙ k.1))

@@ -1,7 +1,5 @@
 -- `nobles::write_noble` meets its contract: the package is loaded, the call by it is the definition's, and what is written of it is what the job gets by itself. Assumes nothing.
-use mathlib.Core.Path.{◌≡◌, refl, sym, ap, ◌∙◌}
-use native.Mathlib.Omega.{arith}
-use borrow.Author.Rules.{rules}
+use mathlib.Core.Path.{refl, sym, ap, ◌∙◌}
 use lib.ListN.{length}
 use Rattle.answering.specs.Closed.{written_in, buffer_in}
 use Rattle.answering.specs.Answered.{bytes_of}
@@ -21,13 +19,6 @@ pub call_in_way-called-requires : goal.call_in_way-called-requires
 call_in_way-called-requires c =
     let a = c.args in
     (job_passes a.job.now a.pack.now (length a.ws.now) a.fields c.requires.0, refl, package_fits c.load_package-whole.ensures.fits)
-
-pub invariant_of-loaded : goal.invariant_of-loaded
-invariant_of-loaded c =
-    let a = c.args in
-    let few = (counts a.job.now (length a.ws.now) a.fields (job_passes a.job.now a.pack.now (length a.ws.now) a.fields c.requires.0)).count_most in
-    let long : length c.call_in_way-called.new.rows ≡ 3840 = search rules in
-    record { room = omega (arith, few, long) }
 
 pub write_called-requires : goal.write_called-requires
 write_called-requires c =
