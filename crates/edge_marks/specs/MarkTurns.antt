@@ -4,10 +4,8 @@ use Rattle.std.proofs.Math.Path.{refl, sym, ap}
 use Rattle.std.proofs.Common.{◌∙◌}
 use Rattle.std.proofs.Math.Bool.{true, false, cond}
 use mathlib.Core.List.{List, [], ◌∷◌, ◌++◌, map, flat_map, map-append}
-use Prim.Native.Nat.{ℕ, suc, ◌+◌, ◌≤◌, ◌<◌}
+use Prim.Native.Nat.{ℕ, ◌+◌, ◌≤◌, ◌<◌}
 use Rattle.std.specs.Int.{from_bool}
-use Rattle.std.specs.List.{filter}
-use Rattle.std.proofs.lemmas.List.Sums.{length-filter, count_by-le-length}
 use native.Mathlib.Omega.{arith}
 use Rattle.std.proofs.Math.ListN.{length, get_or, length-append}
 use Rattle.definitions.specs.Lists.{Pair, keep, count_from}
@@ -66,25 +64,6 @@ module _ (marks : List Bool) where
   pub at_unmarked : (c : ℕ) → get_or marks c false ≡ false → [] ≡ mark_words marks c
   unfolding mark_words
   at_unmarked c e = rw e refl
-
--- there are as many marks as codes that are marked
-pub marks_held : (marks : List Bool) → length marks ≡ 400 → length (filter (λ (mark : Bool). mark) marks) ≡ length (codes_marked marks 400)
-unfolding codes_marked keep count_from
-marks_held marks h = go marks 0 (λ c. get_or marks c false) (λ i. let e : 0 + i ≡ i = omega arith in rw e refl) ∙ ap (λ (n : ℕ). length (codes_marked marks n)) h
-  where
-    go : (l : List Bool) (a : ℕ) (f : ℕ → Bool) → ((i : ℕ) → f (a + i) ≡ get_or l i false) → length (filter (λ (mark : Bool). mark) l) ≡ length (keep f (count_from a (length l)))
-    go [] a f h = refl
-    go (mark ∷ l) a f h =
-        let e : a + 0 ≡ a = omega arith in
-        let here : f a ≡ mark = ap f (sym e) ∙ h 0 in
-        rw here (one mark (filter (λ (mark : Bool). mark) l) (keep f (count_from (suc a) (length l))) (go l (suc a) f (λ i. let g : suc a + i ≡ a + suc i = omega arith in ap f g ∙ h (suc i))))
-      where
-        one : (b : Bool) (r : List Bool) (q : List ℕ) → length r ≡ length q → length (cond b (mark ∷ r) r) ≡ length (cond b (a ∷ q) q)
-        one true r q g = ap suc g
-        one false r q g = g
-
-pub marks_few : (marks : List Bool) → length (filter (λ (mark : Bool). mark) marks) ≤ length marks
-marks_few marks = omega (arith, length-filter (λ (mark : Bool). mark) marks, count_by-le-length (λ (mark : Bool). mark) marks)
 
 pub marked_append : (marks : List Bool) (xs ys : List ℕ) → marked (marked marks xs) ys ≡ marked marks (xs ++ ys)
 unfolding marked

@@ -14,10 +14,14 @@ use borrow.Author.Tests.{eq-eqb, ne_eqb}
 use lib.Dec.{eqb}
 use lib.ListN.{length, get_or, drop, set, length-append, length-map}
 use lib.Seq.{drop-cons, get_or-set_same, get_or-set_other}
-use Rattle.definitions.specs.Lists.{Pair, place_of}
+use Rattle.std.specs.List.{filter, range_with_len}
+use Rattle.std.proofs.lemmas.List.Sums.{length-filter, count_by-le-length}
+use Rattle.std.proofs.lemmas.List.FromFn.{length-range_with_len}
+use Rattle.definitions.specs.Lists.{Pair, place_of, keep, count_from}
 use Rattle.definitions.specs.Figures.{Compound, compound_at, compounds_from}
 use Rattle.definitions.specs.Job.{number_at, compound_words}
-use Rattle.laws.specs.Lists.{flat_map_append}
+use Rattle.laws.specs.Lists.{flat_map_append, keep_append}
+use Rattle.figure_words.specs.Laws.{range_is, filter_is, count_more}
 use Rattle.laws.specs.Segments.{le_or_lt}
 use Rattle.words.specs.Words.{words, words_more, words_length, number_at_drop}
 use Rattle.orbits.specs.Workspace.{orbits_in, orbits_length}
@@ -114,6 +118,35 @@ pub compound_some : (o : Option Pair) → from_bool (is_some o) ≡ length (comp
 unfolding compound_at
 compound_some None = refl
 compound_some (Some p) = refl
+
+-- whether the label at a place is of a compound, and how many of the first n are
+abbrev pub is_compound : ℕ → List ℕ → ℕ → Bool
+is_compound at s i = is_some (label_of (number_at s (at + 4 * i) 4))
+
+kept_one : (n : ℕ) (b : Bool) → length (cond b (n ∷ []) []) ≡ from_bool b
+kept_one n true = refl
+kept_one n false = refl
+
+compounds_kept : (at n : ℕ) (s : List ℕ) → length (keep (is_compound at s) (count_from 0 n)) ≡ length (compounds_from 0 (labels_in at n s))
+unfolding keep count_from
+compounds_kept at zero s = sym (ap length (compounds_none at s))
+compounds_kept at (suc n) s =
+    let p = is_compound at s in
+    let e : suc n ≡ n + 1 = omega arith in
+    let one = kept_one n (p n) ∙ compound_some (label_of (number_at s (at + 4 * n) 4)) in
+    let more = compounds_count at n s (length (keep p (count_from 0 n))) (length (keep p (n ∷ []))) one (compounds_kept at n s) in
+    ap (λ (k : ℕ). length (keep p (count_from 0 k))) e
+    ∙ (ap length (ap (keep p) (count_more n) ∙ keep_append p (count_from 0 n) (n ∷ []))
+    ∙ (length-append (keep p (count_from 0 n)) (keep p (n ∷ [])) ∙ (more.0 ∙ ap (λ (k : ℕ). length (compounds_from 0 (labels_in at k s))) (sym e))))
+
+pub compounds_counted : (at n : ℕ) (s : List ℕ) → length (filter (is_compound at s) (range_with_len 0 n)) ≡ length (compounds_from 0 (labels_in at n s))
+compounds_counted at n s =
+    let p = is_compound at s in
+    ap (λ (l : List ℕ). length (filter p l)) (range_is 0 n) ∙ (ap length (filter_is p (count_from 0 n)) ∙ compounds_kept at n s)
+
+pub compounds_few : (at n : ℕ) (s : List ℕ) → length (filter (is_compound at s) (range_with_len 0 n)) ≤ n
+compounds_few at n s =
+    omega (arith, length-filter (is_compound at s) (range_with_len 0 n), count_by-le-length (is_compound at s) (range_with_len 0 n), length-range_with_len 0 n)
 
 pub none_written : (a : ℕ) → [] ≡ flat_map compound_words (compound_at a None)
 unfolding compound_at flat_map

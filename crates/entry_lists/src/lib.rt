@@ -45,25 +45,37 @@ pub fn first_facets(owners: Owners) -> [usize; 256]
     firsts
 }
 
-// A facet of a list: its orbit, and its number in the orbit.
-fn write_item(w: &mut Writer, owners: Owners, firsts: &[usize; 256], x: usize)
-    requires { (owners.facets < 4294967296) × OwnersBelow 256 (words 2 owners.bytes.now owners.facets) × Firsts (words 2 owners.bytes.now owners.facets) firsts.now × (x < owners.facets) }
-    ensures { Writes w.old w.new (item_words (words 2 owners.entry.bytes.now owners.entry.facets) x) }
-{
-    let orbit = owners.orbit(x);
-    w.push(orbit as u32);
-    w.push((x - firsts[orbit]) as u32);
+// What a facet's name in an answer comes from: the orbit of each facet, and the number of the first facet of each orbit.
+#[derive(Clone, Copy)]
+pub struct FacetNames<'a> {
+    pub owners: Owners<'a>,
+    pub firsts: &'a [usize; 256],
+    pub ghost few: { owners.facets < 4294967296 },
+    pub ghost below: { OwnersBelow 256 (words 2 owners.bytes.now owners.facets) },
+    pub ghost first: { Firsts (words 2 owners.bytes.now owners.facets) firsts.now },
 }
 
-// List k of a pool: its length, and its facets.
-pub fn write_list(w: &mut Writer, owners: Owners, firsts: &[usize; 256], lists: Pool, k: usize)
-    requires { (owners.facets < 4294967296) × OwnersBelow 256 (words 2 owners.bytes.now owners.facets) × Firsts (words 2 owners.bytes.now owners.facets) firsts.now × (k < count lists.bytes.now) × ItemsBelow owners.facets (list_at lists.most lists.bytes.now k) }
-    ensures { Writes w.old w.new (list_words (words 2 owners.entry.bytes.now owners.entry.facets) (list_at lists.entry.most lists.entry.bytes.now k)) }
-{
-    let n = lists.length(k);
-    w.push(n as u32);
-    for i in 0..n {
-        write_item(w, owners, firsts, lists.item(k, i) as usize);
+impl<'a> FacetNames<'a> {
+    // A facet of a list: its orbit, and its number in the orbit.
+    fn write_item(self, w: &mut Writer, x: usize)
+        requires { x < self.owners.facets }
+        ensures { Writes w.old w.new (item_words (words 2 self.entry.owners.bytes.now self.entry.owners.facets) x) }
+    {
+        let orbit = self.owners.orbit(x);
+        w.push(orbit as u32);
+        w.push((x - self.firsts[orbit]) as u32);
+    }
+
+    // List k of a pool: its length, and its facets.
+    pub fn write_list(self, w: &mut Writer, lists: Pool, k: usize)
+        requires { (k < count lists.bytes.now) × ItemsBelow self.owners.facets (list_at lists.most lists.bytes.now k) }
+        ensures { Writes w.old w.new (list_words (words 2 self.entry.owners.bytes.now self.entry.owners.facets) (list_at lists.entry.most lists.entry.bytes.now k)) }
+    {
+        let n = lists.length(k);
+        w.push(n as u32);
+        for i in 0..n {
+            self.write_item(w, lists.item(k, i) as usize);
+        }
     }
 }
 
@@ -73,11 +85,9 @@ fn count_compounds(s: &[u8], at: usize, n: usize) -> usize
     requires { at + 4 * n ≤ length s.now }
     ensures { (result ≡ length (compounds_from 0 (labels_in at n s.now))) × (result ≤ n) }
 {
-    let mut many = 0;
-    for i in 0..n {
-        many += usize::from(labels::components(u32::get(s, at + 4 * i)).is_some());
-    }
-    many
+    (0..n)
+        .filter(|i| labels::components(u32::get(s, at + 4 * *i)).is_some())
+        .count()
 }
 
 fn write_compound(w: &mut Writer, whole: usize, label: u32)

@@ -33,7 +33,7 @@ pub fn edge_numbers(marks: &[bool; 400]) -> [usize; 400]
     numbers
 }
 
-// The facets of the list at place k.
+// The facets of the list at place k. `ItemsBelow` stays a clause: it speaks of that one list, and k is another parameter.
 pub fn list_marks(lists: Lists, k: usize) -> [bool; 1024]
     requires { (k < lists.area.count) × ItemsBelow 1024 (list_of lists.area lists.bytes.now k) }
     ensures { result ≡ marked (replicate 1024 false) (list_of lists.entry.area lists.entry.bytes.now k) }
@@ -64,22 +64,10 @@ pub fn image_marks(facets: Facets, x: usize, row: usize) -> [bool; 400]
     marks
 }
 
-// A facet: how many edges it has, and their numbers.
-fn write_facet(w: &mut Writer, image: &[bool; 400], numbers: &[usize; 400])
-    requires { NumbersBelow numbers.now }
-    ensures { Writes w.old w.new (facet_words image.now numbers.now) }
-{
-    w.push(edge_marks::count_marks(image) as u32);
-    for (code, marked) in image.iter().enumerate() {
-        if *marked {
-            w.push(numbers[code] as u32);
-        }
-    }
-}
-
 // ---- images in order
 
-// The images of all facets, as their numbers: `count` of four bytes.
+// The images of all facets, as their numbers: `count` of four bytes. The number of facet x's image under a row is x + 1,024 × row, and 131,072 more where the image equals the one before it. So packed
+// the numbers lie in the bytes of the workspace, since there is no heap, and are taken apart where they are used.
 #[derive(Clone, Copy)]
 pub struct Ids<'a> {
     pub bytes: &'a [u8],
@@ -124,59 +112,87 @@ fn was_chosen(before: Choice, id: usize) -> bool
     131072 <= id && before != Choice::Left
 }
 
-// What comes of an image, from what came of the one before it.
-pub fn next_choice(inside: &[bool; 1024], before: Choice, id: usize) -> Choice
-    ensures { result ≡ next_choice inside.now before id }
-{
-    if was_chosen(before, id) {
-        return Choice::Repeated;
+// The images of all facets, and which facets have theirs written or counted: they travel together.
+#[derive(Clone, Copy)]
+pub struct Wanted<'a> {
+    pub ids: Ids<'a>,
+    pub inside: &'a [bool; 1024],
+}
+
+impl<'a> Wanted<'a> {
+    // What comes of an image, from what came of the one before it.
+    pub fn next_choice(self, before: Choice, id: usize) -> Choice
+        ensures { result ≡ next_choice self.entry.inside.now before id }
+    {
+        if was_chosen(before, id) {
+            return Choice::Repeated;
+        }
+        if self.inside[id % 1024] {
+            Choice::Chosen
+        } else {
+            Choice::Left
+        }
     }
-    if inside[id % 1024] {
-        Choice::Chosen
-    } else {
-        Choice::Left
+
+    // How many images are chosen.
+    pub fn count_chosen(self) -> usize
+        ensures { (result ≡ length (chosen_from self.entry.inside.now Left (words 4 self.entry.ids.bytes.now self.entry.ids.count))) × (result ≤ self.entry.ids.count) }
+    {
+        let mut total = 0;
+        let mut choice = Choice::Left;
+        for i in 0..self.ids.count {
+            choice = self.next_choice(choice, self.ids.get(i));
+            total += usize::from(choice.is_chosen());
+        }
+        total
     }
 }
 
-// How many images are chosen.
-pub fn count_chosen(ids: Ids, inside: &[bool; 1024]) -> usize
-    ensures { (result ≡ length (chosen_from inside.now Left (words 4 ids.entry.bytes.now ids.entry.count))) × (result ≤ ids.entry.count) }
-{
-    let mut total = 0;
-    let mut choice = Choice::Left;
-    for i in 0..ids.count {
-        choice = next_choice(inside, choice, ids.get(i));
-        total += usize::from(choice.is_chosen());
-    }
-    total
+// ---- the words of images
+
+// The facets whose images are written, and the number of each edge of the figure that they are facets of.
+#[derive(Clone, Copy)]
+pub struct NumberedFacets<'a> {
+    pub facets: Facets<'a>,
+    pub numbers: &'a [usize; 400],
+    pub ghost small: { NumbersBelow numbers.now },
 }
 
-// The image with an id, where it is chosen.
-fn write_chosen(w: &mut Writer, choice: Choice, facets: Facets, id: usize, numbers: &[usize; 400])
-    requires { (id % 1024 < count facets.edges.bytes.now) × (id % 131072 / 1024 < facets.rows.count) × NumbersBelow numbers.now }
-    ensures { Writes w.old w.new (cond (is_chosen choice) (id_words facets.entry.edges.bytes.now facets.entry.rows.bytes.now numbers.now id) []) }
-{
-    if choice.is_chosen() {
-        let image = image_marks(facets, id % 1024, id % 131072 / 1024);
-        write_facet(w, &image, numbers);
+impl<'a> NumberedFacets<'a> {
+    // A facet: how many edges it has, and their numbers.
+    fn write_facet(self, w: &mut Writer, image: &[bool; 400])
+        ensures { Writes w.old w.new (facet_words image.now self.entry.numbers.now) }
+    {
+        w.push(edge_marks::count_marks(image) as u32);
+        for (code, marked) in image.iter().enumerate() {
+            if *marked {
+                w.push(self.numbers[code] as u32);
+            }
+        }
     }
-}
 
-// The chosen images, in order.
-pub fn write_images(
-    w: &mut Writer,
-    ids: Ids,
-    inside: &[bool; 1024],
-    facets: Facets,
-    numbers: &[usize; 400],
-)
-    requires { IdsBelow (count facets.edges.bytes.now) facets.rows.count (words 4 ids.bytes.now ids.count) × NumbersBelow numbers.now }
-    ensures { Writes w.old w.new (flat_map (id_words facets.entry.edges.bytes.now facets.entry.rows.bytes.now numbers.now) (chosen_from inside.now Left (words 4 ids.entry.bytes.now ids.entry.count))) }
-{
-    let mut choice = Choice::Left;
-    for i in 0..ids.count {
-        let id = ids.get(i);
-        choice = next_choice(inside, choice, id);
-        write_chosen(w, choice, facets, id, numbers);
+    // The image with an id, where it is chosen.
+    fn write_chosen(self, w: &mut Writer, choice: Choice, id: usize)
+        requires { (id % 1024 < count self.facets.edges.bytes.now) × (id % 131072 / 1024 < self.facets.rows.count) }
+        ensures { Writes w.old w.new (cond (is_chosen choice) (id_words self.entry.facets.edges.bytes.now self.entry.facets.rows.bytes.now self.entry.numbers.now id) []) }
+    {
+        if choice.is_chosen() {
+            let image = image_marks(self.facets, id % 1024, id % 131072 / 1024);
+            self.write_facet(w, &image);
+        }
+    }
+
+    // The chosen images, in order. `IdsBelow` stays a clause, and so it does where `entry_prices` and `polyhedra` ask it: it speaks of the numbers and of the facets, two parameters, and a
+    // summary counts the chosen numbers where there are no `Facets`.
+    pub fn write_images(self, w: &mut Writer, wanted: Wanted)
+        requires { IdsBelow (count self.facets.edges.bytes.now) self.facets.rows.count (words 4 wanted.ids.bytes.now wanted.ids.count) }
+        ensures { Writes w.old w.new (flat_map (id_words self.entry.facets.edges.bytes.now self.entry.facets.rows.bytes.now self.entry.numbers.now) (chosen_from wanted.entry.inside.now Left (words 4 wanted.entry.ids.bytes.now wanted.entry.ids.count))) }
+    {
+        let mut choice = Choice::Left;
+        for i in 0..wanted.ids.count {
+            let id = wanted.ids.get(i);
+            choice = wanted.next_choice(choice, id);
+            self.write_chosen(w, choice, id);
+        }
     }
 }

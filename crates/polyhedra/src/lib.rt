@@ -15,33 +15,30 @@ ghost use Rattle.polyhedra.specs.SolidWritten.{WroteSolidAnswer};
 ghost use Rattle.writing.specs.Standing.{Standing};
 
 use edge_marks::Facets;
-use facet_images::Ids;
+use facet_images::{Ids, NumberedFacets, Wanted};
 use openers::Rows;
 use possible_facets::Polygons;
 use words::Writer;
-use writing::{EntryFigure, Left};
+use writing::{Budget, EntryFigure, Left};
 
 // ---- rank 4
 
-// The polyhedron over n points with the marked edges and the chosen images.
-fn write_polyhedron(
-    w: &mut Writer,
-    n: usize,
-    marks: &[bool; 400],
-    inside: &[bool; 1024],
-    ids: Ids,
-    facets: Facets,
-)
-    requires { (n < 4294967296) × (ids.count < 4294967296) × IdsBelow (count facets.edges.bytes.now) facets.rows.count (words 4 ids.bytes.now ids.count) }
-    ensures { Writes w.old w.new (polyhedron_from n marks.now inside.now (words 4 ids.entry.bytes.now ids.entry.count) facets.entry.edges.bytes.now facets.entry.rows.bytes.now) }
+// The polyhedron over n points with the marked edges and the chosen images. `IdsBelow` stays a clause: it speaks of the numbers and of the facets, two parameters.
+fn write_polyhedron(w: &mut Writer, n: usize, marks: &[bool; 400], wanted: Wanted, facets: Facets)
+    requires { (n < 4294967296) × (wanted.ids.count < 4294967296) × IdsBelow (count facets.edges.bytes.now) facets.rows.count (words 4 wanted.ids.bytes.now wanted.ids.count) }
+    ensures { Writes w.old w.new (polyhedron_from n marks.now wanted.entry.inside.now (words 4 wanted.entry.ids.bytes.now wanted.entry.ids.count) facets.entry.edges.bytes.now facets.entry.rows.bytes.now) }
 {
     let numbers = facet_images::edge_numbers(marks);
-    let many = facet_images::count_chosen(ids, inside);
+    let many = wanted.count_chosen();
     figure_words::write_head(w, 5, n);
     w.push(edge_marks::count_marks(marks) as u32);
     edge_marks::write_marks(w, marks);
     w.push(many as u32);
-    facet_images::write_images(w, ids, inside, facets, &numbers);
+    let numbered = NumberedFacets {
+        facets,
+        numbers: &numbers,
+    };
+    numbered.write_images(w, wanted);
     figure_words::write_body(w, many);
 }
 
@@ -71,15 +68,23 @@ impl<'a> EntryFigure for Solids<'a> {
     fn write_figure(&self, w: &mut Writer, left: Left, k: usize) {
         let marks = writing::entry_marks(left, self.rows, k);
         let inside = entry_facets(left, k);
+        let wanted = Wanted {
+            ids: self.ids,
+            inside: &inside,
+        };
         let facets = left.facets(self.rows);
-        write_polyhedron(w, self.n, &marks, &inside, self.ids, facets);
+        write_polyhedron(w, self.n, &marks, wanted, facets);
     }
 
     fn write_summary(&self, w: &mut Writer, left: Left, k: usize) {
         let marks = writing::entry_marks(left, self.rows, k);
         let inside = entry_facets(left, k);
         let lines = edge_marks::count_marks(&marks);
-        let facets = facet_images::count_chosen(self.ids, &inside);
+        let wanted = Wanted {
+            ids: self.ids,
+            inside: &inside,
+        };
+        let facets = wanted.count_chosen();
         edge_marks::write_summary(w, &marks, self.n, lines, facets);
     }
 }
@@ -92,12 +97,11 @@ pub fn write_solid_answer(
     rows: Rows,
     n: usize,
     ids: Ids,
-    budget: u32,
-    rest: u32,
+    budget: Budget,
 )
-    requires { Standing rows.count rows.bytes.now left.level left.ws.now × ImagesStand rows.count left.level left.ws.now ids.bytes.now ids.count × (n ≤ 20) × (rest ≤ budget) }
-    ensures { WroteSolidAnswer n rows.entry.count rows.entry.bytes.now left.entry.level left.entry.ws.now (words 4 ids.entry.bytes.now ids.entry.count) budget rest w.old w.new }
+    requires { Standing rows.count rows.bytes.now left.level left.ws.now × ImagesStand rows.count left.level left.ws.now ids.bytes.now ids.count × (n ≤ 20) }
+    ensures { WroteSolidAnswer n rows.entry.count rows.entry.bytes.now left.entry.level left.entry.ws.now (words 4 ids.entry.bytes.now ids.entry.count) budget.whole budget.rest w.old w.new }
 {
     let facets = Polygons { ws: left.ws, n };
-    writing::write_parts(w, left, &Solids { rows, n, ids }, &facets, budget, rest);
+    writing::write_parts(w, left, &Solids { rows, n, ids }, &facets, budget);
 }

@@ -92,8 +92,8 @@ impl FacetFigure for Polygons<'_> {
     }
 }
 
-// How many vertices a set has. By its bits, and not by `sets::vertices_of`, which asks for 20 vertices at most: what is
-// written of facets takes any number of them.
+// How many vertices a set has. By its bits: `sets::vertices_of` and `stabilizers::place_in`, which say the same, ask for
+// 20 vertices at most, and what is written of facets takes any number of them.
 fn set_size(set: u32, n: usize) -> usize
     ensures { (result ≡ length (vertices_of n set)) × (result ≤ n) }
 {
@@ -130,12 +130,9 @@ impl<'a> Owners<'a> {
         requires { x ≤ self.facets }
         ensures { (result ≡ x + leading orbit (drop x (words 2 self.entry.bytes.now self.entry.facets))) × (result ≤ self.entry.facets) }
     {
-        for i in x..self.facets {
-            if self.orbit(i) != orbit {
-                return i;
-            }
-        }
-        self.facets
+        (x..self.facets)
+            .find(|i| self.orbit(*i) != orbit)
+            .unwrap_or(self.facets)
     }
 }
 

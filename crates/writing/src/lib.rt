@@ -14,7 +14,7 @@ ghost use Rattle.definitions.specs.Recursion.{vertex_ridge, swapped_ends, separa
 ghost use Rattle.orbits.specs.Workspace.{orbits_in};
 ghost use Rattle.labels.specs.Labels.{labels_in};
 ghost use Rattle.openers.specs.Rows.{rows_in};
-ghost use Rattle.possible_facets.specs.Facets.{Firsts};
+ghost use Rattle.words.specs.Words.{words};
 ghost use Rattle.edge_marks.specs.Marks.{EdgesFit, marks_of};
 ghost use Rattle.shelf.specs.Areas.{area_of};
 ghost use Rattle.shelf.specs.Keeps.{owners_part, edges_part};
@@ -25,6 +25,7 @@ ghost use Rattle.writing.specs.Written.{WroteAnswer};
 ghost use Rattle.entry_lists.specs.Counts.{count_words};
 
 use edge_marks::Facets;
+use entry_lists::FacetNames;
 use openers::Rows;
 use order::{Lists, Pool};
 use possible_facets::{Edges, FacetFigure, Owners};
@@ -128,16 +129,15 @@ pub fn entry_marks(left: Left, rows: Rows, k: usize) -> [bool; 400]
 }
 
 // The two lists of entry k: split, and as the search emitted it.
-pub fn write_entry_lists(w: &mut Writer, left: Left, firsts: &[usize; 256], k: usize)
-    requires { Firsts (owners_in left.level left.ws.now) firsts.now × (k < left.level.count) }
+pub fn write_entry_lists(w: &mut Writer, left: Left, names: FacetNames, k: usize)
+    requires { (words 2 names.owners.bytes.now names.owners.facets ≡ owners_in left.level left.ws.now) × (k < left.level.count) }
     ensures { Writes w.old w.new (both_words (owners_in left.entry.level left.entry.ws.now) (get_or (both_left left.entry.level left.entry.ws.now) k ([], []))) }
 {
     let number = left.number(k);
-    let owners = left.owners();
     let split = left.split();
     let emitted = left.emitted();
-    entry_lists::write_list(w, owners, firsts, split, number);
-    entry_lists::write_list(w, owners, firsts, emitted, number);
+    names.write_list(w, split, number);
+    names.write_list(w, emitted, number);
 }
 
 // What is written of the entries of a call: a figure of each, and its summary.
@@ -193,10 +193,15 @@ pub fn write_entries<T: EntryFigure>(w: &mut Writer, left: Left, figures: &T)
     requires { T.stands figures.now left.level left.ws.now }
     ensures { Writes w.old w.new (counted (figured (owners_in left.entry.level left.entry.ws.now) (T.figure figures.now left.entry.level left.entry.ws.now)) (both_left left.entry.level left.entry.ws.now)) }
 {
-    let firsts = entry_lists::first_facets(left.owners());
+    let owners = left.owners();
+    let firsts = entry_lists::first_facets(owners);
+    let names = FacetNames {
+        owners,
+        firsts: &firsts,
+    };
     w.push(left.level.count as u32);
     for k in 0..left.level.count {
-        write_entry_lists(w, left, &firsts, k);
+        write_entry_lists(w, left, names, k);
         figures.write_figure(w, left, k);
     }
 }
@@ -213,12 +218,29 @@ pub fn write_summaries<T: EntryFigure>(w: &mut Writer, left: Left, figures: &T)
 
 // ---- rank 3
 
+// A call's budget, and what is left of it.
+#[derive(Clone, Copy)]
+pub struct Budget {
+    pub whole: u32,
+    pub rest: u32,
+    pub ghost within: { rest ≤ whole },
+}
+
+impl Budget {
+    // How many lists were examined.
+    fn spent(self) -> u32
+        ensures { result ≡ self.whole - self.rest }
+    {
+        self.whole - self.rest
+    }
+}
+
 // What was examined of the budget, and the counts of the orbits.
-pub fn write_front(w: &mut Writer, ws: &[u8], orbits: usize, budget: u32, rest: u32)
-    requires { (8 * orbits ≤ length ws.now) × (orbits < 4294967296) × (rest ≤ budget) }
-    ensures { Writes w.old w.new ((budget - rest) ∷ count_words (orbits_in ws.now orbits)) }
+pub fn write_front(w: &mut Writer, ws: &[u8], orbits: usize, budget: Budget)
+    requires { (8 * orbits ≤ length ws.now) × (orbits < 4294967296) }
+    ensures { Writes w.old w.new ((budget.whole - budget.rest) ∷ count_words (orbits_in ws.now orbits)) }
 {
-    w.push(budget - rest);
+    w.push(budget.spent());
     entry_lists::write_counts(w, ws, orbits);
 }
 
@@ -236,14 +258,13 @@ pub fn write_parts<T: EntryFigure, F: FacetFigure>(
     left: Left,
     entries: &T,
     facets: &F,
-    budget: u32,
-    rest: u32,
+    budget: Budget,
 )
-    requires { PartsStanding left.level left.ws.now × T.stands entries.now left.level left.ws.now × ((orbit : ℕ) → orbit < left.level.shelf.orbits → F.knows facets.now orbit) × (rest ≤ budget) }
-    ensures { Writes w.old w.new (parts_from (T.figure entries.now left.entry.level left.entry.ws.now) (T.summary entries.now left.entry.level left.entry.ws.now) (λ (orbit : ℕ). F.words (F.size facets.now orbit)) left.entry.level left.entry.ws.now budget rest) }
+    requires { PartsStanding left.level left.ws.now × T.stands entries.now left.level left.ws.now × ((orbit : ℕ) → orbit < left.level.shelf.orbits → F.knows facets.now orbit) }
+    ensures { Writes w.old w.new (parts_from (T.figure entries.now left.entry.level left.entry.ws.now) (T.summary entries.now left.entry.level left.entry.ws.now) (λ (orbit : ℕ). F.words (F.size facets.now orbit)) left.entry.level left.entry.ws.now budget.whole budget.rest) }
 {
     let orbits = left.level.shelf.orbits;
-    write_front(w, left.ws, orbits, budget, rest);
+    write_front(w, left.ws, orbits, budget);
     write_entries(w, left, entries);
     possible_facets::write_possible(w, facets, left.owners(), orbits, left.edges());
     write_labels(w, left);
@@ -251,11 +272,11 @@ pub fn write_parts<T: EntryFigure, F: FacetFigure>(
 }
 
 // The answer of a call of rank 3 from what it leaves. `standing` (specs/Written) says that what it leaves is what is asked for here.
-pub fn write_answer(w: &mut Writer, left: Left, rows: Rows, n: usize, budget: u32, rest: u32)
-    requires { Standing rows.count rows.bytes.now left.level left.ws.now × (n ≤ 20) × (rest ≤ budget) }
-    ensures { WroteAnswer n rows.entry.count rows.entry.bytes.now left.entry.level left.entry.ws.now budget rest w.old w.new }
+pub fn write_answer(w: &mut Writer, left: Left, rows: Rows, n: usize, budget: Budget)
+    requires { Standing rows.count rows.bytes.now left.level left.ws.now × (n ≤ 20) }
+    ensures { WroteAnswer n rows.entry.count rows.entry.bytes.now left.entry.level left.entry.ws.now budget.whole budget.rest w.old w.new }
 {
-    write_parts(w, left, &Polygons { rows, n }, &Edges, budget, rest);
+    write_parts(w, left, &Polygons { rows, n }, &Edges, budget);
 }
 
 // ---- rank 2
@@ -309,11 +330,10 @@ fn write_separate_entry(w: &mut Writer)
 }
 
 // The answer where some row changes the two ends.
-pub fn write_swapped(w: &mut Writer, budget: u32, rest: u32)
-    requires { rest ≤ budget }
-    ensures { Writes w.old w.new (answer_words budget (swapped_ends rest)) }
+pub fn write_swapped(w: &mut Writer, budget: Budget)
+    ensures { Writes w.old w.new (answer_words budget.whole (swapped_ends budget.rest)) }
 {
-    w.push_three(budget - rest, 1, 2);
+    w.push_three(budget.spent(), 1, 2);
     write_swapped_entry(w);
     write_vertex(w, 0);
     w.push(0);
@@ -321,11 +341,10 @@ pub fn write_swapped(w: &mut Writer, budget: u32, rest: u32)
 }
 
 // The answer where none does.
-pub fn write_separate(w: &mut Writer, budget: u32, rest: u32)
-    requires { rest ≤ budget }
-    ensures { Writes w.old w.new (answer_words budget (separate_ends rest)) }
+pub fn write_separate(w: &mut Writer, budget: Budget)
+    ensures { Writes w.old w.new (answer_words budget.whole (separate_ends budget.rest)) }
 {
-    w.push_three(budget - rest, 2, 1);
+    w.push_three(budget.spent(), 2, 1);
     w.push(1);
     write_separate_entry(w);
     write_vertex(w, 0);

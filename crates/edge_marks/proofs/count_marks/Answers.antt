@@ -1,18 +1,23 @@
--- `edge_marks::count_marks` meets its contract.
-use mathlib.Core.Path.{◌≡◌, ◌∙◌}
-use mathlib.Core.Bool.{Bool}
 use native.Mathlib.Omega.{arith}
-use Rattle.std.proofs.Common.{rules}
-use borrow.Author.Tests.{tests}
+use mathlib.Core.Path.{◌≡◌, ◌∙◌, ap}
+use Prim.Native.Nat.{ℕ}
 use lib.ListN.{length}
-use Rattle.std.specs.List.{filter}
-use Rattle.std.proofs.lemmas.Iterator.{YieldsList-from_slice}
-use Rattle.std.proofs.lemmas.Iterator.Consumers.{YieldsList-from_filter, count_from_yields_List}
-use Rattle.edge_marks.specs.MarkTurns.{marks_held, marks_few}
+use Rattle.edge_marks.specs.Marks.{codes_marked}
+use Rattle.edge_marks.specs.MarkTurns.{marks_none, marks_count}
 use Rattle.edge_marks.proofs.count_marks.Goals as goal
 
+pub loop-code-init : goal.loop-code-init
+loop-code-init c = (omega arith, omega arith, marks_none _)
+
+pub overflow_add-many : goal.overflow_add-many
+overflow_add-many c = let l = c.loop-code in let r = marks_count _ l.code l.many _ c.from-many.ensures l.invariant.2 in omega (arith, r.1)
+
+pub loop-code-preserved : goal.loop-code-preserved
+loop-code-preserved c = let l = c.loop-code in
+    let r = marks_count _ l.code l.many _ c.from-many.ensures l.invariant.2 in
+    (omega arith, omega (arith, r.1), r.0)
+
 pub returns : goal.returns
-returns c =
-    let e : c.count.result ≡ length (filter (λ (mark : Bool). mark) c.args.marks.now) =
-    count_from_yields_List _ _ c.count.ensures.ran (YieldsList-from_filter _ (λ (mark : Bool). mark) (YieldsList-from_slice c.args.marks.now cc) c.filter.ensures.closure (λ x b q k. search (rules, tests))) in
-    (e ∙ marks_held c.args.marks.now c.told-marks, omega (arith, e, marks_few c.args.marks.now, c.told-marks))
+returns c = let l = c.loop-code in
+    let e : l.code ≡ 400 = omega arith in
+    (l.invariant.2 ∙ ap (λ (k : ℕ). length (codes_marked c.args.marks.now k)) e, omega arith)

@@ -8,7 +8,7 @@ use Rattle.edge_marks.specs.Marks.{edges_marked, codes_marked, mark_words}
 use Rattle.words.specs.declared.Writer.{Writer}
 use Rattle.words.specs.Wrote.{Writes, writes_none, writes_then, writes_as}
 use Rattle.edge_marks.specs.MarkTurns.{at_marked, at_unmarked, mark_words_holds, mark_words_none}
-use Rattle.edge_marks.proofs.write_marks.Goals.{then-marked, else-marked}
+use Rattle.edge_marks.proofs.write_marks.Goals.{then-marks-code, else-marks-code}
 use Rattle.edge_marks.proofs.write_marks.Goals as goal
 
 pub loop-code-init : goal.loop-code-init
@@ -18,9 +18,9 @@ pub loop-code-preserved : goal.loop-code-preserved
 loop-code-preserved c = let l = c.loop-code in
     let with = λ (v : Writer) (words : List ℕ) (w : Writes l.w v words) (e : words ≡ mark_words c.args.marks.now l.code). writes_as (writes_then l.invariant.1 (writes_as w e)) (mark_words_holds c.args.marks.now l.code) in (
       omega arith,
-      elim c.if-marked.branch [
-        | then-marked w ↦ rw w.w-is (with _ _ w.write_edge.ensures (at_marked _ _ w.if-marked.true))
-        | else-marked w ↦ rw w.w-is (with _ _ (writes_none _) (at_unmarked _ _ w.if-marked.false))
+      elim c.if-marks-code.branch [
+        | then-marks-code w ↦ rw w.w-is (with _ _ w.write_edge.ensures (at_marked _ _ w.if-marks-code.true))
+        | else-marks-code w ↦ rw w.w-is (with _ _ (writes_none _) (at_unmarked _ _ w.if-marks-code.false))
       ],
     )
 

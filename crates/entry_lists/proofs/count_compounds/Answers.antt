@@ -1,15 +1,19 @@
-use mathlib.Core.Path.{sym, ap, ◌∙◌}
+-- `entry_lists::count_compounds` meets its contract.
+use mathlib.Core.Path.{◌≡◌, ◌∙◌}
 use native.Mathlib.Omega.{arith}
+use Rattle.std.proofs.Common.{rules}
+use borrow.Author.Tests.{tests}
 use lib.ListN.{length}
-use Rattle.std.specs.Int.{from_bool}
-use Rattle.std.specs.Option.{is_some}
-use Rattle.labels.specs.Labels.{label_of}
-use Rattle.entry_lists.proofs.Turns.{compound_some, compounds_none, compounds_count}
+use Rattle.std.specs.List.{filter, range_with_len}
+use Rattle.std.proofs.lemmas.Iterator.{YieldsList-from_range}
+use Rattle.std.proofs.lemmas.Iterator.Consumers.{YieldsList-from_filter, count_from_yields_List}
+use Rattle.entry_lists.proofs.Turns.{is_compound, compounds_counted, compounds_few}
 use Rattle.entry_lists.proofs.count_compounds.Goals as goal
 
-pub loop-i-init : goal.loop-i-init
-loop-i-init c = (omega arith, sym (ap length (compounds_none _ _)), omega arith)
-
-pub loop-i-preserved : goal.loop-i-preserved
-loop-i-preserved c = let l = c.loop-i in let r = compounds_count c.args.at l.i c.args.s.now l.many _ (c.from-many.ensures ∙ (ap from_bool (c.is_some.ensures ∙ ap is_some (c.components.ensures ∙ ap label_of c.get.ensures)) ∙ compound_some _)) l.invariant.1 in
-    (omega arith, r.0, omega (arith, r.1))
+pub returns : goal.returns
+returns c =
+    let n = c.args.n in
+    let is = is_compound c.args.at c.args.s.now in
+    let e : c.count.result ≡ length (filter is (range_with_len 0 n)) =
+    count_from_yields_List _ _ c.count.ensures.ran (YieldsList-from_filter _ is (YieldsList-from_range 0 n n c.filter.ensures.source (omega arith)) c.filter.ensures.closure (λ x b q k. search (rules, tests))) in
+    (e ∙ compounds_counted c.args.at n c.args.s.now, omega (arith, e, compounds_few c.args.at n c.args.s.now))

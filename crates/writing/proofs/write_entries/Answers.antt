@@ -5,6 +5,7 @@ use native.Mathlib.Omega.{arith}
 use lib.ListN.{length, get_or, take}
 use lib.Seq.{take_all}
 use Rattle.definitions.specs.Job.{counted}
+use Rattle.words.specs.Words.{words}
 use Rattle.shelf.specs.Leaves.{both_left, both_length, first_of_both}
 use Rattle.words.specs.Wrote.{writes_none, writes_then, writes_as}
 use Rattle.writing.specs.Standing.{owners_in, both_words, figured}
@@ -16,7 +17,7 @@ unfolding flat_map
 loop-k-init g c = (omega arith, writes_none _)
 
 pub write_entry_lists-requires : goal.write_entry_lists-requires
-write_entry_lists-requires g c = (rw (c.owners.ensures.0, c.owners.ensures.1) at c.first_facets-firsts.ensures, omega arith)
+write_entry_lists-requires g c = (λ t. words 2 (c.owners-owners.ensures.0 t) (c.owners-owners.ensures.1 t), omega arith)
 
 pub loop-k-preserved : goal.loop-k-preserved
 unfolding figured

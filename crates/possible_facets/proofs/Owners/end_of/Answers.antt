@@ -1,18 +1,15 @@
-use mathlib.Core.Path.{◌≡◌, sym, ◌∙◌}
-use native.Mathlib.Omega.{arith}
-use Rattle.words.specs.Words.{words_length}
-use Rattle.possible_facets.proofs.Stretches.{leading_stops, leading_more, leading_ends}
+-- `Owners::end_of` meets its contract.
+use Rattle.std.proofs.Common.{◌≡◌, get_or, rules, tests}
+use Rattle.std.proofs.lemmas.Iterator.{first_from_Range}
+use Rattle.words.specs.Words.{words, words_length}
+use Rattle.possible_facets.proofs.Stretches.{first_other}
 use Rattle.possible_facets.proofs.Owners.end_of.Goals as goal
 
-pub returns-then-orbit : goal.returns-then-orbit
-returns-then-orbit c = let l = c.loop-i in let n = words_length 2 c.args.self.bytes.now c.args.self.facets in
-    (leading_stops c.args.orbit _ l.i (omega arith) (λ e. c.if-orbit.true (c.orbit.ensures.0 ∙ e)) ∙ l.invariant.2, omega arith)
-
-pub loop-i-preserved : goal.loop-i-preserved
-loop-i-preserved c = let l = c.loop-i in let n = words_length 2 c.args.self.bytes.now c.args.self.facets in
-    (omega arith, omega arith, leading_more c.args.orbit _ l.i (omega arith) (sym c.orbit.ensures.0 ∙ c.if-orbit.false) ∙ l.invariant.2)
-
 pub returns : goal.returns
-returns c = let l = c.loop-i in let n = words_length 2 c.args.self.bytes.now c.args.self.facets in
-    let e : c.args.self.facets ≡ l.i = omega arith in
-    (e ∙ (leading_ends c.args.orbit _ l.i (omega arith) ∙ l.invariant.2), omega arith)
+returns c =
+    let all = words 2 c.args.self.bytes.now c.args.self.facets in
+    let first = first_other c.args.orbit all c.args.x c.args.self.facets c.requires (words_length 2 c.args.self.bytes.now c.args.self.facets) c.find.result
+    (first_from_Range _ _ _ _ (λ i. get_or all i 0 ≡ c.args.orbit → ⊥) (λ i. get_or all i 0 ≡ c.args.orbit) c.find.ensures.ran
+    (λ x q k. search (rules, tests))
+    (λ x q k. search (rules, tests))) in
+    rw c.unwrap_or.ensures first
