@@ -5,7 +5,7 @@ use native.Mathlib.Omega.{arith}
 use Rattle.std.proofs.Math.ListN.{length}
 use Rattle.std.specs.Float.Ieee.{le}
 use Rattle.definitions.specs.Vectors.{Vec, minus}
-use Rattle.definitions.specs.Subspace.{Subspace, residual}
+use Rattle.definitions.specs.Subspace.{Subspace}
 use Rattle.definitions.specs.Orbits.{point_at}
 use Rattle.definitions.specs.Job.{least_tolerance}
 use Rattle.bounds.specs.Sizes.{each_get_d, Small, small_none, small_wider, minus_small, residual_small}
@@ -25,12 +25,11 @@ module _ (n k : ℕ) (plane : Subspace) (points : List Vec) (room : NormsFit n k
         small_wider length (omega arith) (minus_small (point_at points w) (point_at points v) (omega arith) (at w) (at v))
     takes_small {v} (in_fit vertices t) =
         small_wider v (omega arith) (fit_takes_small n (k + 2 + n) tolerance (omega arith) low (chosen plane points vertices) v (chosen_small n k plane points room h vertices) t)
-    takes_small (in_distance vertices u) =
+    takes_small {v} (in_distance vertices u) =
         let s = through tolerance plane points vertices in
-        let p = point_at (flattened plane points) u in
-        small_wider (residual s p) (omega arith)
-        (residual_small n (k + 2 + n) s p (omega arith) (inner_bounded n k plane points room h tolerance low vertices).tame
-        (each_get_d (Small n (k + 2 + n)) (flattened plane points) u [] (small_none n (k + 2 + n)) (flattened_small n k plane points room h)))
+        small_wider v (omega arith)
+        (residual_small n (k + 2 + n) s _ (omega arith) (inner_bounded n k plane points room h tolerance low vertices).tame
+        (each_get_d (Small n (k + 2 + n)) (flattened plane points) _ [] (small_none n (k + 2 + n)) (flattened_small n k plane points room h)))
 
 -- ---- every call
 

@@ -61,6 +61,7 @@ fn list_entries(ws: &mut [u8], shelf: Shelf, rank: usize, areas: Areas) -> Level
     entries::split_entries(ws, shelf, at, bytes)
 }
 
+// What the workspace keeps of the inner calls is a clause: it speaks of some stock, and a ghost field cannot say which; and the workspace is written.
 // The second half of a call: from what it keeps of its inner calls to its answer, or a refusal. The search is given the workspace from the owners on, and
 // told whether closed lists are extended.
 pub fn search_call(

@@ -3,7 +3,6 @@
 
 #![tactic(auto)]
 
-ghost use Rattle.std.proofs.Props.{props};
 ghost use Rattle.std.specs.Prelude.{◌≡◌, List, ◌≤◌, ◌<◌, length, get_or};
 ghost use Rattle.definitions.specs.Search.{Table};
 ghost use Rattle.facets.specs.Layout.{Inputs, KindIn};
@@ -17,7 +16,7 @@ pub struct Candidates<'a> {
     pub ws: &'a [u8],
     pub areas: Areas,
     pub kind: Option<usize>,
-    pub ghost kind_in: { KindIn areas kind } by { Prim.hlevel props },
+    pub ghost kind_in: { KindIn areas kind },
 }
 
 impl<'a> Candidates<'a> {
@@ -27,6 +26,7 @@ impl<'a> Candidates<'a> {
     ghost use Rattle.candidates.specs.Latest.{last_free};
 
     // How many there are.
+    // What the bytes hold is a clause, here and in the other methods: it is asked of some table and promised for each that the bytes hold, and a ghost field cannot say which.
     pub fn count(self) -> usize
         requires { (t : Table) × Inputs t self.areas self.ws.now }
         ensures { (t : Table) → Inputs t self.entry.areas self.entry.ws.now → result ≡ length (numbers t self.entry.kind) }

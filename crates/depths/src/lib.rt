@@ -14,6 +14,7 @@ use facets::Areas;
 use words::Word;
 
 // The last facet leaves the list.
+// That the path stands is a clause, here and below: it speaks of some table, and a ghost field cannot say which; and the workspace is written.
 pub fn withdraw(ws: &mut [u8], a: Areas, depth: usize)
     requires { (t : Table) × PathStands t a ws.old depth depth × (0 < depth) }
     ensures { (t : Table) → PathStands t a ws.old depth depth → Withdrawn t a ws.old ws.new depth }
@@ -23,6 +24,7 @@ pub fn withdraw(ws: &mut [u8], a: Areas, depth: usize)
 }
 
 // The mark of the list: at an open list the mark stays, at a closed one it moves to the orbit of the facet that joins.
+// The workspace and the areas are two parameters: the workspace is written right after, and a struct that lends it would be made for this call alone.
 fn mark_after(ws: &[u8], a: Areas, depth: usize) -> u16
     requires { (t : Table) × PathStands t a ws.now depth depth × (0 < depth) }
     ensures { (t : Table) → PathStands t a ws.now depth depth → result ≡ mark_after t (frames_part a ws.now) (depth - 1) }

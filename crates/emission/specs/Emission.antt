@@ -11,6 +11,7 @@ use Rattle.std.proofs.lemmas.List.{length-map, length-replicate}
 use Rattle.std.proofs.Math.Seq.{get_or-append_seam}
 use borrow.Rule.Slice.PartMut.{put_same}
 use Rattle.definitions.specs.Search.{Table, uses_orbit}
+use Rattle.laws.specs.Options.{none_is_not_some}
 use Rattle.laws.specs.Segments.{placed, part_length, placed_length, part_placed, take_placed, part_placed_off, le_or_lt}
 use Rattle.pool.specs.Pool.{Sound, count, used, base, closed_lists, opened, emptied, pushed, ended, closed_length, emptied_sound, emptied_closed, emptied_opened, pushed_length, pushed_count, pushed_used, pushed_sound, pushed_closed, pushed_opened, ended_length, ended_count, ended_used, ended_sound, ended_closed, ended_opened}
 use Rattle.facets.specs.declared.Areas.{Areas}
@@ -403,7 +404,7 @@ module _ (t : Table) (a : Areas) (s r1 r2 r3 r4 : List ℕ) (h : Inputs t a s) w
     first_path : Path t a r4 1 0
     unfolding sum_at list_to path
     first_path = record {
-      kinds = λ k l. let z : k ≡ 0 = omega arith in rw (z, kind_0) tt;
+      kinds = λ k l. let z : k ≡ 0 = omega arith in rw (z, kind_0) (λ ridge e. absurd (none_is_not_some ridge e));
       places = λ k l. let z : k ≡ 0 = omega arith in rw (z, kind_0, place_0) (omega (arith, all_facets_holds));
       taken = λ k l. absurd (omega arith);
       fresh = λ k l. absurd (omega arith);

@@ -14,6 +14,7 @@ ghost use Rattle.pool.specs.Pool.{count, ended};
 use facets::Areas;
 
 // The list joins the emitted ones.
+// That the path stands is a clause, and below what the workspace holds: both speak of some table, and a ghost field cannot say which; and the bytes are written.
 pub fn emit(ws: &mut [u8], a: Areas, depth: usize)
     requires { (t : Table) × PathStands t a ws.old depth depth × Emitted a (lists_part a ws.old) × (count (lists_part a ws.old) < a.bound) }
     ensures { ws.new ≡ placed a.lists (a.end - a.lists) ws.old (ended (pushed_all a.bound (lists_part a ws.old) (path (frames_part a ws.old) depth))) }

@@ -3,7 +3,7 @@
 use Rattle.std.specs.Prelude.{◌≡◌, Bool, true, false, cond, ◌||◌, ℕ, zero, suc, ◌+◌, ◌-◌, ◌*◌, ◌/◌, ◌%◌, ◌≤◌, ◌<◌, ltb, eqb, length, get_or, set, take, replicate}
 use Rattle.std.proofs.Common.{refl, sym, ap, ◌∙◌, arith}
 use mathlib.Core.List.{List, [], ◌∷◌, map, flat_map}
-use Rattle.std.specs.Prelude.{Option, Some, None, IfSome, SomeIff}
+use Rattle.std.specs.Prelude.{Option, Some, None, SomeIff}
 use Rattle.definitions.specs.Lists.{count_from}
 use Rattle.definitions.specs.Job.{number_at}
 use Rattle.definitions.specs.Search as def
@@ -36,9 +36,9 @@ unfoldable pub numbers : Table → Option ℕ → List ℕ
 numbers t None = count_from 0 (length (all_facets t))
 numbers t (Some ridge) = ones_of t ridge
 
--- that ridge orbit is one of the table
+-- that ridge orbit, if there is one, is one of the table
 abbrev pub KindIn : Areas → Option ℕ → Type 0
-KindIn a kind = IfSome kind (λ (ridge : ℕ). ridge < a.ridges)
+KindIn a kind = (ridge : ℕ) → kind ≡ Some ridge → ridge < a.ridges
 
 -- a kind in bytes: 0, or one more than the ridge orbit
 unfoldable pub ridge_of : ℕ → Option ℕ
@@ -65,7 +65,7 @@ ridge_of_code (Some ridge) = refl
 pub code_small : (a : Areas) (kind : Option ℕ) → KindIn a kind → code_of kind ≤ a.ridges
 unfolding code_of
 code_small a None h = omega arith
-code_small a (Some ridge) h = omega arith
+code_small a (Some ridge) h = let k = h ridge refl in omega arith
 
 -- ---- the tables
 

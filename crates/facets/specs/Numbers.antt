@@ -116,14 +116,15 @@ facet_small t a s x h k =
 -- the bytes say how many candidates there are, whichever table they hold
 pub same_length : (t u : Table) (a : Areas) (s : List ℕ) → Inputs t a s → Inputs u a s → (kind : Option ℕ) → KindIn a kind → length (numbers t kind) ≡ length (numbers u kind)
 same_length t u a s h k None l = numbers_all_length t ∙ (sym h.holds.facets ∙ (k.holds.facets ∙ sym (numbers_all_length u)))
-same_length t u a s h k (Some ridge) l = sym (kind_length t a s h ridge l) ∙ kind_length u a s k ridge l
+same_length t u a s h k (Some ridge) l = sym (kind_length t a s h ridge (l ridge refl)) ∙ kind_length u a s k ridge (l ridge refl)
 
 -- a place fits four bytes
 pub numbers_few : (t : Table) (a : Areas) (s : List ℕ) → Inputs t a s → (kind : Option ℕ) → KindIn a kind → length (numbers t kind) < 4294967296
 unfolding length_at
 numbers_few t a s h None l = let e = numbers_all_length t in let f = h.holds.facets in let g = h.fits.few_facets in omega arith
 numbers_few t a s h (Some ridge) l =
-    let e = kind_length t a s h ridge l in
+    let r = l ridge refl in
+    let e = kind_length t a s h ridge r in
     let b = h.holds.ones_sound.below (ridge + 1) (omega (arith, ones_count t a s h)) in
     let m = h.holds.ones_sound.small in
     omega arith

@@ -2,7 +2,7 @@
 use Rattle.std.specs.Prelude.{◌≡◌, true, false, List, [], ◌∷◌, ◌++◌, length, take, Result, Ok, Err}
 use Rattle.std.proofs.Math.Path.{refl, sym, ap}
 use Rattle.std.proofs.Common.{◌∙◌, add-one}
-use Rattle.std.specs.Prelude.{Some, None}
+use Rattle.std.specs.Prelude.{Option, Some, None}
 use Prim.Native.Nat.{ℕ, zero, suc, ◌+◌, ◌-◌, ◌*◌, ◌≤◌, ◌<◌}
 use native.Mathlib.Omega.{arith}
 use Rattle.definitions.specs.Outcome.{refused, answered}
@@ -12,8 +12,6 @@ use Rattle.laws.specs.Segments.{part_length}
 use Rattle.pool.specs.Pool.{count}
 use Rattle.facets.specs.declared.Areas.{Areas}
 use Rattle.search.specs.declared.Course.{Course}
-use Rattle.search.specs.declared.Step.{Step}
-use Rattle.search.specs.declared.Step.TheVariants.{On, Stopped}
 use Rattle.refusals.specs.declared.Refusal.{Refusal}
 use Rattle.refusals.specs.Refused.{number_of}
 use Rattle.facets.specs.declared.Verdict.{Verdict}
@@ -58,9 +56,9 @@ pub record Fills (t : Table) (a : Areas) (course : Course) (s s' : List ℕ) (d 
   pub same : (left : ℕ) → examine t (entry_limits_of a course) (suc left) (due t (frames_part a s) d) (emitted_in t a (lists_part a s)) ≡ refused number
   pub tables : take a.frames s' ≡ take a.frames s
 
-unfoldable pub Followed : Table → Areas → Course → List ℕ → List ℕ → ℕ → Result Step Refusal → Type 0
-Followed t a course s s' d (Ok (On deep)) = Goes t a course s s' d deep
-Followed t a course s s' d (Ok Stopped) = Stops t a course s s' d
+unfoldable pub Followed : Table → Areas → Course → List ℕ → List ℕ → ℕ → Result (Option ℕ) Refusal → Type 0
+Followed t a course s s' d (Ok (Some deep)) = Goes t a course s s' d deep
+Followed t a course s s' d (Ok None) = Stops t a course s s' d
 Followed t a course s s' d (Err e) = Fills t a course s s' d (number_of e)
 
 -- ---- what the verdict says

@@ -30,25 +30,18 @@ pub struct Listed {
     pub left: u32,
 }
 
-// What follows an examined list: the search goes on with so many frames, or the limit is reached. No Option: to stop here is an answer, and the two cases are read by name.
-#[derive(Clone, Copy)]
-pub enum Step {
-    On(usize),
-    Stopped,
-}
-
 // [7.9] whether the entry limit ends the search, with so many lists emitted
+#[tactic(auto, unfolding(definitions::specs::Search::limit_reached))]
 fn reached(limit: Option<u32>, emitted: u32) -> bool
     ensures { result ≡ limit_reached (limit) emitted }
 {
-    match limit {
-        None => false,
-        Some(m) => m <= emitted,
-    }
+    limit.is_some_and(|m| m <= emitted)
 }
 
 // A closed list is emitted, unless the entry is past the bound. The limit is tested behind the emission. Then the list is extended by every facet above the mark, or, where closed lists are not extended, withdrawn.
-fn close(ws: &mut [u8], a: Areas, course: Course, depth: usize) -> Result<Step, Refusal>
+// Some: the search goes on with so many frames. None: the limit ends it. That the list is judged is a clause, here and below, and so is what the path and the workspace hold: each speaks of some table,
+// and a ghost field cannot say which; and the workspace is written.
+fn close(ws: &mut [u8], a: Areas, course: Course, depth: usize) -> Result<Option<usize>, Refusal>
     requires { (t : Table) × Judged t a ws.old depth closed }
     ensures { (t : Table) → Judged t a ws.old depth closed → Followed t a course ws.old ws.new depth result }
 {
@@ -58,29 +51,29 @@ fn close(ws: &mut [u8], a: Areas, course: Course, depth: usize) -> Result<Step, 
     }
     emission::emit(ws, a, depth);
     if reached(course.limit, emitted + 1) {
-        return Ok(Step::Stopped);
+        return Ok(None);
     }
     if course.extended {
         depths::enter(ws, a, depth, None);
-        return Ok(Step::On(depth + 1));
+        return Ok(Some(depth + 1));
     }
     depths::withdraw(ws, a, depth);
-    Ok(Step::On(depth))
+    Ok(Some(depth))
 }
 
-// What the verdict says is done: a list that is over is dropped, one that is open is extended where it is open, a closed one is emitted.
-fn follow(ws: &mut [u8], a: Areas, course: Course, s: State) -> Result<Step, Refusal>
+// What the verdict says is done: a list that is over is dropped, one that is open is extended where it is open, a closed one is emitted. Some and None as of `close`.
+fn follow(ws: &mut [u8], a: Areas, course: Course, s: State) -> Result<Option<usize>, Refusal>
     requires { (t : Table) × Judged t a ws.old s.depth (verdict s.verdict) }
     ensures { (t : Table) → Judged t a ws.old s.depth (verdict s.verdict) → Followed t a course ws.old ws.new s.depth result }
 {
     match s.verdict {
         Verdict::Over => {
             depths::withdraw(ws, a, s.depth);
-            Ok(Step::On(s.depth))
+            Ok(Some(s.depth))
         }
         Verdict::Open(ridge) => {
             depths::enter(ws, a, s.depth, Some(usize::from(ridge)));
-            Ok(Step::On(s.depth + 1))
+            Ok(Some(s.depth + 1))
         }
         Verdict::Closed => close(ws, a, course, s.depth),
     }
@@ -106,6 +99,7 @@ fn at_depth(s: State, depth: usize) -> State
 }
 
 // What is found with the lists that were emitted.
+// The workspace and the areas are two parameters, and that the areas fit a clause: a struct that lends the workspace would be made for this call alone.
 fn found(ws: &[u8], a: Areas, left: u32) -> Listed
     requires { AreasFit a (length ws.now) }
     ensures { result ≡ record { lists = count (lists_part a ws.now); left = left } }
@@ -139,11 +133,10 @@ pub fn search(ws: &mut [u8], a: Areas, course: Course, budget: u32) -> Result<Li
                     return Err(Refusal::Budget);
                 }
                 s = visits::visit(ws, a, s, place);
-                let step = follow(ws, a, course, s)?;
-                match step {
-                    Step::On(deep) => s = at_depth(s, deep),
-                    Step::Stopped => return Ok(found(ws, a, s.left)),
-                }
+                let Some(deep) = follow(ws, a, course, s)? else {
+                    return Ok(found(ws, a, s.left));
+                };
+                s = at_depth(s, deep);
             }
         }
     }

@@ -11,6 +11,7 @@ use facets::Areas;
 use words::Word;
 
 // A facet joins the list: what it adds is counted, and its orbit is in use. Says whether it lifts a total above 2.
+// What the workspace holds is a clause, here and where a facet leaves: it speaks of some table, and a ghost field cannot say which; and the bytes are written.
 pub fn join(ws: &mut [u8], a: Areas, x: usize) -> bool
     requires { (t : Table) × Inputs t a ws.old × (x < a.facets) × ((ridge : ℕ) → ridge < a.ridges → get_or (totals_part a ws.old) ridge 0 ≤ 252) }
     ensures counts { ws.new ≡ with_facet a ws.old x }

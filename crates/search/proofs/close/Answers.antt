@@ -10,6 +10,7 @@ use Rattle.pool.specs.Pool.{count}
 use Rattle.facets.specs.Layout.{lists_part, frames_part}
 use Rattle.frames.specs.Paths.{PathStands, Emitted, list_to, emitted_in}
 use Rattle.facets.specs.Judged.{NotOver}
+use Rattle.laws.specs.Options.{none_is_not_some}
 use Rattle.frames.specs.Steps.{path_short}
 use Rattle.emission.specs.Emission.{emit_stands, emit_frames, emit_emitted, emit_lists, emit_tables}
 use Rattle.search.specs.Turns.{Followed, judged_light, follow_full, follow_stop, follow_closed, follow_kept}
@@ -46,7 +47,7 @@ enter-requires c =
       c.requires.0,
       emit_stands c.requires.0 c.args.a c.args.ws.now c.args.depth j.stands j.emitted h,
       j.deep,
-      tt,
+      λ x e. absurd (none_is_not_some x e),
       rw (emit_frames c.requires.0 c.args.a c.args.ws.now c.args.depth j.stands j.emitted h) light,
     )
 

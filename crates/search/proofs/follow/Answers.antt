@@ -4,6 +4,7 @@ use mathlib.Core.Path.{refl}
 use Rattle.definitions.specs.Search.{open_at}
 use Rattle.facets.specs.Layout.{verdict, frames_part}
 use Rattle.facets.specs.Judged.{NotOver}
+use Rattle.laws.specs.Options.{some_equal}
 use Rattle.frames.specs.Steps.{path_short}
 use Rattle.search.specs.Turns.{Judged, Followed, judged_light, judged_inside, follow_over, follow_open}
 use Rattle.search.proofs.follow.Goals as goal
@@ -12,7 +13,7 @@ pub enter-requires : goal.enter-requires
 unfolding verdict NotOver
 enter-requires c = let j : Judged c.requires.0 c.args.a c.args.ws.now c.args.s.depth (open_at c.in-Open.ridge) = rw c.in-Open.is at c.requires.1 in
     let r = judged_inside c.requires.0 c.args.a c.args.ws.now c.args.s.depth (open_at c.in-Open.ridge) j c.in-Open.ridge refl in
-    rw c.from.ensures (c.requires.0, j.stands, j.deep, r, judged_light c.requires.0 c.args.a c.args.ws.now c.args.s.depth (open_at c.in-Open.ridge) j tt)
+    rw c.from.ensures (c.requires.0, j.stands, j.deep, λ x e. omega (arith, some_equal _ x e), judged_light c.requires.0 c.args.a c.args.ws.now c.args.s.depth (open_at c.in-Open.ridge) j tt)
 
 pub overflow_add-result : goal.overflow_add-result
 overflow_add-result c =

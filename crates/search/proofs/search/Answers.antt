@@ -73,10 +73,10 @@ loop-s-smaller c =
     let d : 0 < l.s.depth = c.loop-s-test.true in
     let p : 0 < l.s.left = omega (arith, c.if-s-eq0.false) in
     let w = c.visit-s.ensures.2 c.requires.0 (turn_ready c.requires.0 c.args.a c.args.course c.args.budget l.ws l.s.depth l.s.left turn d c.in-Some.place n) in
-    let j = turn_judged c.requires.0 c.args.a c.args.course c.args.budget l.ws l.s.depth l.s.left turn d c.in-Some.place n c.visit-s.new.ws c.visit-s.result.verdict w p in let g = c.in_ok-step-in-Some.ensures c.requires.0 (rw c.visit-s.ensures.0 j) in
-    let q : Goes c.requires.0 c.args.a c.args.course c.visit-s.new.ws c.follow.new.ws l.s.depth c.in-On.deep = rw (c.in-On.is, c.visit-s.ensures.0) at g in
-    let k = turn_depth c.requires.0 c.args.a c.args.course c.args.budget c.follow.new.ws c.in-On.deep (l.s.left - 1) (turn_on c.requires.0 c.args.a c.args.course c.args.budget l.ws l.s.depth l.s.left turn d c.in-Some.place n c.visit-s.new.ws c.visit-s.result.verdict w p c.follow.new.ws c.in-On.deep q) in
-    rw (c.at_depth-s.ensures.0, c.at_depth-s.ensures.1, c.visit-s.ensures.1) (budget_falls l.s.left (c.args.a.orbits + 2) c.in-On.deep l.s.depth p k)
+    let j = turn_judged c.requires.0 c.args.a c.args.course c.args.budget l.ws l.s.depth l.s.left turn d c.in-Some.place n c.visit-s.new.ws c.visit-s.result.verdict w p in let g = c.in_ok-deep-in-Some.ensures c.requires.0 (rw c.visit-s.ensures.0 j) in
+    let q : Goes c.requires.0 c.args.a c.args.course c.visit-s.new.ws c.follow.new.ws l.s.depth c.in-Some-2.deep = rw (c.in-Some-2.is, c.visit-s.ensures.0) at g in
+    let k = turn_depth c.requires.0 c.args.a c.args.course c.args.budget c.follow.new.ws c.in-Some-2.deep (l.s.left - 1) (turn_on c.requires.0 c.args.a c.args.course c.args.budget l.ws l.s.depth l.s.left turn d c.in-Some.place n c.visit-s.new.ws c.visit-s.result.verdict w p c.follow.new.ws c.in-Some-2.deep q) in
+    rw (c.at_depth-s.ensures.0, c.at_depth-s.ensures.1, c.visit-s.ensures.1) (budget_falls l.s.left (c.args.a.orbits + 2) c.in-Some-2.deep l.s.depth p k)
 
 pub loop-s-preserved : goal.loop-s-preserved
 unfolding Followed
@@ -85,17 +85,17 @@ loop-s-preserved c =
     let d : 0 < l.s.depth = c.loop-s-test.true in
     let p : 0 < l.s.left = omega (arith, c.if-s-eq0.false) in
     let w = c.visit-s.ensures.2 c.requires.0 (turn_ready c.requires.0 c.args.a c.args.course c.args.budget l.ws l.s.depth l.s.left turn d c.in-Some.place n) in
-    let j = turn_judged c.requires.0 c.args.a c.args.course c.args.budget l.ws l.s.depth l.s.left turn d c.in-Some.place n c.visit-s.new.ws c.visit-s.result.verdict w p in let g = c.in_ok-step-in-Some.ensures c.requires.0 (rw c.visit-s.ensures.0 j) in
-    let q : Goes c.requires.0 c.args.a c.args.course c.visit-s.new.ws c.follow.new.ws l.s.depth c.in-On.deep = rw (c.in-On.is, c.visit-s.ensures.0) at g in (
+    let j = turn_judged c.requires.0 c.args.a c.args.course c.args.budget l.ws l.s.depth l.s.left turn d c.in-Some.place n c.visit-s.new.ws c.visit-s.result.verdict w p in let g = c.in_ok-deep-in-Some.ensures c.requires.0 (rw c.visit-s.ensures.0 j) in
+    let q : Goes c.requires.0 c.args.a c.args.course c.visit-s.new.ws c.follow.new.ws l.s.depth c.in-Some-2.deep = rw (c.in-Some-2.is, c.visit-s.ensures.0) at g in (
       c.follow.auto.ws ∙ (c.visit-s.auto.ws ∙ l.invariant.0),
       q.tables ∙ (w.tables ∙ l.invariant.1),
       λ t h. let turn = l.invariant.2 t h in let n = next_due t c.args.a l.ws l.s.depth turn.stands c.loop-s-test.true c.next.result c.in-Some.place (c.next.ensures t turn.stands) c.in-Some.is in
           let d : 0 < l.s.depth = c.loop-s-test.true in
           let p : 0 < l.s.left = omega (arith, c.if-s-eq0.false) in
           let w = c.visit-s.ensures.2 t (turn_ready t c.args.a c.args.course c.args.budget l.ws l.s.depth l.s.left turn d c.in-Some.place n) in
-          let j = turn_judged t c.args.a c.args.course c.args.budget l.ws l.s.depth l.s.left turn d c.in-Some.place n c.visit-s.new.ws c.visit-s.result.verdict w p in let g = c.in_ok-step-in-Some.ensures t (rw c.visit-s.ensures.0 j) in
-          let q : Goes t c.args.a c.args.course c.visit-s.new.ws c.follow.new.ws l.s.depth c.in-On.deep = rw (c.in-On.is, c.visit-s.ensures.0) at g in
-          rw (c.at_depth-s.ensures.0, c.at_depth-s.ensures.1, c.visit-s.ensures.1) (turn_on t c.args.a c.args.course c.args.budget l.ws l.s.depth l.s.left turn d c.in-Some.place n c.visit-s.new.ws c.visit-s.result.verdict w p c.follow.new.ws c.in-On.deep q),
+          let j = turn_judged t c.args.a c.args.course c.args.budget l.ws l.s.depth l.s.left turn d c.in-Some.place n c.visit-s.new.ws c.visit-s.result.verdict w p in let g = c.in_ok-deep-in-Some.ensures t (rw c.visit-s.ensures.0 j) in
+          let q : Goes t c.args.a c.args.course c.visit-s.new.ws c.follow.new.ws l.s.depth c.in-Some-2.deep = rw (c.in-Some-2.is, c.visit-s.ensures.0) at g in
+          rw (c.at_depth-s.ensures.0, c.at_depth-s.ensures.1, c.visit-s.ensures.1) (turn_on t c.args.a c.args.course c.args.budget l.ws l.s.depth l.s.left turn d c.in-Some.place n c.visit-s.new.ws c.visit-s.result.verdict w p c.follow.new.ws c.in-Some-2.deep q),
     )
 
 pub found-requires : goal.found-requires
@@ -105,28 +105,28 @@ found-requires c =
     let d : 0 < l.s.depth = c.loop-s-test.true in
     let p : 0 < l.s.left = omega (arith, c.if-s-eq0.false) in
     let w = c.visit-s.ensures.2 c.requires.0 (turn_ready c.requires.0 c.args.a c.args.course c.args.budget l.ws l.s.depth l.s.left turn d c.in-Some.place n) in
-    let j = turn_judged c.requires.0 c.args.a c.args.course c.args.budget l.ws l.s.depth l.s.left turn d c.in-Some.place n c.visit-s.new.ws c.visit-s.result.verdict w p in let g = c.in_ok-step-in-Some.ensures c.requires.0 (rw c.visit-s.ensures.0 j) in
-    let q : Stops c.requires.0 c.args.a c.args.course c.visit-s.new.ws c.follow.new.ws l.s.depth = rw (c.in-Stopped.is, c.visit-s.ensures.0) at g in q.inputs.fits
+    let j = turn_judged c.requires.0 c.args.a c.args.course c.args.budget l.ws l.s.depth l.s.left turn d c.in-Some.place n c.visit-s.new.ws c.visit-s.result.verdict w p in let g = c.in_ok-deep-in-Some.ensures c.requires.0 (rw c.visit-s.ensures.0 j) in
+    let q : Stops c.requires.0 c.args.a c.args.course c.visit-s.new.ws c.follow.new.ws l.s.depth = rw (c.in_default.is, c.visit-s.ensures.0) at g in q.inputs.fits
 
-pub shape_of-ws-in-Stopped : goal.shape_of-ws-in-Stopped
-shape_of-ws-in-Stopped c =
+pub shape_of-ws-in_default : goal.shape_of-ws-in_default
+shape_of-ws-in_default c =
     let l = c.loop-s in c.follow.auto.ws ∙ (c.visit-s.auto.ws ∙ (l.invariant.0 ∙ c.start.auto.ws))
 
-pub returns-in-Stopped : goal.returns-in-Stopped
+pub returns-in_default : goal.returns-in_default
 unfolding Followed search_outcome counted_lists
-returns-in-Stopped c = of_three (λ x0 x1 x2. record { found = x0; many = x1; kept = x2 })
+returns-in_default c = of_three (λ x0 x1 x2. record { found = x0; many = x1; kept = x2 })
     (let l = c.loop-s in let go = c.start.ensures c.requires.0 c.requires.1 in let turn = l.invariant.2 c.requires.0 go.stands.inputs in let n = next_due c.requires.0 c.args.a l.ws l.s.depth turn.stands c.loop-s-test.true c.next.result c.in-Some.place (c.next.ensures c.requires.0 turn.stands) c.in-Some.is in
     let d : 0 < l.s.depth = c.loop-s-test.true in
     let p : 0 < l.s.left = omega (arith, c.if-s-eq0.false) in
     let w = c.visit-s.ensures.2 c.requires.0 (turn_ready c.requires.0 c.args.a c.args.course c.args.budget l.ws l.s.depth l.s.left turn d c.in-Some.place n) in
-    let j = turn_judged c.requires.0 c.args.a c.args.course c.args.budget l.ws l.s.depth l.s.left turn d c.in-Some.place n c.visit-s.new.ws c.visit-s.result.verdict w p in let g = c.in_ok-step-in-Some.ensures c.requires.0 (rw c.visit-s.ensures.0 j) in
-    let q : Stops c.requires.0 c.args.a c.args.course c.visit-s.new.ws c.follow.new.ws l.s.depth = rw (c.in-Stopped.is, c.visit-s.ensures.0) at g in (
+    let j = turn_judged c.requires.0 c.args.a c.args.course c.args.budget l.ws l.s.depth l.s.left turn d c.in-Some.place n c.visit-s.new.ws c.visit-s.result.verdict w p in let g = c.in_ok-deep-in-Some.ensures c.requires.0 (rw c.visit-s.ensures.0 j) in
+    let q : Stops c.requires.0 c.args.a c.args.course c.visit-s.new.ws c.follow.new.ws l.s.depth = rw (c.in_default.is, c.visit-s.ensures.0) at g in (
       (λ t h. let back = c.start.ensures t h in let turn = l.invariant.2 t back.stands.inputs in let n = next_due t c.args.a l.ws l.s.depth turn.stands c.loop-s-test.true c.next.result c.in-Some.place (c.next.ensures t turn.stands) c.in-Some.is in
           let d : 0 < l.s.depth = c.loop-s-test.true in
           let p : 0 < l.s.left = omega (arith, c.if-s-eq0.false) in
           let w = c.visit-s.ensures.2 t (turn_ready t c.args.a c.args.course c.args.budget l.ws l.s.depth l.s.left turn d c.in-Some.place n) in
-          let j = turn_judged t c.args.a c.args.course c.args.budget l.ws l.s.depth l.s.left turn d c.in-Some.place n c.visit-s.new.ws c.visit-s.result.verdict w p in let g = c.in_ok-step-in-Some.ensures t (rw c.visit-s.ensures.0 j) in
-          let q : Stops t c.args.a c.args.course c.visit-s.new.ws c.follow.new.ws l.s.depth = rw (c.in-Stopped.is, c.visit-s.ensures.0) at g in
+          let j = turn_judged t c.args.a c.args.course c.args.budget l.ws l.s.depth l.s.left turn d c.in-Some.place n c.visit-s.new.ws c.visit-s.result.verdict w p in let g = c.in_ok-deep-in-Some.ensures t (rw c.visit-s.ensures.0 j) in
+          let q : Stops t c.args.a c.args.course c.visit-s.new.ws c.follow.new.ws l.s.depth = rw (c.in_default.is, c.visit-s.ensures.0) at g in
           rw (c.found.ensures, c.visit-s.ensures.1) (turn_stopped t c.args.a c.args.course c.args.budget l.ws l.s.depth l.s.left turn d c.in-Some.place n c.visit-s.new.ws c.visit-s.result.verdict w p c.follow.new.ws q)),
       (λ t. rw c.found.ensures (record { many = sym (emitted_count t c.args.a (lists_part c.args.a c.follow.new.ws)); emitted = q.emitted })),
       q.tables ∙ (w.tables ∙ (l.invariant.1 ∙ go.tables)),
@@ -149,21 +149,21 @@ returns c = of_three (λ x0 x1 x2. record { found = x0; many = x1; kept = x2 })
       l.invariant.1 ∙ go.tables,
     ))
 
-pub returns-in_err-step-in-Some : goal.returns-in_err-step-in-Some
+pub returns-in_err-deep-in-Some : goal.returns-in_err-deep-in-Some
 unfolding Followed search_outcome counted_lists
-returns-in_err-step-in-Some c = of_three (λ x0 x1 x2. record { found = x0; many = x1; kept = x2 })
+returns-in_err-deep-in-Some c = of_three (λ x0 x1 x2. record { found = x0; many = x1; kept = x2 })
     (rw (handed_on _ _ c.from_residual.ensures.1) (let l = c.loop-s in let go = c.start.ensures c.requires.0 c.requires.1 in let turn = l.invariant.2 c.requires.0 go.stands.inputs in let n = next_due c.requires.0 c.args.a l.ws l.s.depth turn.stands c.loop-s-test.true c.next.result c.in-Some.place (c.next.ensures c.requires.0 turn.stands) c.in-Some.is in
     let d : 0 < l.s.depth = c.loop-s-test.true in
     let p : 0 < l.s.left = omega (arith, c.if-s-eq0.false) in
     let w = c.visit-s.ensures.2 c.requires.0 (turn_ready c.requires.0 c.args.a c.args.course c.args.budget l.ws l.s.depth l.s.left turn d c.in-Some.place n) in
-    let j = turn_judged c.requires.0 c.args.a c.args.course c.args.budget l.ws l.s.depth l.s.left turn d c.in-Some.place n c.visit-s.new.ws c.visit-s.result.verdict w p in let g = c.in_err-step-in-Some.ensures c.requires.0 (rw c.visit-s.ensures.0 j) in
-    let q : Fills c.requires.0 c.args.a c.args.course c.visit-s.new.ws c.follow.new.ws l.s.depth (number_of c.in_err-step-in-Some.field-0.0) = rw c.visit-s.ensures.0 at g in (
+    let j = turn_judged c.requires.0 c.args.a c.args.course c.args.budget l.ws l.s.depth l.s.left turn d c.in-Some.place n c.visit-s.new.ws c.visit-s.result.verdict w p in let g = c.in_err-deep-in-Some.ensures c.requires.0 (rw c.visit-s.ensures.0 j) in
+    let q : Fills c.requires.0 c.args.a c.args.course c.visit-s.new.ws c.follow.new.ws l.s.depth (number_of c.in_err-deep-in-Some.field-0.0) = rw c.visit-s.ensures.0 at g in (
       (λ t h. let back = c.start.ensures t h in let turn = l.invariant.2 t back.stands.inputs in let n = next_due t c.args.a l.ws l.s.depth turn.stands c.loop-s-test.true c.next.result c.in-Some.place (c.next.ensures t turn.stands) c.in-Some.is in
           let d : 0 < l.s.depth = c.loop-s-test.true in
           let p : 0 < l.s.left = omega (arith, c.if-s-eq0.false) in
           let w = c.visit-s.ensures.2 t (turn_ready t c.args.a c.args.course c.args.budget l.ws l.s.depth l.s.left turn d c.in-Some.place n) in
-          let j = turn_judged t c.args.a c.args.course c.args.budget l.ws l.s.depth l.s.left turn d c.in-Some.place n c.visit-s.new.ws c.visit-s.result.verdict w p in let g = c.in_err-step-in-Some.ensures t (rw c.visit-s.ensures.0 j) in
-          let q : Fills t c.args.a c.args.course c.visit-s.new.ws c.follow.new.ws l.s.depth (number_of c.in_err-step-in-Some.field-0.0) = rw c.visit-s.ensures.0 at g in
+          let j = turn_judged t c.args.a c.args.course c.args.budget l.ws l.s.depth l.s.left turn d c.in-Some.place n c.visit-s.new.ws c.visit-s.result.verdict w p in let g = c.in_err-deep-in-Some.ensures t (rw c.visit-s.ensures.0 j) in
+          let q : Fills t c.args.a c.args.course c.visit-s.new.ws c.follow.new.ws l.s.depth (number_of c.in_err-deep-in-Some.field-0.0) = rw c.visit-s.ensures.0 at g in
           turn_full t c.args.a c.args.course c.args.budget l.ws l.s.depth l.s.left turn d c.in-Some.place n c.visit-s.new.ws c.visit-s.result.verdict w p c.follow.new.ws _ q),
       (λ t. tt),
       q.tables ∙ (w.tables ∙ (l.invariant.1 ∙ go.tables)),
