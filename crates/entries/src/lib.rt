@@ -67,11 +67,8 @@ pub fn split_entries(ws: &mut [u8], shelf: Shelf, from: usize, bytes: usize) -> 
     splitting::split_lists(&mut ws[shelf.labels..to + 2101260], layout);
     let sorted = sort_entries(ws, shelf, to, 2101260);
     Level {
-        shelf,
         emitted: at,
         extent: bytes,
-        lists: to,
-        bytes: 2101260,
-        count: sorted.count,
+        ..sorted
     }
 }

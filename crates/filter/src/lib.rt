@@ -75,7 +75,8 @@ fn finds_other(lists: Lists, notes: &[u8], a: usize, start: usize) -> bool
 }
 
 // The places of the lists in which no other is found, as `filter_irc` writes them. A list that begins below list a is found neither in it nor in a
-// later list, so that no search looks at it again.
+// later list, so that no search looks at it again. How many are kept is counted by hand: each is written behind those kept before, and a chain that picks them would hold the workspace
+// that is written.
 fn filter_noted(ws: &mut [u8], notes: &[u8], area: Area, at: usize) -> usize
     requires { Filters area at ws.old × (4 * area.count ≤ length notes.now) × Noted (lists_of area ws.old) area.count notes.now }
     ensures many { result ≡ length (filter_irc compare (lists_of area ws.old)) }

@@ -21,6 +21,7 @@ pub struct Stored {
 }
 
 // The edge of an inner call of rank 2 is kept, unless it is past the bound.
+// `Turn` stays a clause, here and below: the workspace that it speaks of is written, and `Site`, where a call stands, is of the definitions, and stands in no memory, so that no field can hold it.
 fn keep_ends(
     ws: &mut [u8],
     shelf: Shelf,

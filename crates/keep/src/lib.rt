@@ -16,6 +16,7 @@ use words::Word;
 // ---- a shelf with nothing on it
 
 // The pools are emptied; the orbits found, in front of them, stay.
+// `ShelfFits` stays a clause, here and below: the workspace that it speaks of is written, and a struct that held it would have each contract say besides that the places and the loan are as they were.
 pub fn clear_shelf(ws: &mut [u8], shelf: Shelf)
     requires { ShelfFits shelf (length ws.old) }
     ensures within { ShelfWritten shelf ws.old ws.new }
@@ -37,7 +38,7 @@ pub fn store_facet(ws: &mut [u8], shelf: Shelf, x: usize, label: u32, owner: u16
     u16::put(ws, shelf.owners + 2 * x, owner);
 }
 
-// The shelf with one orbit more, of so many facets.
+// The shelf with one orbit more, of so many facets. It holds the counts, and the workspace what they count: a caller lends all memory, as bytes.
 pub fn one_more(shelf: Shelf, facets: usize) -> Shelf
     requires { (shelf.orbits < 256) × (shelf.facets + facets ≤ 1024) }
     ensures { result ≡ with_facets shelf facets }

@@ -33,6 +33,8 @@ fn second(vertices: &ArrayVec<usize, 20>) -> usize
 // ---- one list, label and owner
 
 // These items, as one list more in the pool of an area.
+// `ListRoom` stays a clause, and so does `ShelfFits` below: the workspace that they speak of is written, and a struct that held it would have each contract say besides that the places and the
+// loan are as they were. No slice of the area: the clauses speak of the workspace as it was around the area.
 fn store<T: Word>(ws: &mut [u8], from: usize, to: usize, most: usize, items: &[T])
     requires { (from ≤ to) × ListRoom T.BYTES most from (to - from) ws.old (length items.now) × Fitting T.BYTES (map T.number items.now) }
     ensures { Stored T.BYTES most from (to - from) ws.old ws.new (map T.number items.now) }

@@ -28,20 +28,23 @@ use words::Word;
 
 // ---- a facet's places and label, and the ridges
 
-// The facets of entry k of the inner call, which begins at a place behind the pool, are one list more.
+// The facets of entry k of the inner call, which begins at a place behind the pool, are one list more. What the inner call left is lent anew each turn, since the pool before it is written.
+// `ListRoom` stays a clause, and so does `ShelfFits` below: the workspace that they speak of is written, and a struct that held it would have each contract say besides that the places and the
+// loan are as they were.
 fn store_places(ws: &mut [u8], at: usize, level: Level, k: usize, from: usize, to: usize)
     requires { (from ≤ to) × (to ≤ at) × (at + level.lists ≤ length ws.old) × HoldsOrder 1024 level.bytes level.count (drop level.lists (drop at ws.old)) × (k < level.count) × ListRoom 2 1024 from (to - from) ws.old (length (get_or (lists_left level (drop at ws.old)) k [])) }
     ensures { Stored 2 1024 from (to - from) ws.old ws.new (get_or (lists_left level (drop at ws.old)) k []) }
 {
-    let items = left_edges::facets_of(&ws[at..], level, k);
+    let items = left_edges::entries(&ws[at..], level).length(k);
     for i in 0..items {
-        let x = left_edges::facet_at(&ws[at..], level, k, i);
+        let x = left_edges::entries(&ws[at..], level).item(k, i);
         pool::push(&mut ws[from..to], 1024, x);
     }
     pool::end_list(&mut ws[from..to]);
 }
 
-// Each inner orbit's edge, moved to the vertices, with its count: the orbit's ridges.
+// Each inner orbit's edge, moved to the vertices, with its count: the orbit's ridges. `EdgesLeft` stays a clause: it speaks of the list of kept facets, which stands in no memory, so that no
+// field can hold it.
 fn store_ridges(
     ws: &mut [u8],
     at: usize,
@@ -118,6 +121,7 @@ fn keep_facets(
 }
 
 // The facets of the next orbit of a call of rank 4: the entries of its inner call of rank 3, which has left its answer from a place behind the shelf on. Its rows are `rows`.
+// The place stays an argument, though the one caller gives the shelf's end: without it the contract would serve fewer places than it does.
 pub fn keep_polygons(
     ws: &mut [u8],
     shelf: Shelf,

@@ -14,7 +14,8 @@ ghost use Rattle.labels.specs.Walked.{items_found};
 use order::{Area, Lists};
 use words::Word;
 
-// The item at place i of the list at place k, which has n items; behind its last item a number above every item.
+// The item at place i of the list at place k, which has n items; behind its last item a number above every item: no Option, since one comparison then tells an item that is passed from a list that has
+// ended.
 pub fn next_at(lists: Lists, k: usize, n: usize, i: usize) -> u32
     requires { (k < lists.area.count) × (n ≡ length (list_of lists.area lists.bytes.now k)) }
     ensures { result ≡ get_or (list_of lists.entry.area lists.entry.bytes.now k) i 65536 }
@@ -68,6 +69,7 @@ pub fn items_found(lists: Lists, a: usize, b: usize) -> usize
 // ---- labels
 
 // The two lists whose union is the list with a label, or none: a label of four bytes holds the first in its lower half, the second in its upper one, and 0 where there are none.
+// It is packed, since the labels lie in the bytes of the workspace that a caller lends, four for each list: no heap.
 pub fn components(label: u32) -> Option<(u32, u32)>
     ensures { result ≡ label_of label }
 {
@@ -93,6 +95,7 @@ pub fn search_start(lists: Lists, a: usize, from: usize) -> usize
 }
 
 // Whether the list at place c is what the walk of list b through list a passes over or leaves.
+// The place in list b is counted by hand: it moves on only where the two lists have the same item.
 fn is_left(lists: Lists, a: usize, b: usize, c: usize) -> bool
     requires { (a < lists.area.count) × (b < lists.area.count) × (c < lists.area.count) }
     ensures { result ≡ leaves (list_of lists.entry.area lists.entry.bytes.now a) (list_of lists.entry.area lists.entry.bytes.now b) (list_of lists.entry.area lists.entry.bytes.now c) }
@@ -125,6 +128,7 @@ fn is_left(lists: Lists, a: usize, b: usize, c: usize) -> bool
 // The lists ascend: behind a list that begins above a's first item every list begins above it, so that the search may
 // stop there; and a list that begins below it is found neither inside a nor inside a later list, so that no search
 // looks at it again. An empty list, which stands first and is found inside every other, begins neither above nor below.
+// The labelled loops, and the walk with its two places inside them, stay as they are: a form that was asked for (docs/DECISIONS.md, "Plain entries", "Language forms").
 pub fn label_irc(ws: &mut [u8], area: Area, at: usize)
     requires { Holding area ws.old × AllAscending (lists_of area ws.old) × (area.count ≤ 65536) × (area.bytes + 2 * area.count ≤ at) × (at + 4 * area.count ≤ length ws.old) }
     ensures { ws.new ≡ sets ws.old at (label_bytes (labels_of compare (lists_of area ws.old))) }

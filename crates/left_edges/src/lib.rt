@@ -26,8 +26,8 @@ use shelf::{Level, Shelf};
 
 // The workspace and the level go side by side, and not in a struct such as `writing::Left`: that its lists stand, which `Left` holds, is more than is known here.
 
-// The lists of its entries, in their order.
-fn entries(s: &[u8], level: Level) -> order::Lists
+// The lists of its entries, in their order: list k is the facets of entry k.
+pub fn entries(s: &[u8], level: Level) -> order::Lists
     requires { (level.lists ≤ length s.now) × HoldsOrder 1024 level.bytes level.count (drop level.lists s.now) }
     ensures { (result.bytes.now ≡ drop level.lists s.now) × (result.area ≡ area_of level) }
 {
@@ -37,23 +37,7 @@ fn entries(s: &[u8], level: Level) -> order::Lists
     }
 }
 
-// How many facets entry k has.
-pub fn facets_of(s: &[u8], level: Level, k: usize) -> usize
-    requires { (level.lists ≤ length s.now) × HoldsOrder 1024 level.bytes level.count (drop level.lists s.now) × (k < level.count) }
-    ensures { result ≡ length (get_or (lists_left level s.now) k []) }
-{
-    entries(s, level).length(k)
-}
-
-// Facet i of entry k.
-pub fn facet_at(s: &[u8], level: Level, k: usize, i: usize) -> u16
-    requires { (level.lists ≤ length s.now) × HoldsOrder 1024 level.bytes level.count (drop level.lists s.now) × (k < level.count) × (i < length (get_or (lists_left level s.now) k [])) }
-    ensures { result ≡ get_or (get_or (lists_left level s.now) k []) i 0 }
-{
-    entries(s, level).item(k, i)
-}
-
-// The first edge of facet x, as its code.
+// The first edge of facet x, as its code. `ShelfFits` stays a clause: elsewhere it is asked of a workspace that is written, and no other function of this crate asks it.
 pub fn edge_at(s: &[u8], shelf: Shelf, x: usize) -> usize
     requires { ShelfFits shelf (length s.now) × ((lists : List (List ℕ)) × Lists 2 1024 (edges_part shelf s.now) lists × (x < length lists) × (0 < length (get_or lists x []))) }
     ensures { (lists : List (List ℕ)) → Lists 2 1024 (edges_part shelf s.now) lists → x < length lists → 0 < length (get_or lists x []) → result ≡ get_or (get_or lists x []) 0 0 }
@@ -63,7 +47,7 @@ pub fn edge_at(s: &[u8], shelf: Shelf, x: usize) -> usize
 
 // ---- a facet's edges
 
-// The images of facet x's edge are marked.
+// The images of facet x's edge are marked. `EdgesLeft` stays a clause, here and below: it speaks of the list of kept facets, which stands in no memory, so that no field can hold it.
 fn mark_facet(s: &[u8], level: Level, x: usize, rows: Rows, marks: &mut [bool; 400])
     requires { (n : ℕ) × (inner : List Kept) × EdgesLeft n rows.count inner level rows.bytes.now s.now × (x < length inner) }
     ensures { (n : ℕ) (inner : List Kept) → EdgesLeft n rows.entry.count inner level rows.entry.bytes.now s.now → x < length inner → marks.new ≡ marked marks.old (map pair_code (map (pair_image (edge_at inner x)) (rows_in n rows.entry.count rows.entry.bytes.now))) }
@@ -77,10 +61,9 @@ pub fn mark_entry(s: &[u8], level: Level, k: usize, rows: Rows, marks: &mut [boo
     requires { (n : ℕ) × (inner : List Kept) × EdgesLeft n rows.count inner level rows.bytes.now s.now × (k < level.count) }
     ensures { (n : ℕ) (inner : List Kept) → EdgesLeft n rows.entry.count inner level rows.entry.bytes.now s.now → marks.new ≡ marked marks.old (map pair_code (images_of (rows_in n rows.entry.count rows.entry.bytes.now) inner (get_or (lists_left level s.now) k []))) }
 {
-    let items = facets_of(s, level, k);
-    for i in 0..items {
-        let x = facet_at(s, level, k, i) as usize;
-        mark_facet(s, level, x, rows, marks);
+    let lists = entries(s, level);
+    for i in 0..lists.length(k) {
+        mark_facet(s, level, lists.item(k, i) as usize, rows, marks);
     }
 }
 
@@ -99,7 +82,8 @@ pub fn moved(code: usize, vertices: &ArrayVec<usize, 20>) -> usize
     20 * vertex_at(vertices, code / 20) + vertex_at(vertices, code % 20)
 }
 
-// The marked edges, ascending, moved to the vertices, are one list more.
+// The marked edges, ascending, moved to the vertices, are one list more. `ListRoom` stays a clause: the workspace that it speaks of is written, and a struct that held it would have the contract
+// say besides that the places and the loan are as they were. No slice of the area: the clauses speak of the workspace as it was around the area.
 pub fn store_edges(
     ws: &mut [u8],
     from: usize,

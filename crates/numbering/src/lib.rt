@@ -28,7 +28,7 @@ fn image_key(rows: Rows, i: usize, key: usize) -> usize
     openers::code(rows.image(i, key / 20), rows.image(i, key % 20))
 }
 
-// The images of a ridge that have no mark get this number as theirs; returns how many they are.
+// The images of a ridge that have no mark get this number as theirs; returns how many they are. Counted by hand: the loop marks what it counts, and a `filter` would have to mark in its test.
 fn open_ridge(rows: Rows, key: usize, number: u16, marks: &mut [Option<u16>; 400]) -> usize
     requires { (key < 400) × Sent rows.count rows.bytes.now (pair_of key) }
     ensures counts { result ≡ many_joined marks.old number (pair_codes (rows_in 32 rows.entry.count rows.entry.bytes.now) (pair_of key)) }
@@ -64,6 +64,7 @@ impl RidgeOrbits {
     }
 
     // The number of the ridge orbit that holds a ridge; where there is none, one is opened and its count noted.
+    // `Standing` stays a clause: it speaks of the keys, which are an argument of the proof alone, so that no field can hold them.
     pub fn number(&mut self, rows: Rows, key: usize) -> u16
         requires { (rows.count ≤ 120) × (key < 400) × Sent rows.count rows.bytes.now (pair_of key) × ((keys : KnownKeys Pair) × Standing self.old keys × (length (number_ends (rows_in 32 rows.count rows.bytes.now) keys (pair_of key)).1.counts ≤ 190)) }
         ensures { (keys : KnownKeys Pair) → Standing self.old keys → (result ≡ (number_ends (rows_in 32 rows.entry.count rows.entry.bytes.now) keys (pair_of key)).0) × Standing self.new (number_ends (rows_in 32 rows.entry.count rows.entry.bytes.now) keys (pair_of key)).1 }

@@ -1,4 +1,5 @@
 // Lists of any length in one region: closed lists one behind another, and one that is open at the end. `most` is how many lists the region has room for.
+// A `k` beside a region is the number of a list in it, and no length; what a region counts stands in its first bytes, since a caller lends all memory, as bytes.
 // Items are u16 or u32 numbers. A `requires` here is a bound on an index and nothing else; what a region holds follows by the laws of specs/Pool.
 
 #![tactic(auto)]

@@ -1,18 +1,20 @@
 -- The turns of the loops that make the search's tables. Leans on Codes and Areas.
 use mathlib.Core.Path.{◌≡◌, refl, sym, ap, subst, ◌∙◌}
-use mathlib.Core.List.{List, [], ◌∷◌, ◌++◌, append-nil}
+use mathlib.Core.List.{List, [], ◌∷◌, ◌++◌, map, append-nil}
 use Prim.Native.Nat.{ℕ, zero, suc, ◌+◌, ◌*◌, ◌-◌, ◌/◌, ◌%◌, ◌≤◌, ◌<◌, min}
 use native.Mathlib.Omega.{arith}
 use native.Mathlib.Decide.{ℕ_discrete}
 use native.Mathlib.Nat.{mul-le-mul_right}
-use lib.ListN.{length, get_or, take, set, replicate, length-set}
+use lib.ListN.{length, get_or, take, set, replicate, length-set, get_or-map}
+use Rattle.std.proofs.lemmas.List.{map-set}
 use lib.Seq.{take_all, get_or-set_same, get_or-set_other}
 use Rattle.definitions.specs.Search.{last_share}
 use Rattle.laws.specs.Parts.{take_more}
 use Rattle.laws.specs.Segments.{placed}
 use Rattle.pool.specs.Pool.{base, used, pushed, ended}
 use Rattle.shares.specs.Areas.{area, flat, AreaRoom, AreaEmpty, Joined, AreaGrown, flat_few, lists_to, lists_long, lists_at_holds, joined_room, joined_more, joined_none, push_asks, joined_push, joined_end}
-use Rattle.ridges.specs.Codes.{touched_of, ones_in, ones_to, ones_append, one_joins, one_stays, ones_to_few, ones_more, PlacesCounted, shares_here, amount_of, here_none, here_joins, here_stays, touched_to, touched_code, touched_more, code_some, code_none, touched_few, amount_small}
+use Rattle.ridges.specs.Codes.{touched_of, ones_in, ones_to, ones_append, one_joins, one_stays, ones_to_few, ones_more, PlacesCounted, many_in, last_in, shares_here, amount_of, here_none, here_joins, here_stays, touched_to, touched_code, touched_more, code_some, code_none, touched_few, amount_small}
+use Rattle.ridges.specs.declared.Counted.{Counted}
 use Rattle.ridges.proofs.Codes.{ones_left}
 
 -- ---- what a facet adds to one ridge orbit
@@ -60,6 +62,10 @@ module _ {codes : List ℕ} {ridge places last i : ℕ} (a : Adding codes ridge 
         places_are = rw (more, j) a.places_are;
         last_is = rw (more, j) a.last_is;
       }
+
+-- where nothing is counted yet
+abbrev pub none_counted : Counted
+none_counted = record { places = 0; last = 0 }
 
 -- for each of the first ridge orbits
 pub record AddingAll (ridges : ℕ) (codes places last : List ℕ) (i : ℕ) : Type 0 where
@@ -112,10 +118,26 @@ all_end {ridges} {codes} {places} {last} {i} a h =
       share = λ ridge l. (a.each ridge l).last_is ∙ ap (λ (l : List ℕ). last_share 0 (shares_here ridge l)) e;
     }
 
+-- a count is no more than the codes looked at
+pub counted_few : {ridges : ℕ} {codes : List ℕ} (counted : List Counted) {i : ℕ} → AddingAll ridges codes (many_in counted) (last_in counted) i → (ridge : ℕ) → ridge < ridges → (get_or counted ridge none_counted).places ≤ i
+counted_few {ridges} {codes} counted a ridge h = rw (get_or-map (λ (t : Counted). t.places) counted ridge none_counted) at (a.each ridge h).few
+
+-- one code more, in one row of counts
+pub counted_joins : {ridges : ℕ} {codes : List ℕ} (counted : List Counted) {i : ℕ} → AddingAll ridges codes (many_in counted) (last_in counted) i → i < length codes → (code : ℕ) → code ≡ get_or codes i 0 → code < 4294967296 → ridges ≤ 190 → code % 65536 < ridges
+    → (let now = set counted (code % 65536) (record { places = (get_or counted (code % 65536) none_counted).places + 1; last = code / 65536 }) in AddingAll ridges codes (many_in now) (last_in now) (i + 1))
+counted_joins {ridges} {codes} counted {i} a h code e small few k =
+    let t : Counted = record { places = (get_or counted (code % 65536) none_counted).places + 1; last = code / 65536 } in
+    rw (map-set (λ (t : Counted). t.places) counted (code % 65536) t, map-set (λ (t : Counted). t.last) counted (code % 65536) t, ← get_or-map (λ (t : Counted). t.places) counted (code % 65536) none_counted)
+    (all_joins a h code e small few k)
+
 -- what that comes to
-pub counted_amount : {ridges : ℕ} {codes places last : List ℕ} → PlacesCounted ridges codes places last → (ridge : ℕ) → ridge < ridges → (added : ℕ) → added ≡ min (get_or last ridge 0 * get_or places ridge 0) 3 → added ≡ amount_of ridge codes
+pub counted_amount : {ridges : ℕ} {codes : List ℕ} (counted : List Counted) → PlacesCounted ridges codes (many_in counted) (last_in counted) → (ridge : ℕ) → ridge < ridges
+    → (added : ℕ) → added ≡ min ((get_or counted ridge none_counted).last * (get_or counted ridge none_counted).places) 3 → added ≡ amount_of ridge codes
 unfolding amount_of
-counted_amount {ridges} {codes} {places} {last} c ridge h added e = let p = c.many ridge h in let q = c.share ridge h in e ∙ (λ t. min (q t * p t) 3)
+counted_amount {ridges} {codes} counted c ridge h added e =
+    let p = sym (get_or-map (λ (t : Counted). t.places) counted ridge none_counted) ∙ c.many ridge h in
+    let q = sym (get_or-map (λ (t : Counted). t.last) counted ridge none_counted) ∙ c.share ridge h in
+    e ∙ (λ t. min (q t * p t) 3)
 
 -- ---- what a facet adds, as a list
 

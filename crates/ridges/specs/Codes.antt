@@ -15,6 +15,7 @@ use Rattle.laws.specs.Segments.{le_or_lt}
 use Rattle.facets.specs.Layout.{amount_in}
 use Rattle.shares.specs.Areas.{last_at}
 use Rattle.shares.specs.Shares.{share_code}
+use Rattle.ridges.specs.declared.Counted.{Counted}
 
 unfoldable pub share_of : ℕ → Share
 share_of c = (c % 65536, c / 65536)
@@ -34,6 +35,13 @@ shares_here ridge codes = shares_at ridge (map share_of codes)
 
 unfoldable pub amount_of : ℕ → List ℕ → ℕ
 amount_of ridge codes = min (last_share 0 (shares_here ridge codes) * length (shares_here ridge codes)) 3
+
+-- what is counted for each ridge orbit, as two rows of numbers
+abbrev pub many_in : List Counted → List ℕ
+many_in counted = map (λ (t : Counted). t.places) counted
+
+abbrev pub last_in : List Counted → List ℕ
+last_in counted = map (λ (t : Counted). t.last) counted
 
 -- for each of the first ridge orbits how many places are in it, and the share at the last of these
 pub record PlacesCounted (ridges : ℕ) (codes places last : List ℕ) : Type 0 where

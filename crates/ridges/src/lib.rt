@@ -11,7 +11,7 @@ ghost use Rattle.openers.specs.Rows.{rows_in};
 ghost use Rattle.shapes.specs.Kept.{Kept, kept_table};
 ghost use Rattle.facets.specs.Layout.{Inputs};
 ghost use Rattle.shares.specs.Areas.{AreaRoom, AreaEmpty, Joined, AreaGrown, Space, Made, flat, lists_to};
-ghost use Rattle.ridges.specs.Codes.{PlacesCounted, touched_of, ones_in, ones_to, ones_of};
+ghost use Rattle.ridges.specs.Codes.{PlacesCounted, many_in, last_in, touched_of, ones_in, ones_to, ones_of};
 ghost use Rattle.ridges.specs.SharesLaid.{SharesLaid, shares_part, shares_in};
 ghost use Rattle.ridges.specs.Desks.{Given, areas_of};
 
@@ -22,29 +22,29 @@ use shelf::Shelf;
 
 // ---- the tables of the search
 
-// What the places of a facet say of each ridge orbit: how many of them are in it, and the share at the last of these.
+// What the places of a facet say of a ridge orbit: how many of them are in it, and the share at the last of these.
 #[derive(Clone, Copy)]
 struct Counted {
-    places: [u32; 190],
-    last: [u32; 190],
+    places: u32,
+    last: u32,
 }
 
-// What the places of facet x say of the first ridge orbits.
-fn count_places(shares: &[u8], x: usize, ridges: usize) -> Counted
+// What the places of facet x say of the first ridge orbits. The lists of shares are read from their bytes, here and in `ones_of_facet`: `order::Pool` lends lists of u16 items, and a share has 32 bits.
+// Counted by hand: one walk counts for all ridge orbits, and notes the last share of each; `filter(..).count()` would walk the list once for each of them.
+fn count_places(shares: &[u8], x: usize, ridges: usize) -> [Counted; 190]
     requires { Sound 4 1024 shares.now × (x < count shares.now) × (ridges ≤ 190) }
-    ensures { PlacesCounted ridges (get_or (closed_lists 4 1024 shares.now) x []) result.places result.last }
+    ensures { PlacesCounted ridges (get_or (closed_lists 4 1024 shares.now) x []) (many_in result) (last_in result) }
 {
-    let mut counted = Counted {
-        places: [0; 190],
-        last: [0; 190],
-    };
+    let mut counted = [Counted { places: 0, last: 0 }; 190];
     let n = pool::list_length(shares, x) as usize;
     for i in 0..n {
         let code = pool::item::<u32>(shares, 1024, x, i);
         let ridge = (code % 65536) as usize;
         if ridge < ridges {
-            counted.places[ridge] += 1;
-            counted.last[ridge] = code / 65536;
+            counted[ridge] = Counted {
+                places: counted[ridge].places + 1,
+                last: code / 65536,
+            };
         }
     }
     counted
@@ -58,13 +58,14 @@ fn amount(last: u32, places: u32) -> usize
 }
 
 // What facet x adds, as one list more: 4 × ridge orbit + amount for each ridge orbit where it adds something.
+// `SharesLaid` and `AreaEmpty` stay clauses, and so do `Space` and `Given` below: each function writes the workspace that they speak of.
 fn touch_facet(ws: &mut [u8], desk: Desk, facets: usize, ridges: usize, x: usize)
     requires { SharesLaid desk ws.old × (x < count (shares_part desk ws.old)) × (ridges ≤ 190) × AreaEmpty desk.touched desk.ones 2 facets ws.old ridges 1 }
     ensures { AreaGrown desk.touched desk.ones 2 facets ws.old ws.new (touched_of ridges (shares_in desk ws.old) x ∷ []) }
 {
     let counted = count_places(&ws[desk.shares..desk.touched], x, ridges);
     for ridge in 0..ridges {
-        let added = amount(counted.last[ridge], counted.places[ridge]);
+        let added = amount(counted[ridge].last, counted[ridge].places);
         if 0 < added {
             pool::push(
                 &mut ws[desk.touched..desk.ones],

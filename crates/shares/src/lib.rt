@@ -37,6 +37,7 @@ pub struct Desk {
 }
 
 // The numbers of one orbit's ridges are one list more.
+// `Reads` and `AreaEmpty` stay clauses, and so does `Space` below: each function writes the workspace that they speak of.
 fn number_orbit(
     rows: Rows,
     shelf: Shelf,
@@ -74,6 +75,8 @@ pub fn number_ridges(rows: Rows, shelf: Shelf, desk: Desk, ws: &mut [u8]) -> Rid
 
 // The code of the share of a place with inner orbit a, of a facet of orbit o: its ridge orbit + 65,536 × floor(orbit count × inner count / ridge orbit count).
 // The orbits stand in the first 2,048 bytes, eight bytes each, the count in the last four. A count of 0 gives a share of 0, as the definition's division does.
+// It reads the workspace beside its places, and no struct holds both: `share_facet` writes the workspace in the same turn, so that it would make such a struct anew for each place.
+// `Orders` and `SourcesFit` stay clauses, here and below: `share_facet` and `share_facets` write the workspace that both speak of.
 fn share_code(ws: &[u8], shelf: Shelf, desk: Desk, counts: &[u32], o: usize, a: usize) -> u32
     requires { Orders shelf desk (length ws.now) × SourcesFit (sources_of shelf desk ws.now) counts.now shelf.facets × (o < count (ridges_part shelf ws.now)) × (a < length (ridges_in (sources_of shelf desk ws.now) o)) }
     ensures { result ≡ code_at (sources_of shelf desk ws.now) counts.now o a }

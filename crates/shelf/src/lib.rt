@@ -10,7 +10,7 @@ ghost use Rattle.shelf.specs.Areas.{area_of};
 use order::Area;
 
 // Where the areas begin, and how many orbits and facets are kept. What writes takes the workspace beside it: a struct that held both would have each contract say besides that the
-// places and the loan are as they were. The areas are bytes of that workspace, since a caller lends all memory.
+// places and the loan are as they were, and so that the areas fit a workspace (`ShelfFits`) stays a clause of what writes. The areas are bytes of that workspace, since a caller lends all memory.
 #[derive(Clone, Copy)]
 pub struct Shelf {
     pub orbits: usize,

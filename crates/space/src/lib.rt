@@ -15,6 +15,7 @@ ghost use Rattle.space.specs.Fits.{SubspaceFits, PointsFit};
 // ---- subspaces
 
 // [4.1] d numbers of offset, and `rank` basis vectors. The counts fit the arrays, and zeros stand behind what they reach.
+// The counts stand beside the arrays: d is one length for all the vectors, which an `ArrayVec` for each would say once more for each, and the vectors lie one behind another, since the loops of `vectors` borrow them so.
 #[derive(Clone, Copy)]
 pub struct Subspace {
     pub offset: [f64; 5],
@@ -61,7 +62,7 @@ impl Subspace {
         vectors::minus(p, self.offset, self.d)
     }
 
-    // [4.2] the projection of the point that begins at a place
+    // [4.2] the projection of the point that begins at a place. A local for d, since each turn of the loop hands it on twice.
     fn project_at(&self, points: &[f64], at: usize) -> [f64; 5]
         requires { at + self.now.d ≤ length points.now }
         ensures { result ≡ five (project (subspace_of self.now) (vector_of self.now.d (drop at points.now))) }
@@ -169,7 +170,7 @@ impl Subspace {
 
 // ---- points
 
-// n points of d numbers each, 20 at most. Their numbers lie one behind another, and not point by point in an `ArrayVec`: what works on points borrows the numbers where they lie.
+// n points of d numbers each, 20 at most. Their numbers lie one behind another, and not point by point in an `ArrayVec`: what works on points borrows the numbers where they lie. d is one length for all of them.
 #[derive(Clone, Copy)]
 pub struct Points {
     pub at: [f64; 100],

@@ -10,6 +10,7 @@ ghost use Rattle.order.specs.Areas.{list_at};
 ghost use Rattle.labels.specs.Labels.{labels_in, Halves};
 ghost use Rattle.splitting.specs.Splitting.{split_nats, push_all, fill_all, PoolRoom, PoolGrown, SplittingRoom, facet_labels, pool_of, rest_of, parts_in};
 
+use arrayvec::ArrayVec;
 use order::Pool;
 use words::Word;
 
@@ -17,6 +18,8 @@ use words::Word;
 
 // Where splitting finds what it reads and puts what it makes: a table of the components of `facets` facets at the start, the pool of lists from `from` to `to`, and the
 // pool of split lists from `to` on. Both pools have room for `most` lists. `steps` bounds the steps of one facet.
+// What splits takes the workspace and the layout side by side: of a struct that held both and is lent to be written, each contract would have to say besides that the layout and the loan
+// are as they were.
 #[derive(Clone, Copy)]
 pub struct Layout {
     pub facets: usize,
@@ -51,19 +54,19 @@ fn components(s: &[u8], facets: usize, a: usize) -> Option<(u32, u32)>
     labels::components(u32::get(s, 4 * a))
 }
 
-// The parts of one facet join the open list. Its queue holds the facet, and two more for each step. No `for`: the queue grows while it is gone through.
+// The parts of one facet join the open list. Its queue holds the facet, and two more for each step. No `for`: the queue grows while it is gone through, so that
+// no number of turns is known before. Its end is counted by hand: a facet that is no compound puts nothing in.
 fn split_facet(ws: &mut [u8], layout: Layout, facet: u16)
     requires { (4 * layout.facets ≤ layout.to) × (layout.to ≤ length ws.old) × (layout.steps < 512) × PoolRoom layout.most (rest_of layout ws.old) (length (split_nats layout.steps (facet_labels layout ws.old) (facet ∷ []))) }
     ensures ws_after { ws.new ≡ take layout.to ws.old ++ push_all layout.most (rest_of layout ws.old) (split_nats layout.steps (facet_labels layout ws.old) (facet ∷ [])) }
     ensures pool_grown { PoolGrown layout.most (rest_of layout ws.old) (rest_of layout ws.new) (length (split_nats layout.steps (facet_labels layout ws.old) (facet ∷ []))) 0 }
 {
-    let mut queue = [0u16; 1024];
-    queue[0] = facet;
+    let mut queue: ArrayVec<u16, 1024> = ArrayVec::new();
+    queue.push(facet);
     let mut head = 0;
-    let mut tail = 1;
     let mut left = layout.steps;
-    while head < tail {
-        let a = queue[head];
+    while head < queue.len() {
+        let a = queue.as_slice()[head];
         head += 1;
         let parts = if 0 < left {
             left -= 1;
@@ -74,9 +77,8 @@ fn split_facet(ws: &mut [u8], layout: Layout, facet: u16)
         match parts {
             None => pool::push(&mut ws[layout.to..], layout.most, a),
             Some((first, second)) => {
-                queue[tail] = first as u16;
-                queue[tail + 1] = second as u16;
-                tail += 2;
+                queue.push(first as u16);
+                queue.push(second as u16);
             }
         }
     }

@@ -7,6 +7,7 @@ ghost use Rattle.definitions.specs.Vectors.{dot, norm, normalised, minus, plus_t
 ghost use Rattle.laws.specs.Segments.{onto};
 ghost use Rattle.vectors.specs.Meaning.{vector_of, five};
 
+// A d beside vectors is how many of their five places mean something: one number for all the vectors that meet, and no length of one array.
 // The vectors of a call lie in arrays, one behind the other. The loops borrow such an array and are told where a vector begins: to copy it out would cost more than its arithmetic.
 // The loops count an index: it names the same place of two or three arrays that begin at places of their own, and a `zip` of their parts says no more. The library has no sum of floats, and Rust's begins at −0.
 
@@ -45,6 +46,7 @@ pub struct Normalised {
 }
 
 // Divides each component by the norm and returns the norm beside the vector. It divides before anyone looks at the norm, so that a norm of zero has its equation too.
+// A loop, and no `map` of the array: behind d numbers the zeros stay, which a `map` would divide too, by a norm of zero into a NaN.
 pub fn normalise(v: [f64; 5], d: usize) -> Normalised
     requires { d ≤ 5 }
     ensures { (result.vector ≡ five (normalised (vector_of d v))) × (result.norm ≡ norm (vector_of d v)) }

@@ -1,7 +1,13 @@
 -- `entries::split_entries` meets its contract: the pool is moved, the part from the table of components on is lent to splitting, and the split lists are put in order. Assumes nothing.
 use mathlib.Core.Path.{◌∙◌}
 use Rattle.laws.specs.Merging.{moved}
-use Rattle.entries.specs.Split.{split_asked, sort_asked, split_left}
+use Rattle.std.specs.Prelude.{map, ◌+◌}
+use Rattle.std.proofs.Common.{sym, subst}
+use Rattle.pool.specs.Pool.{closed_lists}
+use Rattle.laws.specs.Segments.{part}
+use Rattle.shelf.specs.declared.Level.{Level}
+use Rattle.entries.specs.Listed.{Listed}
+use Rattle.entries.specs.Split.{split_asked, sort_asked, split_left, split_on}
 use Rattle.entries.proofs.split_entries.Goals as goal
 
 pub split_lists-requires : goal.split_lists-requires
@@ -14,4 +20,14 @@ sort_entries-sorted-requires c = let m = c.copy_within in let p = c.split_lists 
 pub returns : goal.returns
 returns c = let m = c.copy_within in let p = c.split_lists in
     let r = c.sort_entries-sorted in
-    split_left c.args.shelf c.args.from c.args.bytes c.args.ws.now c.requires m.new.self (m.ensures.after ∙ moved _ c.args.from c.args.bytes _) p.new.ws p.auto.ws p.ensures r.result r.new.ws r.ensures
+    let to = c.args.shelf.owners + 2048 + c.args.bytes in
+    subst
+    (λ (x : Level).
+    Listed c.args.shelf (c.args.shelf.owners + 2048) (c.args.shelf.owners + 2048) c.args.bytes to 2101260
+    (closed_lists 2 1024 (part c.args.from c.args.bytes c.args.ws.now))
+    (map (split_on c.args.shelf c.args.ws.now) (closed_lists 2 1024 (part c.args.from c.args.bytes c.args.ws.now)))
+    c.args.ws.now
+    (record { shelf = x.shelf; emitted = c.args.shelf.owners + 2048; extent = c.args.bytes; lists = x.lists; bytes = x.bytes; count = r.result.count })
+    r.new.ws)
+    (sym r.ensures.level_is)
+    (split_left c.args.shelf c.args.from c.args.bytes c.args.ws.now c.requires m.new.self (m.ensures.after ∙ moved _ c.args.from c.args.bytes _) p.new.ws p.auto.ws p.ensures r.result r.new.ws r.ensures)

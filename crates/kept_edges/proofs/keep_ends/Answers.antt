@@ -36,4 +36,4 @@ returns c =
     ] in
     let both = first_or_both c.args.swapped c.if-swapped.many in
     ends_stored c.args.shelf c.args.swapped c.args.v c.args.w c.args.ws.now c.store.new.ws c.store-2.new.ws c.requires.2
-    (rw (both c.end_code.result c.end_code-2.result many, c.end_code.ensures, c.end_code-2.ensures) at c.store.ensures) (rw (both 0 1 many) at c.store-2.ensures)
+    (rw (both c.end_code.result c.end_code-2.result many, c.end_code.ensures, c.end_code-2.ensures) at c.store.ensures) (rw (both _ _ many) at c.store-2.ensures)

@@ -12,4 +12,4 @@ use Rattle.left_edges.specs.Polygons.{images_of, EdgesLeft}
 use Rattle.left_edges.proofs.mark_entry.Given as goal
 
 abbrev pub invariant-loop-i : goal.invariant-loop-i
-invariant-loop-i l = (l.i ≤ l.items) × ((n : ℕ) (inner : List Kept) → EdgesLeft n l.rows.count inner l.level l.rows.bytes.now l.s → l.marks ≡ marked l.initial.marks (map pair_code (images_of (rows_in n l.rows.count l.rows.bytes.now) inner (take l.i (get_or (lists_left l.level l.s) l.k [])))))
+invariant-loop-i l = (l.i ≤ l.i-end) × ((n : ℕ) (inner : List Kept) → EdgesLeft n l.rows.count inner l.level l.rows.bytes.now l.s → l.marks ≡ marked l.initial.marks (map pair_code (images_of (rows_in n l.rows.count l.rows.bytes.now) inner (take l.i (get_or (lists_left l.level l.s) l.k [])))))

@@ -1,11 +1,11 @@
 use mathlib.Core.Path.{◌∙◌}
 use mathlib.Core.List.{[]}
-use Prim.Native.Nat.{◌<◌}
+use Prim.Native.Nat.{◌%◌, ◌<◌}
 use native.Mathlib.Omega.{arith}
 use lib.ListN.{length, get_or}
 use Rattle.pool.specs.Pool.{closed_lists}
 use Rattle.shares.specs.Laying.{length_read, item_asks, item_read}
-use Rattle.ridges.proofs.Tables.{all_start, all_joins, all_stay, all_end}
+use Rattle.ridges.proofs.Tables.{all_start, counted_few, counted_joins, all_stay, all_end}
 use Rattle.ridges.proofs.count_places.Goals as goal
 use Rattle.ridges.proofs.count_places.Goals.{else-ridge-ridges, then-ridge-ridges}
 
@@ -18,6 +18,11 @@ item-code-requires c =
     let l = c.loop-i in
     item_asks 4 1024 _ c.requires.0 c.args.x c.requires.1 l.i (omega (arith, l.invariant.0, c.loop-i-test.true))
 
+pub overflow_add-counted : goal.overflow_add-counted
+overflow_add-counted c =
+    let l = c.loop-i in
+    omega (arith, counted_few l.counted l.invariant.2 (c.item-code.result % 65536) c.if-ridge-ridges.true, l.invariant.0, c.list_length-n.type_inv)
+
 pub loop-i-preserved : goal.loop-i-preserved
 loop-i-preserved c =
     let l = c.loop-i in
@@ -26,7 +31,7 @@ loop-i-preserved c =
       l.invariant.0,
       omega arith,
       elim c.if-ridge-ridges.branch [
-        | then-ridge-ridges w ↦ rw (w.counted-is) (all_joins l.invariant.2 h c.item-code.result v (omega (arith, c.item-code.type_inv)) c.requires.2 w.if-ridge-ridges.true)
+        | then-ridge-ridges w ↦ rw (w.counted-is) (counted_joins l.counted l.invariant.2 h c.item-code.result v (omega (arith, c.item-code.type_inv)) c.requires.2 w.if-ridge-ridges.true)
         | else-ridge-ridges w ↦ rw (w.counted-is) (all_stay l.invariant.2 h c.item-code.result v (omega (arith, c.item-code.type_inv)) c.requires.2 w.if-ridge-ridges.false)
       ],
     )

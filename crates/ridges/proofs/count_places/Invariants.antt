@@ -4,8 +4,9 @@ use mathlib.Core.List.{[]}
 use Prim.Native.Nat.{◌≤◌}
 use lib.ListN.{length, get_or}
 use Rattle.pool.specs.Pool.{closed_lists}
+use Rattle.ridges.specs.Codes.{many_in, last_in}
 use Rattle.ridges.proofs.Tables.{AddingAll}
 use Rattle.ridges.proofs.count_places.Given as goal
 
 abbrev pub invariant-loop-i : goal.invariant-loop-i
-invariant-loop-i l = (l.n ≡ length (get_or (closed_lists 4 1024 l.shares) l.x [])) × (l.i ≤ l.n) × AddingAll l.ridges (get_or (closed_lists 4 1024 l.shares) l.x []) l.counted.places l.counted.last l.i
+invariant-loop-i l = (l.n ≡ length (get_or (closed_lists 4 1024 l.shares) l.x [])) × (l.i ≤ l.n) × AddingAll l.ridges (get_or (closed_lists 4 1024 l.shares) l.x []) (many_in l.counted) (last_in l.counted) l.i

@@ -21,7 +21,7 @@ pub loop-ridge-preserved : goal.loop-ridge-preserved
 loop-ridge-preserved c =
     let l = c.loop-ridge in
     let codes = get_or (closed_lists 4 1024 (area c.args.desk.shares c.args.desk.touched c.args.ws.now)) c.args.x [] in
-    let v = counted_amount c.count_places-counted.ensures l.ridge c.loop-ridge-test.true _ c.amount-added.ensures in
+    let v = counted_amount c.count_places-counted.result c.count_places-counted.ensures l.ridge c.loop-ridge-test.true _ c.amount-added.ensures in
     elim c.if-added-gt0.branch [
       | then-added-gt0 w ↦ let j = touch_joins codes c.requires.3 l.ridge l.invariant.2 c.loop-ridge-test.true _ v w.if-added-gt0.true c.requires.2 _ w.push.ensures in rw w.ws-is (j.long, omega arith, j)
       | else-added-gt0 w ↦ let j = touch_stays codes c.requires.3 l.ridge l.invariant.2 _ v w.if-added-gt0.false in rw w.ws-is (j.long, omega arith, j)
