@@ -1,11 +1,12 @@
 #!/usr/bin/env python3
 """Counts the places of the eight points of the design pass in src/, as docs/DESIGN-PASS.md lists them.
 
-    tools/design-pass.py [-v] [--together] [FOLDER]
+    tools/design-pass.py [-v] [--together | --facts] [FOLDER]
 
 FOLDER is the root of a checkout (this one, where none is given). Each line has a point, what is counted and how often it
 was found; with -v each place follows. Lines that hold only a comment are left out. With --together the second way to
-count point 5: each two parameters, with their types, that stand together in six functions or more."""
+count point 5: each two parameters, with their types, that stand together in six functions or more; with --facts the third: each
+fact, by the name of its definition, that three functions or more ask for, with the functions."""
 import re
 import sys
 from collections import Counter
@@ -62,6 +63,28 @@ def together():
         found.update(combinations(texts, 2))
     return found
 
+
+def asked():
+    """The functions that ask for a fact, by the name that the fact's definition has in specs/."""
+    found = {}
+    for path in sources:
+        text = path.read_text()
+        named = {name for line in re.findall(r"ghost use Rattle\.\w+\.specs\.[\w.]+\{([^}]*)\}", text) for name in line.split(", ")}
+        function = ""
+        for line in text.split("\n"):
+            if match := re.match(r"\s*(?:pub )?fn (\w+)", line):
+                function = f"{path.parts[-3]}::{match.group(1)}"
+            if line.strip().startswith("requires"):
+                for name in named & set(re.findall(r"\b[A-Z]\w*", line)):
+                    found.setdefault(name, set()).add(function)
+    return found
+
+
+if "--facts" in sys.argv:
+    for name, places in sorted(asked().items(), key=lambda it: (-len(it[1]), it[0])):
+        if 3 <= len(places):
+            print(f"{len(places):3}  {name}: {', '.join(sorted(places))}")
+    sys.exit()
 
 if "--together" in sys.argv:
     for pair, often in together().most_common():
