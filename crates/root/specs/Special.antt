@@ -17,6 +17,12 @@ pub of_nan : square_root nan ≡ None
 unfolding square_root
 of_nan = refl
 
+pub nan_refused : (x : Float) → is_nan x ≡ true → square_root x ≡ None
+unfolding is_nan
+nan_refused nan h = of_nan
+nan_refused (inf s) h = absurd (subst T (sym h) tt)
+nan_refused (fin s m e) h = absurd (subst T (sym h) tt)
+
 pub no_nan : (x : Float) → ne x x ≡ false → T (not (is_nan x))
 unfolding is_nan
 no_nan nan h = absurd (subst T (sym nan_differs ∙ h) tt)
@@ -101,7 +107,11 @@ module _ (x : Float) (holds : fits binary64 x ≡ true) where
   pub is_value : (r : ℕ) → square_root (of_bits binary64 (to_bits binary64 x)) ≡ Some (of_bits binary64 r) → Some (of_bits binary64 r) ≡ square_root x
   is_value r h = sym (subst (λ (y : Float). square_root y ≡ Some (of_bits binary64 r)) bits_back h)
 
--- how the program makes a NaN
+-- ---- the NaN: zero by zero, and the pattern that the program writes for it
 pub zero_by_zero : div binary64 (of_bits binary64 0) (of_bits binary64 0) ≡ nan
 unfolding div of_bits
 zero_by_zero = refl
+
+pub nan_written : of_bits binary64 9221120237041090560 ≡ nan
+unfolding of_bits of_fields
+nan_written = refl

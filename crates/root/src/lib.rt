@@ -14,12 +14,12 @@ ghost use Rattle.root.specs.Scaled.{ScaledBy};
 ghost use Rattle.root.specs.Start.{Start};
 ghost use Rattle.root.specs.Newton.{Close};
 
-// In a bit pattern: what the exponent's field counts, 2^52; the sign, 2^63; and the infinity, from which on no pattern has a root.
+// In a bit pattern: what the exponent's field counts, 2^52; the sign, 2^63; and the infinity, from which on no pattern has a root. A constant calls `to_bits` by its path: no method call may stand in its value.
 const FIELD: u64 = 0x0010_0000_0000_0000;
 
 const SIGN: u64 = 0x8000_0000_0000_0000;
 
-const INFINITY: u64 = 0x7ff0_0000_0000_0000;
+const INFINITY: u64 = f64::to_bits(f64::INFINITY);
 
 // 2^-30 and 2^-62. What is below the second has a root of at most 2^-31, the half of the first; and the first is below every tolerance from 0.000000001 on.
 const LEAST: f64 = 0.000000000931322574615478515625;
@@ -46,7 +46,7 @@ fn scale(bits: u64) -> Scaled
             w: field + 51,
         }
     } else {
-        let zeros = u64::leading_zeros(digits) as u64;
+        let zeros = u64::from(digits.leading_zeros());
         Scaled {
             q: digits << (zeros - 11),
             w: 63 - zeros,
@@ -118,10 +118,10 @@ fn root_bits(bits: u64) -> u64
 pub fn root(x: f64) -> Option<f64>
     ensures { result ≡ square_root x }
 {
-    if x != x {
+    if x.is_nan() {
         return None;
     }
-    let bits = f64::to_bits(x);
+    let bits = x.to_bits();
     if bits % SIGN == 0 {
         return Some(x);
     }
@@ -135,7 +135,7 @@ pub fn root(x: f64) -> Option<f64>
 pub fn root_or_nan(x: f64) -> f64
     ensures { result ≡ value_of (square_root x) }
 {
-    root(x).unwrap_or(0.0 / 0.0)
+    root(x).unwrap_or(f64::NAN)
 }
 
 // Whether the root lies below a tolerance. Mostly the square alone tells, and no root is worked out: the root of what exceeds a tolerance of at most 1 does not lie below it,

@@ -9,7 +9,7 @@ ghost use Rattle.vectors.specs.Meaning.{vector_of, five};
 
 // A d beside vectors is how many of their five places mean something: one number for all the vectors that meet, and no length of one array.
 // The vectors of a call lie in arrays, one behind the other. The loops borrow such an array and are told where a vector begins: to copy it out would cost more than its arithmetic.
-// The loops count an index: it names the same place of two or three arrays that begin at places of their own, and a `zip` of their parts says no more. The library has no sum of floats, and Rust's begins at −0.
+// The loops count an index: it names the same place of two or three arrays that begin at places of their own, and a `zip` of their parts says no more. The library has a sum of floats, which begins at −0, where the definition's begins at +0.
 
 // The dot product: from +0, the products are added in index order. The second vector begins at a place.
 pub fn dot_at(a: &[f64], b: &[f64], at: usize, d: usize) -> f64
@@ -18,7 +18,7 @@ pub fn dot_at(a: &[f64], b: &[f64], at: usize, d: usize) -> f64
 {
     let mut sum = 0.0;
     for i in 0..d {
-        sum = sum + a[i] * b[at + i];
+        sum += a[i] * b[at + i];
     }
     sum
 }
@@ -88,6 +88,6 @@ pub fn gain(q: &mut [f64], b: &[f64], at: usize, s: f64, d: usize)
     ensures { q.new ≡ onto (plus_times (vector_of d q.old) (vector_of d (drop at b.now)) s) q.old }
 {
     for i in 0..d {
-        q[i] = q[i] + b[at + i] * s;
+        q[i] += b[at + i] * s;
     }
 }

@@ -1,6 +1,6 @@
 -- What the proofs of the functions cite: what straight-line code leaves, said by the definitions. Assumes nothing.
 use mathlib.Core.Path.{◌≡◌, refl, sym, ap, subst, ◌∙◌}
-use mathlib.Core.Bool.{true, false, not}
+use mathlib.Core.Bool.{true, false}
 use mathlib.Core.List.{List, [], ◌∷◌, ◌++◌, append_assoc}
 use Prim.Native.Nat.{ℕ, zero, suc, ◌+◌, ◌-◌, ◌*◌, ◌/◌, ◌%◌, ◌^◌, ◌≤◌, ◌<◌}
 use native.Mathlib.Omega.{arith}
@@ -14,8 +14,7 @@ use Rattle.std.proofs.Common.{pow-suc, div-one, mul_comm, drop-drop, length-take
 use Rattle.std.proofs.Math.Nat.{pow-zero, div-div-eq-div-mul}
 use Rattle.std.proofs.lemmas.List.Edits.{sets-eq}
 use lib.ListN.{length, get_or, take, drop}
-use lib.Ieee.{Float, nan, inf, fin, binary64, of_bits, to_bits, ne, is_nan, nan_bits}
-use lib.Ieee.Compare.{differs_from_itself, nan_differs}
+use lib.Ieee.{Float, nan, inf, fin, binary64, of_bits, to_bits, is_nan, nan_bits}
 use lib.Ieee.Bits.{nan_bits_is, nan_bits_above}
 use Rattle.definitions.specs.Job.{little, number_at, float_at}
 use Rattle.laws.specs.Parts.{take_more}
@@ -104,16 +103,12 @@ unfolding float_at
 read_as_number s at n e h =
     read_number (of_bits binary64 n) (sym (nan_bits_is binary64 n) ∙ no_nan_pattern n h) ∙ ap (λ (k : ℕ). read_of (of_bits binary64 k)) e
 
--- a float that differs from itself is the NaN, and the pattern that is written then is the library's
-pub nan_pattern_written : (x : Float) → ne x x ≡ true → 9221120237041090560 ≡ to_bits binary64 x
-unfolding to_bits
-nan_pattern_written x h = rw (differs_from_itself x (subst T (sym h) tt)) refl
-
-pub same_no_nan : (x : Float) → ne x x ≡ false → T (not (is_nan x))
-unfolding is_nan
-same_no_nan nan h = absurd (subst T (sym nan_differs ∙ h) tt)
-same_no_nan (inf s) h = tt
-same_no_nan (fin s m e) h = tt
+-- the pattern that is written for a NaN is the library's
+pub nan_pattern_written : (x : Float) → is_nan x ≡ true → 9221120237041090560 ≡ to_bits binary64 x
+unfolding is_nan to_bits
+nan_pattern_written nan h = refl
+nan_pattern_written (inf s) h = absurd (subst T (sym h) tt)
+nan_pattern_written (fin s m e) h = absurd (subst T (sym h) tt)
 
 -- ---- a word at the cursor
 

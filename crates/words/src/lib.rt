@@ -3,6 +3,7 @@
 
 #![tactic(auto)]
 
+// What proves the law `wide`: the library's specs state no order of two given numbers.
 ghost use Rattle.std.proofs.Common.{lit<};
 ghost use Rattle.std.specs.Prelude.{◌≡◌, ◌∷◌, [], ◌+◌, ◌≤◌, ◌<◌, ℕ, length};
 ghost use Rattle.std.specs.Float.{binary64};
@@ -38,6 +39,7 @@ pub trait Word: Copy {
     ghost wide: { 0 < BYTES };
 }
 
+// One impl for each width, written out, since no impl is written by a macro of the repository's own.
 impl Word for u16 {
     ghost BYTES = { 2 };
 
@@ -94,29 +96,34 @@ impl Word for u64 {
 
 // ---- floats
 
-// What eight bytes hold: a float, an infinity among them, or nothing where they are the pattern of a NaN, which is above that of the infinity, its sign aside.
+// In a bit pattern: the sign, 2^63; the infinity, above which the patterns of NaNs lie, the sign aside; and the one that is written for a NaN. A constant calls `to_bits` by its path.
+// The library's `from_bits` and `to_bits` ask for no NaN, so the patterns of NaNs are told apart, and named, as numbers.
+const SIGN: u64 = 0x8000_0000_0000_0000;
+
+const INFINITY: u64 = f64::to_bits(f64::INFINITY);
+
+const NAN: u64 = 0x7ff8_0000_0000_0000;
+
+// What eight bytes hold: a float, an infinity among them, or nothing where they are the pattern of a NaN.
 pub fn get_f64(s: &[u8], at: usize) -> Option<f64>
     requires { at + 8 ≤ length s.now }
     ensures { result ≡ read_of (float_at s.now at) }
 {
     let bits = u64::get(s, at);
-    let size = bits % 9223372036854775808;
-    if 9218868437227405312 < size {
+    let size = bits % SIGN;
+    if INFINITY < size {
         return None;
     }
     Some(f64::from_bits(bits))
 }
 
-// Every NaN is written as the one that the library's `to_bits` names.
+// Every NaN is written as the one that the library's `to_bits` names. No call of the register writes a float; a public function stays.
 pub fn put_f64(s: &mut [u8], at: usize, x: f64)
     requires { at + 8 ≤ length s.old }
     ensures { s.new ≡ put 8 s.old at (to_bits binary64 x) }
 {
-    if x != x {
-        u64::put(s, at, 9221120237041090560);
-        return;
-    }
-    u64::put(s, at, f64::to_bits(x));
+    let bits = if x.is_nan() { NAN } else { x.to_bits() };
+    u64::put(s, at, bits);
 }
 
 // ---- an answer, word by word

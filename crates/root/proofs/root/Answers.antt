@@ -1,17 +1,11 @@
 -- `root::root` meets its contract: NaN, zeros, what is refused and the rest, as the tests on the bits tell them apart. Assumes nothing.
-use mathlib.Core.Path.{sym, ap, ◌∙◌, subst}
+use mathlib.Core.Path.{sym, ◌∙◌}
 use native.Mathlib.Omega.{arith}
-use lib.Dec.{T}
-use lib.Ieee.Compare.{differs_from_itself}
-use Rattle.definitions.specs.Vectors.{square_root}
-use Rattle.root.specs.Special.{of_nan, no_nan, no_nan_bits, is_zero, is_refused_holds, is_value}
+use Rattle.root.specs.Special.{nan_refused, no_nan_bits, is_zero, is_refused_holds, is_value}
 use Rattle.root.proofs.root.Goals as goal
 
-pub returns-then-x : goal.returns-then-x
-returns-then-x c = sym (ap square_root (differs_from_itself c.args.x (subst T (sym c.if-x.true) tt)) ∙ of_nan)
-
-pub float_to_bits-bits : goal.float_to_bits-bits
-float_to_bits-bits c = no_nan c.args.x c.if-x.false
+pub returns-then-is_nan : goal.returns-then-is_nan
+returns-then-is_nan c = sym (nan_refused c.args.x (sym c.is_nan.ensures.value ∙ c.if-is_nan.true))
 
 pub returns-then-bits-eq0 : goal.returns-then-bits-eq0
 returns-then-bits-eq0 c = is_zero c.args.x c.well_formed.0.1 c.if-bits-eq0.true

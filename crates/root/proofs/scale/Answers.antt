@@ -5,20 +5,13 @@ use lib.Dec.{lit≤}
 use Rattle.root.specs.Pattern.{scaled_normal, scaled_subnormal}
 use Rattle.root.proofs.scale.Goals as goal
 
-pub overflow_cast-zeros : goal.overflow_cast-zeros
-overflow_cast-zeros c = let m = (scaled_subnormal c.args.bits c.requires.0 (omega arith)) in omega (arith, m.most)
-
-pub overflow_sub-result : goal.overflow_sub-result
-overflow_sub-result c = let m = (scaled_subnormal c.args.bits c.requires.0 (omega arith)) in m.least
-
-pub overflow_shl-result : goal.overflow_shl-result
-overflow_shl-result c = let m = (scaled_subnormal c.args.bits c.requires.0 (omega arith)) in omega (arith, m.most)
-
-pub overflow_sub-result-else-field-gt0 : goal.overflow_sub-result-else-field-gt0
-overflow_sub-result-else-field-gt0 c = let m = (scaled_subnormal c.args.bits c.requires.0 (omega arith)) in m.most
-
 pub returns-then-field-gt0 : goal.returns-then-field-gt0
 returns-then-field-gt0 c = scaled_normal c.args.bits _ c.requires.1 c.if-field-gt0.true (omega arith)
 
+pub overflow_sub-result : goal.overflow_sub-result
+overflow_sub-result c = rw c.from-zeros.ensures (scaled_subnormal c.args.bits c.requires.0 (omega arith)).least
+
 pub returns-else-field-gt0 : goal.returns-else-field-gt0
-returns-else-field-gt0 c = let m = (scaled_subnormal c.args.bits c.requires.0 (omega arith)) in rw (mod-eq_of_lt (lt_of_lt_of_le m.fits (lit≤ tt))) m.scaled
+returns-else-field-gt0 c =
+    let m = scaled_subnormal c.args.bits c.requires.0 (omega arith) in
+    rw (c.from-zeros.ensures, mod-eq_of_lt (lt_of_lt_of_le m.fits (lit≤ tt))) m.scaled

@@ -8,12 +8,10 @@ use Rattle.definitions.specs.Vectors.{dot, dot_from}
 use Rattle.vectors.proofs.Laws.{dot_more}
 use Rattle.vectors.proofs.dot_at.Goals as goal
 
--- src/lib.rt:17:5
 pub loop-i-init : goal.loop-i-init
 unfolding dot dot_from
 loop-i-init c = (omega arith, refl)
 
--- src/lib.rt:17:5
 pub loop-i-preserved : goal.loop-i-preserved
 loop-i-preserved c =
     let l = c.loop-i in
@@ -21,7 +19,6 @@ loop-i-preserved c =
     let fits-b : l.i < length (drop a.at a.b.now) = omega (arith, length-drop a.at a.b.now) in
     (omega arith, rw (l.invariant.1, ← (get_or-drop a.at a.b.now l.i nan)) (dot_more a.a.now (drop a.at a.b.now) l.i (omega arith) fits-b))
 
--- src/lib.rt:11:1
 pub returns : goal.returns
 returns c =
     let l = c.loop-i in

@@ -10,12 +10,10 @@ use Rattle.vectors.specs.Wholes.{whole, rest_same}
 use Rattle.vectors.proofs.Laws.{plus_times_more}
 use Rattle.vectors.proofs.gain.Goals as goal
 
--- src/lib.rt:91:5
 pub loop-i-init : goal.loop-i-init
 unfolding plus_times
 loop-i-init c = (omega arith, refl, refl, refl)
 
--- src/lib.rt:91:5
 pub loop-i-preserved : goal.loop-i-preserved
 loop-i-preserved c =
     let l = c.loop-i in
@@ -29,7 +27,6 @@ loop-i-preserved c =
       drop-set-lt (l.i + 1) l.q l.i _ (omega arith) ∙ same.1,
     )
 
--- src/lib.rt:86:1
 pub returns : goal.returns
 returns c =
     let l = c.loop-i in

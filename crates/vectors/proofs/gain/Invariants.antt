@@ -1,6 +1,6 @@
 -- `gain` meets its contract. The invariant: the first i numbers have gained theirs, and the rest are as they were. Leans on the laws of this crate and on those of parts.
 use mathlib.Core.Path.{◌≡◌}
-use Prim.Native.Nat.{◌-◌, ◌≤◌}
+use Prim.Native.Nat.{◌≤◌}
 use lib.ListN.{length, take, drop}
 use Rattle.definitions.specs.Vectors.{plus_times}
 use Rattle.vectors.proofs.gain.Given as goal

@@ -10,12 +10,10 @@ use Rattle.vectors.specs.Wholes.{whole, rest_same}
 use Rattle.vectors.proofs.Laws.{minus_more}
 use Rattle.vectors.proofs.take_from.Goals as goal
 
--- src/lib.rt:69:5
 pub loop-i-init : goal.loop-i-init
 unfolding minus
 loop-i-init c = (omega arith, refl, refl, refl)
 
--- src/lib.rt:69:5
 pub loop-i-preserved : goal.loop-i-preserved
 loop-i-preserved c =
     let l = c.loop-i in
@@ -27,7 +25,6 @@ loop-i-preserved c =
       drop-set-lt (l.i + 1) l.out l.i _ (omega arith) ∙ (rest_same l.out a.out.now l.i nan l.invariant.3).1,
     )
 
--- src/lib.rt:64:1
 pub returns : goal.returns
 returns c =
     let l = c.loop-i in

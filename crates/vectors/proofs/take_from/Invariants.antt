@@ -1,6 +1,6 @@
 -- `take_from` meets its contract. The invariant: the first i differences stand in the buffer, and what lies behind them is as it was. Leans on the laws of this crate and on those of parts.
 use mathlib.Core.Path.{◌≡◌}
-use Prim.Native.Nat.{◌-◌, ◌≤◌}
+use Prim.Native.Nat.{◌≤◌}
 use lib.ListN.{length, take, drop}
 use Rattle.definitions.specs.Vectors.{minus}
 use Rattle.vectors.proofs.take_from.Given as goal

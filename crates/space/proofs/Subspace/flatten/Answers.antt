@@ -11,12 +11,10 @@ use Rattle.vectors.specs.Wholes.{whole, rest_same}
 use Rattle.space.specs.Meaning.{subspace_of}
 use Rattle.space.proofs.Subspace.flatten.Goals as goal
 
--- src/lib.rt:123:9
 pub loop-j-init : goal.loop-j-init
 unfolding rows zeros
 loop-j-init c = (omega arith, refl, refl, refl)
 
--- src/lib.rt:123:9
 pub loop-j-preserved : goal.loop-j-preserved
 loop-j-preserved c =
     let l = c.loop-j in
@@ -27,7 +25,6 @@ loop-j-preserved c =
       drop-set-lt (l.j + 1) l.r l.j _ (omega arith) ∙ (rest_same l.r (zeros 5) l.j nan l.invariant.3).1,
     )
 
--- src/lib.rt:114:5
 pub returns : goal.returns
 unfolding flatten subspace_of five
 returns c =
