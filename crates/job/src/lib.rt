@@ -25,7 +25,7 @@ fn has_mark(job: &[u8]) -> bool
 pub fn between(lowest: usize, highest: usize, x: usize) -> bool
     ensures { result ≡ between lowest highest x }
 {
-    lowest <= x && x <= highest
+    (lowest..=highest).contains(&x)
 }
 
 // Finite, and not beyond `most` in size: a NaN passes no comparison.
@@ -100,7 +100,7 @@ pub fn is_identity(job: &[u8], at: usize, n: usize) -> bool
     (0..n).all(|i| usize::from(job[at + i]) == i)
 }
 
-// Each image is below n and was not met before.
+// Each image is below n and was not met before. A loop, and no `all` as in the tests beside it: it marks each image that it meets.
 fn is_permutation(job: &[u8], at: usize, n: usize) -> bool
     requires { (n ≤ 20) × (at + n ≤ length job.now) }
     ensures { result ≡ is_permutation n (take n (drop at job.now)) }
@@ -186,6 +186,7 @@ fn check_values(job: Job) -> Result<Fields, Refusal>
     if !tolerance_good(job.fields.tolerance) {
         return Err(Refusal::Tolerance);
     }
+    // The rule is any number until here, and stays a number: `load::Fields` tells why.
     if !between(1, 2, job.fields.rule) {
         return Err(Refusal::Rule);
     }

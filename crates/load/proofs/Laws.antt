@@ -9,7 +9,7 @@ use lib.ListN.{length, get_or, take, drop, length-drop, length-map}
 use Rattle.std.proofs.lemmas.List.{drop-drop}
 use mathlib.Core.List.{append_assoc}
 use lib.Seq.{paste, length-paste, length-take-le, take_all, sets, sets-eq}
-use lib.Ieee.{Float, nan, inf, fin, binary64, of_bits, div}
+use lib.Ieee.{Float, nan, inf, fin}
 use Rattle.definitions.specs.Job.{Bytes, tolerance1, flag_set, present, float_at, floats_at, vectors_at, number_at, read_job, plane_of}
 use Rattle.words.specs.Floats.{read_of}
 use Rattle.std.specs.Prelude.{Option, Some, None, is_some, IfSome}
@@ -53,8 +53,8 @@ module _ {A : Type 0} (there : Bool) (field : A) (r : Option A) where
 
 -- ---- floats
 
-pub value_read : (y : Float) → unwrap_or (read_of y) (div binary64 (of_bits binary64 0) (of_bits binary64 0)) ≡ y
-unfolding read_of div of_bits
+pub value_read : (y : Float) → unwrap_or (read_of y) nan ≡ y
+unfolding read_of
 value_read nan = refl
 value_read (inf s) = refl
 value_read (fin s m d) = refl

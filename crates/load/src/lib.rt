@@ -34,11 +34,11 @@ pub fn header_of(job: &[u8]) -> Header
     ensures { result ≡ header_of job.now }
 {
     Header {
-        version: u16::get(job, 3) as usize,
+        version: usize::from(u16::get(job, 3)),
         rank: usize::from(job[5]),
         d: usize::from(job[6]),
         n: usize::from(job[7]),
-        count: u16::get(job, 8) as usize,
+        count: usize::from(u16::get(job, 8)),
         flags: usize::from(job[10]),
     }
 }
@@ -110,7 +110,7 @@ pub fn float_at(job: &[u8], at: usize) -> f64
     requires { at + 8 ≤ length job.now }
     ensures { result ≡ float_at job.now at }
 {
-    words::get_f64(job, at).unwrap_or(0.0 / 0.0)
+    words::get_f64(job, at).unwrap_or(f64::NAN)
 }
 
 // ---- all fields
@@ -125,6 +125,8 @@ pub struct Fields {
     pub limits: Limits,
     pub entries: Option<u32>,
     pub tolerance: f64,
+    // 1 or 2 in a job that passes. A number and no enum of the two: a job's field holds any byte until it is tested, and the public functions that take a rule (`orbits::find_orbits`) answer for
+    // every number, so that a narrower type would ask more of their callers.
     pub rule: usize,
     pub budget: u32,
     pub offset: usize,
@@ -134,6 +136,7 @@ pub struct Fields {
 }
 
 // A version without a field for the tolerance has 1e-7, one without a field for the rule of crowded lines the rule 1.
+// What the header and the places have is copied field by field: a `Fields` that held both would hand on flags and places that its readers never ask, and each of them would name one field more on the way.
 pub fn fields_of(job: &[u8]) -> Fields
     requires { Exact job.now }
     ensures { result ≡ fields_of job.now }
@@ -190,6 +193,7 @@ pub fn copy_rows(bytes: &[u8], at: usize, n: usize, count: usize, region: &mut [
 }
 
 // A job of its exact length, and its fields: what the plane, the points and the rows are read from.
+// Callers hand on the bytes and the fields side by side: that the job passed, which they ask, says more than this struct, and speaks of the length of the workspace too.
 #[derive(Clone, Copy)]
 pub struct Job<'a> {
     pub bytes: &'a [u8],
@@ -229,6 +233,7 @@ impl<'a> Job<'a> {
     }
 
     // Each row to a place of its own, 32 bytes apart, so that a row's number times a constant finds it. What stands between the rows and behind them stays.
+    // It hands out no `Rows`: of a region that goes into the result no clause can say what it ends as.
     pub fn load_rows(self, region: &mut [u8])
         requires { 32 * self.fields.count ≤ length region.old }
         ensures rows { (rows_in self.entry.fields.n self.entry.fields.count region.new ≡ (read_job self.entry.bytes.now).rows) × (length region.new ≡ length region.old) }

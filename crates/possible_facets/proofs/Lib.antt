@@ -1,4 +1,3 @@
 -- What the proofs of this crate cite.
 pub mod Stretches
-pub mod Sizes
 pub mod Possible

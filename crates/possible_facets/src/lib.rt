@@ -5,7 +5,6 @@
 ghost use Rattle.std.specs.Prelude.{◌≡◌, ⊤, List, ℕ, ◌+◌, ◌*◌, ◌-◌, ◌≤◌, ◌<◌, length, get_or, drop};
 ghost use mathlib.Core.List.{flat_map};
 ghost use Rattle.laws.specs.Segments.{part};
-ghost use Rattle.laws.specs.Sets.{vertices_of};
 ghost use Rattle.words.specs.Words.{words};
 ghost use Rattle.words.specs.Wrote.{Writes};
 ghost use Rattle.pool.specs.Pool.{count, closed_lists};
@@ -66,7 +65,7 @@ fn first_code(edges: Pool, x: usize) -> usize
     if edges.length(x) == 0 {
         return 0;
     }
-    edges.item(x, 0) as usize
+    usize::from(edges.item(x, 0))
 }
 
 // Facets of rank 3: polygons, over the points of their orbit's set, of n vertices. The sets lie in a workspace.
@@ -84,7 +83,7 @@ impl FacetFigure for Polygons<'_> {
     ghost words = { polygon_words };
 
     fn size(&self, orbit: usize) -> usize {
-        set_size(u32::get(self.ws, 8 * orbit), self.n)
+        sets::count_below(u32::get(self.ws, 8 * orbit), self.n)
     }
 
     fn write(&self, w: &mut Writer, points: usize, edges: Pool, x: usize) {
@@ -92,23 +91,12 @@ impl FacetFigure for Polygons<'_> {
     }
 }
 
-// How many vertices a set has. By its bits: `sets::vertices_of` and `stabilizers::place_in`, which say the same, ask for
-// 20 vertices at most, and what is written of facets takes any number of them.
-fn set_size(set: u32, n: usize) -> usize
-    ensures { (result ≡ length (vertices_of n set)) × (result ≤ n) }
-{
-    let mut rest = set;
-    let mut many = 0;
-    for v in 0..n {
-        many += (rest % 2) as usize;
-        rest = rest / 2;
-    }
-    many
-}
-
 // ---- orbits of facets
 
-// The orbit of each facet, a number of two bytes.
+// The orbit of each facet, a number of two bytes. The bytes are an area of a workspace, up to where the next one begins, and a shelf tells how many facets it has: of a slice cut to their length
+// the number of facets would be half the bytes, which each clause would have to say.
+// `facet_images::Ids` is alike, with numbers of four bytes. No type for every `Word` serves both: a `Word` has its number as a ghost alone, so that each user would turn a word into a place by itself.
+// And `end_of`, and the bound that `orbit` promises, are of `Owners` alone.
 #[derive(Clone, Copy)]
 pub struct Owners<'a> {
     pub bytes: &'a [u8],
@@ -122,7 +110,7 @@ impl<'a> Owners<'a> {
         requires { x < self.facets }
         ensures { (result ≡ get_or (words 2 self.entry.bytes.now self.entry.facets) x 0) × (result < 65536) }
     {
-        u16::get(self.bytes, 2 * x) as usize
+        usize::from(u16::get(self.bytes, 2 * x))
     }
 
     // The first facet from x on that is not of an orbit, or the number of facets.

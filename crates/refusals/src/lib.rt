@@ -7,41 +7,41 @@ ghost use Rattle.refusals.specs.Refused.{number_of};
 
 use std::fmt;
 
-// In the order of the numbers. A variant is named after what is refused. `number` and not the place among the variants: the page counts with gaps.
+// In the order of the numbers. A variant is named after what is refused. Its number stands beside it, and is not its place among the variants: the page counts with gaps.
 #[derive(Clone, Copy, Debug, PartialEq, Eq)]
 pub enum Refusal {
     // [11.1]
-    Mark,
-    Version,
-    Rank,
-    Dimension,
-    Points,
-    Rows,
-    Flags,
-    Length,
-    Number,
-    FirstRow,
-    Row,
-    Workspace,
+    Mark = 1,
+    Version = 2,
+    Rank = 3,
+    Dimension = 4,
+    Points = 5,
+    Rows = 6,
+    Flags = 7,
+    Length = 8,
+    Number = 9,
+    FirstRow = 10,
+    Row = 11,
+    Workspace = 12,
     // [11.4]
-    Orbits,
-    Plane,
-    Bound,
-    Budget,
+    Orbits = 13,
+    Plane = 14,
+    Bound = 15,
+    Budget = 16,
     // [11.5]
-    Room,
+    Room = 17,
     // [17.3]
-    Package,
+    Package = 18,
     // [16.4]
-    Tariff,
-    NotOfRank4,
-    Entry,
+    Tariff = 19,
+    NotOfRank4 = 20,
+    Entry = 21,
     // [11.1]
-    Tolerance,
-    Rule,
+    Tolerance = 22,
+    Rule = 25,
     // [15.1] [15.2]
-    Cut,
-    Records,
+    Cut = 26,
+    Records = 27,
 }
 
 impl Refusal {
@@ -49,33 +49,7 @@ impl Refusal {
     pub fn number(self) -> u8
         ensures { result ≡ number_of self }
     {
-        match self {
-            Refusal::Mark => 1,
-            Refusal::Version => 2,
-            Refusal::Rank => 3,
-            Refusal::Dimension => 4,
-            Refusal::Points => 5,
-            Refusal::Rows => 6,
-            Refusal::Flags => 7,
-            Refusal::Length => 8,
-            Refusal::Number => 9,
-            Refusal::FirstRow => 10,
-            Refusal::Row => 11,
-            Refusal::Workspace => 12,
-            Refusal::Orbits => 13,
-            Refusal::Plane => 14,
-            Refusal::Bound => 15,
-            Refusal::Budget => 16,
-            Refusal::Room => 17,
-            Refusal::Package => 18,
-            Refusal::Tariff => 19,
-            Refusal::NotOfRank4 => 20,
-            Refusal::Entry => 21,
-            Refusal::Tolerance => 22,
-            Refusal::Rule => 25,
-            Refusal::Cut => 26,
-            Refusal::Records => 27,
-        }
+        self as u8
     }
 }
 

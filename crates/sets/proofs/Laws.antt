@@ -1,30 +1,44 @@
--- A power that a shift makes, and the turns of the loops over a set and over points. Leans on Steps and Vertices.
+-- A power that a shift makes, the bits of a set, and the turns of the loops over a set and over points. Leans on Steps and Vertices.
 use mathlib.Core.Path.{◌≡◌, refl, sym, ap, ◌∙◌}
-use mathlib.Core.Bool.{Bool, true, false, cond}
-use mathlib.Core.List.{List, [], ◌∷◌, ◌++◌, map, append-nil, map-append}
+use mathlib.Core.Bool.{true, false, cond}
+use mathlib.Core.List.{List, [], ◌∷◌, ◌++◌, map}
 use Prim.Native.Nat.{ℕ, zero, suc, ◌+◌, ◌*◌, ◌-◌, ◌/◌, ◌%◌, ◌^◌, ◌≤◌, ◌<◌}
 use native.Mathlib.Omega.{arith}
-use native.Mathlib.Nat.{mod-eq_of_lt, pow-le-pow_right}
-use borrow.Author.Tests.{eq-eqb, ne_eqb}
-use lib.Dec.{eqb}
-use lib.ListN.{length, get_or, take, drop, length-drop, drop_of_length-le}
-use lib.Seq.{length-take-le}
-use lib.Ieee.{Float, lt, nan}
+use native.Mathlib.Nat.{mod-eq_of_lt, mod-one, one-le-pow, pow-le-pow_right, pow-zero, two-pow-succ}
+use lib.Arith.{digits_div, digits_mod, mod-mul}
+use lib.Count.{ones, ones_step}
+use lib.ListN.{length, get_or, take, drop, drop_of_length-le}
+use lib.Ieee.{Float, lt}
 use Rattle.definitions.specs.Vectors.{Vec}
 use Rattle.definitions.specs.Subspace.{Subspace, distance}
 use Rattle.definitions.specs.Orbits.{image, point_at, points_near, set_image}
 use Rattle.laws.specs.Parts.{map_take_more}
-use Rattle.laws.specs.Sets.{set_number, number_sorted, number_small}
-use Rattle.vectors.specs.Meaning.{five}
+use Rattle.laws.specs.Sets.{set_number, vertices_from, number_sorted, number_small}
 use Rattle.openers.specs.Rows.{row_at, image_at_holds}
-use Rattle.sets.specs.Steps.{power_below, near_set, near_step}
-use Rattle.sets.specs.Vertices.{Below}
+use Rattle.sets.specs.Steps.{near_set, near_step}
+use Rattle.sets.specs.Vertices.{Below, bit_length}
 
-pub shifted : (v : ℕ) → v < 20 → (1 * 2 ^ v) % 4294967296 ≡ 2 ^ v
+pub shifted : (v : ℕ) → v < 32 → (1 * 2 ^ v) % 4294967296 ≡ 2 ^ v
 shifted v h =
-    let small = power_below v h in
+    let small = pow-le-pow_right {n = 2} (omega arith) {i = v} {j = 31} (omega arith) in
     let e : 1 * 2 ^ v ≡ 2 ^ v = omega arith in
     ap (λ (k : ℕ). k % 4294967296) e ∙ mod-eq_of_lt (omega arith)
+
+-- ---- how many vertices
+
+-- 32 bits are all of a number of 32 bits
+pub all_bits : (n x : ℕ) → 32 ≤ n → x < 4294967296 → x % 2 ^ n ≡ x
+all_bits n x h small = let large = pow-le-pow_right {n = 2} (omega arith) {i = 32} {j = n} h in mod-eq_of_lt (omega arith)
+
+-- those of the lowest n bits that are set are the vertices below n
+pub count_bits : (v n x : ℕ) → ones (x % 2 ^ n) ≡ length (vertices_from v n x)
+unfolding vertices_from ones
+count_bits v zero x = rw (pow-zero, mod-one) refl
+count_bits v (suc n) x =
+    let digits : x % 2 ^ suc n ≡ (x / 2 % 2 ^ n) * 2 + x % 2 = ap (λ (k : ℕ). x % k) (two-pow-succ n ∙ (omega arith)) ∙ mod-mul x {m = 2 ^ n} {c = 2} (one-le-pow n 2 (omega arith)) (omega arith) in
+    let low : x % 2 ^ suc n % 2 ≡ x % 2 = ap (λ (k : ℕ). k % 2) digits ∙ digits_mod (x / 2 % 2 ^ n) (omega arith) in
+    let half : x % 2 ^ suc n / 2 ≡ x / 2 % 2 ^ n = ap (λ (k : ℕ). k / 2) digits ∙ digits_div (x / 2 % 2 ^ n) (omega arith) in
+    ones_step (x % 2 ^ suc n) ∙ ((λ t. low t + ones (half t)) ∙ (ap (λ (k : ℕ). x % 2 + k) (count_bits (suc v) n (x / 2)) ∙ sym (bit_length v n x)))
 
 -- ---- the image of a set
 

@@ -1,9 +1,10 @@
--- A set's vertices, one after another: they are below the number of vertices, and ascend; a row sends them to vertices. Leans on the steps of the loops.
+-- A set's vertices, one after another: how many they are; they are below the number of vertices, and ascend; a row sends them to vertices. Leans on the steps of the loops.
 use Rattle.std.specs.Prelude.{◌≡◌, refl, List, [], ◌∷◌, ◌++◌, ℕ, zero, suc, ◌+◌, ◌*◌, ◌-◌, ◌/◌, ◌%◌, ◌≤◌, ◌<◌, length, get_or}
 use Rattle.std.proofs.Common.{ap, ◌∙◌, arith, eq-eqb, ne_eqb}
+use Rattle.std.proofs.Math.Decide.{ℕ_discrete}
 use Rattle.laws.specs.Lists.{member_at}
 use Rattle.laws.specs.Pairs.{Pairs}
-use Rattle.laws.specs.Sets.{vertices_from, vertices_of, vertices_set, set_range, set_rises}
+use Rattle.laws.specs.Sets.{vertices_from, vertices_of, vertices_odd, vertices_even, vertices_set, set_range, set_rises}
 use Rattle.sets.specs.Steps.{vertices_step}
 
 -- these numbers are below a bound
@@ -44,6 +45,20 @@ come_joins n v rest h odd = come_turn n v rest h ∙ rw (eq-eqb (rest % 2) 1 odd
 pub come_stays : (n v rest : ℕ) → v < n → (rest % 2 ≡ 1 → ⊥) → to_come n v rest ≡ to_come n (v + 1) (rest / 2)
 unfolding vertices_from
 come_stays n v rest h even = come_turn n v rest h ∙ rw (ne_eqb (rest % 2) 1 even) refl
+
+-- ---- how many vertices
+
+pub bit_length : (v n x : ℕ) → length (vertices_from v (suc n) x) ≡ x % 2 + length (vertices_from (suc v) n (x / 2))
+bit_length v n x = go (ℕ_discrete (x % 2) 1)
+  where
+    go : Dec (x % 2 ≡ 1) → length (vertices_from v (suc n) x) ≡ x % 2 + length (vertices_from (suc v) n (x / 2))
+    go (yes e) = ap length (vertices_odd v n x e) ∙ (omega arith)
+    go (no e) = ap length (vertices_even v n x e) ∙ (omega arith)
+
+pub vertices_few : (v n x : ℕ) → length (vertices_from v n x) ≤ n
+unfolding vertices_from
+vertices_few v zero x = omega arith
+vertices_few v (suc n) x = omega (arith, bit_length v n x, vertices_few (suc v) n (x / 2))
 
 -- ---- each of them
 

@@ -1,9 +1,9 @@
-// Sets of vertices as numbers: the sum of 2 ^ v. The image of a set under a row, the points near a plane as a set, and a set's points with the plane that they fit.
+// Sets of vertices as numbers: the sum of 2 ^ v. A set's vertices, and how many they are; its image under a row, the points near a plane as a set, and a set's points with the plane that they fit.
 // Each function equals a definition of Orbits or Recursion: [5.1], [5.6], [6.4].
 
 #![tactic(auto)]
 
-ghost use Rattle.std.specs.Prelude.{◌≡◌, map, ℕ, ◌^◌, ◌≤◌, ◌<◌};
+ghost use Rattle.std.specs.Prelude.{◌≡◌, map, ℕ, ◌^◌, ◌≤◌, ◌<◌, length};
 ghost use Rattle.definitions.specs.Subspace.{from_points};
 ghost use Rattle.definitions.specs.Orbits.{point_at, points_near, set_image};
 ghost use Rattle.laws.specs.Sets.{set_number, vertices_of};
@@ -31,14 +31,20 @@ pub fn vertices_of(set: u32, n: usize) -> ArrayVec<usize, 20>
     ensures { result.items ≡ vertices_of n set }
 {
     let mut found = ArrayVec::new();
-    let mut rest = set;
     for v in 0..n {
-        if rest % 2 == 1 {
+        if (set >> v) % 2 == 1 {
             found.push(v);
         }
-        rest = rest / 2;
     }
     found
+}
+
+// How many vertices of a set are below n: n's place in the set, if it is there. By the bits alone, so that any n will do; the list of `vertices_of` has room for 20 vertices.
+pub fn count_below(set: u32, n: usize) -> usize
+    ensures { (result ≡ length (vertices_of n set)) × (result ≤ n) }
+{
+    let below = if n < 32 { set % (1 << n) } else { set };
+    below.count_ones() as usize
 }
 
 // ---- images
@@ -87,7 +93,8 @@ pub fn chosen_points(flat: &Points, set: u32) -> Points
 
 // ---- a set's plane
 
-// [6.4] the plane made from a set's points in their order: an error where it has another rank than the one wanted, which hands the plane back all the same
+// [6.4] the plane made from a set's points in their order: an error where it has another rank than the one wanted.
+// The error hands the plane back too, though no caller reads it: a public function keeps what it promised, and that is the plane in both cases.
 pub fn refit(points: Points, tolerance: f64, wanted: usize) -> Result<Subspace, Subspace>
     ensures { Refitted result points (from_points tolerance (points_of points)) wanted }
 {

@@ -19,7 +19,7 @@ use Rattle.stabilizers.specs.Places.{places, vertices_few}
 
 -- ---- a row
 
-pub place_small : (u x : ℕ) → length (vertices_of u x) ≤ u
+place_small : (u x : ℕ) → length (vertices_of u x) ≤ u
 unfolding vertices_of
 place_small u x = vertices_few 0 u x
 

@@ -1,5 +1,6 @@
--- Places in a set: how many of its vertices are smaller. A row that keeps a set, rewritten to places in it, is written where the next row begins. Leans on the sets of the laws.
-use Rattle.std.specs.Prelude.{◌≡◌, refl, true, ℕ, zero, suc, ◌+◌, ◌*◌, ◌/◌, ◌%◌, ◌^◌, ◌≤◌, ◌<◌, eqb, get_or}
+-- Places in a set: how many of its vertices are smaller. A row that keeps a set, rewritten to places in it, is written where the next row begins. The laws on how many vertices a set has stand with the sets, and are passed on. Leans on the sets
+-- of the laws.
+use Rattle.std.specs.Prelude.{◌≡◌, refl, true, ℕ, zero, suc, ◌+◌, ◌*◌, ◌/◌, ◌%◌, ◌^◌, ◌<◌, eqb, get_or}
 use Rattle.std.proofs.Math.Path.{sym, ap, subst}
 use Rattle.std.proofs.Common.{◌∙◌, arith, eq-eqb, ne_eqb}
 use mathlib.Core.List.{List, [], ◌∷◌, map, Memᴰ}
@@ -14,6 +15,7 @@ use Rattle.laws.specs.Orders.{nat_lists, is_eq}
 use Rattle.laws.specs.Sorting.{in_sorted}
 use Rattle.laws.specs.Sets.{set_number, vertices_from, vertices_of, vertices_odd, vertices_even, vertices_set, set_range, compare_sets, image_set, number_vertices}
 use Rattle.openers.specs.Rows.{row_at, image_at_holds}
+pub use Rattle.sets.specs.Vertices.{bit_length, vertices_few}
 use Rattle.stabilizers.specs.Permutations.{Permutation}
 
 -- ---- definitions
@@ -21,20 +23,6 @@ use Rattle.stabilizers.specs.Permutations.{Permutation}
 -- for each vertex of a list, the place of its image under row i: the number of the set's vertices below it
 unfoldable pub places : List ℕ → ℕ → ℕ → List ℕ → List ℕ
 places s i set vertices = map (λ (v : ℕ). length (vertices_of (get_or s (32 * i + v) 0) set)) vertices
-
--- ---- how many vertices
-
-pub bit_length : (v n x : ℕ) → length (vertices_from v (suc n) x) ≡ x % 2 + length (vertices_from (suc v) n (x / 2))
-bit_length v n x = go (ℕ_discrete (x % 2) 1)
-  where
-    go : Dec (x % 2 ≡ 1) → length (vertices_from v (suc n) x) ≡ x % 2 + length (vertices_from (suc v) n (x / 2))
-    go (yes e) = ap length (vertices_odd v n x e) ∙ (omega arith)
-    go (no e) = ap length (vertices_even v n x e) ∙ (omega arith)
-
-pub vertices_few : (v n x : ℕ) → length (vertices_from v n x) ≤ n
-unfolding vertices_from
-vertices_few v zero x = omega arith
-vertices_few v (suc n) x = omega (arith, bit_length v n x, vertices_few (suc v) n (x / 2))
 
 -- ---- a vertex's place
 

@@ -4,7 +4,7 @@
 #![tactic(auto)]
 
 ghost use Rattle.std.specs.Prelude.{◌≡◌, ◌*◌, ◌^◌, ◌≤◌, ◌<◌, length};
-ghost use Rattle.std.proofs.lemmas.List.Edits.{sets};
+ghost use lib.Seq.{sets};
 ghost use Rattle.definitions.specs.Recursion.{keeps_set, rows_within};
 ghost use Rattle.laws.specs.Sets.{vertices_of};
 ghost use Rattle.openers.specs.Rows.{rows_in, row_at, written_rows};
@@ -13,17 +13,10 @@ ghost use Rattle.stabilizers.specs.Places.{places};
 
 use arrayvec::ArrayVec;
 use openers::Rows;
-use sets::{set_image, vertices_of};
-
-// How many vertices of a set are below u: u's place in the set, if it is there.
-pub fn place_in(set: u32, u: usize) -> usize
-    requires { u ≤ 20 }
-    ensures { result ≡ length (vertices_of u set) }
-{
-    vertices_of(set, u).len()
-}
+use sets::{count_below, set_image, vertices_of};
 
 // Rows that are permutations of n vertices.
+// How many rows there are is not bounded here: `rows_within` takes any number of them, and what gathers images by them asks for 120 at most, by a clause.
 #[derive(Clone, Copy)]
 pub struct Symmetries<'a> {
     pub rows: Rows<'a>,
@@ -46,12 +39,12 @@ impl<'a> Symmetries<'a> {
         ensures { row.new ≡ sets row.old 0 (places self.entry.rows.bytes.now i set (vertices_of self.entry.n set)) }
     {
         for (k, v) in vertices.as_slice().iter().enumerate() {
-            let place = place_in(set, self.rows.image(i, *v));
+            let place = count_below(set, self.rows.image(i, *v));
             row[k] = place as u8;
         }
     }
 
-    // The rows that keep a set, rewritten to positions in it; returns how many there are.
+    // The rows that keep a set, rewritten to positions in it; returns how many there are, and no `Rows`: of a region that goes into the result no clause can say what it ends as.
     // Counted by hand: the count is the place of the next row that is written, and in the end the answer. `filter` with `enumerate` would tell the places, and not how many rows there were.
     pub fn rows_within(self, set: u32, out: &mut [u8]) -> usize
         requires { (set < 2 ^ self.n) × (32 * self.rows.count ≤ length out.old) }

@@ -1,15 +1,13 @@
-use mathlib.Core.Path.{◌≡◌, sym, ap, ◌∙◌}
+use mathlib.Core.Path.{◌≡◌, ap, ◌∙◌}
 use mathlib.Core.List.{List, map}
-use Prim.Native.Nat.{ℕ, ◌+◌, ◌≤◌, ◌<◌}
+use Prim.Native.Nat.{ℕ, ◌<◌}
 use native.Mathlib.Omega.{arith}
 use lib.ListN.{length, get_or, take, length-map}
 use Rattle.std.proofs.lemmas.List.{take_all, length-take-le}
 use Rattle.definitions.specs.Orbits.{point_at}
-use Rattle.definitions.specs.Vectors.{Vec}
 use Rattle.laws.specs.Parts.{map_take_more}
 use Rattle.laws.specs.Sets.{vertices_of}
-use Rattle.space.specs.Meaning.{points_of, HoldsPoints}
-use Rattle.space.specs.declared.Points.{Points}
+use Rattle.space.specs.Meaning.{points_of}
 use Rattle.space.specs.Counts.{point_means, point_own, one_more}
 use Rattle.sets.specs.Vertices.{vertex_below}
 use Rattle.sets.proofs.chosen_points.Goals as goal

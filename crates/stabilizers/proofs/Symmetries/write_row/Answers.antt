@@ -4,7 +4,7 @@ use lib.ListN.{take}
 use Rattle.std.proofs.lemmas.List.{take_all}
 use Rattle.laws.specs.Sets.{vertices_of}
 use Rattle.stabilizers.specs.Places.{places}
-use Rattle.stabilizers.proofs.Laws.{among, place_small, place_more}
+use Rattle.stabilizers.proofs.Laws.{among, place_more}
 use Rattle.stabilizers.proofs.Symmetries.write_row.Goals as goal
 
 pub loop-k-init : goal.loop-k-init
@@ -17,20 +17,14 @@ image-requires c =
     let p = c.args.self.permute.each c.args.i c.requires.0 in
     omega (arith, below, p.long, p.n_fits)
 
-pub place_in-place-requires : goal.place_in-place-requires
-place_in-place-requires c =
-    let below = among c.args.self.n c.args.set c.loop-k.k _ (c.as_slice-v-items.ensures.value ∙ c.requires.1) c.loop-k-test.true in
-    let p = c.args.self.permute.each c.args.i c.requires.0 in
-    omega (arith, c.image.ensures, p.below _ below, p.n_fits)
-
 pub overflow_cast-row : goal.overflow_cast-row
 overflow_cast-row c =
     let below = among c.args.self.n c.args.set c.loop-k.k _ (c.as_slice-v-items.ensures.value ∙ c.requires.1) c.loop-k-test.true in
     let p = c.args.self.permute.each c.args.i c.requires.0 in
-    record { fits = omega (arith, c.place_in-place.ensures, place_small c.image.result c.args.set, c.image.ensures, p.below _ below, p.n_fits) }
+    record { fits = omega (arith, c.count_below-place.ensures.1, c.image.ensures, p.below _ below, p.n_fits) }
 
 pub loop-k-preserved : goal.loop-k-preserved
-loop-k-preserved c = rw (c.place_in-place.ensures, c.image.ensures, c.loop-k.invariant) (place_more c.args.self.rows.bytes.now c.args.i c.args.set c.as_slice-v-items.result.now c.args.row.now c.loop-k.k c.loop-k-test.true)
+loop-k-preserved c = rw (c.count_below-place.ensures.0, c.image.ensures, c.loop-k.invariant) (place_more c.args.self.rows.bytes.now c.args.i c.args.set c.as_slice-v-items.result.now c.args.row.now c.loop-k.k c.loop-k-test.true)
 
 pub returns : goal.returns
 returns c =
