@@ -10,7 +10,7 @@ use mathlib.Core.List.{List, [], ◌∷◌, ◌++◌, map}
 use Prim.Native.Nat.{ℕ, suc, ◌+◌, ◌*◌, ◌≤◌, ◌<◌, min, max}
 use native.Mathlib.Omega.{arith}
 use Rattle.std.proofs.Math.Decide.{ℕ_discrete}
-use Rattle.std.proofs.Math.ListN.{length, get_or, length-append, length-set}
+use Rattle.std.proofs.Math.ListN.{length, get_or, length-set}
 use Rattle.std.proofs.lemmas.List.{length-replicate, get_or-replicate}
 use Rattle.definitions.specs.Lists.{Pair, compare_pair, any_of, member_nat, member_pair, fresh}
 use Rattle.definitions.specs.Orbits.{Row, image, pair_image}
@@ -18,7 +18,7 @@ use Rattle.laws.specs.Bools.{same_test}
 use Rattle.laws.specs.Lists.{Mem, here, there, of_map, at_member}
 use Rattle.laws.specs.Orders.{pairs}
 use Rattle.laws.specs.Ascending.{seen_member}
-use Rattle.laws.specs.Parts.{rows, get_d_rows, length_rows, take_more_set}
+use Rattle.laws.specs.Parts.{rows, get_d_rows, length_rows}
 use Rattle.openers.specs.Rows.{rows_in, ImagesBelow, image_at_holds}
 use Rattle.openers.specs.Meaning.{pair_code, pair_codes}
 use Rattle.openers.specs.Codes.{same_code_holds, code_small, member_codes, map_codes}

@@ -4,11 +4,10 @@
 
 #![tactic(auto)]
 
-ghost use Rattle.std.specs.Prelude.{◌≡◌, ◌+◌, ◌*◌, ◌/◌, ◌%◌, ◌≤◌, ◌<◌, length, get_or};
+ghost use Rattle.std.specs.Prelude.{◌≡◌, ◌≤◌, ◌<◌, length};
 ghost use Rattle.definitions.specs.Lists.{Pair};
-ghost use Rattle.definitions.specs.Orbits.{pair_image};
-ghost use Rattle.openers.specs.Rows.{rows_in, row_at};
-ghost use Rattle.openers.specs.Meaning.{pair_code, pair_of, pair_codes};
+ghost use Rattle.openers.specs.Rows.{rows_in};
+ghost use Rattle.openers.specs.Meaning.{pair_of, pair_codes};
 ghost use Rattle.shapes.specs.Ridges.{KnownKeys, no_keys};
 ghost use Rattle.shapes.specs.Kept.{number_ends};
 ghost use Rattle.numbering.specs.Numbering.{Sent, marks_joined, many_joined};
@@ -19,15 +18,6 @@ use openers::Rows;
 
 // ---- ridge orbits
 
-// The code of row i's image of a pair with this code.
-fn image_key(rows: Rows, i: usize, key: usize) -> usize
-    requires { (32 * i + 32 ≤ length rows.bytes.now) × (key < 400) × (get_or rows.bytes.now (32 * i + key / 20) 0 < 20) × (get_or rows.bytes.now (32 * i + key % 20) 0 < 20) }
-    ensures code { result ≡ pair_code (pair_image (pair_of key) (row_at 32 i rows.entry.bytes.now)) }
-    ensures small { result < 400 }
-{
-    openers::code(rows.image(i, key / 20), rows.image(i, key % 20))
-}
-
 // The images of a ridge that have no mark get this number as theirs; returns how many they are. Counted by hand: the loop marks what it counts, and a `filter` would have to mark in its test.
 fn open_ridge(rows: Rows, key: usize, number: u16, marks: &mut [Option<u16>; 400]) -> usize
     requires { (key < 400) × Sent rows.count rows.bytes.now (pair_of key) }
@@ -36,7 +26,7 @@ fn open_ridge(rows: Rows, key: usize, number: u16, marks: &mut [Option<u16>; 400
 {
     let mut count = 0;
     for i in 0..rows.count {
-        let at = image_key(rows, i, key);
+        let at = rows.pair_image(i, key / 20, key % 20);
         if marks[at].is_none() {
             marks[at] = Some(number);
             count += 1;
@@ -64,7 +54,7 @@ impl RidgeOrbits {
     }
 
     // The number of the ridge orbit that holds a ridge; where there is none, one is opened and its count noted.
-    // `Standing` stays a clause: it speaks of the keys, which are an argument of the proof alone, so that no field can hold them.
+    // `Standing` stays a clause: it speaks of the keys, which are an argument of the proof alone, so that no field can hold them. So does that there are 120 rows at most: `Rows` are any number of them.
     pub fn number(&mut self, rows: Rows, key: usize) -> u16
         requires { (rows.count ≤ 120) × (key < 400) × Sent rows.count rows.bytes.now (pair_of key) × ((keys : KnownKeys Pair) × Standing self.old keys × (length (number_ends (rows_in 32 rows.count rows.bytes.now) keys (pair_of key)).1.counts ≤ 190)) }
         ensures { (keys : KnownKeys Pair) → Standing self.old keys → (result ≡ (number_ends (rows_in 32 rows.entry.count rows.entry.bytes.now) keys (pair_of key)).0) × Standing self.new (number_ends (rows_in 32 rows.entry.count rows.entry.bytes.now) keys (pair_of key)).1 }

@@ -1,7 +1,7 @@
 -- Pairs walked with marks: a pair is its code, the walk is the definition's, and no more than 190 pairs are walked. Leans on Laws and Marks.
 use mathlib.Core.Path.{◌≡◌, refl, sym, ap, ◌∙◌}
 use mathlib.Core.Bool.{Bool, true, false, cond, ◌||◌}
-use mathlib.Core.List.{List, [], ◌∷◌, ◌++◌, map, flat_map, append-nil, map-append}
+use mathlib.Core.List.{List, [], ◌∷◌, ◌++◌, map, flat_map, append-nil, append_assoc, map-append}
 use Prim.Native.Nat.{ℕ, zero, suc, ◌+◌, ◌*◌, ◌-◌, ◌≤◌, ◌<◌, min, max}
 use native.Mathlib.Omega.{arith}
 use lib.Dec.{compare_is_eq}
@@ -12,11 +12,11 @@ use Rattle.definitions.specs.Orbits.{Row, image, pair_image, vertex_openers, pai
 use Rattle.laws.specs.Lists.{Mem, here, there, of_map, of_flat_map, at_member, count_length, of_count, flat_map_append, count_more, any_append}
 use Rattle.laws.specs.Parts.{rows, take_more}
 use Rattle.openers.specs.Rows.{rows_in, RowsFit}
-use Rattle.openers.specs.Marks.{marked, marked_more, marked_at_holds, marked_length, passed, walked, marks_after, walked_append, marks_append, walked_fewer, one_passed, one_opened}
+use Rattle.openers.specs.Marks.{marked, marked_more, marked_at_holds, marked_length, passed, walked, marks_after, walked_append, marks_append, walked_fewer}
 use Rattle.openers.specs.Codes.{codes_more, code_small, member_codes, map_codes}
 use Rattle.openers.proofs.Codes.{codes_wide, image_small}
 use Rattle.openers.specs.Meaning.{pair_code, pair_codes, pairs_above}
-use Rattle.openers.proofs.Laws.{same_cond}
+use Rattle.openers.proofs.Laws.{same_cond, item_passed, item_opened}
 
 -- ---- images
 
@@ -182,11 +182,30 @@ module _ (images : Pair → List ℕ) (skip : Pair → Bool) (marks : List Bool)
   unfolding walked marks_after count_from
   up_none v = let e : v + 1 - suc v ≡ 0 = omega arith in (rw e refl, rw e refl)
 
-  pub found_up_holds : (v w : ℕ) → v < w → found_up v (w + 1) ≡ found_up v w ++ walked pair_code images skip (marks_up v w) ((v, w) ∷ [])
+  found_up_holds : (v w : ℕ) → v < w → found_up v (w + 1) ≡ found_up v w ++ walked pair_code images skip (marks_up v w) ((v, w) ∷ [])
   found_up_holds v w h = ap (walked pair_code images skip marks) (up_more v w h) ∙ walked_append pair_code images skip marks (up_to v w) ((v, w) ∷ [])
 
-  pub marks_up_holds : (v w : ℕ) → v < w → marks_up v (w + 1) ≡ marks_after pair_code images skip (marks_up v w) ((v, w) ∷ [])
+  marks_up_holds : (v w : ℕ) → v < w → marks_up v (w + 1) ≡ marks_after pair_code images skip (marks_up v w) ((v, w) ∷ [])
   marks_up_holds v w h = ap (marks_after pair_code images skip marks) (up_more v w h) ∙ marks_append pair_code images skip marks (up_to v w) ((v, w) ∷ [])
+
+  -- what the turn at w leaves
+  module _ (v w : ℕ) (h : v < w) (before : List Pair) {pairs : List Pair} {now : List Bool} (pairs_are : pairs ≡ before ++ found_up v w) (marks_are : now ≡ marks_up v w) where
+    turn : {r : List Pair} {t : List Bool} → (r ≡ pairs ++ walked pair_code images skip now ((v, w) ∷ [])) × (t ≡ marks_after pair_code images skip now ((v, w) ∷ [])) → (r ≡ before ++ found_up v (w + 1)) × (t ≡ marks_up v (w + 1))
+    turn one =
+        (rw (found_up_holds v w h, ← (append_assoc before (found_up v w) (walked pair_code images skip (marks_up v w) ((v, w) ∷ []))), ← pairs_are, ← marks_are) one.0, rw (marks_up_holds v w h, ← marks_are) one.1)
+
+    pub pair_marked : get_or now (20 * v + w) false ≡ true → (pairs ≡ before ++ found_up v (w + 1)) × (now ≡ marks_up v (w + 1))
+    unfolding passed pair_code
+    pair_marked e = turn (item_passed pair_code images skip now (v, w) pairs (rw e refl))
+
+    pub pair_skipped : get_or now (20 * v + w) false ≡ false → skip (v, w) ≡ true → (pairs ≡ before ++ found_up v (w + 1)) × (now ≡ marks_up v (w + 1))
+    unfolding passed pair_code
+    pair_skipped e f = turn (item_passed pair_code images skip now (v, w) pairs (rw (e, f) refl))
+
+    pub pair_opened : get_or now (20 * v + w) false ≡ false → skip (v, w) ≡ false → {r : List Pair} {t : List Bool} → r ≡ pairs ++ ((v, w) ∷ []) → t ≡ marked now (images (v, w))
+        → (r ≡ before ++ found_up v (w + 1)) × (t ≡ marks_up v (w + 1))
+    unfolding passed pair_code
+    pair_opened e f p g = turn (item_opened pair_code images skip now (v, w) pairs (rw (e, f) refl) p g)
 
   pub up_few : (v w : ℕ) → length (found_up v w) ≤ w - suc v
   up_few v w =
@@ -222,31 +241,3 @@ module _ (images : Pair → List ℕ) (skip : Pair → Bool) (marks : List Bool)
 
     pub marks_from_holds : (k : ℕ) → k < length l → marks_from (k + 1) ≡ marks_after pair_code images skip (marks_from k) (pairs_above n (get_or l k 0))
     marks_from_holds k h = ap (marks_after pair_code images skip marks) (next k h) ∙ marks_append pair_code images skip marks (pairs_from n (take k l)) (pairs_above n (get_or l k 0))
-
--- ---- one pair
-
-module _ (rows : List Row) (skip : Pair → Bool) (marks : List Bool) (v w : ℕ) (found : List Pair) where
-  abbrev joined : List Pair
-  joined = found ++ walked pair_code (pair_codes rows) skip marks ((v, w) ∷ [])
-
-  abbrev after : List Bool
-  after = marks_after pair_code (pair_codes rows) skip marks ((v, w) ∷ [])
-
-  passed_by : passed pair_code (pair_codes rows) skip marks (v, w) ≡ true → (found ≡ joined) × (marks ≡ after)
-  passed_by e =
-      let one = one_passed pair_code (pair_codes rows) skip marks (v, w) e in
-      (sym (append-nil found) ∙ ap (λ (l : List Pair). found ++ l) (sym one.0), sym one.1)
-
-  pub pair_marked : get_or marks (20 * v + w) false ≡ true → (found ≡ joined) × (marks ≡ after)
-  unfolding passed pair_code
-  pair_marked e = passed_by (rw e refl)
-
-  pub pair_skipped : get_or marks (20 * v + w) false ≡ false → skip (v, w) ≡ true → (found ≡ joined) × (marks ≡ after)
-  unfolding passed pair_code
-  pair_skipped e f = passed_by (rw (e, f) refl)
-
-  pub pair_opened : get_or marks (20 * v + w) false ≡ false → skip (v, w) ≡ false → (r : List Pair) (t : List Bool) → r ≡ found ++ ((v, w) ∷ []) → t ≡ marked marks (pair_codes rows (v, w)) → (r ≡ joined) × (t ≡ after)
-  unfolding passed pair_code
-  pair_opened e f r t h g =
-      let one = one_opened pair_code (pair_codes rows) skip marks (v, w) (rw (e, f) refl) in
-      (rw one.0 h, g ∙ sym one.1)

@@ -3,20 +3,23 @@
 
 #![tactic(auto)]
 
-ghost use Rattle.std.specs.Prelude.{◌≡◌, ◌∷◌, [], ◌++◌, ◌+◌, ◌*◌, ◌-◌, ◌≤◌, ◌<◌, min, max, length, get_or};
+ghost use Rattle.std.specs.Prelude.{◌≡◌, [], ◌++◌, ◌+◌, ◌*◌, ◌-◌, ◌≤◌, ◌<◌, min, max, length, get_or};
 ghost use Rattle.definitions.specs.Lists.{count_from};
 ghost use Rattle.definitions.specs.Orbits.{vertex_openers, breaks_limit, pair_openers, pairs_from};
 ghost use Rattle.space.specs.Meaning.{points_of, limits_of};
 ghost use Rattle.openers.specs.Rows.{rows_in, RowsFit, ImagesBelow};
 ghost use Rattle.openers.specs.Marks.{marked, walked, marks_after};
-ghost use Rattle.openers.specs.Meaning.{vertex_images, none_skipped, pair_code, pair_codes, breaks, pairs_above};
+ghost use Rattle.openers.specs.Meaning.{pair_code, pair_codes, breaks, pairs_above};
 
 use arrayvec::ArrayVec;
 use space::{Limits, Points};
 
 // ---- rows
 
-// Rows where they lie, one behind another: row i's image of v is byte 32 · i + v.
+// Rows where they lie, one behind another: row i's image of v is byte 32 · i + v. The region of rows is lent whole, 3,840 bytes, and the job says how many rows lie in it: from a slice cut
+// to length the count would be read by a division by 32.
+// No slice of arrays `&[[u8; 32]]`: the public functions that load rows or hand them on take bytes (`load::copy_rows`, `load::Job::load_rows`, `stabilizers::Symmetries::rows_within` and
+// `answering::write_called` a region of any length with room for the rows, those of `job_calls` 3,840), and arrays would ask more of their callers.
 #[derive(Clone, Copy)]
 pub struct Rows<'a> {
     pub bytes: &'a [u8],
@@ -32,30 +35,14 @@ impl<'a> Rows<'a> {
     {
         usize::from(self.bytes[32 * i + v])
     }
-}
 
-// ---- vertices
-
-// The images of v are marked.
-fn mark_images(rows: Rows, v: usize, marks: &mut [bool; 20])
-    requires { (v < 20) × ImagesBelow 20 v rows.count rows.bytes.now }
-    ensures { marks.new ≡ marked marks.old (vertex_images (rows_in 32 rows.entry.count rows.entry.bytes.now) v) }
-{
-    for i in 0..rows.count {
-        let u = rows.image(i, v);
-        marks[u] = true;
-    }
-}
-
-// A vertex that is not marked joins the openers, and its images are marked.
-fn try_vertex(rows: Rows, v: usize, marks: &mut [bool; 20], found: &mut ArrayVec<usize, 20>)
-    requires { (v < 20) × ImagesBelow 20 v rows.count rows.bytes.now × (length found.old.items < 20) }
-    ensures joins { found.new.items ≡ found.old.items ++ walked (λ u. u) (vertex_images (rows_in 32 rows.entry.count rows.entry.bytes.now)) none_skipped marks.old (v ∷ []) }
-    ensures marks { marks.new ≡ marks_after (λ u. u) (vertex_images (rows_in 32 rows.entry.count rows.entry.bytes.now)) none_skipped marks.old (v ∷ []) }
-{
-    if !marks[v] {
-        mark_images(rows, v, marks);
-        found.push(v);
+    // The code of row i's image of the pair (v, w), smaller first.
+    pub fn pair_image(self, i: usize, v: usize, w: usize) -> usize
+        requires { (32 * i + v < length self.bytes.now) × (32 * i + w < length self.bytes.now) × (get_or self.bytes.now (32 * i + v) 0 < 20) × (get_or self.bytes.now (32 * i + w) 0 < 20) }
+        ensures code { result ≡ 20 * min (get_or self.entry.bytes.now (32 * i + v) 0) (get_or self.entry.bytes.now (32 * i + w) 0) + max (get_or self.entry.bytes.now (32 * i + v) 0) (get_or self.entry.bytes.now (32 * i + w) 0) }
+        ensures small { result < 400 }
+    {
+        code(self.image(i, v), self.image(i, w))
     }
 }
 
@@ -69,13 +56,13 @@ pub fn code(a: usize, b: usize) -> usize
     if a < b { 20 * a + b } else { 20 * b + a }
 }
 
-// The images of the pair (v, w), smaller first, are marked.
+// The images of the pair (v, w), smaller first, are marked. A vertex is marked as the pair of it with itself. `ImagesBelow` stays a clause: it speaks of one vertex, another parameter.
 pub fn mark_pair_images(rows: Rows, v: usize, w: usize, marks: &mut [bool; 400])
     requires { (v < 32) × (w < 32) × ImagesBelow 20 v rows.count rows.bytes.now × ImagesBelow 20 w rows.count rows.bytes.now }
     ensures { marks.new ≡ marked marks.old (pair_codes (rows_in 32 rows.entry.count rows.entry.bytes.now) (v, w)) }
 {
     for i in 0..rows.count {
-        let at = code(rows.image(i, v), rows.image(i, w));
+        let at = rows.pair_image(i, v, w);
         marks[at] = true;
     }
 }
@@ -93,14 +80,17 @@ pub struct PairSearch<'a> {
 }
 
 impl<'a> PairSearch<'a> {
-    // [5.2] the vertices that open an orbit, upward; what the rows carry one to is marked
+    // [5.2] the vertices that open an orbit, upward; what the rows carry one to is marked. Marks are those of pairs, a vertex v being the pair (v, v).
     fn vertex_openers(self) -> ArrayVec<usize, 20>
         ensures { result.items ≡ vertex_openers (rows_in self.entry.points.now.n self.entry.rows.count self.entry.rows.bytes.now) [] (count_from 0 self.entry.points.now.n) }
     {
-        let mut marks = [false; 20];
+        let mut marks = [false; 400];
         let mut found = ArrayVec::new();
         for v in 0..self.points.n {
-            try_vertex(self.rows, v, &mut marks, &mut found);
+            if !marks[20 * v + v] {
+                mark_pair_images(self.rows, v, v, &mut marks);
+                found.push(v);
+            }
         }
         found
     }
@@ -113,36 +103,17 @@ impl<'a> PairSearch<'a> {
         self.points.breaks_limit(v, w, self.limits, self.tolerance)
     }
 
-    // A pair that is marked or whose length breaks a limit opens nothing and marks nothing; any other opens an orbit and joins the pairs.
-    fn try_pair(
-        self,
-        v: usize,
-        w: usize,
-        marks: &mut [bool; 400],
-        pairs: &mut ArrayVec<(u8, u8), 190>,
-    )
-        requires { (v < self.points.now.n) × (w < self.points.now.n) × (length pairs.old.items < 190) }
-        ensures joins { pairs.new.items ≡ pairs.old.items ++ walked pair_code (pair_codes (rows_in 32 self.entry.rows.count self.entry.rows.bytes.now)) (breaks self.entry.tolerance (limits_of self.entry.limits) (points_of self.entry.points.now)) marks.old ((v, w) ∷ []) }
-        ensures marks { marks.new ≡ marks_after pair_code (pair_codes (rows_in 32 self.entry.rows.count self.entry.rows.bytes.now)) (breaks self.entry.tolerance (limits_of self.entry.limits) (points_of self.entry.points.now)) marks.old ((v, w) ∷ []) }
-    {
-        if marks[20 * v + w] {
-            return;
-        }
-        if self.breaks_limit(v, w) {
-            return;
-        }
-        mark_pair_images(self.rows, v, w, marks);
-        pairs.push((v as u8, w as u8));
-    }
-
-    // The pairs (v, w) for each w > v, in order.
+    // The pairs (v, w) for each w > v, in order: one that is marked or whose length breaks a limit opens nothing and marks nothing; any other opens an orbit and joins the pairs.
     fn pairs_above(self, v: usize, marks: &mut [bool; 400], pairs: &mut ArrayVec<(u8, u8), 190>)
         requires { (v < self.points.now.n) × (length pairs.old.items + (self.points.now.n - (v + 1)) ≤ 190) }
         ensures joins { pairs.new.items ≡ pairs.old.items ++ walked pair_code (pair_codes (rows_in 32 self.entry.rows.count self.entry.rows.bytes.now)) (breaks self.entry.tolerance (limits_of self.entry.limits) (points_of self.entry.points.now)) marks.old (pairs_above self.entry.points.now.n v) }
         ensures marks { marks.new ≡ marks_after pair_code (pair_codes (rows_in 32 self.entry.rows.count self.entry.rows.bytes.now)) (breaks self.entry.tolerance (limits_of self.entry.limits) (points_of self.entry.points.now)) marks.old (pairs_above self.entry.points.now.n v) }
     {
         for w in v + 1..self.points.n {
-            self.try_pair(v, w, marks, pairs);
+            if !marks[20 * v + w] && !self.breaks_limit(v, w) {
+                mark_pair_images(self.rows, v, w, marks);
+                pairs.push((v as u8, w as u8));
+            }
         }
     }
 

@@ -1,6 +1,6 @@
-use mathlib.Core.Path.{◌≡◌, ap}
+use mathlib.Core.Path.{◌≡◌, sym, ap, ◌∙◌}
 use mathlib.Core.Bool.{not}
-use Rattle.numbering.proofs.Images.{sent_below, opening_start, opening_joins, opening_stays}
+use Rattle.numbering.proofs.Images.{key_is, sent_below, opening_start, opening_joins, opening_stays}
 use native.Mathlib.Omega.{arith}
 use Rattle.numbering.proofs.open_ridge.Goals as goal
 use Rattle.numbering.proofs.open_ridge.Goals.{then-is_none, else-is_none}
@@ -8,14 +8,17 @@ use Rattle.numbering.proofs.open_ridge.Goals.{then-is_none, else-is_none}
 pub loop-i-init : goal.loop-i-init
 loop-i-init c = opening_start _ _ _ _ _
 
-pub image_key-at-requires : goal.image_key-at-requires
-image_key-at-requires c = let l = c.loop-i in let b = sent_below c.args.key c.requires.1 l.i c.loop-i-test.true in (omega arith, c.requires.0, b.0, b.1)
+pub pair_image-at-requires : goal.pair_image-at-requires
+pair_image-at-requires c = let l = c.loop-i in let b = sent_below c.args.key c.requires.1 l.i c.loop-i-test.true in (omega arith, omega arith, b.0, b.1)
 
 pub loop-i-preserved : goal.loop-i-preserved
-loop-i-preserved c = let l = c.loop-i in elim c.if-is_none.branch [
-  | then-is_none w ↦ rw (w.marks-is, w.count-is) (opening_joins l.invariant c.loop-i-test.true c.requires.0 _ c.image_key-at.ensures.code (ap not (rw w.if-is_none.true at c.is_none.ensures)))
-  | else-is_none w ↦ rw (w.marks-is, w.count-is) (opening_stays l.invariant c.loop-i-test.true c.requires.0 _ c.image_key-at.ensures.code (ap not (rw w.if-is_none.false at c.is_none.ensures)))
-]
+loop-i-preserved c =
+    let l = c.loop-i in
+    let code = c.pair_image-at.ensures.code ∙ sym (key_is l.i c.args.key c.args.rows.bytes.now c.requires.0) in
+    elim c.if-is_none.branch [
+      | then-is_none w ↦ rw (w.marks-is, w.count-is) (opening_joins l.invariant c.loop-i-test.true c.requires.0 _ code (ap not (rw w.if-is_none.true at c.is_none.ensures)))
+      | else-is_none w ↦ rw (w.marks-is, w.count-is) (opening_stays l.invariant c.loop-i-test.true c.requires.0 _ code (ap not (rw w.if-is_none.false at c.is_none.ensures)))
+    ]
 
 pub returns : goal.returns
 returns c =

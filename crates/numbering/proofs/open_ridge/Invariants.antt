@@ -1,4 +1,4 @@
--- `open_ridge` meets its contract. The loop's invariant: the images under the first i rows have joined. The measure is what is left of the rows.
+-- `open_ridge` meets its contract. The loop's invariant: the images under the first i rows have joined.
 use Rattle.numbering.proofs.Images.{Opening}
 use Rattle.numbering.proofs.open_ridge.Given as goal
 

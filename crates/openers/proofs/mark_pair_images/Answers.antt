@@ -11,5 +11,5 @@ pub loop-i-preserved : goal.loop-i-preserved
 loop-i-preserved c = let l = c.loop-i in (
   omega arith,
   length-set l.marks _ _ ∙ l.invariant.1,
-  rw l.invariant.2 (codes_next l.i c.args.v c.args.w _ c.args.rows.bytes.now c.args.marks.now c.requires.0 c.requires.1 (rw (← c.image.ensures, ← c.image-in-loop-i.ensures) c.code-at.ensures)),
+  rw l.invariant.2 (codes_next l.i c.args.v c.args.w _ c.args.rows.bytes.now c.args.marks.now c.requires.0 c.requires.1 c.pair_image-at.ensures.code),
 )
