@@ -74,6 +74,12 @@ marked_append marks (x ∷ xs) ys = marked_append (set marks x true) xs ys
 pub marked_flat : {A : Type 0} (f : A → List ℕ) (marks : List Bool) (l : List A) (i : ℕ) (z : A) → i < length l → marked (marked marks (flat_map f (take i l))) (f (get_or l i z)) ≡ marked marks (flat_map f (take (i + 1) l))
 marked_flat f marks l i z h = marked_append marks (flat_map f (take i l)) (f (get_or l i z)) ∙ ap (marked marks) (flat_more f l i z h)
 
+-- the first of what is left: its images are marked, and the others are left
+pub marked_first : {A : Type 0} (f : A → List ℕ) (marks : List Bool) (x : A) (xs : List A) {new : List Bool} {left : List A} → new ≡ marked marks (f x) → left ≡ x ∷ xs
+    → marked new (flat_map f xs) ≡ marked marks (flat_map f left)
+unfolding flat_map
+marked_first {A} f marks x xs e s = ap (λ (m : List Bool). marked m (flat_map f xs)) e ∙ (marked_append marks (f x) (flat_map f xs) ∙ ap (λ (l : List A). marked marks (flat_map f l)) (sym s))
+
 pub marked_none : {A : Type 0} (f : A → List ℕ) (marks : List Bool) → marks ≡ marked marks (flat_map f [])
 unfolding flat_map marked
 marked_none f marks = refl

@@ -22,7 +22,8 @@ use words::Writer;
 
 // ---- edges as marks
 
-// The edges of facets, a list of codes for each, and the rows that carry them.
+// The edges of facets, a list of codes for each, and the rows that carry them. A code is packed, since the lists lie in bytes of the workspace that a caller lends (no heap), and taken apart
+// where it is used.
 #[derive(Clone, Copy)]
 pub struct Facets<'a> {
     pub edges: Pool<'a>,
@@ -36,26 +37,26 @@ pub fn mark_facet(facets: Facets, x: usize, marks: &mut [bool; 400])
     requires { x < count facets.edges.bytes.now }
     ensures { marks.new ≡ marked marks.old (image_codes (rows_in 32 facets.entry.rows.count facets.entry.rows.bytes.now) (list_at 1024 facets.entry.edges.bytes.now x)) }
 {
-    for i in 0..facets.edges.length(x) {
-        let code = facets.edges.item(x, i) as usize;
+    for edge in facets.edges.items(x) {
+        let code = usize::from(edge);
         openers::mark_pair_images(facets.rows, code / 20, code % 20, marks);
     }
 }
 
-// All row images of the edges of the facets of list k.
+// All row images of the edges of the facets of list k. `ItemsBelow` stays a clause: it speaks of that one list, and k is another parameter.
 pub fn mark_list(lists: Lists, k: usize, facets: Facets) -> [bool; 400]
     requires { (k < lists.area.count) × ItemsBelow (count facets.edges.bytes.now) (list_of lists.area lists.bytes.now k) }
     ensures { result ≡ marks_of (rows_in 32 facets.entry.rows.count facets.entry.rows.bytes.now) (closed_lists 2 1024 facets.entry.edges.bytes.now) (list_of lists.entry.area lists.entry.bytes.now k) }
 {
     let mut marks = [false; 400];
-    for i in 0..lists.length(k) {
-        mark_facet(facets, lists.item(k, i) as usize, &mut marks);
+    for x in lists.items(k) {
+        mark_facet(facets, usize::from(x), &mut marks);
     }
     marks
 }
 
-// How many edges are marked. A sum, which the compiler makes additions: `filter(..).count()` branches at each of the 400 marks. Measured with this and `write_marks` in their old forms (a chain
-// here, `iter().enumerate()` there) the hexagon takes 1.29 times as long as before those, and 1.03 times as they stand.
+// How many edges are marked. A sum, which the compiler makes additions: `filter(..).count()` branches at each of the 400 marks. With this and `write_marks` in their old forms (a chain
+// here, `iter().enumerate()` there) a hexagon's job took 1.25 times as long as it does (docs/MEASUREMENTS.md, "Forms that were slower").
 pub fn count_marks(marks: &[bool; 400]) -> usize
     ensures { (result ≡ length (codes_marked marks.now 400)) × (result ≤ 400) }
 {

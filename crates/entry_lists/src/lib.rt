@@ -66,15 +66,14 @@ impl<'a> FacetNames<'a> {
         w.push((x - self.firsts[orbit]) as u32);
     }
 
-    // List k of a pool: its length, and its facets.
+    // List k of a pool: its length, and its facets. `ItemsBelow` stays a clause: it speaks of that one list, and k is another parameter.
     pub fn write_list(self, w: &mut Writer, lists: Pool, k: usize)
         requires { (k < count lists.bytes.now) × ItemsBelow self.owners.facets (list_at lists.most lists.bytes.now k) }
         ensures { Writes w.old w.new (list_words (words 2 self.entry.owners.bytes.now self.entry.owners.facets) (list_at lists.entry.most lists.entry.bytes.now k)) }
     {
-        let n = lists.length(k);
-        w.push(n as u32);
-        for i in 0..n {
-            self.write_item(w, lists.item(k, i) as usize);
+        w.push(lists.length(k) as u32);
+        for x in lists.items(k) {
+            self.write_item(w, usize::from(x));
         }
     }
 }

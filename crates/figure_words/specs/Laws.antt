@@ -31,13 +31,16 @@ unfolding flat_map
 flat_more f l i z h =
     sym (ap (flat_map f) (take_more l i z h) ∙ (flat_map_append f (take i l) (get_or l i z ∷ []) ∙ ap (λ r. flat_map f (take i l) ++ r) (append-nil (f (get_or l i z)))))
 
--- the edges with these codes, one more
-pub edges_more : (codes : List ℕ) (i : ℕ) → i < length codes → edge_words (map pair_of (take i codes)) ++ edge_words (pair_of (get_or codes i 0) ∷ []) ≡ edge_words (map pair_of (take (i + 1) codes))
+-- the edges with these codes, and with more
+pub edges_append : (codes others : List ℕ) → edge_words (map pair_of (codes ++ others)) ≡ edge_words (map pair_of codes) ++ edge_words (map pair_of others)
 unfolding edge_words
-edges_more codes i h =
+edges_append codes others =
     let words : Pair → List ℕ = λ e. 2 ∷ e.0 ∷ e.1 ∷ [] in
-    sym (ap (λ (l : List ℕ). flat_map words (map pair_of l)) (take_more codes i 0 h)
-    ∙ (ap (flat_map words) (map-append pair_of (take i codes) (get_or codes i 0 ∷ [])) ∙ flat_map_append words (map pair_of (take i codes)) (pair_of (get_or codes i 0) ∷ [])))
+    ap (flat_map words) (map-append pair_of codes others) ∙ flat_map_append words (map pair_of codes) (map pair_of others)
+
+-- one more
+pub edges_more : (codes : List ℕ) (i : ℕ) → i < length codes → edge_words (map pair_of (take i codes)) ++ edge_words (pair_of (get_or codes i 0) ∷ []) ≡ edge_words (map pair_of (take (i + 1) codes))
+edges_more codes i h = sym (ap (λ (l : List ℕ). edge_words (map pair_of l)) (take_more codes i 0 h) ∙ edges_append (take i codes) (get_or codes i 0 ∷ []))
 
 pub edges_none : edge_words [] ≡ []
 unfolding edge_words flat_map

@@ -38,7 +38,7 @@ pub fn write_head(w: &mut Writer, ranks: u32, n: usize)
     write_points(w, n);
 }
 
-// The ends of the edge with a code.
+// The ends of the edge with a code, 20 v + w: packed, since the lists of codes lie in bytes of the workspace that a caller lends (no heap), and taken apart here, where it is used.
 pub fn write_edge(w: &mut Writer, code: usize)
     requires { code < 65536 }
     ensures { Writes w.old w.new (edge_words (pair_of code ∷ [])) }
@@ -51,8 +51,8 @@ fn write_edges(w: &mut Writer, pool: Pool, k: usize)
     requires { k < count pool.bytes.now }
     ensures { Writes w.old w.new (edge_words (map pair_of (list_at pool.entry.most pool.entry.bytes.now k))) }
 {
-    for i in 0..pool.length(k) {
-        write_edge(w, pool.item(k, i) as usize);
+    for edge in pool.items(k) {
+        write_edge(w, usize::from(edge));
     }
 }
 

@@ -53,6 +53,21 @@ images_more rows inner marks l i x h e =
     ap (λ (m : List Pair). marked marks (map pair_code m)) more
     ∙ (ap (marked marks) (map-append pair_code (flat_map send (take i l)) (send x)) ∙ marked_append marks (map pair_code (flat_map send (take i l))) (map pair_code (send x)))
 
+-- the first of the facets that are left: its images are marked, and the others are left
+pub images_first : (rows : List Row) (inner : List Kept) (marks : List Bool) (x : ℕ) (xs : List ℕ) {new : List Bool} {l : List ℕ} → new ≡ marked marks (map pair_code (map (pair_image (edge_at inner x)) rows)) → l ≡ x ∷ xs
+    → marked new (map pair_code (images_of rows inner xs)) ≡ marked marks (map pair_code (images_of rows inner l))
+unfolding images_of flat_map
+images_first rows inner marks x xs e s =
+    let send : ℕ → List Pair = λ (y : ℕ). map (pair_image (edge_at inner y)) rows in
+    ap (λ (m : List Bool). marked m (map pair_code (flat_map send xs))) e
+    ∙ (sym (marked_append marks (map pair_code (send x)) (map pair_code (flat_map send xs)))
+    ∙ (ap (marked marks) (sym (map-append pair_code (send x) (flat_map send xs))) ∙ ap (λ (l : List ℕ). marked marks (map pair_code (flat_map send l))) (sym s)))
+
+-- none is left
+pub images_end : (rows : List Row) (inner : List Kept) (marks : List Bool) {l : List ℕ} → l ≡ [] → marks ≡ marked marks (map pair_code (images_of rows inner l))
+unfolding images_of marked flat_map
+images_end rows inner marks e = ap (λ (l : List ℕ). marked marks (map pair_code (images_of rows inner l))) (sym e)
+
 -- ---- codes moved to a call's vertices
 
 -- the code of a pair of positions, as the vertices at them

@@ -37,12 +37,13 @@ pub fn entries(s: &[u8], level: Level) -> order::Lists
     }
 }
 
-// The first edge of facet x, as its code. `ShelfFits` stays a clause: elsewhere it is asked of a workspace that is written, and no other function of this crate asks it.
+// The first edge of facet x, as its code 20 v + w: packed, since the lists lie in bytes of the workspace that a caller lends (no heap), and taken apart where it is used.
+// `ShelfFits` stays a clause: elsewhere it is asked of a workspace that is written, and no other function of this crate asks it.
 pub fn edge_at(s: &[u8], shelf: Shelf, x: usize) -> usize
     requires { ShelfFits shelf (length s.now) × ((lists : List (List ℕ)) × Lists 2 1024 (edges_part shelf s.now) lists × (x < length lists) × (0 < length (get_or lists x []))) }
     ensures { (lists : List (List ℕ)) → Lists 2 1024 (edges_part shelf s.now) lists → x < length lists → 0 < length (get_or lists x []) → result ≡ get_or (get_or lists x []) 0 0 }
 {
-    pool::item::<u16>(&s[shelf.edges..shelf.labels], 1024, x, 0) as usize
+    usize::from(pool::item::<u16>(&s[shelf.edges..shelf.labels], 1024, x, 0))
 }
 
 // ---- a facet's edges
@@ -61,9 +62,8 @@ pub fn mark_entry(s: &[u8], level: Level, k: usize, rows: Rows, marks: &mut [boo
     requires { (n : ℕ) × (inner : List Kept) × EdgesLeft n rows.count inner level rows.bytes.now s.now × (k < level.count) }
     ensures { (n : ℕ) (inner : List Kept) → EdgesLeft n rows.entry.count inner level rows.entry.bytes.now s.now → marks.new ≡ marked marks.old (map pair_code (images_of (rows_in n rows.entry.count rows.entry.bytes.now) inner (get_or (lists_left level s.now) k []))) }
 {
-    let lists = entries(s, level);
-    for i in 0..lists.length(k) {
-        mark_facet(s, level, lists.item(k, i) as usize, rows, marks);
+    for x in entries(s, level).items(k) {
+        mark_facet(s, level, usize::from(x), rows, marks);
     }
 }
 

@@ -7,4 +7,4 @@ pub item-requires : goal.item-requires
 item-requires c = item_room c.requires.1.1 c.args.x 0 c.requires.1.2 c.requires.1.3
 
 pub returns : goal.returns
-returns c = λ lists h few some. c.item.ensures ∙ sym (holds_item h c.args.x 0 few some)
+returns c = λ lists h few some. c.from.ensures ∙ (c.item.ensures ∙ sym (holds_item h c.args.x 0 few some))
