@@ -46,7 +46,7 @@ impl<'a> Candidates<'a> {
             None => i,
             Some(ridge) => {
                 let ones = self.areas.ones(self.ws);
-                pool::item::<u16>(ones, self.areas.ridges, ridge, i) as usize
+                usize::from(pool::item::<u16>(ones, self.areas.ridges, ridge, i))
             }
         }
     }
@@ -57,7 +57,7 @@ impl<'a> Candidates<'a> {
         ensures { (t : Table) → Inputs t self.entry.areas self.entry.ws.now → result ≡ (get_or (candidatesOf t self.entry.kind) i (0, 0)).0 }
     {
         let x = self.facet(i);
-        u16::get(self.ws, 2 * x) as usize
+        usize::from(u16::get(self.ws, 2 * x))
     }
 
     // The first place whose facet has an orbit above the mark. Candidates ascend by orbit.
@@ -73,11 +73,8 @@ impl<'a> Candidates<'a> {
         requires { (t : Table) × Inputs t self.areas self.ws.now × (place ≤ length (numbers t self.kind)) × (list : List Facet) × Uses self.areas list (used_part self.areas self.ws.now) }
         ensures { (t : Table) (list : List Facet) → Inputs t self.entry.areas self.entry.ws.now → Uses self.entry.areas list (used_part self.entry.areas self.entry.ws.now) → result ≡ last_free t list self.entry.kind low place }
     {
-        for i in (low..place).rev() {
-            if self.ws[self.areas.used + self.orbit(i)] == 0 {
-                return Some(i);
-            }
-        }
-        None
+        (low..place)
+            .rev()
+            .find(|i| self.ws[self.areas.used + self.orbit(*i)] == 0)
     }
 }

@@ -24,7 +24,8 @@ pub fn withdraw(ws: &mut [u8], a: Areas, depth: usize)
 }
 
 // The mark of the list: at an open list the mark stays, at a closed one it moves to the orbit of the facet that joins.
-// The workspace and the areas are two parameters: the workspace is written right after, and a struct that lends it would be made for this call alone.
+// The workspace and the areas are two parameters: the workspace is written right after, so that the loan of a struct of both would end with this call.
+// `Candidates`, which is made for one call too, adds to them the kind, which its five methods share.
 fn mark_after(ws: &[u8], a: Areas, depth: usize) -> u16
     requires { (t : Table) × PathStands t a ws.now depth depth × (0 < depth) }
     ensures { (t : Table) → PathStands t a ws.now depth depth → result ≡ mark_after t (frames_part a ws.now) (depth - 1) }

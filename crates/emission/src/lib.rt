@@ -13,7 +13,7 @@ ghost use Rattle.pool.specs.Pool.{count, ended};
 
 use facets::Areas;
 
-// The list joins the emitted ones.
+// The list joins the emitted ones. Its frames are gone through by their numbers: an iterator of them would hold the workspace, which each turn writes.
 // That the path stands is a clause, and below what the workspace holds: both speak of some table, and a ghost field cannot say which; and the bytes are written.
 pub fn emit(ws: &mut [u8], a: Areas, depth: usize)
     requires { (t : Table) × PathStands t a ws.old depth depth × Emitted a (lists_part a ws.old) × (count (lists_part a ws.old) < a.bound) }

@@ -33,7 +33,7 @@ pub struct Areas {
     pub end: usize,
 }
 
-// The areas that are read. An area that is written is a range of the workspace where it is written: for a slice cut out of a `&mut` slice no clause is proved that says what the whole ends as.
+// The areas that are read. An area that is written is a range of the workspace where it is written: of a method that hands out a part of a `&mut` slice the check proves no clause.
 // What writes takes the workspace and the areas side by side, here and in the crates of the search: of a struct that held both and is lent to be written, each contract would have to say
 // besides that the areas and the loan are as they were.
 // That the areas fit is a clause of each, as it is of what reads beside them in the crates of the search: a struct of the workspace, the areas and that fact would be made anew for each call,

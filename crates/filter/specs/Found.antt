@@ -215,13 +215,13 @@ module _ (area : Area) (at : ℕ) (ws₀ : List ℕ) (ok : Holding area ws₀) (
         begun_search (lists_of area ws₀) up a start r b (omega arith) (rw g.same at e)
 
     -- what `finds_other` is asked
-    pub asked : (notes : List ℕ) → 4 * area.count ≤ length notes → Noted (lists_of area ws₀) area.count notes
-        → AllAscending (lists_of area ws) × (a < area.count) × Begun (lists_of area ws) a r × (4 * area.count ≤ length notes) × Noted (lists_of area ws) area.count notes
-    asked notes room n = (
+    pub asked : (notes : List ℕ) → area.count ≤ 1024 → Noted (lists_of area ws₀) area.count notes
+        → AllAscending (lists_of area ws) × (a < area.count) × Begun (lists_of area ws) a r × (area.count ≤ 1024) × Noted (lists_of area ws) area.count notes
+    asked notes few n = (
       subst AllAscending (sym g.same) up,
       h,
       subst (λ (ls : List (List ℕ)). Begun ls a r) (sym g.same) begun,
-      room,
+      few,
       subst (λ (ls : List (List ℕ)). Noted ls area.count notes) (sym g.same) n,
     )
 

@@ -1,19 +1,17 @@
--- What each list has in common with the one before it, noted in bytes, and what follows for the walks: a list that begins as the one before it does, up to and with the first item of that
+-- What each list has in common with the one before it, noted at its place, and what follows for the walks: a list that begins as the one before it does, up to and with the first item of that
 -- one that is not found, is not found either. Leans on how far a walk comes.
 use Rattle.std.specs.Prelude.{◌≡◌, Option, Some, None, Bool, ◌&&◌, List, [], ◌∷◌, leb, get_or, drop}
 use Rattle.std.proofs.Math.Path.{refl, sym}
-use Rattle.std.proofs.Common.{ap, ◌∙◌, inl, ⊎_elim, add-one, drop_of_length-le, drop-cons}
+use Rattle.std.proofs.Common.{◌∙◌, ⊎_elim, add-one, drop_of_length-le, drop-cons, length-set, get_or-set_same, get_or-set_other}
 use Rattle.std.proofs.Math.Bool.{true, false, not}
 use Prim.Native.Nat.{ℕ, ◌+◌, ◌-◌, ◌*◌, ◌≤◌, ◌<◌, compare}
 use native.Mathlib.Omega.{arith}
 use borrow.Author.Tests.{eq-eqb, ne_eqb, le-leb}
-use Rattle.std.proofs.Math.ListN.{length, get_or-eq_default}
+use Rattle.std.proofs.Math.ListN.{length, set, get_or-eq_default}
 use Rattle.definitions.specs.Figures.{walk, first_above}
 use Rattle.definitions.specs.Plain.{is_found, finds}
-use Rattle.definitions.specs.Job.{number_at}
 use Rattle.laws.specs.Orders.{nats, lt_compare}
 use Rattle.laws.specs.Segments.{le_or_lt}
-use Rattle.words.specs.Words.{put, put_length, number_at_put, number_at_put_off}
 use Rattle.order.specs.declared.Area.{Area}
 use Rattle.order.specs.Areas.{Holding, list_of, place_short}
 use Rattle.order.specs.Comparing.{above_compare}
@@ -71,41 +69,40 @@ module _ (b c : List ℕ) (i : ℕ) (so_far : i + shared (drop i b) (drop i c) �
 
 -- of the first so many lists each but the first has its note
 pub record Noted (lists : List (List ℕ)) (many : ℕ) (notes : List ℕ) : Type 0 where
-  pub each : (k : ℕ) → k + 1 < many → number_at notes (4 * (k + 1)) 4 ≡ shared (get_or lists k []) (get_or lists (k + 1) [])
+  pub each : (k : ℕ) → k + 1 < many → get_or notes (k + 1) 0 ≡ shared (get_or lists k []) (get_or lists (k + 1) [])
 
--- a note has room in four bytes
+-- what two lists that follow one another have in common is less than 2 ^ 32
 pub note_fits : (area : Area) (s : List ℕ) → Holding area s → (k : ℕ) → k + 1 < area.count → (v : ℕ) → v ≡ shared (list_of area s k) (list_of area s (k + 1)) → v < 4294967296
 note_fits area s ok k h v e =
     omega (arith, e, shared_few (list_of area s k) (list_of area s (k + 1)), place_short area.most area.bytes area.count s (k + 1) h ok)
 
 -- a note is that of the lists before and at a place
-pub note_at : (lists : List (List ℕ)) (many : ℕ) (notes : List ℕ) → Noted lists many notes → (b : ℕ) → 0 < b → b < many → number_at notes (4 * b) 4 ≡ shared (get_or lists (b - 1) []) (get_or lists b [])
+pub note_at : (lists : List (List ℕ)) (many : ℕ) (notes : List ℕ) → Noted lists many notes → (b : ℕ) → 0 < b → b < many → get_or notes b 0 ≡ shared (get_or lists (b - 1) []) (get_or lists b [])
 note_at lists many notes n b h l = let e : b - 1 + 1 ≡ b = omega arith in rw e at (n.each (b - 1) (omega arith))
 
--- before place k: so far the notes are taken, in as many bytes as there were
-pub record Noting (lists : List (List ℕ)) (many bytes : ℕ) (notes : List ℕ) (k : ℕ) : Type 0 where
+-- before place k: so far the notes are taken, at as many places as there were
+pub record Noting (lists : List (List ℕ)) (many places : ℕ) (notes : List ℕ) (k : ℕ) : Type 0 where
   pub from : 1 ≤ k
-  pub long : length notes ≡ bytes
+  pub long : length notes ≡ places
   pub noted : Noted lists k notes
 
 pub noting_starts : (lists : List (List ℕ)) (many : ℕ) (notes : List ℕ) → Noting lists many (length notes) notes 1
 noting_starts lists many notes = record { from = omega arith; long = refl; noted = record { each = λ k h. absurd (omega arith) } }
 
-pub noting_more : (lists : List (List ℕ)) (many bytes : ℕ) (notes : List ℕ) (k v : ℕ) (t : List ℕ) → Noting lists many bytes notes k → 4 * k + 4 ≤ bytes → v ≡ shared (get_or lists (k - 1) []) (get_or lists (k - 1 + 1) []) → v < 4294967296
-    → t ≡ put 4 notes (4 * k) v → Noting lists many bytes t (k + 1)
-noting_more lists many bytes notes k v t n room is small e =
-    record { from = omega arith; long = ap length e ∙ (put_length 4 notes (4 * k) v ∙ n.long); noted = record { each = λ i h. ⊎_elim (λ l. last i (omega (arith, n.from))) (λ l. before i l) (le_or_lt k (i + 1)) } }
+pub noting_more : (lists : List (List ℕ)) (many places : ℕ) (notes : List ℕ) (k v : ℕ) → Noting lists many places notes k → k < places → v ≡ shared (get_or lists (k - 1) []) (get_or lists (k - 1 + 1) []) → Noting lists many places (set notes k v) (k + 1)
+noting_more lists many places notes k v n room is =
+    record { from = omega arith; long = length-set notes k v ∙ n.long; noted = record { each = λ i h. ⊎_elim (λ l. last i (omega (arith, n.from))) (λ l. before i l) (le_or_lt k (i + 1)) } }
   where
-    last : (i : ℕ) → i + 1 ≡ k → number_at t (4 * (i + 1)) 4 ≡ shared (get_or lists i []) (get_or lists (i + 1) [])
+    last : (i : ℕ) → i + 1 ≡ k → get_or (set notes k v) (i + 1) 0 ≡ shared (get_or lists i []) (get_or lists (i + 1) [])
     last i same =
         let p : k - 1 ≡ i = omega arith in
-        rw (same, e) (number_at_put 4 notes (4 * k) v (omega (arith, n.long)) small ∙ rw (p, same) at is)
+        rw same (get_or-set_same notes k v 0 (omega (arith, n.long)) ∙ rw (p, same) at is)
 
-    before : (i : ℕ) → i + 1 < k → number_at t (4 * (i + 1)) 4 ≡ shared (get_or lists i []) (get_or lists (i + 1) [])
-    before i l = rw e (number_at_put_off 4 notes (4 * k) v (4 * (i + 1)) 4 (inl (omega arith)) ∙ n.noted.each i l)
+    before : (i : ℕ) → i + 1 < k → get_or (set notes k v) (i + 1) 0 ≡ shared (get_or lists i []) (get_or lists (i + 1) [])
+    before i l = get_or-set_other notes k (i + 1) v 0 (λ q. let z : i + 1 ≡ k = q in omega arith) ∙ n.noted.each i l
 
-pub noting_ends : (lists : List (List ℕ)) (many bytes : ℕ) (notes : List ℕ) (k : ℕ) → Noting lists many bytes notes k → many ≤ k → Noted lists many notes
-noting_ends lists many bytes notes k n h = record { each = λ i l. n.noted.each i (omega arith) }
+pub noting_ends : (lists : List (List ℕ)) (many places : ℕ) (notes : List ℕ) (k : ℕ) → Noting lists many places notes k → many ≤ k → Noted lists many notes
+noting_ends lists many places notes k n h = record { each = λ i l. n.noted.each i (omega arith) }
 
 -- ---- the walks
 

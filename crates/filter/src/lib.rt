@@ -3,8 +3,8 @@
 #![tactic(auto)]
 
 ghost use Rattle.std.specs.Prelude.{◌≡◌, length};
-ghost use Prim.Native.Nat.{◌+◌, ◌-◌, ◌*◌, ◌≤◌, ◌<◌, compare};
-ghost use Rattle.std.proofs.lemmas.List.Edits.{sets};
+ghost use Prim.Native.Nat.{◌+◌, ◌≤◌, ◌<◌, compare};
+ghost use lib.Seq.{sets};
 ghost use Rattle.definitions.specs.Plain.{finds_other, filter_irc};
 ghost use Rattle.words.specs.Runs.{run};
 ghost use Rattle.order.specs.Areas.{lists_of, list_of};
@@ -28,21 +28,18 @@ fn shared_items(lists: Lists, k: usize) -> usize
 {
     let m = lists.length(k);
     let n = lists.length(k + 1);
-    for i in 0..m {
-        if lists.item(k, i) as u32 != labels::next_at(lists, k + 1, n, i) {
-            return i;
-        }
-    }
-    m
+    (0..m)
+        .find(|i| u32::from(lists.item(k, *i)) != labels::next_at(lists, k + 1, n, *i))
+        .unwrap_or(m)
 }
 
-// For each list but the first what it has in common with the one before it, as u32 at its place.
-fn note_shared(lists: Lists, notes: &mut [u8])
-    requires { 4 * lists.area.count ≤ length notes.old }
+// For each list but the first, at its place, how many items it has in common with the one before it.
+fn note_shared(lists: Lists, notes: &mut [usize; LISTS])
+    requires { lists.area.count ≤ 1024 }
     ensures { Noted (lists_of lists.entry.area lists.entry.bytes.now) lists.entry.area.count notes.new }
 {
     for k in 1..lists.area.count {
-        u32::put(notes, 4 * k, shared_items(lists, k - 1) as u32);
+        notes[k] = shared_items(lists, k - 1);
     }
 }
 
@@ -50,15 +47,15 @@ fn note_shared(lists: Lists, notes: &mut [u8])
 
 // Whether some other list is found in the list at place a, none of those before the start being found there [18.2]. The lists ascend: behind one
 // that begins above list a every list begins above it, and none of them is found in it. A list that begins as the one before it does, up to and
-// with the first item of that one that is not found, is not found either.
-fn finds_other(lists: Lists, notes: &[u8], a: usize, start: usize) -> bool
-    requires { AllAscending (lists_of lists.area lists.bytes.now) × (a < lists.area.count) × Begun (lists_of lists.area lists.bytes.now) a start × (4 * lists.area.count ≤ length notes.now) × Noted (lists_of lists.area lists.bytes.now) lists.area.count notes.now }
+// with the first item of that one that is not found, is not found either. That the lists ascend stays a clause: the workspace that it speaks of is written between two calls.
+fn finds_other(lists: Lists, notes: &[usize; LISTS], a: usize, start: usize) -> bool
+    requires { AllAscending (lists_of lists.area lists.bytes.now) × (a < lists.area.count) × Begun (lists_of lists.area lists.bytes.now) a start × (lists.area.count ≤ 1024) × Noted (lists_of lists.area lists.bytes.now) lists.area.count notes.now }
     ensures { result ≡ finds_other compare (lists_of lists.entry.area lists.entry.bytes.now) a }
 {
     // how many items of the list before were found, once a walk was made
     let mut found = None;
     for b in start..lists.area.count {
-        let alike = u32::get(notes, 4 * b) as usize;
+        let alike = notes[b];
         if found.is_some_and(|items| items < alike) {
             continue;
         }
@@ -77,8 +74,8 @@ fn finds_other(lists: Lists, notes: &[u8], a: usize, start: usize) -> bool
 // The places of the lists in which no other is found, as `filter_irc` writes them. A list that begins below list a is found neither in it nor in a
 // later list, so that no search looks at it again. How many are kept is counted by hand: each is written behind those kept before, and a chain that picks them would hold the workspace
 // that is written.
-fn filter_noted(ws: &mut [u8], notes: &[u8], area: Area, at: usize) -> usize
-    requires { Filters area at ws.old × (4 * area.count ≤ length notes.now) × Noted (lists_of area ws.old) area.count notes.now }
+fn filter_noted(ws: &mut [u8], notes: &[usize; LISTS], area: Area, at: usize) -> usize
+    requires { Filters area at ws.old × Noted (lists_of area ws.old) area.count notes.now }
     ensures many { result ≡ length (filter_irc compare (lists_of area ws.old)) }
     ensures numbers { ws.new ≡ sets ws.old at (run 4 (filter_irc compare (lists_of area ws.old))) }
 {
@@ -101,7 +98,7 @@ pub fn filter_irc(ws: &mut [u8], area: Area, at: usize) -> usize
     ensures many { result ≡ length (filter_irc compare (lists_of area ws.old)) }
     ensures numbers { ws.new ≡ sets ws.old at (run 4 (filter_irc compare (lists_of area ws.old))) }
 {
-    let mut notes = [0; 4 * LISTS];
+    let mut notes = [0; LISTS];
     note_shared(Lists { bytes: ws, area }, &mut notes);
     filter_noted(ws, &notes, area, at)
 }

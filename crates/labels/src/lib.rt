@@ -4,7 +4,7 @@
 
 ghost use Rattle.std.specs.Prelude.{◌≡◌, length, get_or, drop};
 ghost use Prim.Native.Nat.{◌+◌, ◌*◌, ◌≤◌, ◌<◌, compare};
-ghost use Rattle.std.proofs.lemmas.List.Edits.{sets};
+ghost use lib.Seq.{sets};
 ghost use Rattle.order.specs.Areas.{lists_of, list_of, Holding};
 ghost use Rattle.definitions.specs.Figures.{first_above, labels_of};
 ghost use Rattle.order.specs.Numbers.{AllAscending};
@@ -23,7 +23,7 @@ pub fn next_at(lists: Lists, k: usize, n: usize, i: usize) -> u32
     if n <= i {
         return 65536;
     }
-    lists.item(k, i) as u32
+    u32::from(lists.item(k, i))
 }
 
 // ---- the walk
@@ -54,7 +54,7 @@ pub fn items_found(lists: Lists, a: usize, b: usize) -> usize
     let mut j = 0;
     while j < n {
         let item = next_at(lists, a, m, i);
-        let sought = lists.item(b, j) as u32;
+        let sought = u32::from(lists.item(b, j));
         if sought < item {
             return j;
         }
@@ -86,16 +86,13 @@ pub fn search_start(lists: Lists, a: usize, from: usize) -> usize
     requires { (a < lists.area.count) × (from ≤ lists.area.count) }
     ensures { result ≡ search_from (list_of lists.entry.area lists.entry.bytes.now a) (drop from (lists_of lists.entry.area lists.entry.bytes.now)) from }
 {
-    for b in from..lists.area.count {
-        if !starts_above(lists, a, b) {
-            return b;
-        }
-    }
-    lists.area.count
+    (from..lists.area.count)
+        .find(|b| !starts_above(lists, a, *b))
+        .unwrap_or(lists.area.count)
 }
 
 // Whether the list at place c is what the walk of list b through list a passes over or leaves.
-// The place in list b is counted by hand: it moves on only where the two lists have the same item.
+// The place in list b is counted by hand: it moves on only where the two lists have the same item, and what stands there is looked at again where it does not.
 fn is_left(lists: Lists, a: usize, b: usize, c: usize) -> bool
     requires { (a < lists.area.count) × (b < lists.area.count) × (c < lists.area.count) }
     ensures { result ≡ leaves (list_of lists.entry.area lists.entry.bytes.now a) (list_of lists.entry.area lists.entry.bytes.now b) (list_of lists.entry.area lists.entry.bytes.now c) }
@@ -108,7 +105,7 @@ fn is_left(lists: Lists, a: usize, b: usize, c: usize) -> bool
     }
     let mut j = 0;
     for i in 0..m {
-        let x = lists.item(a, i) as u32;
+        let x = u32::from(lists.item(a, i));
         let y = next_at(lists, b, n, j);
         if y < x {
             return false;
@@ -128,6 +125,7 @@ fn is_left(lists: Lists, a: usize, b: usize, c: usize) -> bool
 // The lists ascend: behind a list that begins above a's first item every list begins above it, so that the search may
 // stop there; and a list that begins below it is found neither inside a nor inside a later list, so that no search
 // looks at it again. An empty list, which stands first and is found inside every other, begins neither above nor below.
+// That the lists ascend stays a clause: the function writes the workspace that it speaks of.
 // The labelled loops, and the walk with its two places inside them, stay as they are: a form that was asked for (docs/DECISIONS.md, "Plain entries", "Language forms").
 pub fn label_irc(ws: &mut [u8], area: Area, at: usize)
     requires { Holding area ws.old × AllAscending (lists_of area ws.old) × (area.count ≤ 65536) × (area.bytes + 2 * area.count ≤ at) × (at + 4 * area.count ≤ length ws.old) }
@@ -151,7 +149,7 @@ pub fn label_irc(ws: &mut [u8], area: Area, at: usize)
             let mut j = 0;
             while j < n {
                 let x = next_at(lists, a, m, i);
-                let y = lists.item(b, j) as u32;
+                let y = u32::from(lists.item(b, j));
                 if y < x {
                     continue 'subset;
                 }

@@ -56,10 +56,7 @@ pub fn list_length(s: &[u8], k: usize) -> u32
 {
     let a = u32::get(s, 8 + 4 * k);
     let b = u32::get(s, 12 + 4 * k);
-    if b < a {
-        return 0;
-    }
-    b - a
+    b.saturating_sub(a)
 }
 
 // Item i of list k.

@@ -17,6 +17,7 @@ use refusals::Refusal;
 use visits::State;
 
 // How the search goes: its limit on entries, and whether a closed list is extended.
+// `extended` is a flag that picks a step: it is what the call's way says of closed lists. A closure for the step would be picked by the same flag, where the course is made.
 #[derive(Clone, Copy)]
 pub struct Course {
     pub limit: Option<u32>,

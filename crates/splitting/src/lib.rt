@@ -30,7 +30,7 @@ pub struct Layout {
 }
 
 impl Layout {
-    // The lists that are split.
+    // The lists that are split. `Sound` stays a clause, as that they lie in the workspace does: the workspace is written between two calls.
     fn lists<'a>(self, ws: &'a [u8]) -> Pool<'a>
         requires { (self.from ≤ self.to) × (self.to ≤ length ws.now) × Sound 2 self.most (pool_of self ws.now) }
         ensures { (result.bytes.now ≡ pool_of self ws.entry.now) × (result.most ≡ self.most) }
@@ -55,7 +55,8 @@ fn components(s: &[u8], facets: usize, a: usize) -> Option<(u32, u32)>
 }
 
 // The parts of one facet join the open list. Its queue holds the facet, and two more for each step. No `for`: the queue grows while it is gone through, so that
-// no number of turns is known before. Its end is counted by hand: a facet that is no compound puts nothing in.
+// no number of turns is known before. The head of the queue and the steps left are counted by hand: a facet that is taken stays in the queue, where all behind it would move up otherwise,
+// and each turn uses a step as long as one is left.
 fn split_facet(ws: &mut [u8], layout: Layout, facet: u16)
     requires { (4 * layout.facets ≤ layout.to) × (layout.to ≤ length ws.old) × (layout.steps < 512) × PoolRoom layout.most (rest_of layout ws.old) (length (split_nats layout.steps (facet_labels layout ws.old) (facet ∷ []))) }
     ensures ws_after { ws.new ≡ take layout.to ws.old ++ push_all layout.most (rest_of layout ws.old) (split_nats layout.steps (facet_labels layout ws.old) (facet ∷ [])) }
@@ -85,6 +86,7 @@ fn split_facet(ws: &mut [u8], layout: Layout, facet: u16)
 }
 
 // List k split, each facet at its own place, is one list more of the pool of split lists.
+// The facets are gone through by their numbers, and below the lists: an iterator of them would hold the workspace, which each turn writes.
 fn split_list(ws: &mut [u8], layout: Layout, k: usize)
     requires { SplittingRoom layout ws.old × (k < count (pool_of layout ws.old)) × PoolRoom layout.most (rest_of layout ws.old) (length (parts_in layout ws.old (list_at layout.most (pool_of layout ws.old) k))) × (count (rest_of layout ws.old) < layout.most) }
     ensures ws_after { ws.new ≡ take layout.to ws.old ++ ended (push_all layout.most (rest_of layout ws.old) (parts_in layout ws.old (list_at layout.most (pool_of layout ws.old) k))) }

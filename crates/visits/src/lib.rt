@@ -20,8 +20,8 @@ pub struct State {
 }
 
 // The place of the next candidate in the deepest frame, if any is left.
-// The workspace and the areas are two parameters: the search writes the workspace between two calls, and a struct that lends it would be made for one. That the path stands is a clause,
-// here and below: it speaks of some table, and a ghost field cannot say which.
+// The workspace and the areas are two parameters: the search writes the workspace between two calls, so that the loan of a struct of both would end with each call. `Candidates`, which is
+// made for one call too, adds to them the kind, which its five methods share. That the path stands is a clause, here and below: it speaks of some table, and a ghost field cannot say which.
 pub fn next(ws: &[u8], a: Areas, depth: usize) -> Option<usize>
     requires { (t : Table) × PathStands t a ws.now depth (depth - 1) × (0 < depth) }
     ensures { (t : Table) → PathStands t a ws.now depth (depth - 1) → result ≡ next_place t (frame_at t (frames_part a ws.now) (depth - 1)) }

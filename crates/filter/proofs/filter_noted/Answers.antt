@@ -19,7 +19,7 @@ pub finds_other-requires : goal.finds_other-requires
 finds_other-requires c =
     let l = c.loop-a in
     let g = c.search_start-start in
-    asked c.args.area c.args.at c.args.ws.now c.requires.0.holds c.requires.0.behind c.requires.0.ascends l.many l.ws l.a l.invariant.0 l.start l.invariant.1 c.loop-a-test.true g.result g.ensures c.args.notes.now c.requires.1 c.requires.2
+    asked c.args.area c.args.at c.args.ws.now c.requires.0.holds c.requires.0.behind c.requires.0.ascends l.many l.ws l.a l.invariant.0 l.start l.invariant.1 c.loop-a-test.true g.result g.ensures c.args.notes.now c.requires.0.few c.requires.1
 
 pub loop-a-preserved : goal.loop-a-preserved
 loop-a-preserved c =

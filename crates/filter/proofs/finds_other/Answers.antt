@@ -30,11 +30,11 @@ loop-b-preserved-then-is_some_and c =
     let area = c.args.lists.area in
     let lists = lists_of area c.args.lists.bytes.now in
     let l = c.loop-b in
-    let g = c.get in
     let k = some l.found c.is_some_and.result _ c.is_some_and.ensures c.if-is_some_and.true in
     let q = k.2 in
-    let less : k.0 < g.result = search rules in
-    let w = walked_alike lists c.args.a l.b k.0 (rw k.1 at l.invariant.2) g.result less (λ h. g.ensures ∙ note_at lists area.count c.args.notes.now c.requires.4 l.b h (omega arith)) in
+    let alike = get_or c.args.notes.now l.b 0 in
+    let less : k.0 < alike = search rules in
+    let w = walked_alike lists c.args.a l.b k.0 (rw k.1 at l.invariant.2) alike less (λ h. note_at lists area.count c.args.notes.now c.requires.4 l.b h (omega arith)) in
     (omega arith, not_found lists c.args.a l.b l.invariant.1 w.0, rw k.1 w.1)
 
 pub returns-then-starts_above : goal.returns-then-starts_above

@@ -1,4 +1,4 @@
-use mathlib.Core.Path.{sym}
+use mathlib.Core.Path.{sym, ◌∙◌}
 use native.Mathlib.Omega.{arith}
 use Rattle.order.specs.Areas.{list_of, place_short}
 use Rattle.labels.proofs.Walking.{left_over, left_wrong, left_passed, left_taken, left_ended, leaves_length}
@@ -13,20 +13,20 @@ returns-then-n-l c = sym (leaves_length (list_of c.args.lists.area c.args.lists.
 
 pub returns-then-y-x : goal.returns-then-y-x
 returns-then-y-x c = let l = c.loop-i in
-    let g = c.item-x in
-    left_over _ _ _ l.i l.j l.invariant g.result (omega arith) g.ensures (omega arith) (omega arith)
+    let g = c.from-x in
+    left_over _ _ _ l.i l.j l.invariant g.result (omega arith) (g.ensures ∙ c.item.ensures) (omega arith) (omega arith)
 
 pub returns-then-next_at-x : goal.returns-then-next_at-x
 returns-then-next_at-x c = let l = c.loop-i in
-    let g = c.item-x in
-    left_wrong _ _ _ l.i l.j l.invariant g.result (omega arith) g.ensures (omega arith) (omega arith) (λ e. c.if-next_at-x.true (omega arith))
+    let g = c.from-x in
+    left_wrong _ _ _ l.i l.j l.invariant g.result (omega arith) (g.ensures ∙ c.item.ensures) (omega arith) (omega arith) (λ e. c.if-next_at-x.true (omega arith))
 
 pub loop-i-preserved : goal.loop-i-preserved
 loop-i-preserved c = let l = c.loop-i in
-    let g = c.item-x in
+    let g = c.from-x in
     elim c.if-x-y.branch [
-      | then-x-y+else-next_at-x w ↦ rw w.j-is (left_passed _ _ _ l.i l.j l.invariant g.result (omega arith) g.ensures (omega arith) (omega arith) (omega arith))
-      | else-x-y w ↦ rw w.j-is (left_taken _ _ _ l.i l.j l.invariant g.result (omega arith) g.ensures (omega arith) (omega arith))
+      | then-x-y+else-next_at-x w ↦ rw w.j-is (left_passed _ _ _ l.i l.j l.invariant g.result (omega arith) (g.ensures ∙ c.item.ensures) (omega arith) (omega arith) (omega arith))
+      | else-x-y w ↦ rw w.j-is (left_taken _ _ _ l.i l.j l.invariant g.result (omega arith) (g.ensures ∙ c.item.ensures) (omega arith) (omega arith))
     ]
 
 pub returns : goal.returns

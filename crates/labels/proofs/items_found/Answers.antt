@@ -14,9 +14,9 @@ returns-then-sought-item c =
     let x = list_of c.args.lists.area s c.args.a in
     let y = list_of c.args.lists.area s c.args.b in
     let l = c.loop-j in
-    let g = c.item-sought in
+    let g = c.from-sought in
     let inside : l.j < length y = omega arith in
-    items_above x y l.i l.j l.invariant.2 g.result inside (g.ensures ∙ read_inside y l.j 0 65536 inside) (omega arith) (omega arith)
+    items_above x y l.i l.j l.invariant.2 g.result inside (g.ensures ∙ (c.item.ensures ∙ read_inside y l.j 0 65536 inside)) (omega arith) (omega arith)
 
 pub loop-j-preserved : goal.loop-j-preserved
 loop-j-preserved c =
@@ -24,9 +24,9 @@ loop-j-preserved c =
     let x = list_of c.args.lists.area s c.args.a in
     let y = list_of c.args.lists.area s c.args.b in
     let l = c.loop-j in
-    let g = c.item-sought in
+    let g = c.from-sought in
     let inside : l.j < length y = omega arith in
-    let is_y = g.ensures ∙ read_inside y l.j 0 65536 inside in
+    let is_y = g.ensures ∙ (c.item.ensures ∙ read_inside y l.j 0 65536 inside) in
     let before : l.i < length x = before_end x l.i (omega arith) in
     elim c.if-item-sought.branch [
       | then-item-sought w ↦ rw w.j-is (omega arith, omega arith, items_same x y l.i l.j l.invariant.2 g.result inside is_y (omega arith) (omega arith))

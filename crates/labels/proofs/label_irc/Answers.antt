@@ -37,11 +37,11 @@ subset-preserved c =
     let l = c.loop-j in
     let x = list_of c.args.area c.put.new.s c.a.a in
     let y = list_of c.args.area c.put.new.s k.b in
-    let g = c.item-y in
+    let g = c.from-y in
     let n = lists_length c.args.area.most c.args.area.bytes c.args.area.count c.put.new.s in
     let i : l.j < length y = omega (arith, c.length-n.ensures) in
     label_skip x (lists_of c.args.area c.put.new.s) k.b k.invariant (omega (arith, c.subset-test.true))
-    (not_found x y (found_above x y l.i l.j l.invariant.2 g.result i (g.ensures ∙ read_inside y l.j 0 65536 i) (omega arith) (omega (arith, c.next_at-x.ensures))))
+    (not_found x y (found_above x y l.i l.j l.invariant.2 g.result i (g.ensures ∙ (c.item.ensures ∙ read_inside y l.j 0 65536 i)) (omega arith) (omega (arith, c.next_at-x.ensures))))
 
 pub loop-j-preserved : goal.loop-j-preserved
 loop-j-preserved c =
@@ -49,9 +49,9 @@ loop-j-preserved c =
     let x = list_of c.args.area c.put.new.s c.a.a in
     let y = list_of c.args.area c.put.new.s c.subset.b in
     let b : l.i < length x = before_end x l.i (omega (arith, c.next_at-x.ensures)) in
-    let g = c.item-y in
+    let g = c.from-y in
     let i : l.j < length y = omega (arith, c.length-n.ensures) in
-    let v = g.ensures ∙ read_inside y l.j 0 65536 i in
+    let v = g.ensures ∙ (c.item.ensures ∙ read_inside y l.j 0 65536 i) in
     elim c.if-x-y.branch [
       | then-x-y w ↦ rw w.j-is (omega (arith, c.length-m.ensures), omega arith, found_same x y l.i l.j l.invariant.2 g.result i v (omega arith) (omega (arith, c.next_at-x.ensures)))
       | else-x-y w ↦ rw w.j-is (omega (arith, c.length-m.ensures), omega arith, found_pass x y l.i l.j l.invariant.2 g.result i v (omega arith) (omega (arith, c.next_at-x.ensures)))

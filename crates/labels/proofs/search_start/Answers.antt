@@ -1,24 +1,18 @@
-use mathlib.Core.Path.{◌≡◌, sym, ◌∙◌}
-use native.Mathlib.Omega.{arith}
+-- `labels::search_start` meets its contract. Assumes nothing.
+use Rattle.std.proofs.Common.{◌≡◌, ◌∙◌, true, false, rules, tests}
+use Rattle.std.proofs.lemmas.Iterator.{first_from_Range}
+use Prim.Native.Nat.{compare}
+use Rattle.definitions.specs.Figures.{first_above}
 use Rattle.order.specs.Areas.{list_of, lists_of, lists_length}
-use Rattle.labels.proofs.Labelling.{search_ends, search_stops, search_goes}
+use Rattle.labels.proofs.Labelling.{search_found}
 use Rattle.labels.proofs.search_start.Goals as goal
-
-pub returns-then-not-starts_above : goal.returns-then-not-starts_above
-returns-then-not-starts_above c =
-    let l = c.loop-b in
-    let n = lists_length c.args.lists.area.most c.args.lists.area.bytes c.args.lists.area.count c.args.lists.bytes.now in
-    search_stops (list_of c.args.lists.area c.args.lists.bytes.now c.args.a) (lists_of c.args.lists.area c.args.lists.bytes.now) l.b c.args.from l.invariant (omega arith) (sym c.if-not-starts_above.true ∙ c.starts_above.ensures)
-
-pub loop-b-preserved : goal.loop-b-preserved
-loop-b-preserved c =
-    let l = c.loop-b in
-    let n = lists_length c.args.lists.area.most c.args.lists.area.bytes c.args.lists.area.count c.args.lists.bytes.now in
-    search_goes (list_of c.args.lists.area c.args.lists.bytes.now c.args.a) (lists_of c.args.lists.area c.args.lists.bytes.now) l.b c.args.from l.invariant (omega arith) (sym c.if-not-starts_above.false ∙ c.starts_above.ensures)
 
 pub returns : goal.returns
 returns c =
-    let l = c.loop-b in
-    let n = lists_length c.args.lists.area.most c.args.lists.area.bytes c.args.lists.area.count c.args.lists.bytes.now in
-    let e : c.args.lists.area.count ≡ l.b = omega arith in
-    e ∙ search_ends (list_of c.args.lists.area c.args.lists.bytes.now c.args.a) (lists_of c.args.lists.area c.args.lists.bytes.now) l.b c.args.from l.invariant (omega arith)
+    let area = c.args.lists.area in
+    let s = c.args.lists.bytes.now in
+    let x = list_of area s c.args.a in
+    c.unwrap_or.ensures ∙ search_found x (lists_of area s) c.args.from area.count c.requires.1 (lists_length area.most area.bytes area.count s) c.find.result
+    (first_from_Range _ _ _ _ (λ b. false ≡ first_above compare x (list_of area s b)) (λ b. true ≡ first_above compare x (list_of area s b)) c.find.ensures.ran
+    (λ b q k. search (rules, tests))
+    (λ b q k. search (rules, tests)))

@@ -1,11 +1,12 @@
 -- `search::follow` meets its contract. By the cases of the verdict. Assumes nothing.
 use native.Mathlib.Omega.{arith}
-use mathlib.Core.Path.{refl}
+use mathlib.Core.Path.{◌≡◌, refl, ap, subst}
+use Rattle.std.specs.Prelude.{Some}
 use Rattle.definitions.specs.Search.{open_at}
 use Rattle.facets.specs.Layout.{verdict, frames_part}
 use Rattle.facets.specs.Judged.{NotOver}
 use Rattle.laws.specs.Options.{some_equal}
-use Rattle.frames.specs.Steps.{path_short}
+use Rattle.frames.specs.Steps.{Entered, path_short}
 use Rattle.search.specs.Turns.{Judged, Followed, judged_light, judged_inside, follow_over, follow_open}
 use Rattle.search.proofs.follow.Goals as goal
 
@@ -13,7 +14,7 @@ pub enter-requires : goal.enter-requires
 unfolding verdict NotOver
 enter-requires c = let j : Judged c.requires.0 c.args.a c.args.ws.now c.args.s.depth (open_at c.in-Open.ridge) = rw c.in-Open.is at c.requires.1 in
     let r = judged_inside c.requires.0 c.args.a c.args.ws.now c.args.s.depth (open_at c.in-Open.ridge) j c.in-Open.ridge refl in
-    rw c.from.ensures (c.requires.0, j.stands, j.deep, λ x e. omega (arith, some_equal _ x e), judged_light c.requires.0 c.args.a c.args.ws.now c.args.s.depth (open_at c.in-Open.ridge) j tt)
+    (c.requires.0, j.stands, j.deep, λ x e. omega (arith, c.from.ensures, some_equal c.from.result x e), judged_light c.requires.0 c.args.a c.args.ws.now c.args.s.depth (open_at c.in-Open.ridge) j tt)
 
 pub overflow_add-result : goal.overflow_add-result
 overflow_add-result c =
@@ -31,7 +32,8 @@ pub returns-in-Open : goal.returns-in-Open
 unfolding Followed verdict
 returns-in-Open c =
     λ t j. let k : Judged t c.args.a c.args.ws.now c.args.s.depth (open_at c.in-Open.ridge) = rw c.in-Open.is at j in
-    follow_open t c.args.a c.args.course c.args.ws.now c.enter.new.ws c.args.s.depth c.in-Open.ridge k (rw c.from.ensures at (c.enter.ensures t k.stands))
+    let at_ridge : Some c.from.result ≡ Some c.in-Open.ridge = ap Some c.from.ensures in
+    follow_open t c.args.a c.args.course c.args.ws.now c.enter.new.ws c.args.s.depth c.in-Open.ridge k (subst (Entered t c.args.a c.args.ws.now c.enter.new.ws c.args.s.depth) at_ridge (c.enter.ensures t k.stands))
 
 pub returns-in-Closed : goal.returns-in-Closed
 unfolding verdict

@@ -26,4 +26,4 @@ returns-in-Some c = λ t h.
     let k = c.args.self.kind_in c.in-Some.ridge c.in-Some.is in
     let m = c.requires.2 in
     let q : c.args.i < length (numbers t (Some c.in-Some.ridge)) = rw (← c.in-Some.is) (omega arith) in
-    rw c.in-Some.is (c.item.ensures ∙ rw c.ones-ones.ensures (kind_item t c.args.self.areas c.args.self.ws.now h c.in-Some.ridge c.args.i k q))
+    rw c.in-Some.is (c.from.ensures ∙ (c.item.ensures ∙ rw c.ones-ones.ensures (kind_item t c.args.self.areas c.args.self.ws.now h c.in-Some.ridge c.args.i k q)))

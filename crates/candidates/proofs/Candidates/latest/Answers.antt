@@ -1,32 +1,32 @@
+-- `Candidates::latest` meets its contract. Assumes nothing.
+use Prim.Native.Nat.{ℕ, ◌<◌}
+use mathlib.Core.Path.{◌≡◌}
 use native.Mathlib.Omega.{arith}
-use mathlib.Core.Path.{sym, ◌∙◌}
-use Prim.Native.Nat.{◌-◌}
-use Rattle.candidates.specs.Latest.{flag_inside, candidate_unused, candidate_used, free_stop, free_found, free_pass}
+use lib.ListN.{length}
+use Rattle.std.proofs.Common.{rules, tests, Fits, w64}
+use Rattle.facets.specs.Layout.{numbers}
 use Rattle.facets.specs.Numbers.{same_length}
+use Rattle.candidates.specs.Latest.{flag_inside}
+use Rattle.candidates.proofs.Downwards.{flag_at, serves_down, last_from_Range, last_is}
 use Rattle.candidates.proofs.Candidates.latest.Goals as goal
 
-pub orbit-requires : goal.orbit-requires
-orbit-requires c = let k = c.requires.2 in (c.requires.0, c.requires.1, omega arith)
+-- a place in a list is a number of eight bytes
+fits : (n l : ℕ) → n < l → l < 18446744073709551616 → Fits w64 n
+fits n l h k = record { fits = omega arith }
 
-pub overflow_add-self : goal.overflow_add-self
-overflow_add-self c = let k = c.requires.2 in let n = flag_inside c.requires.0 c.args.self.areas c.args.self.ws.now c.args.self.kind (c.loop-i.i - 1) _ c.requires.1 (omega arith) (c.orbit.ensures c.requires.0 c.requires.1) in omega arith
-
-pub bounds-self-self : goal.bounds-self-self
-bounds-self-self c = let k = c.requires.2 in flag_inside c.requires.0 c.args.self.areas c.args.self.ws.now c.args.self.kind (c.loop-i.i - 1) _ c.requires.1 (omega arith) (c.orbit.ensures c.requires.0 c.requires.1)
-
-pub returns-then-self-orbit-eq0 : goal.returns-then-self-orbit-eq0
-returns-then-self-orbit-eq0 c = λ t list h u.
+pub find-requires-clause-callable : goal.find-requires-clause-callable
+find-requires-clause-callable c = serves_down _ _ _ c.rev.ensures.source (λ f x q k. search (rules, tests)) (λ x a b y e.
+    let t = c.requires.0 in
+    let h = c.requires.1 in
     let k = c.requires.2 in
-    let n = same_length t c.requires.0 _ _ h c.requires.1 c.args.self.kind c.args.self.kind_in in
-    sym (c.loop-i.invariant t list h u ∙ free_found t list c.args.self.kind c.args.low c.loop-i.i c.loop-i-test.true
-    (candidate_unused t c.args.self.areas c.args.self.ws.now c.args.self.kind (c.loop-i.i - 1) c.orbit.result h (omega arith) (c.orbit.ensures t h) list u c.if-self-orbit-eq0.true))
-
-pub loop-i-preserved : goal.loop-i-preserved
-loop-i-preserved c = λ t list h u.
-    let k = c.requires.2 in
-    let n = same_length t c.requires.0 _ _ h c.requires.1 c.args.self.kind c.args.self.kind_in in
-    c.loop-i.invariant t list h u ∙ free_pass t list c.args.self.kind c.args.low c.loop-i.i c.loop-i-test.true
-    (candidate_used t c.args.self.areas c.args.self.ws.now c.args.self.kind (c.loop-i.i - 1) c.orbit.result h (omega arith) (c.orbit.ensures t h) list u c.if-self-orbit-eq0.false)
+    let m : y.now < length (numbers t c.args.self.kind) = omega arith in
+    let inside = λ (o : ℕ). flag_inside t c.args.self.areas c.args.self.ws.now c.args.self.kind y.now o h m in
+    (search rules, (λ _ _ _ _ _ _ _ _ o. fits _ _ (inside o.result (o.ensures t h)) c.ranges.self.0), (λ _ _ _ _ _ _ _ _ o. inside o.result (o.ensures t h))))
 
 pub returns : goal.returns
-returns c = λ t list h u. sym (c.loop-i.invariant t list h u ∙ free_stop t list _ _ c.loop-i.i (omega arith))
+returns c = λ t list h u.
+    let k = c.requires.2 in
+    let n = same_length t c.requires.0 _ _ h c.requires.1 c.args.self.kind c.args.self.kind_in in
+    let flag = flag_at t c.args.self.areas c.args.self.ws.now c.args.self.kind in
+    last_is t c.args.self.areas c.args.self.ws.now c.args.self.kind list c.args.low h u c.args.place c.find.result (omega arith)
+    (last_from_Range _ _ _ c.rev.ensures.source _ _ _ (λ x. flag x ≡ 0) (λ x. flag x ≡ 0 → ⊥) c.find.ensures.ran (λ x q k. search (rules, tests)) (λ x q k. search (rules, tests)))

@@ -18,4 +18,4 @@ returns c = λ t h. let l = same_length t c.requires.0 _ _ h c.requires.1 c.args
     let n = numbers_small t c.args.self.kind c.args.i (omega arith) in
     let e = h.holds.facets in
     let x = c.facet-x.ensures t h in
-    c.get.ensures ∙ (orbit_is t c.args.self.areas c.args.self.ws.now h c.facet-x.result (omega arith) ∙ rw x (ap (λ (f : Facet). f.0) (sym (candidate_at t c.args.self.kind c.args.i (omega arith)))))
+    c.from.ensures ∙ (c.get.ensures ∙ (orbit_is t c.args.self.areas c.args.self.ws.now h c.facet-x.result (omega arith) ∙ rw x (ap (λ (f : Facet). f.0) (sym (candidate_at t c.args.self.kind c.args.i (omega arith))))))
