@@ -13,6 +13,7 @@ use shelf::{Level, Shelf};
 use space::Limits;
 
 // What is alike at every depth: the tolerance, the limits on lengths and on entries, how many hyperplane orbits, possible facets and entries a call may have, and the rule of crowded lines.
+// The rule is a number and no enum: public functions take any number, and a narrower type would ask more of their callers.
 #[derive(Clone, Copy)]
 pub struct Rules {
     pub tolerance: f64,

@@ -24,6 +24,7 @@ use Rattle.space.specs.declared.Points.{Points}
 use Rattle.space.specs.Meaning.{subspace_of, points_of, HoldsPoints, HoldsSubspace}
 use Rattle.stabilizers.specs.Permutations.{Permutations, rows_fit_holds}
 use Rattle.sets.specs.Refitting.{Refitted, plane_in, refitted_plane}
+use Rattle.orbits.specs.Workspace.{orbits_room}
 use Rattle.orbits.specs.Answers.{CallFits}
 use Rattle.shapes.specs.Answered.{TakesSome}
 use Rattle.shapes.specs.Calls.{Given}
@@ -136,7 +137,7 @@ module _ (rank : ℕ) (plane : stored.Subspace) (points : Points) (rows : List �
   call_fits = record { same_n = sym same_n; permute = permute; few = asked.rows_few }
 
   -- what the start of a call is asked
-  pub start_asks : (rules.orbits ≤ 256) × (124928 ≤ length ws) × ShelfFits (shelf_for rank) (length ws) × (3 ≤ rank) × WayFits flat.n way
+  pub start_asks : (rules.orbits ≤ 256) × (orbits_room ≤ length ws) × ShelfFits (shelf_for rank) (length ws) × (3 ≤ rank) × WayFits flat.n way
   start_asks = (
     asked.few_orbits_holds,
     omega (arith, enough),

@@ -13,6 +13,7 @@ ghost use Rattle.definitions.specs.Recursion.{rows_within};
 ghost use Rattle.laws.specs.Sets.{vertices_of};
 ghost use Rattle.openers.specs.Rows.{rows_in, written_rows};
 ghost use Rattle.space.specs.Meaning.{points_of, subspace_of, HoldsPoints, limits_of};
+ghost use Rattle.orbits.specs.Workspace.{orbits_room};
 ghost use Rattle.orbits.specs.Answers.{answer_in, orbits_or_refusal};
 ghost use Rattle.shelf.specs.Keeps.{ShelfFits, Keeps, Ridges};
 ghost use Rattle.calls.specs.Layouts.{shelf_for};
@@ -32,8 +33,10 @@ use tallies::Package;
 
 // Of so many orbits that were found those that the way keeps, moved together: how many they are. A call goes plain or by a package [17.8]; without one every orbit stays.
 // They lie in the bytes of the workspace, so that their number goes beside it.
+// `WayFits` stays a clause, here and below: it speaks of a package that may be there or not, and of the number of points, which are the search's. So do `orbits_room` and `ShelfFits`: each function
+// writes the workspace that they speak of. That these are the orbits found stays one too: this function alone asks it, of the answer of the one that found them.
 fn keep_found(count: usize, way: Option<Package>, n: usize, ws: &mut [u8]) -> usize
-    requires { WayFits n way × (124928 ≤ length ws.old) × ((bound : ℕ) × (orbits : List Orbit) × (bound ≤ 256) × (answer_in n (Ok count) ws.old ≡ orbits_or_refusal bound orbits)) }
+    requires { WayFits n way × (orbits_room ≤ length ws.old) × ((bound : ℕ) × (orbits : List Orbit) × (bound ≤ 256) × (answer_in n (Ok count) ws.old ≡ orbits_or_refusal bound orbits)) }
     ensures { (bound : ℕ) (orbits : List Orbit) → answer_in n (Ok count) ws.old ≡ orbits_or_refusal bound orbits → answer_in n (Ok result) ws.new ≡ taken_or_refusal (way_of n way.entry) bound orbits }
 {
     match way {
@@ -50,7 +53,7 @@ fn find_kept(
     rules: Rules,
     way: Option<Package>,
 ) -> Result<usize, Refusal>
-    requires { (rules.orbits ≤ 256) × (124928 ≤ length ws.old) × (3 ≤ rank) × WayFits search.flat.now.n way }
+    requires { (rules.orbits ≤ 256) × (orbits_room ≤ length ws.old) × (3 ≤ rank) × WayFits search.flat.now.n way }
     ensures { answer_in search.entry.flat.now.n result ws.new ≡ taken_or_refusal (way_of search.entry.flat.now.n way.entry) rules.orbits (hyperplane_orbits search.entry.pairs.tolerance (limits_of search.entry.pairs.limits) rules.rule (rank - 3) (points_of search.entry.pairs.points.now) (points_of search.entry.flat.now) (rows_in search.entry.flat.now.n search.entry.pairs.rows.count search.entry.pairs.rows.bytes.now)) }
 {
     let found = orbits::find_orbits(search, rank - 3, rules.rule, rules.orbits, ws)?;
@@ -65,7 +68,7 @@ fn start_call(
     rules: Rules,
     way: Option<Package>,
 ) -> Result<usize, Refusal>
-    requires { (rules.orbits ≤ 256) × (124928 ≤ length ws.old) × ShelfFits (shelf_for rank) (length ws.old) × (3 ≤ rank) × WayFits search.flat.now.n way }
+    requires { (rules.orbits ≤ 256) × (orbits_room ≤ length ws.old) × ShelfFits (shelf_for rank) (length ws.old) × (3 ≤ rank) × WayFits search.flat.now.n way }
     ensures { (answer_in search.entry.flat.now.n result ws.new ≡ taken_or_refusal (way_of search.entry.flat.now.n way.entry) rules.orbits (hyperplane_orbits search.entry.pairs.tolerance (limits_of search.entry.pairs.limits) rules.rule (rank - 3) (points_of search.entry.pairs.points.now) (points_of search.entry.flat.now) (rows_in search.entry.flat.now.n search.entry.pairs.rows.count search.entry.pairs.rows.bytes.now))) × ((k : ℕ) → Keeps k (shelf_for rank) [] ws.new × Ridges (shelf_for rank) [] ws.new) }
 {
     let answer = find_kept(ws, rank, search, rules, way);
@@ -84,7 +87,8 @@ pub struct Next {
     pub m: usize,
 }
 
-// The inner call on a set: its points from the flattened ones, its plane fitted anew, and the rows that keep it, written.
+// The inner call on a set: its points from the flattened ones, its plane fitted anew, and the rows that keep it, written. That the set is one of these points stays a clause: the orbit that holds it
+// lies in bytes of the workspace.
 fn next_call(
     flat: &Points,
     set: u32,
@@ -110,6 +114,7 @@ fn next_call(
 // The call of every rank [9.1]. At rank 2 the rows alone answer. Above, the hyperplane orbits are found, each orbit's set is faceted in its own plane by the call itself at the rank below, behind the shelf,
 // and what that answers is kept; then the search. The inner calls are plain, whatever the way. The first refusal met is the call's.
 // Behind each turn `done` is the shelf with one orbit more, and what is left of the budget. The rank ends the recursion, a form that was asked for.
+// `Asked` stays a clause: it speaks of the workspace too, which the function writes. The loop goes by the number of an orbit: an iterator of the orbits would hold on to the workspace that the loop writes.
 pub fn faceting(
     rank: usize,
     plane: Subspace,

@@ -47,7 +47,8 @@ fn store<T: Word>(ws: &mut [u8], from: usize, to: usize, most: usize, items: &[T
 
 // ---- an edge
 
-// A vertex as a ridge, with its count: 2 where some row swaps the ends, else 1.
+// A vertex as a ridge, with its count: 2 where some row swaps the ends, else 1. The two are packed into one number, as the vertices of an edge are below: a pool holds lists of numbers of one width, in
+// bytes of the workspace that a caller lends, since there is no heap.
 fn end_code(v: usize, swapped: bool) -> u32
     requires { v < 20 }
     ensures { result ≡ 21 * v + 65536 * cond swapped 2 1 }
@@ -59,6 +60,7 @@ fn end_code(v: usize, swapped: bool) -> u32
 }
 
 // The ends of an edge as ridges, one for both or one each, and the edge's places among them.
+// `swapped` is a flag: it is what the inner call of rank 2 has answered, and a closure would be picked by the same flag.
 fn keep_ends(ws: &mut [u8], shelf: Shelf, v: usize, w: usize, swapped: bool)
     requires { (v < 20) × (w < 20) × ShelfFits shelf (length ws.old) × ListRoom 4 256 shelf.ridges (shelf.places - shelf.ridges) ws.old 2 × ListRoom 2 1024 shelf.places (shelf.end - shelf.places) ws.old 2 }
     ensures { EndsStored shelf swapped v w ws.old ws.new }

@@ -26,18 +26,30 @@ use openers::Rows;
 use shelf::{Level, Shelf};
 use words::Word;
 
+// ---- what is read of an inner call
+
+// What is read of an inner call of rank 3: the place in the workspace from which it has left its answer, its level, its rows, and the vertices of the orbit's set, which its points are moved to.
+#[derive(Clone, Copy)]
+struct InnerPart<'a> {
+    at: usize,
+    level: Level,
+    rows: Rows<'a>,
+    vertices: &'a ArrayVec<usize, 20>,
+}
+
 // ---- a facet's places and label, and the ridges
 
-// The facets of entry k of the inner call, which begins at a place behind the pool, are one list more. What the inner call left is lent anew each turn, since the pool before it is written.
+// The facets of entry k of the inner call, which begins at a place behind the pool, are one list more. By their number: an iterator of them (`Lists::items`) would hold what the inner call left
+// from one to the next, and the pool before it is written in between, so that it is lent anew each turn.
 // `ListRoom` stays a clause, and so does `ShelfFits` below: the workspace that they speak of is written, and a struct that held it would have each contract say besides that the places and the
 // loan are as they were.
-fn store_places(ws: &mut [u8], at: usize, level: Level, k: usize, from: usize, to: usize)
-    requires { (from ≤ to) × (to ≤ at) × (at + level.lists ≤ length ws.old) × HoldsOrder 1024 level.bytes level.count (drop level.lists (drop at ws.old)) × (k < level.count) × ListRoom 2 1024 from (to - from) ws.old (length (get_or (lists_left level (drop at ws.old)) k [])) }
-    ensures { Stored 2 1024 from (to - from) ws.old ws.new (get_or (lists_left level (drop at ws.old)) k []) }
+fn store_places(ws: &mut [u8], part: InnerPart, k: usize, from: usize, to: usize)
+    requires { (from ≤ to) × (to ≤ part.at) × (part.at + part.level.lists ≤ length ws.old) × HoldsOrder 1024 part.level.bytes part.level.count (drop part.level.lists (drop part.at ws.old)) × (k < part.level.count) × ListRoom 2 1024 from (to - from) ws.old (length (get_or (lists_left part.level (drop part.at ws.old)) k [])) }
+    ensures { Stored 2 1024 from (to - from) ws.old ws.new (get_or (lists_left part.entry.level (drop part.entry.at ws.old)) k []) }
 {
-    let items = left_edges::entries(&ws[at..], level).length(k);
+    let items = left_edges::entries(&ws[part.at..], part.level).length(k);
     for i in 0..items {
-        let x = left_edges::entries(&ws[at..], level).item(k, i);
+        let x = left_edges::entries(&ws[part.at..], part.level).item(k, i);
         pool::push(&mut ws[from..to], 1024, x);
     }
     pool::end_list(&mut ws[from..to]);
@@ -45,23 +57,16 @@ fn store_places(ws: &mut [u8], at: usize, level: Level, k: usize, from: usize, t
 
 // Each inner orbit's edge, moved to the vertices, with its count: the orbit's ridges. `EdgesLeft` stays a clause: it speaks of the list of kept facets, which stands in no memory, so that no
 // field can hold it.
-fn store_ridges(
-    ws: &mut [u8],
-    at: usize,
-    level: Level,
-    from: usize,
-    to: usize,
-    vertices: &ArrayVec<usize, 20>,
-)
-    requires { (from ≤ to) × (to ≤ at) × (at ≤ length ws.old) × ((n : ℕ) × (m : ℕ) × (rows : List ℕ) × (inner : List Kept) × EdgesLeft n m inner level rows (drop at ws.old) × ListRoom 4 256 from (to - from) ws.old (length inner) × ((p : ℕ) → p < n → HasVertex vertices.now.items p)) }
-    ensures { (n m : ℕ) (rows : List ℕ) (inner : List Kept) → EdgesLeft n m inner level rows (drop at ws.old) → Stored 4 256 from (to - from) ws.old ws.new (ridges_moved vertices.now.items inner) }
+fn store_ridges(ws: &mut [u8], part: InnerPart, from: usize, to: usize)
+    requires { (from ≤ to) × (to ≤ part.at) × (part.at ≤ length ws.old) × ((n : ℕ) × (m : ℕ) × (rows : List ℕ) × (inner : List Kept) × EdgesLeft n m inner part.level rows (drop part.at ws.old) × ListRoom 4 256 from (to - from) ws.old (length inner) × ((p : ℕ) → p < n → HasVertex part.vertices.now.items p)) }
+    ensures { (n m : ℕ) (rows : List ℕ) (inner : List Kept) → EdgesLeft n m inner part.entry.level rows (drop part.entry.at ws.old) → Stored 4 256 from (to - from) ws.old ws.new (ridges_moved part.entry.vertices.now.items inner) }
 {
-    for a in 0..level.shelf.orbits {
+    for a in 0..part.level.shelf.orbits {
         let code = left_edges::moved(
-            left_edges::edge_at(&ws[at..], level.shelf, a),
-            vertices,
+            left_edges::edge_at(&ws[part.at..], part.level.shelf, a),
+            part.vertices,
         ) as u32;
-        let count = u32::get(&ws[at..], 8 * a + 4);
+        let count = u32::get(&ws[part.at..], 8 * a + 4);
         pool::push(&mut ws[from..to], 256, code + 65536 * count);
     }
     pool::end_list(&mut ws[from..to]);
@@ -82,46 +87,31 @@ fn raise(label: u32, first: usize) -> u32
 // ---- a polygon
 
 // Entry k of the inner call is one facet more: its edges, its places, its label and its orbit.
-fn keep_facet(
-    ws: &mut [u8],
-    shelf: Shelf,
-    at: usize,
-    level: Level,
-    k: usize,
-    rows: Rows,
-    vertices: &ArrayVec<usize, 20>,
-)
-    requires { ShelfFits shelf (length ws.old) × (shelf.end ≤ at) × (shelf.orbits < 256) × (shelf.facets + level.count ≤ 1024) × (k < level.count) × ((n : ℕ) × (inner : List Kept) × Source n rows.count inner level rows.bytes.now at vertices.now.items ws.old × ListRoom 2 1024 shelf.edges (shelf.labels - shelf.edges) ws.old (length (codes_of n rows.count rows.bytes.now inner vertices.now.items (entry_at level at ws.old k))) × ListRoom 2 1024 shelf.places (shelf.end - shelf.places) ws.old (length (entry_at level at ws.old k))) }
-    ensures { (n : ℕ) (inner : List Kept) → Source n rows.entry.count inner level rows.entry.bytes.now at vertices.now.items ws.old → FacetStored shelf k (codes_of n rows.entry.count rows.entry.bytes.now inner vertices.now.items (entry_at level at ws.old k)) (raised shelf.facets (get_or (labels_left level at ws.old) k None)) (entry_at level at ws.old k) ws.old ws.new }
+fn keep_facet(ws: &mut [u8], shelf: Shelf, part: InnerPart, k: usize)
+    requires { ShelfFits shelf (length ws.old) × (shelf.end ≤ part.at) × (shelf.orbits < 256) × (shelf.facets + part.level.count ≤ 1024) × (k < part.level.count) × ((n : ℕ) × (inner : List Kept) × Source n part.rows.count inner part.level part.rows.bytes.now part.at part.vertices.now.items ws.old × ListRoom 2 1024 shelf.edges (shelf.labels - shelf.edges) ws.old (length (codes_of n part.rows.count part.rows.bytes.now inner part.vertices.now.items (entry_at part.level part.at ws.old k))) × ListRoom 2 1024 shelf.places (shelf.end - shelf.places) ws.old (length (entry_at part.level part.at ws.old k))) }
+    ensures { (n : ℕ) (inner : List Kept) → Source n part.entry.rows.count inner part.entry.level part.entry.rows.bytes.now part.entry.at part.entry.vertices.now.items ws.old → FacetStored shelf k (codes_of n part.entry.rows.count part.entry.rows.bytes.now inner part.entry.vertices.now.items (entry_at part.entry.level part.entry.at ws.old k)) (raised shelf.facets (get_or (labels_left part.entry.level part.entry.at ws.old) k None)) (entry_at part.entry.level part.entry.at ws.old k) ws.old ws.new }
 {
     let mut marks = [false; 400];
-    left_edges::mark_entry(&ws[at..], level, k, rows, &mut marks);
-    left_edges::store_edges(ws, shelf.edges, shelf.labels, &marks, vertices);
-    store_places(ws, at, level, k, shelf.places, shelf.end);
-    let place = level.lists + (level.bytes + 2048 + 4 * k);
-    let label = raise(u32::get(&ws[at..], place), shelf.facets);
+    left_edges::mark_entry(&ws[part.at..], part.level, k, part.rows, &mut marks);
+    left_edges::store_edges(ws, shelf.edges, shelf.labels, &marks, part.vertices);
+    store_places(ws, part, k, shelf.places, shelf.end);
+    let place = part.level.lists + (part.level.bytes + 2048 + 4 * k);
+    let label = raise(u32::get(&ws[part.at..], place), shelf.facets);
     keep::store_facet(ws, shelf, shelf.facets + k, label, shelf.orbits as u16);
 }
 
 // Every entry of the inner call is a facet.
-fn keep_facets(
-    ws: &mut [u8],
-    shelf: Shelf,
-    at: usize,
-    level: Level,
-    rows: Rows,
-    vertices: &ArrayVec<usize, 20>,
-)
-    requires { (shelf.end ≤ at) × (shelf.orbits < 256) × (shelf.facets + level.count ≤ 1024) × ((n : ℕ) × (inner : List Kept) × Source n rows.count inner level rows.bytes.now at vertices.now.items ws.old × FacetsRoom shelf n rows.count inner level rows.bytes.now at vertices.now.items ws.old) }
-    ensures { (n : ℕ) (inner : List Kept) → Source n rows.entry.count inner level rows.entry.bytes.now at vertices.now.items ws.old → FacetsStored shelf level.count (all_codes shelf n rows.entry.count inner level rows.entry.bytes.now at vertices.now.items ws.old) (all_labels shelf n rows.entry.count inner level rows.entry.bytes.now at vertices.now.items ws.old) (all_lists shelf n rows.entry.count inner level rows.entry.bytes.now at vertices.now.items ws.old) ws.old ws.new }
+fn keep_facets(ws: &mut [u8], shelf: Shelf, part: InnerPart)
+    requires { (shelf.end ≤ part.at) × (shelf.orbits < 256) × (shelf.facets + part.level.count ≤ 1024) × ((n : ℕ) × (inner : List Kept) × Source n part.rows.count inner part.level part.rows.bytes.now part.at part.vertices.now.items ws.old × FacetsRoom shelf n part.rows.count inner part.level part.rows.bytes.now part.at part.vertices.now.items ws.old) }
+    ensures { (n : ℕ) (inner : List Kept) → Source n part.entry.rows.count inner part.entry.level part.entry.rows.bytes.now part.entry.at part.entry.vertices.now.items ws.old → FacetsStored shelf part.entry.level.count (all_codes shelf n part.entry.rows.count inner part.entry.level part.entry.rows.bytes.now part.entry.at part.entry.vertices.now.items ws.old) (all_labels shelf n part.entry.rows.count inner part.entry.level part.entry.rows.bytes.now part.entry.at part.entry.vertices.now.items ws.old) (all_lists shelf n part.entry.rows.count inner part.entry.level part.entry.rows.bytes.now part.entry.at part.entry.vertices.now.items ws.old) ws.old ws.new }
 {
-    for k in 0..level.count {
-        keep_facet(ws, shelf, at, level, k, rows, vertices);
+    for k in 0..part.level.count {
+        keep_facet(ws, shelf, part, k);
     }
 }
 
 // The facets of the next orbit of a call of rank 4: the entries of its inner call of rank 3, which has left its answer from a place behind the shelf on. Its rows are `rows`.
-// The place stays an argument, though the one caller gives the shelf's end: without it the contract would serve fewer places than it does.
+// The place stays an argument: the function promises this for any place behind the shelf, and one that took the shelf's end as the place would ask more.
 pub fn keep_polygons(
     ws: &mut [u8],
     shelf: Shelf,
@@ -136,7 +126,13 @@ pub fn keep_polygons(
     ensures keeps { (kept inner : List Kept) (i : Inner) (left : ℕ) → Keeps n shelf kept ws.old → Ridges shelf kept ws.old → InnerLeft n shelf at rows.entry.count inner level rows.entry.bytes.now ws.old → i.orbit ≡ orbit_of n (orbit_at ws.old shelf.orbits) → i.answer ≡ inner_answer n shelf at rows.entry.count inner level rows.entry.bytes.now ws.old left → Keeps n result (kept ++ (kept_of i ∷ [])) ws.new × Ridges result (kept ++ (kept_of i ∷ [])) ws.new }
 {
     let vertices = sets::vertices_of(u32::get(ws, 8 * shelf.orbits), n);
-    store_ridges(ws, at, level, shelf.ridges, shelf.places, &vertices);
-    keep_facets(ws, shelf, at, level, rows, &vertices);
+    let part = InnerPart {
+        at,
+        level,
+        rows,
+        vertices: &vertices,
+    };
+    store_ridges(ws, part, shelf.ridges, shelf.places);
+    keep_facets(ws, shelf, part);
     keep::one_more(shelf, level.count)
 }

@@ -6,6 +6,7 @@
 ghost use Rattle.std.specs.Prelude.{◌≡◌, ◌+◌, ◌*◌, ◌^◌, ◌≤◌, ◌<◌, length};
 ghost use Rattle.job.specs.Refusal.{checked_of};
 ghost use Rattle.definitions.specs.Outcome.{answered};
+ghost use Rattle.orbits.specs.Workspace.{orbits_room};
 
 use load::{Fields, Job};
 use openers::{PairSearch, Rows};
@@ -141,7 +142,7 @@ fn list_found(
 // A job of rank 3 or 4 that passes the refusals before the call. That it passes stays a clause: this function alone asks it, of the one that checked it. So does the length of the workspace, here and
 // below: the function writes the workspace that it speaks of.
 fn list_call(rt: &impl Print, job: &[u8], fields: Fields, ws: &mut [u8]) -> io::Result<()>
-    requires { (answered fields ≡ checked_of job.now 4194304) × (3 ≤ fields.rank) × (124928 ≤ length ws.old) }
+    requires { (answered fields ≡ checked_of job.now 4194304) × (3 ≤ fields.rank) × (orbits_room ≤ length ws.old) }
 {
     let job = Job { bytes: job, fields };
     let points = job.points();
@@ -167,7 +168,7 @@ fn list_call(rt: &impl Print, job: &[u8], fields: Fields, ws: &mut [u8]) -> io::
 
 // One job's lines. A call of rank 2 has no hyperplane orbits.
 fn list_job(rt: &impl Print, job: &[u8], ws: &mut [u8]) -> io::Result<()>
-    requires { 124928 ≤ length ws.old }
+    requires { orbits_room ≤ length ws.old }
 {
     match job::check(job, 4194304) {
         Err(e) => println!(rt; " refused {e}"),
@@ -182,13 +183,13 @@ fn list_job(rt: &impl Print, job: &[u8], ws: &mut [u8]) -> io::Result<()>
 
 // Each job, up to one that is not there whole. No `for`: each step is as long as the job that it reads.
 fn list_jobs(rt: &impl Print, input: &[u8], ws: &mut [u8]) -> io::Result<()>
-    requires { 124928 ≤ length ws.old }
+    requires { orbits_room ≤ length ws.old }
 {
     let mut number: usize = 0;
     let mut at = 0;
     while at + 2 <= input.len() {
         let from = at + 2;
-        let to = from + u16::get(input, at) as usize;
+        let to = from + usize::from(u16::get(input, at));
         if input.len() < to {
             return Ok(());
         }
@@ -200,12 +201,9 @@ fn list_jobs(rt: &impl Print, input: &[u8], ws: &mut [u8]) -> io::Result<()>
     Ok(())
 }
 
-// The bytes that `orbits::find_orbits` asks for.
-const ORBITS_ROOM: usize = 124928;
-
 fn main(rt: HostRuntime) -> io::Result<()> {
     let mut input = [0; 65536];
     let n = buffers::read_full(&mut rt.stdin(), &mut input)?;
-    let mut ws = [0; ORBITS_ROOM];
+    let mut ws = [0; orbits::ORBITS_ROOM];
     list_jobs(&rt, &input[..n], &mut ws)
 }

@@ -19,9 +19,13 @@ unfoldable pub orbits_in : List ℕ → ℕ → List Pair
 orbits_in ws zero = []
 orbits_in ws (suc count) = orbits_in ws count ++ ((number_at ws (8 * count) 4, number_at ws (8 * count + 4) 4) ∷ [])
 
+-- how many bytes the orbits of a call take: eight for each of 256, and behind them four for each of the sets seen, 120 for an orbit
+abbrev pub orbits_room : ℕ
+orbits_room = 8 * 256 + 4 * (120 * 256)
+
 -- what every step asks: space for 256 orbits of 120 sets each, and sets that ascend
 pub record OrbitsRoom (bound known count : ℕ) (ws : List ℕ) : Type 0 where
-  pub long : 124928 ≤ length ws
+  pub long : orbits_room ≤ length ws
   pub bound_fits : bound ≤ 256
   pub count_fits : count ≤ bound
   pub known_fits : known ≤ 120 * count

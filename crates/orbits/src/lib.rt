@@ -12,7 +12,7 @@ ghost use Rattle.sorted.specs.Ascending.{Ascending};
 ghost use Rattle.sorted.specs.Gathering.{Gathering};
 ghost use Rattle.openers.specs.Rows.{rows_in};
 ghost use Rattle.orbits.specs.Numbers.{image_numbers, may_open};
-ghost use Rattle.orbits.specs.Workspace.{seen_in, OrbitsRoom, Opened};
+ghost use Rattle.orbits.specs.Workspace.{seen_in, orbits_room, OrbitsRoom, Opened};
 ghost use Rattle.orbits.specs.Walks.{Walked, extensions, keeps_limits};
 ghost use Rattle.orbits.specs.Answers.{CallFits, PairsRise, pair_tuples, answer_in, orbits_or_refusal};
 
@@ -50,7 +50,7 @@ fn may_open(seen: Sorted, set: u32, n: usize, most: usize) -> bool
     requires { n ≤ 20 }
     ensures { result ≡ may_open n most (words 4 seen.entry.bytes.now seen.entry.count) set }
 {
-    seen.find(set).is_none() && stabilizers::place_in(set, n) <= most
+    seen.find(set).is_none() && sets::count_below(set, n) <= most
 }
 
 // The images of a set that were not seen, ascending.
@@ -66,6 +66,7 @@ fn gather_images(full: Symmetries, set: u32, seen: Sorted) -> ArrayVec<u32, 120>
     new
 }
 
+// `OrbitsRoom` stays a clause, here and below: the workspace that it speaks of is written, and a struct that held it would have each contract say besides that the loan is as it was.
 // An orbit more, or refusal 13 where there are as many as the bound allows: its first set, how many sets it has, and its sets among those seen.
 fn open_orbit(
     full: Symmetries,
@@ -109,6 +110,7 @@ struct Walk<'a> {
     bound: usize,
 }
 
+// That a tuple has points, and of the flattened points' dimension, stays a clause, here and in `extend`: it speaks of the tuple and of the walk, and the tuple is made longer from call to call.
 // [5.6] [5.7] A tuple opens an orbit where it makes a hyperplane whose set may open one.
 fn fit_tuple(
     walk: Walk,
@@ -178,7 +180,7 @@ fn pair_points(flat: &Points, v: usize, w: usize) -> Points
     pair
 }
 
-// Each pair's opener, in order, extended by so many vertices. The walk ends at a refusal.
+// Each pair's opener, in order, extended by so many vertices. The walk ends at a refusal. `PairsRise` stays a clause: this function alone asks it, of the answer of the one that found the pairs.
 fn walk_pairs(
     walk: Walk,
     pairs: &ArrayVec<(u8, u8), 190>,
@@ -191,8 +193,8 @@ fn walk_pairs(
 {
     let mut reached = state;
     for &(first, second) in pairs.as_slice() {
-        let v = first as usize;
-        let w = second as usize;
+        let v = usize::from(first);
+        let w = usize::from(second);
         let pair = pair_points(walk.search.flat, v, w);
         reached = extend(walk, &pair, v, w + 1, more, reached, ws)?;
     }
@@ -200,6 +202,7 @@ fn walk_pairs(
 }
 
 // [5.8] The most vertices of a set that opens an orbit: two on a line of a rank 3 call under rule 2.
+// The rule is a number and no enum: `find_orbits` takes any number, and a narrower type would ask more of its callers.
 fn most_vertices(rule: usize, more: usize, n: usize) -> usize
     ensures { result ≡ most_vertices rule more n }
 {
@@ -209,6 +212,9 @@ fn most_vertices(rule: usize, more: usize, n: usize) -> usize
     if more == 0 { 2 } else { n }
 }
 
+// The bytes that the orbits of a call take: eight for each of 256, and behind them four for each of the sets seen, 120 for an orbit.
+pub const ORBITS_ROOM: usize = 8 * 256 + 4 * (120 * 256);
+
 // How many hyperplane orbits a call has, or refusal 13 where there are more than the bound.
 pub fn find_orbits(
     search: Search,
@@ -217,7 +223,7 @@ pub fn find_orbits(
     bound: usize,
     ws: &mut [u8],
 ) -> Result<usize, Refusal>
-    requires { (bound ≤ 256) × (124928 ≤ length ws.old) }
+    requires { (bound ≤ 256) × (orbits_room ≤ length ws.old) }
     ensures { answer_in search.entry.flat.now.n result ws.new ≡ orbits_or_refusal bound (hyperplane_orbits search.entry.pairs.tolerance (limits_of search.entry.pairs.limits) rule more (points_of search.entry.pairs.points.now) (points_of search.entry.flat.now) (rows_in search.entry.flat.now.n search.entry.pairs.rows.count search.entry.pairs.rows.bytes.now)) }
 {
     let pairs = search.pairs.pair_openers();
@@ -234,6 +240,7 @@ pub fn find_orbits(
 // ---- reading an orbit
 
 // An orbit's first set as it is stored. Its vertices are its bits below n: nothing more is promised of its number, so what lies above is cut off.
+// Behind the set lies how many sets the orbit has. There is no struct of the two: most places, here and in the crates above, read or write one of them.
 pub fn set_at(ws: &[u8], k: usize, n: usize) -> u32
     requires { (8 * k + 4 ≤ length ws.now) × (n ≤ 20) }
     ensures { (result ≡ number_at ws.now (8 * k) 4 % 2 ^ n) × (result < 2 ^ n) }

@@ -1,8 +1,11 @@
 -- Numbers below a bound, none twice, tested one after the other: what is left decides. Leans on the definitions of packages.
 use Rattle.std.specs.Prelude.{◌≡◌, refl, Bool, true, false, not, ◌&&◌, ◌||◌, List, [], ◌∷◌, ℕ, zero, suc, ◌+◌, ◌-◌, ◌≤◌, ◌<◌, T, ltb, eqb, length, get_or, take, drop}
 use Rattle.std.proofs.Math.Path.{sym, ap}
-use Rattle.std.specs.List.{list_any}
-use Rattle.std.proofs.Common.{subst, ◌∙◌, ⊎_elim, arith, eq-eqb, ne_eqb, T_not, drop-cons}
+use Rattle.std.specs.List.{list_any, list_all, range_with_len}
+use native.Mathlib.Numerals.{add-one}
+use Rattle.std.proofs.Math.ListN.{drop_of_length-le}
+use Rattle.std.proofs.Common.{subst, ◌∙◌, ⊎_elim, arith, eq-eqb, ne_eqb, T_not, drop-cons, length-drop}
+use Rattle.std.proofs.Math.Seq.{take-length}
 use Rattle.std.proofs.Math.Decide.{ℕ_discrete}
 use Rattle.definitions.specs.Lists.{any_of, all_of, member_nat}
 use Rattle.definitions.specs.Noble.{distinct}
@@ -113,6 +116,38 @@ any_is_member v (y ∷ l) = rw (either_way (ℕ_discrete y v), any_is_member v l
     either_way : Dec (y ≡ v) → eqb y v ≡ eqb v y
     either_way (yes e) = eq-eqb y v e ∙ sym (eq-eqb v y (sym e))
     either_way (no n) = ne_eqb y v n ∙ sym (ne_eqb v y (λ e. n (sym e)))
+
+-- all of the items behind a place
+pub behind : (l : List ℕ) (k : ℕ) → take (length l - k) (drop k l) ≡ drop k l
+behind l k = rw (sym (length-drop k l)) (take-length (drop k l))
+
+-- whether an item stands again behind its place, asked of the items there
+pub any_behind : (l : List ℕ) (i : ℕ) → list_any (λ (y : ℕ). eqb y (get_or l i 0)) (take (length l - (i + 1)) (drop (i + 1) l)) ≡ member_nat (get_or l i 0) (drop (i + 1) l)
+any_behind l i = any_is_member (get_or l i 0) _ ∙ ap (member_nat (get_or l i 0)) (behind l (i + 1))
+
+-- ---- all places
+
+module _ (g : ℕ) where
+  one_more : (x : ℕ) (l : List ℕ) → ((ltb x g && not (member_nat x l)) && once_below g l) ≡ once_below g (x ∷ l)
+  unfolding once_below all_of distinct
+  one_more x l = swap (ltb x g) (not (member_nat x l)) (all_of (λ (v : ℕ). ltb v g) l) (distinct l)
+    where
+      swap : (a b c d : Bool) → ((a && b) && (c && d)) ≡ ((a && c) && (b && d))
+      swap false b c d = refl
+      swap true true c d = refl
+      swap true false true d = refl
+      swap true false false d = refl
+
+  -- each number is below g, and doesn't stand again behind its place
+  pub each_once : (l : List ℕ) → list_all (λ (i : ℕ). ltb (get_or l i 0) g && not (member_nat (get_or l i 0) (drop (i + 1) l))) (range_with_len 0 (length l)) ≡ once_below g l
+  unfolding once_below all_of distinct
+  each_once l = go 0 (length l) (omega arith)
+    where
+      go : (a many : ℕ) → a + many ≡ length l → list_all (λ (i : ℕ). ltb (get_or l i 0) g && not (member_nat (get_or l i 0) (drop (i + 1) l))) (range_with_len a many) ≡ once_below g (drop a l)
+      go a zero h = sym (ap (once_below g) (drop_of_length-le l (omega arith)))
+      go a (suc many) h =
+          rw (add-one a, drop-cons l a 0 (omega arith))
+          (ap (λ (b : Bool). (ltb (get_or l a 0) g && not (member_nat (get_or l a 0) (drop (suc a) l))) && b) (go (suc a) many (omega arith)) ∙ one_more (get_or l a 0) (drop (suc a) l))
 
 -- ---- places of different numbers
 

@@ -2,7 +2,8 @@
 
 #![tactic(auto)]
 
-ghost use Rattle.std.specs.Prelude.{◌≡◌, ◌+◌, ◌≤◌, T, length};
+ghost use Rattle.std.specs.Prelude.{◌≡◌, ◌+◌, ◌≤◌, ◌<◌, T, length, get_or, drop};
+ghost use Rattle.definitions.specs.Lists.{member_nat};
 ghost use Rattle.definitions.specs.Noble.{read_package, package_counts, package_good};
 ghost use Rattle.tallies.specs.Meaning.{PackageFits, package_in};
 ghost use Rattle.packages.specs.Once.{once_below};
@@ -14,20 +15,19 @@ use words::Word;
 
 // ---- the test
 
+// Whether the number at place i stands again behind it.
+fn stands_again(globals: &[u8], i: usize) -> bool
+    requires { i < length globals.now }
+    ensures { result ≡ member_nat (get_or globals.now i 0) (drop (i + 1) globals.now) }
+{
+    globals[i + 1..].contains(&globals[i])
+}
+
 // Whether numbers are below g, and none stands twice.
 fn globals_good(globals: &[u8], g: usize) -> bool
     ensures { result ≡ once_below g globals.now }
 {
-    for i in 0..globals.len() {
-        if g <= usize::from(globals[i]) {
-            return false;
-        }
-        let again = globals[i + 1..].contains(&globals[i]);
-        if again {
-            return false;
-        }
-    }
-    true
+    (0..globals.len()).all(|i| usize::from(globals[i]) < g && !stands_again(globals, i))
 }
 
 // The numbers at the front are in their ranges, and the package has the length that they state.
@@ -38,9 +38,9 @@ fn counts_good(pack: &[u8], n: usize) -> bool
     if pack.len() < 5 {
         return false;
     }
-    let rows = u16::get(pack, 0) as usize;
+    let rows = usize::from(u16::get(pack, 0));
     let size = usize::from(pack[2]);
-    let count = u16::get(pack, 3) as usize;
+    let count = usize::from(u16::get(pack, 3));
     if !job::between(1, 120, rows) {
         return false;
     }
@@ -61,7 +61,7 @@ pub fn package_good(pack: &[u8], n: usize) -> bool
     if !counts_good(pack, n) {
         return false;
     }
-    let rows = u16::get(pack, 0) as usize;
+    let rows = usize::from(u16::get(pack, 0));
     let size = usize::from(pack[2]);
     if !globals_good(&pack[5..5 + n], size) {
         return false;
@@ -85,9 +85,9 @@ pub fn load_package<'a>(
     ensures fits { PackageFits n result }
     ensures is { package_in n result ≡ read_package n pack.now }
 {
-    let rows = u16::get(pack, 0) as usize;
+    let rows = usize::from(u16::get(pack, 0));
     let size = usize::from(pack[2]);
-    let count = u16::get(pack, 3) as u32;
+    let count = u32::from(u16::get(pack, 3));
     load::copy_rows(pack, 5, n, 1, globals);
     load::copy_rows(pack, 5 + n, size, rows, full);
     let rows = Rows {

@@ -30,6 +30,8 @@ struct Counted {
 }
 
 // What the places of facet x say of the first ridge orbits. The lists of shares are read from their bytes, here and in `ones_of_facet`: `order::Pool` lends lists of u16 items, and a share has 32 bits.
+// A share and its ridge orbit are packed into one number, as an amount and its ridge orbit are below: a pool holds lists of numbers of one width, in bytes of the workspace that a caller lends, since there
+// is no heap.
 // Counted by hand: one walk counts for all ridge orbits, and notes the last share of each; `filter(..).count()` would walk the list once for each of them.
 fn count_places(shares: &[u8], x: usize, ridges: usize) -> [Counted; 190]
     requires { Sound 4 1024 shares.now × (x < count shares.now) × (ridges ≤ 190) }
@@ -58,6 +60,7 @@ fn amount(last: u32, places: u32) -> usize
 }
 
 // What facet x adds, as one list more: 4 × ridge orbit + amount for each ridge orbit where it adds something.
+// The loops go by the number of an item, here and below: an iterator of the items would hold on to the workspace that the loop writes.
 // `SharesLaid` and `AreaEmpty` stay clauses, and so do `Space` and `Given` below: each function writes the workspace that they speak of.
 fn touch_facet(ws: &mut [u8], desk: Desk, facets: usize, ridges: usize, x: usize)
     requires { SharesLaid desk ws.old × (x < count (shares_part desk ws.old)) × (ridges ≤ 190) × AreaEmpty desk.touched desk.ones 2 facets ws.old ridges 1 }

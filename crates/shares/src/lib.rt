@@ -37,6 +37,9 @@ pub struct Desk {
 }
 
 // The numbers of one orbit's ridges are one list more.
+// Two numbers are packed into one, here a ridge and its count, and below a ridge orbit and a share: a pool holds lists of numbers of one width, in bytes of the workspace that a caller lends, since there is
+// no heap.
+// The loops go by the number of an item, here and below: an iterator of the items would hold on to the workspace that the loop writes.
 // `Reads` and `AreaEmpty` stay clauses, and so does `Space` below: each function writes the workspace that they speak of.
 fn number_orbit(
     rows: Rows,
@@ -83,12 +86,12 @@ fn share_code(ws: &[u8], shelf: Shelf, desk: Desk, counts: &[u32], o: usize, a: 
 {
     let own = u32::get(&ws[0..2048], 8 * o + 4);
     let inner = pool::item::<u32>(&ws[shelf.ridges..shelf.places], 256, o, a) / 65536;
-    let ridge = pool::item::<u16>(&ws[desk.numbers..desk.shares], 256, o, a);
+    let ridge = u32::from(pool::item::<u16>(&ws[desk.numbers..desk.shares], 256, o, a));
     let all = counts[ridge as usize];
     if all == 0 {
-        return ridge as u32;
+        return ridge;
     }
-    ridge as u32 + 65536 * (own * inner / all)
+    ridge + 65536 * (own * inner / all)
 }
 
 // The shares of facet x, as one list more.
@@ -96,10 +99,10 @@ fn share_facet(ws: &mut [u8], shelf: Shelf, desk: Desk, counts: &[u32], x: usize
     requires { Orders shelf desk (length ws.old) × SourcesFit (sources_of shelf desk ws.old) counts.now shelf.facets × (x < shelf.facets) × AreaEmpty desk.shares desk.touched 4 1024 ws.old (length (places_in (sources_of shelf desk ws.old) x)) 1 }
     ensures { AreaGrown desk.shares desk.touched 4 1024 ws.old ws.new (facet_codes (sources_of shelf desk ws.old) counts.now x ∷ []) }
 {
-    let o = u16::get(&ws[shelf.owners..shelf.ridges], 2 * x) as usize;
+    let o = usize::from(u16::get(&ws[shelf.owners..shelf.ridges], 2 * x));
     let n = pool::list_length(&ws[shelf.places..shelf.end], x) as usize;
     for i in 0..n {
-        let a = pool::item::<u16>(&ws[shelf.places..shelf.end], 1024, x, i) as usize;
+        let a = usize::from(pool::item::<u16>(&ws[shelf.places..shelf.end], 1024, x, i));
         let code = share_code(ws, shelf, desk, counts, o, a);
         pool::push(&mut ws[desk.shares..desk.touched], 1024, code);
     }

@@ -10,7 +10,8 @@ ghost use Rattle.shelf.specs.Areas.{area_of};
 use order::Area;
 
 // Where the areas begin, and how many orbits and facets are kept. What writes takes the workspace beside it: a struct that held both would have each contract say besides that the
-// places and the loan are as they were, and so that the areas fit a workspace (`ShelfFits`) stays a clause of what writes. The areas are bytes of that workspace, since a caller lends all memory.
+// places and the loan are as they were, and so that the areas fit a workspace (`ShelfFits`) stays a clause of what writes. The areas are bytes of that workspace, since a caller lends all memory; each is cut by its two places where it
+// is read or written.
 #[derive(Clone, Copy)]
 pub struct Shelf {
     pub orbits: usize,
@@ -25,6 +26,7 @@ pub struct Shelf {
 
 // What a call leaves: the shelf, a pool of `extent` bytes at `emitted` with the lists as the search emitted them, and an area with its entries' split lists. From `lists` on there are a pool of
 // `bytes` bytes, whose list k is the emitted list k split, the numbers of its lists in the entries' order, and at `bytes` + 2,048 the entries' labels. Where nothing is split both pools are one.
+// What writes takes the workspace beside it, as of `Shelf`.
 #[derive(Clone, Copy)]
 pub struct Level {
     pub shelf: Shelf,

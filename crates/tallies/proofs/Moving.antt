@@ -12,18 +12,21 @@ use borrow.Author.Tests.{le-leb, lt-leb}
 use lib.Dec.{leb}
 use lib.ListN.{length, get_or, take, drop, replicate, length-drop, get_or-append}
 use lib.Seq.{take_all, get_or_at}
+use Rattle.std.specs.List.{copy_within}
+use Rattle.std.proofs.Common.{append_assoc, drop-drop}
 use Rattle.definitions.specs.Lists.{Pair, keep}
 use Rattle.definitions.specs.Orbits.{Row, set_image}
-use Rattle.definitions.specs.Job.{number_at}
+use Rattle.definitions.specs.Job.{little, number_at}
 use Rattle.definitions.specs.Noble.{kept_by}
 use Rattle.laws.specs.Parts.{length_rows}
-use Rattle.laws.specs.Segments.{le_or_lt, placed, part_placed, take_placed, placed_length}
+use Rattle.laws.specs.Merging.{moved}
+use Rattle.laws.specs.Segments.{le_or_lt, part, placed, part_length, part_part, part_placed, part_placed_off, take_placed, drop_placed, placed_length}
 use Rattle.laws.specs.Sets.{set_number, vertices_of}
-use Rattle.words.specs.Words.{words, words_length, put, put_length, drop_put, take_put, number_at_put, number_at_put_off, number_at_take}
+use Rattle.words.specs.Words.{words, words_length, number_at_take}
 use Rattle.sorted.specs.Ascending.{Ascending}
 use Rattle.openers.specs.Rows.{rows_in, row_at}
 use Rattle.orbits.specs.Numbers.{orbit_of}
-use Rattle.orbits.specs.Workspace.{orbits_in, orbits_length, orbits_front}
+use Rattle.orbits.specs.Workspace.{orbits_in, orbits_room, orbits_length, orbits_front}
 use Rattle.orbits.specs.Answers.{rows_permute}
 use Rattle.tallies.specs.Marks.{latest, TalliesBelow}
 use Rattle.tallies.specs.Counts.{Counted, count_one, count_all, count_more, none_counted, pair_key, sum_by, keeps_pair, keep_pairs, most_weight, CountFits, none_fits, one_fits, all_fit}
@@ -80,6 +83,38 @@ same_front ws v n h e = sym (orbits_front ws 2048 n (omega arith)) ∙ (ap (λ (
 same_number : (ws v : List ℕ) (at : ℕ) → at + 4 ≤ 2048 → take 2048 ws ≡ take 2048 v → number_at ws at 4 ≡ number_at v at 4
 same_number ws v at h e = sym (number_at_take ws 2048 at 4 h) ∙ (ap (λ (l : List ℕ). number_at l at 4) e ∙ number_at_take v 2048 at 4 h)
 
+-- an orbit's bytes at another place
+pub orbit_moved : (ws : List ℕ) (from to : ℕ) → copy_within ws (8 * from) (8 * from + 8) (8 * to) ≡ placed (8 * to) 8 ws (part (8 * from) 8 ws)
+orbit_moved ws from to =
+    moved ws (8 * from) 8 (8 * to)
+    ∙ (append_assoc (take (8 * to) ws) (part (8 * from) 8 ws) (drop (8 * to + 8) ws)
+    ∙ ap (λ (l : List ℕ). take (8 * to) ws ++ (part (8 * from) 8 ws ++ l)) (sym (drop-drop 8 (8 * to) ws)))
+
+-- a number of it there
+moved_number : (ws : List ℕ) (from to b : ℕ) → b + 4 ≤ 8 → 8 * from + 8 ≤ length ws → 8 * to ≤ length ws
+    → number_at (placed (8 * to) 8 ws (part (8 * from) 8 ws)) (8 * to + b) 4 ≡ number_at ws (8 * from + b) 4
+unfolding number_at
+moved_number ws from to b h there here =
+    let orbit = part (8 * from) 8 ws in
+    let same = part_placed (8 * to) 8 ws orbit here (part_length (8 * from) 8 ws there) in
+    ap little (sym (part_part b 4 (8 * to) 8 (placed (8 * to) 8 ws orbit) h) ∙ (ap (part b 4) same ∙ part_part b 4 (8 * from) 8 ws h))
+
+-- a number elsewhere
+kept_number : (ws : List ℕ) (from to at : ℕ) → 8 * from + 8 ≤ length ws → 8 * to ≤ length ws → 8 * to + 8 ≤ at
+    → number_at (placed (8 * to) 8 ws (part (8 * from) 8 ws)) at 4 ≡ number_at ws at 4
+unfolding number_at
+kept_number ws from to at there here off = ap little (part_placed_off (8 * to) 8 ws (part (8 * from) 8 ws) at 4 here (part_length (8 * from) 8 ws there) (inr off))
+
+pair_same : {a b c d : ℕ} → a ≡ b → c ≡ d → ◌≡◌ {A = Pair} (a, c) (b, d)
+pair_same p q = rw (p, q) refl
+
+moved_at : (ws : List ℕ) (from to : ℕ) → 8 * from + 8 ≤ length ws → 8 * to ≤ length ws → orbit_at (placed (8 * to) 8 ws (part (8 * from) 8 ws)) to ≡ orbit_at ws from
+moved_at ws from to there here =
+    let z : 8 * to + 0 ≡ 8 * to = omega arith in
+    let y : 8 * from + 0 ≡ 8 * from = omega arith in
+    let first = moved_number ws from to 0 (omega arith) there here in
+    pair_same (rw (z, y) at first) (moved_number ws from to 4 (omega arith) there here)
+
 -- count × orbit size
 pub weight_small : (count size : ℕ) → count ≤ 65535 → size < 4294967296 → count * size ≤ most_weight
 weight_small count size h g = let k : size ≤ 4294967295 = omega arith in let m = mul-le-mul h k in omega arith
@@ -93,7 +128,7 @@ pub record TalliedTo (n count : ℕ) (globals : Row) (g : ℕ) (rows : List Row)
   pub counted : counted_in known tallies (drop 2048 ws) images sums ≡ count_all n globals g rows count none_counted (orbits_in ws₀ i)
   pub light : (j : ℕ) → j < i → count * number_at ws₀ (8 * j + 4) 4 ≤ most_weight
 
-module _ (n count : ℕ) (globals : Row) (g : ℕ) (rows : List Row) (ws₀ : List ℕ) (some_row : 0 < length rows) (few_rows : length rows ≤ 120) (room : 124928 ≤ length ws₀) where
+module _ (n count : ℕ) (globals : Row) (g : ℕ) (rows : List Row) (ws₀ : List ℕ) (some_row : 0 < length rows) (few_rows : length rows ≤ 120) (room : orbits_room ≤ length ws₀) where
   none_held : (images sums : List ℕ) → images ≡ replicate 256 0 → sums ≡ replicate 256 0 → counted_in 0 0 (drop 2048 ws₀) images sums ≡ none_counted
   unfolding counted_in none_counted words
   none_held images sums a b = rw (a, b) refl
@@ -221,54 +256,44 @@ module _ (n : ℕ) (globals : Row) (marks sums ws₀ : List ℕ) (orbits : ℕ) 
       rest = λ j g. m.rest j (omega arith);
     }
 
-    abbrev first : List ℕ
-    first = put 4 ws (8 * kept) (number_at ws (8 * i) 4)
+    abbrev pub brought : List ℕ
+    brought = placed (8 * kept) 8 ws (part (8 * i) 8 ws)
 
-    abbrev pub both : List ℕ
-    both = put 4 first (8 * kept + 4) (number_at ws (8 * i + 4) 4)
+    there : 8 * i + 8 ≤ length ws
+    there = omega (arith, m.long)
 
-    first_long : length first ≡ length ws
-    first_long = put_length 4 ws (8 * kept) (number_at ws (8 * i) 4)
+    here : 8 * kept ≤ length ws
+    here = omega (arith, m.long, m.fewer)
 
-    pub moved_kept : 2 ≤ sum → number_at ws (8 * i) 4 < 4294967296 → number_at ws (8 * i + 4) 4 < 4294967296 → MovedTo n globals marks sums ws₀ orbits (i + 1) (kept + 1) both
-    moved_kept s small-set small_size = record {
-      long = put_length 4 first (8 * kept + 4) (number_at ws (8 * i + 4) 4) ∙ (first_long ∙ m.long);
-      behind = drop_put 4 first (8 * kept + 4) _ 2048 (omega (arith, m.fewer)) ∙ (drop_put 4 ws (8 * kept) _ 2048 (omega (arith, m.fewer)) ∙ m.behind);
+    orbit_long : length (part (8 * i) 8 ws) ≡ 8
+    orbit_long = part_length (8 * i) 8 ws there
+
+    pub moved_kept : 2 ≤ sum → MovedTo n globals marks sums ws₀ orbits (i + 1) (kept + 1) brought
+    moved_kept s = record {
+      long = placed_length (8 * kept) 8 ws _ (omega (arith, m.long, m.fewer)) orbit_long ∙ m.long;
+      behind = drop_placed (8 * kept) 8 ws _ 2048 here orbit_long (omega (arith, m.fewer)) ∙ m.behind;
       fewer = omega (arith, m.fewer);
-      front = orbits_more both kept ∙ (ap2_append before at_kept ∙ sym (next true (le-leb 2 sum s)));
+      front = orbits_more brought kept ∙ (ap2_append before (moved_at ws i kept there here ∙ m.rest i (omega arith)) ∙ sym (next true (le-leb 2 sum s)));
       rest = λ j g. off j g ∙ m.rest j (omega arith);
     }
       where
-        before : orbits_in both kept ≡ keep_pairs n globals marks sums (orbits_in ws₀ i)
+        before : orbits_in brought kept ≡ keep_pairs n globals marks sums (orbits_in ws₀ i)
         before =
-            sym (orbits_front both (8 * kept) kept (omega arith))
-            ∙ (ap (λ (l : List ℕ). orbits_in l kept) (take_put 4 first (8 * kept + 4) _ (8 * kept) (omega arith) ∙ take_put 4 ws (8 * kept) _ (8 * kept) (omega arith))
+            sym (orbits_front brought (8 * kept) kept (omega arith))
+            ∙ (ap (λ (l : List ℕ). orbits_in l kept) (take_placed (8 * kept) 8 ws _ (8 * kept) here (omega arith))
             ∙ (orbits_front ws (8 * kept) kept (omega arith) ∙ m.front))
 
-        at_kept : orbit_at both kept ≡ orbit_at ws₀ i
-        at_kept =
-            pair_same
-            (number_at_put_off 4 first (8 * kept + 4) _ (8 * kept) 4 (inl (omega arith)) ∙ number_at_put 4 ws (8 * kept) _ (omega (arith, m.long, m.fewer)) (omega arith))
-            (number_at_put 4 first (8 * kept + 4) _ (omega (arith, m.long, m.fewer, first_long)) (omega arith))
-            ∙ m.rest i (omega arith)
-          where
-            pair_same : {a b c d : ℕ} → a ≡ b → c ≡ d → ◌≡◌ {A = Pair} (a, c) (b, d)
-            pair_same p q = rw (p, q) refl
-
-        off : (j : ℕ) → i + 1 ≤ j → orbit_at both j ≡ orbit_at ws j
+        off : (j : ℕ) → i + 1 ≤ j → orbit_at brought j ≡ orbit_at ws j
         off j g = pair_same
-            (number_at_put_off 4 first (8 * kept + 4) _ (8 * j) 4 (inr (omega (arith, m.fewer))) ∙ number_at_put_off 4 ws (8 * kept) _ (8 * j) 4 (inr (omega (arith, m.fewer))))
-            (number_at_put_off 4 first (8 * kept + 4) _ (8 * j + 4) 4 (inr (omega (arith, m.fewer))) ∙ number_at_put_off 4 ws (8 * kept) _ (8 * j + 4) 4 (inr (omega (arith, m.fewer))))
-          where
-            pair_same : {a b c d : ℕ} → a ≡ b → c ≡ d → ◌≡◌ {A = Pair} (a, c) (b, d)
-            pair_same p q = rw (p, q) refl
+            (kept_number ws i kept (8 * j) there here (omega (arith, m.fewer)))
+            (kept_number ws i kept (8 * j + 4) there here (omega (arith, m.fewer)))
 
         ap2_append : {a b : List Pair} {x y : Pair} → a ≡ b → x ≡ y → a ++ (x ∷ []) ≡ b ++ (y ∷ [])
         ap2_append p q = rw (p, q) refl
 
 -- ---- all of it
 
-module _ (n orbits : ℕ) (whole : Package) (ws₀ : List ℕ) (f : PackageFits n whole) (few : orbits ≤ 256) (room : 124928 ≤ length ws₀)
+module _ (n orbits : ℕ) (whole : Package) (ws₀ : List ℕ) (f : PackageFits n whole) (few : orbits ≤ 256) (room : orbits_room ≤ length ws₀)
     (light : WeightsFit whole.count orbits ws₀) where
   abbrev rows : List Row
   rows = rows_in whole.full.n whole.full.rows.count whole.full.rows.bytes.now
@@ -306,7 +331,7 @@ module _ (n orbits : ℕ) (whole : Package) (ws₀ : List ℕ) (f : PackageFits 
     unfolding counted_in
     marks_below = rw (marks_are, ap (λ (c : Counted). c.tallies) counted) end_fits.below
 
-    pub marks_few : 2048 + 4 * known ≤ 124928
+    pub marks_few : 2048 + 4 * known ≤ orbits_room
     marks_few =
         let a : known ≡ length end.marks = sym (words_length 4 (drop 2048 ws) known) ∙ ap length marks_are in
         omega (arith, end_fits.few_marks, end_fits.few_tallies, orbits_length ws₀ orbits)

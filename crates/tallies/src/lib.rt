@@ -7,16 +7,16 @@
 
 ghost use Rattle.std.specs.Prelude.{◌≡◌, [], map, ◌+◌, ◌*◌, ◌/◌, ◌≤◌, ◌<◌, length, get_or, take, drop, set};
 ghost use Rattle.std.specs.Prelude.{None};
-ghost use Rattle.definitions.specs.Job.{number_at};
 ghost use Rattle.definitions.specs.Orbits.{set_image};
 ghost use Rattle.definitions.specs.Noble.{kept_by};
+ghost use Rattle.laws.specs.Segments.{part, placed};
 ghost use Rattle.laws.specs.Sets.{set_number, vertices_of};
-ghost use Rattle.words.specs.Words.{words, put};
+ghost use Rattle.words.specs.Words.{words};
 ghost use Rattle.sorted.specs.Ascending.{Ascending};
 ghost use Rattle.sorted.specs.Gathering.{added};
 ghost use Rattle.openers.specs.Rows.{rows_in, row_at};
 ghost use Rattle.orbits.specs.Numbers.{image_numbers, orbit_of};
-ghost use Rattle.orbits.specs.Workspace.{orbits_in};
+ghost use Rattle.orbits.specs.Workspace.{orbits_in, orbits_room};
 ghost use Rattle.tallies.specs.Marks.{latest, mark_number, TalliesBelow};
 ghost use Rattle.tallies.specs.Counts.{count_by, count_one, count_all, sum_by, none_counted, keep_pairs, most_weight};
 ghost use Rattle.tallies.specs.Meaning.{GlobalsFit, PackageFits, package_in, images_in, sums_in, listed_in, ListFits, WeightsFit};
@@ -136,8 +136,9 @@ fn key_of(whole: Package, n: usize, set: u32) -> u32
 }
 
 // The tallies of all orbits, in order.
+// The loops go by the number of an orbit, here and below: an iterator of the orbits would hold on to the workspace that the loop writes.
 fn tally_orbits(whole: Package, n: usize, orbits: usize, ws: &mut [u8]) -> Tallies
-    requires { PackageFits n whole × (orbits ≤ 256) × (124928 ≤ length ws.old) }
+    requires { PackageFits n whole × (orbits ≤ 256) × (orbits_room ≤ length ws.old) }
     ensures counted { listed_in result.known (drop 2048 ws.new) result.tallies.items ≡ count_all n (row_at n 0 whole.entry.globals.now) whole.entry.full.n (rows_in whole.entry.full.n whole.entry.full.rows.count whole.entry.full.rows.bytes.now) whole.entry.count none_counted (orbits_in ws.old orbits) }
     ensures front { take 2048 ws.new ≡ take 2048 ws.old }
     ensures light { WeightsFit whole.entry.count orbits ws.old }
@@ -148,7 +149,7 @@ fn tally_orbits(whole: Package, n: usize, orbits: usize, ws: &mut [u8]) -> Talli
     };
     for i in 0..orbits {
         let key = key_of(whole, n, u32::get(ws, 8 * i));
-        let weight = whole.count as u64 * u32::get(ws, 8 * i + 4) as u64;
+        let weight = u64::from(whole.count) * u64::from(u32::get(ws, 8 * i + 4));
         tallies.add_orbit(whole, key, weight, &mut ws[2048..]);
     }
     tallies
@@ -170,16 +171,13 @@ fn sum_of(marks: Sorted, key: u32, tallies: &[Tally]) -> u64
 // Orbit `from` is written at place `to` too.
 fn move_orbit(ws: &mut [u8], from: usize, to: usize)
     requires { (8 * from + 8 ≤ length ws.old) × (to ≤ from) }
-    ensures small { (number_at ws.old (8 * from) 4 < 4294967296) × (number_at ws.old (8 * from + 4) 4 < 4294967296) }
-    ensures moved { ws.new ≡ put 4 (put 4 ws.old (8 * to) (number_at ws.old (8 * from) 4)) (8 * to + 4) (number_at ws.old (8 * from + 4) 4) }
+    ensures { ws.new ≡ placed (8 * to) 8 ws.old (part (8 * from) 8 ws.old) }
 {
-    let set = u32::get(ws, 8 * from);
-    let size = u32::get(ws, 8 * from + 4);
-    u32::put(ws, 8 * to, set);
-    u32::put(ws, 8 * to + 4, size);
+    ws.copy_within(8 * from..8 * from + 8, 8 * to);
 }
 
 // The orbits whose key's tally is 2 or more, moved together; returns how many there are.
+// `Ascending` stays a clause: the function writes the workspace that it speaks of.
 // Counted by hand: the count is the place of the next orbit that is written, and in the end the answer. No `filter`: it would hold on to the region that the loop writes.
 fn move_together(whole: Package, n: usize, orbits: usize, tallies: &Tallies, ws: &mut [u8]) -> usize
     requires { GlobalsFit n whole.full.n whole.globals.now × (orbits ≤ 256) × (2048 + 4 * tallies.now.known ≤ length ws.old) × Ascending (words 4 (drop 2048 ws.old) tallies.now.known) × TalliesBelow (length tallies.now.tallies.items) (words 4 (drop 2048 ws.old) tallies.now.known) }
@@ -204,7 +202,7 @@ fn move_together(whole: Package, n: usize, orbits: usize, tallies: &Tallies, ws:
 // [17.6] The first `orbits` orbits of a workspace become those that the package keeps; returns how many there are. The
 // workspace is that of `orbits`; the region of the sets seen holds the marks.
 pub fn keep_orbits(whole: Package, n: usize, orbits: usize, ws: &mut [u8]) -> usize
-    requires { PackageFits n whole × (orbits ≤ 256) × (124928 ≤ length ws.old) }
+    requires { PackageFits n whole × (orbits ≤ 256) × (orbits_room ≤ length ws.old) }
     ensures few { result ≤ orbits }
     ensures kept { map (orbit_of n) (orbits_in ws.new result) ≡ kept_by (package_in n whole.entry) (map (orbit_of n) (orbits_in ws.old orbits)) }
 {

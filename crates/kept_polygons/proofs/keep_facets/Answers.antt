@@ -5,21 +5,21 @@ use Rattle.kept_polygons.specs.Facets.{source_kept, so_far_none, so_far_next, so
 use Rattle.kept_polygons.proofs.keep_facets.Goals as goal
 
 pub loop-k-init : goal.loop-k-init
-loop-k-init c = (omega arith, λ n inner src. so_far_none c.args.shelf n c.args.rows.count inner c.args.level c.args.rows.bytes.now c.args.at c.args.vertices.now.items c.args.ws.now)
+loop-k-init c = (omega arith, λ n inner src. so_far_none c.args.shelf n c.args.part.rows.count inner c.args.part.level c.args.part.rows.bytes.now c.args.part.at c.args.part.vertices.now.items c.args.ws.now)
 
 pub keep_facet-requires : goal.keep_facet-requires
 keep_facet-requires c = let p = c.loop-k in let f = c.requires.3.3.stock.fits in let order : c.args.shelf.edges ≤ c.args.shelf.end = (omega (arith, f.edge_room, f.label_room, f.owner_room, f.ridge_room, f.place_room)) in
     let n = c.requires.3.0 in let inner = c.requires.3.1 in let src = c.requires.3.2 in let g = p.invariant.1 n inner src in
-    let rooms = so_far_rooms c.args.shelf n c.args.rows.count inner c.args.level c.args.rows.bytes.now c.args.at c.args.vertices.now.items c.args.ws.now g (omega arith) order c.requires.0 c.requires.3.3 in
+    let rooms = so_far_rooms c.args.shelf n c.args.part.rows.count inner c.args.part.level c.args.part.rows.bytes.now c.args.part.at c.args.part.vertices.now.items c.args.ws.now g (omega arith) order c.requires.0 c.requires.3.3 in
     (fits_after {shelf = c.args.shelf} f g.stored.within, c.requires.0, c.requires.1, c.requires.2, omega arith, (n, inner, source_kept c.args.shelf order c.requires.0 g.stored.within src, rooms.0, rooms.1))
 
 pub loop-k-preserved : goal.loop-k-preserved
 loop-k-preserved c = let p = c.loop-k in let f = c.requires.3.3.stock.fits in let order : c.args.shelf.edges ≤ c.args.shelf.end = (omega (arith, f.edge_room, f.label_room, f.owner_room, f.ridge_room, f.place_room)) in (
   omega arith,
   λ n inner src. let g = p.invariant.1 n inner src in
-      so_far_next c.args.shelf n c.args.rows.count inner c.args.level c.args.rows.bytes.now c.args.at c.args.vertices.now.items c.args.ws.now g (omega (arith, c.loop-k-test.true)) order c.requires.0 (c.keep_facet.ensures n inner (source_kept c.args.shelf order c.requires.0 g.stored.within src)),
+      so_far_next c.args.shelf n c.args.part.rows.count inner c.args.part.level c.args.part.rows.bytes.now c.args.part.at c.args.part.vertices.now.items c.args.ws.now g (omega (arith, c.loop-k-test.true)) order c.requires.0 (c.keep_facet.ensures n inner (source_kept c.args.shelf order c.requires.0 g.stored.within src)),
 )
 
 pub returns : goal.returns
 returns c = λ n inner src. let p = c.loop-k in let f = c.requires.3.3.stock.fits in let order : c.args.shelf.edges ≤ c.args.shelf.end = (omega (arith, f.edge_room, f.label_room, f.owner_room, f.ridge_room, f.place_room)) in
-    so_far_end c.args.shelf n c.args.rows.count inner c.args.level c.args.rows.bytes.now c.args.at c.args.vertices.now.items c.args.ws.now (p.invariant.1 n inner src) (omega arith)
+    so_far_end c.args.shelf n c.args.part.rows.count inner c.args.part.level c.args.part.rows.bytes.now c.args.part.at c.args.part.vertices.now.items c.args.ws.now (p.invariant.1 n inner src) (omega arith)

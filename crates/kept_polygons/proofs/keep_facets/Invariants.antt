@@ -6,4 +6,4 @@ use Rattle.kept_polygons.specs.Facets.{Source, SoFar}
 use Rattle.kept_polygons.proofs.keep_facets.Given as goal
 
 abbrev pub invariant-loop-k : goal.invariant-loop-k
-invariant-loop-k l = (l.k ≤ l.level.count) × ((n : ℕ) (inner : List Kept) → Source n l.rows.count inner l.level l.rows.bytes.now l.at l.vertices.items l.initial.ws → SoFar l.shelf n l.rows.count inner l.level l.rows.bytes.now l.at l.vertices.items l.initial.ws l.k l.ws)
+invariant-loop-k l = (l.k ≤ l.part.level.count) × ((n : ℕ) (inner : List Kept) → Source n l.part.rows.count inner l.part.level l.part.rows.bytes.now l.part.at l.part.vertices.now.items l.initial.ws → SoFar l.shelf n l.part.rows.count inner l.part.level l.part.rows.bytes.now l.part.at l.part.vertices.now.items l.initial.ws l.k l.ws)

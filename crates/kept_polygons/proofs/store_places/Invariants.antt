@@ -7,4 +7,4 @@ use Rattle.keep.specs.Storing.{Growing}
 use Rattle.kept_polygons.proofs.store_places.Given as goal
 
 abbrev pub invariant-loop-i : goal.invariant-loop-i
-invariant-loop-i l = (l.i ≤ l.items) × Growing 2 1024 l.from (l.to - l.from) l.initial.ws l.ws (take l.i (get_or (lists_left l.level (drop l.at l.initial.ws)) l.k []))
+invariant-loop-i l = (l.i ≤ l.items) × Growing 2 1024 l.from (l.to - l.from) l.initial.ws l.ws (take l.i (get_or (lists_left l.part.level (drop l.part.at l.initial.ws)) l.k []))

@@ -9,4 +9,4 @@ use Rattle.left_edges.specs.Reading.{ridges_moved}
 use Rattle.kept_polygons.proofs.store_ridges.Given as goal
 
 abbrev pub invariant-loop-a : goal.invariant-loop-a
-invariant-loop-a l = (l.a ≤ l.level.shelf.orbits) × ((n m : ℕ) (rows : List ℕ) (inner : List Kept) → EdgesLeft n m inner l.level rows (drop l.at l.initial.ws) → Growing 4 256 l.from (l.to - l.from) l.initial.ws l.ws (take l.a (ridges_moved l.vertices.items inner)))
+invariant-loop-a l = (l.a ≤ l.part.level.shelf.orbits) × ((n m : ℕ) (rows : List ℕ) (inner : List Kept) → EdgesLeft n m inner l.part.level rows (drop l.part.at l.initial.ws) → Growing 4 256 l.from (l.to - l.from) l.initial.ws l.ws (take l.a (ridges_moved l.part.vertices.now.items inner)))

@@ -52,7 +52,7 @@ loop-first-preserved c =
     let l = c.loop-first in
     let pairs = c.as_slice-first-items.result.now in (
       c.extend.auto.ws ∙ l.invariant.0,
-      walk_turn a.walk.search.pairs.tolerance a.walk.most (limits_of a.walk.search.pairs.limits) (points_of a.walk.search.pairs.points.now) (points_of a.walk.search.flat.now) a.walk.search.flat.now.n a.more (rows_in a.walk.search.flat.now.n a.walk.search.pairs.rows.count a.walk.search.pairs.rows.bytes.now) a.walk.bound a.state a.ws.now pairs l.first-index _ _ (points_of c.pair_points-pair.result) l.reached l.ws _ _ (omega arith) refl c.pair_points-pair.ensures.means l.invariant.1 c.in_ok-reached.ensures,
+      walk_turn a.walk.search.pairs.tolerance a.walk.most (limits_of a.walk.search.pairs.limits) (points_of a.walk.search.pairs.points.now) (points_of a.walk.search.flat.now) a.walk.search.flat.now.n a.more (rows_in a.walk.search.flat.now.n a.walk.search.pairs.rows.count a.walk.search.pairs.rows.bytes.now) a.walk.bound a.state a.ws.now pairs l.first-index c.from-v.result c.from-w.result (points_of c.pair_points-pair.result) l.reached l.ws _ _ (omega arith) (rw (c.from-v.ensures, c.from-w.ensures) refl) c.pair_points-pair.ensures.means l.invariant.1 c.in_ok-reached.ensures,
     )
 
 pub returns-in_err-reached : goal.returns-in_err-reached
@@ -60,7 +60,7 @@ returns-in_err-reached c =
     let a = c.args in
     let l = c.loop-first in
     let pairs = c.as_slice-first-items.result.now in
-    let turn = walk_turn a.walk.search.pairs.tolerance a.walk.most (limits_of a.walk.search.pairs.limits) (points_of a.walk.search.pairs.points.now) (points_of a.walk.search.flat.now) a.walk.search.flat.now.n a.more (rows_in a.walk.search.flat.now.n a.walk.search.pairs.rows.count a.walk.search.pairs.rows.bytes.now) a.walk.bound a.state a.ws.now pairs l.first-index _ _ (points_of c.pair_points-pair.result) l.reached l.ws _ _ (omega arith) refl c.pair_points-pair.ensures.means l.invariant.1 c.in_err-reached.ensures in
+    let turn = walk_turn a.walk.search.pairs.tolerance a.walk.most (limits_of a.walk.search.pairs.limits) (points_of a.walk.search.pairs.points.now) (points_of a.walk.search.flat.now) a.walk.search.flat.now.n a.more (rows_in a.walk.search.flat.now.n a.walk.search.pairs.rows.count a.walk.search.pairs.rows.bytes.now) a.walk.bound a.state a.ws.now pairs l.first-index c.from-v.result c.from-w.result (points_of c.pair_points-pair.result) l.reached l.ws _ _ (omega arith) (rw (c.from-v.ensures, c.from-w.ensures) refl) c.pair_points-pair.ensures.means l.invariant.1 c.in_err-reached.ensures in
     rw (handed_on _ _ c.from_residual.ensures.1, ← c.as_slice-first-items.ensures.value) (walk_ends_holds a.walk.search.pairs.tolerance a.walk.most (limits_of a.walk.search.pairs.limits) (points_of a.walk.search.pairs.points.now) (points_of a.walk.search.flat.now) a.walk.search.flat.now.n a.more (rows_in a.walk.search.flat.now.n a.walk.search.pairs.rows.count a.walk.search.pairs.rows.bytes.now) a.walk.bound a.state a.ws.now pairs (l.first-index + 1) _ _ turn)
 
 pub returns : goal.returns

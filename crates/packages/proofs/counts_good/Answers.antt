@@ -20,22 +20,22 @@ returns-then-pack-lt5 c = let a = c.args in counts_short a.n a.pack.now (omega a
 pub returns-then-not-between : goal.returns-then-not-between
 returns-then-not-between c =
     let a = c.args in
-    let rows = ap (between 1 120) c.get-rows.ensures in
+    let rows = ap (between 1 120) (c.from-rows.ensures ∙ c.get.ensures) in
     counts_rows a.n a.pack.now (sym rows ∙ (sym c.between.ensures ∙ c.if-not-between.true))
 
 pub returns-then-not-between-2 : goal.returns-then-not-between-2
 returns-then-not-between-2 c =
     let a = c.args in
-    let rows = ap (between 1 120) c.get-rows.ensures in
+    let rows = ap (between 1 120) (c.from-rows.ensures ∙ c.get.ensures) in
     let size = ap (between 2 20) c.from-size.ensures in
     counts_size a.n a.pack.now (sym rows ∙ (sym c.between.ensures ∙ c.if-not-between.false)) (sym size ∙ (sym c.between-2.ensures ∙ c.if-not-between-2.true))
 
 pub returns-then-not-between-3 : goal.returns-then-not-between-3
 returns-then-not-between-3 c =
     let a = c.args in
-    let rows = ap (between 1 120) c.get-rows.ensures in
+    let rows = ap (between 1 120) (c.from-rows.ensures ∙ c.get.ensures) in
     let size = ap (between 2 20) c.from-size.ensures in
-    let count = ap (between 1 65535) c.get-count.ensures in
+    let count = ap (between 1 65535) (c.from-count.ensures ∙ c.get-2.ensures) in
     counts_count a.n a.pack.now (sym rows ∙ (sym c.between.ensures ∙ c.if-not-between.false)) (sym size ∙ (sym c.between-2.ensures ∙ c.if-not-between-2.false))
     (sym count ∙ (sym c.between-3.ensures ∙ c.if-not-between-3.true))
 
@@ -56,9 +56,9 @@ overflow_add-result-2 c =
 pub returns : goal.returns
 returns c =
     let a = c.args in
-    let rows = ap (between 1 120) c.get-rows.ensures in
+    let rows = ap (between 1 120) (c.from-rows.ensures ∙ c.get.ensures) in
     let size = ap (between 2 20) c.from-size.ensures in
-    let count = ap (between 1 65535) c.get-count.ensures in
-    rw (c.get-rows.ensures, c.from-size.ensures)
+    let count = ap (between 1 65535) (c.from-count.ensures ∙ c.get-2.ensures) in
+    rw (c.from-rows.ensures, c.get.ensures, c.from-size.ensures)
     (counts_length a.n a.pack.now (sym rows ∙ (sym c.between.ensures ∙ c.if-not-between.false)) (sym size ∙ (sym c.between-2.ensures ∙ c.if-not-between-2.false))
     (sym count ∙ (sym c.between-3.ensures ∙ c.if-not-between-3.false)))

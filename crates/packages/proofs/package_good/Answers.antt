@@ -12,8 +12,8 @@ returns-then-not-counts_good c =
     let a = c.args in
     good_counts a.n a.pack.now (sym c.counts_good.ensures ∙ c.if-not-counts_good.true)
 
-pub get-rows-requires : goal.get-rows-requires
-get-rows-requires c =
+pub get-requires : goal.get-requires
+get-requires c =
     let a = c.args in
     let k = numbers a.n a.pack.now (true→holds (sym c.counts_good.ensures ∙ c.if-not-counts_good.false)) in
     omega (arith, k.long)
@@ -61,7 +61,7 @@ pub rows_good-requires : goal.rows_good-requires
 rows_good-requires c =
     let a = c.args in
     let k = numbers a.n a.pack.now (true→holds (sym c.counts_good.ensures ∙ c.if-not-counts_good.false)) in
-    rw (c.from-size.ensures, c.get-rows.ensures) (k.size_most, omega (arith, k.long))
+    rw (c.from-size.ensures, c.from-rows.ensures, c.get.ensures) (k.size_most, omega (arith, k.long))
 
 pub returns : goal.returns
 returns c =
@@ -70,5 +70,5 @@ returns c =
     let m : (5 + a.n) - 5 ≡ a.n = omega arith in
     let once = sym c.globals_good.ensures ∙ c.if-not-globals_good.false in
     let first = sym c.is_identity.ensures ∙ c.if-not-is_identity.false in
-    let all = rw (c.from-size.ensures, c.get-rows.ensures) at c.rows_good.ensures in
+    let all = rw (c.from-size.ensures, c.from-rows.ensures, c.get.ensures) at c.rows_good.ensures in
     all ∙ good_rows a.n a.pack.now counts (rw (c.from-size.ensures, m) at once) (rw c.from-size.ensures at first)

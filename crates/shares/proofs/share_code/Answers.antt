@@ -2,7 +2,7 @@
 use native.Mathlib.Omega.{arith}
 use Rattle.shares.proofs.Sharing.{orbit_few, orbit_asks, ridge_asks, number_asks, ridge_inside, product_small, part_small, code_made, code_none}
 use lib.ListN.{get_or}
-use mathlib.Core.Path.{refl}
+use mathlib.Core.Path.{refl, ◌∙◌}
 use Rattle.shares.proofs.share_code.Goals as goal
 
 pub overflow_mul-o : goal.overflow_mul-o
@@ -17,23 +17,23 @@ get-own-requires c = orbit_asks c.args.shelf c.args.desk c.args.ws.now c.args.co
 pub item-inner-requires : goal.item-inner-requires
 item-inner-requires c = ridge_asks c.args.shelf c.args.desk c.args.ws.now c.args.counts.now c.requires.0 c.requires.1 c.args.o c.requires.2 c.args.a c.requires.3
 
-pub item-ridge-requires : goal.item-ridge-requires
-item-ridge-requires c = number_asks c.args.shelf c.args.desk c.args.ws.now c.args.counts.now c.requires.0 c.requires.1 c.args.o c.requires.2 c.args.a c.requires.3
+pub item-requires : goal.item-requires
+item-requires c = number_asks c.args.shelf c.args.desk c.args.ws.now c.args.counts.now c.requires.0 c.requires.1 c.args.o c.requires.2 c.args.a c.requires.3
 
 pub bounds-counts-ridge : goal.bounds-counts-ridge
-bounds-counts-ridge c = omega (arith, ridge_inside c.args.shelf c.args.desk c.args.ws.now c.args.counts.now c.requires.0 c.requires.1 c.args.o c.requires.2 c.args.a c.requires.3 _ _ _ c.get-own.ensures c.item-inner.ensures c.item-ridge.ensures)
+bounds-counts-ridge c = omega (arith, ridge_inside c.args.shelf c.args.desk c.args.ws.now c.args.counts.now c.requires.0 c.requires.1 c.args.o c.requires.2 c.args.a c.requires.3 _ _ _ c.get-own.ensures c.item-inner.ensures (c.from-ridge.ensures ∙ c.item.ensures))
 
 pub returns-then-all-eq0 : goal.returns-then-all-eq0
-returns-then-all-eq0 c = code_none c.args.shelf c.args.desk c.args.ws.now c.args.counts.now c.requires.0 c.requires.1 c.args.o c.requires.2 c.args.a c.requires.3 _ _ _ c.get-own.ensures c.item-inner.ensures c.item-ridge.ensures _ refl c.if-all-eq0.true
+returns-then-all-eq0 c = code_none c.args.shelf c.args.desk c.args.ws.now c.args.counts.now c.requires.0 c.requires.1 c.args.o c.requires.2 c.args.a c.requires.3 _ _ _ c.get-own.ensures c.item-inner.ensures (c.from-ridge.ensures ∙ c.item.ensures) _ refl c.if-all-eq0.true
 
 pub overflow_mul-result : goal.overflow_mul-result
-overflow_mul-result c = omega (arith, product_small c.args.shelf c.args.desk c.args.ws.now c.args.counts.now c.requires.0 c.requires.1 c.args.o c.requires.2 c.args.a c.requires.3 _ _ _ c.get-own.ensures c.item-inner.ensures c.item-ridge.ensures)
+overflow_mul-result c = omega (arith, product_small c.args.shelf c.args.desk c.args.ws.now c.args.counts.now c.requires.0 c.requires.1 c.args.o c.requires.2 c.args.a c.requires.3 _ _ _ c.get-own.ensures c.item-inner.ensures (c.from-ridge.ensures ∙ c.item.ensures))
 
 pub overflow_mul-result-2 : goal.overflow_mul-result-2
-overflow_mul-result-2 c = omega (arith, part_small c.args.shelf c.args.desk c.args.ws.now c.args.counts.now c.requires.0 c.requires.1 c.args.o c.requires.2 c.args.a c.requires.3 _ _ _ c.get-own.ensures c.item-inner.ensures c.item-ridge.ensures (get_or c.args.counts.now c.item-ridge.result 0))
+overflow_mul-result-2 c = omega (arith, part_small c.args.shelf c.args.desk c.args.ws.now c.args.counts.now c.requires.0 c.requires.1 c.args.o c.requires.2 c.args.a c.requires.3 _ _ _ c.get-own.ensures c.item-inner.ensures (c.from-ridge.ensures ∙ c.item.ensures) (get_or c.args.counts.now c.from-ridge.result 0))
 
 pub overflow_add-result : goal.overflow_add-result
-overflow_add-result c = omega (arith, c.item-ridge.type_inv, part_small c.args.shelf c.args.desk c.args.ws.now c.args.counts.now c.requires.0 c.requires.1 c.args.o c.requires.2 c.args.a c.requires.3 _ _ _ c.get-own.ensures c.item-inner.ensures c.item-ridge.ensures (get_or c.args.counts.now c.item-ridge.result 0))
+overflow_add-result c = omega (arith, c.item.type_inv, c.from-ridge.ensures, part_small c.args.shelf c.args.desk c.args.ws.now c.args.counts.now c.requires.0 c.requires.1 c.args.o c.requires.2 c.args.a c.requires.3 _ _ _ c.get-own.ensures c.item-inner.ensures (c.from-ridge.ensures ∙ c.item.ensures) (get_or c.args.counts.now c.from-ridge.result 0))
 
 pub returns : goal.returns
-returns c = code_made c.args.shelf c.args.desk c.args.ws.now c.args.counts.now c.requires.0 c.requires.1 c.args.o c.requires.2 c.args.a c.requires.3 _ _ _ c.get-own.ensures c.item-inner.ensures c.item-ridge.ensures _ refl
+returns c = code_made c.args.shelf c.args.desk c.args.ws.now c.args.counts.now c.requires.0 c.requires.1 c.args.o c.requires.2 c.args.a c.requires.3 _ _ _ c.get-own.ensures c.item-inner.ensures (c.from-ridge.ensures ∙ c.item.ensures) _ refl

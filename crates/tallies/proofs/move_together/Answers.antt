@@ -27,7 +27,7 @@ loop-i-preserved c = let l = c.loop-i in
     let sum = sum_here l.ws c.args.ws.now c.args.tallies.now.known _ (sums_in c.args.tallies.now.tallies.items) _ (omega (arith, l.invariant.1.long, c.requires.2)) l.invariant.1.behind (rw c.as_slice.ensures.value at c.sum_of.ensures) in (
       omega arith,
       elim c.if-sum_of-ge2.branch [
-        | then-sum_of-ge2 w ↦ rw (w.kept-is, w.ws-is, w.move_orbit.ensures.moved) (moved_kept c.args.n (row_at c.args.n 0 c.args.whole.globals.now) (words 4 (drop 2048 c.args.ws.now) c.args.tallies.now.known) (sums_in c.args.tallies.now.tallies.items) c.args.ws.now c.args.orbits c.requires.1 (omega (arith, c.requires.2)) l.i l.kept l.ws l.invariant.1 (omega arith) _ key _ sum w.if-sum_of-ge2.true w.move_orbit.ensures.small.0 w.move_orbit.ensures.small.1)
+        | then-sum_of-ge2 w ↦ rw (w.kept-is, w.ws-is, w.move_orbit.ensures) (moved_kept c.args.n (row_at c.args.n 0 c.args.whole.globals.now) (words 4 (drop 2048 c.args.ws.now) c.args.tallies.now.known) (sums_in c.args.tallies.now.tallies.items) c.args.ws.now c.args.orbits c.requires.1 (omega (arith, c.requires.2)) l.i l.kept l.ws l.invariant.1 (omega arith) _ key _ sum w.if-sum_of-ge2.true)
         | else-sum_of-ge2 w ↦ rw (w.kept-is, w.ws-is) (moved_past c.args.n (row_at c.args.n 0 c.args.whole.globals.now) (words 4 (drop 2048 c.args.ws.now) c.args.tallies.now.known) (sums_in c.args.tallies.now.tallies.items) c.args.ws.now c.args.orbits c.requires.1 (omega (arith, c.requires.2)) l.i l.kept l.ws l.invariant.1 (omega arith) _ key _ sum (omega (arith, w.if-sum_of-ge2.false)))
       ],
     )
