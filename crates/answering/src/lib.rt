@@ -23,10 +23,11 @@ use calls::Called;
 use facet_images::Ids;
 use load::Fields;
 use openers::Rows;
+use polyhedra::Imaged;
 use refusals::Refusal;
 use shelf::Level;
 use words::Writer;
-use writing::{Budget, Left};
+use writing::{Budget, Carried, Left};
 
 // ---- writing what a call leaves
 
@@ -42,7 +43,8 @@ fn write_ends(w: &mut Writer, swapped: bool, budget: Budget)
 }
 
 // The answer of a call of rank 4: the images of all its facets are put in order behind its entries, and its figures are written from there. `Writable` stays a clause, here and below: it speaks of
-// a list of kept facets, which stands in no memory, so that no field can hold it.
+// a list of kept facets, which stands in no memory, so that no field can hold it. `quotes::price_left` makes the same `Imaged`: a function of both would hand out a loan of what it has written, and its
+// clauses would be longer than these lines.
 fn write_polyhedra(
     w: &mut Writer,
     ws: &mut [u8],
@@ -60,7 +62,9 @@ fn write_polyhedra(
         bytes: &left.ws[images.at..],
         count: images.count,
     };
-    polyhedra::write_solid_answer(w, left, rows, n, ids, budget);
+    let carried = Carried::new(left, rows);
+    let imaged = Imaged::new(carried, ids);
+    polyhedra::write_solid_answer(w, imaged, n, budget);
 }
 
 // The answer of a call of rank 3 or 4. A test of the rank and no closure: the two ways differ here alone, and a caller would pick the closure by the same test.
@@ -77,7 +81,9 @@ fn write_left(
     ensures { (kept : List Kept) → Writable (rank - 3) n rows.entry.count rows.entry.bytes.now kept level budget.whole budget.rest ws.old → Writes w.old w.new (answer_words budget.whole (answer_left (rank - 3) n (rows_in n rows.entry.count rows.entry.bytes.now) kept level ws.old budget.rest)) }
 {
     if rank == 3 {
-        writing::write_answer(w, Left { ws, level }, rows, n, budget);
+        let left = Left { ws, level };
+        let carried = Carried::new(left, rows);
+        writing::write_answer(w, carried, n, budget);
     } else {
         write_polyhedra(w, ws, level, rows, n, budget);
     }
@@ -87,17 +93,17 @@ fn write_left(
 
 // The cursor behind the last word is the answer's length. Where some word had no room, or the cursor is past the buffer, there is none, and the buffer is cleared again.
 #[tactic(auto, unfolding(crate::specs::Closed::written_to, crate::specs::Closed::buffer_to))]
-pub fn close(w: Writer) -> Result<Option<usize>, Refusal>
-    ensures result { outcome_of result ≡ written_to (length w.entry.buffer.now) w.entry.at }
+pub fn close(w: Writer) -> Option<usize>
+    ensures result { answered result ≡ written_to (length w.entry.buffer.now) w.entry.at }
     ensures buffer { w.exit.0.now ≡ buffer_to w.entry.buffer.now w.entry.at }
 {
     if let Some(at) = w.at {
         if at <= w.buffer.len() {
-            return Ok(Some(at));
+            return Some(at);
         }
     }
     w.buffer.fill(0);
-    Ok(None)
+    None
 }
 
 // What a call says, written into the cleared buffer. The rows are bytes until there is an answer of rank 3 or 4: a refused call and one of rank 2 read none of them.
@@ -121,7 +127,7 @@ pub fn write_called(
                 rest,
             };
             write_ends(&mut w, swapped, budget);
-            close(w)
+            Ok(close(w))
         }
         Called::Left(level, rest) => {
             let mut w = Writer::new(answer);
@@ -134,7 +140,7 @@ pub fn write_called(
                 rest,
             };
             write_left(&mut w, ws, fields.rank, level, loaded, fields.n, budget);
-            close(w)
+            Ok(close(w))
         }
     }
 }

@@ -1,25 +1,20 @@
--- The turns of the loops over images and over the edges of an image. Leans on Images.
+-- The turns of the loops over images and over the edges of an image, and what comes of an image. Leans on Images.
 use mathlib.Core.Path.{◌≡◌, refl, sym, ap, ◌∙◌}
 use mathlib.Core.Bool.{Bool, true, false, cond, ◌&&◌}
-use mathlib.Core.List.{List, [], ◌∷◌, ◌++◌, map, flat_map, append-nil, append_assoc, map-append}
+use mathlib.Core.List.{List, [], ◌∷◌, ◌++◌, map, append-nil, map-append}
 use mathlib.Core.Logic.{⊎_elim}
-use Prim.Native.Nat.{ℕ, suc, ◌+◌, ◌%◌, ◌≤◌, ◌<◌}
+use Prim.Native.Nat.{ℕ, ◌+◌, ◌%◌, ◌≤◌, ◌<◌}
 use native.Mathlib.Numerals.{add-one}
 use native.Mathlib.Omega.{arith}
 use lib.Dec.{leb}
-use lib.ListN.{length, get_or, take, drop, set, replicate, length-set, drop_of_length-le}
+use lib.ListN.{length, get_or, drop, set, replicate, length-set, drop_of_length-le}
 use lib.Seq.{drop-cons, get_or-set_same, get_or-set_other}
 use Rattle.definitions.specs.Lists.{keep, count_from}
-use Rattle.laws.specs.Parts.{take_more}
 use Rattle.laws.specs.Segments.{le_or_lt}
-use Rattle.openers.specs.Marks.{marked, marked_more}
-use Rattle.words.specs.Wrote.{Writes, writes_none, writes_then, writes_as}
-use Rattle.words.specs.declared.Writer.{Writer}
 use Rattle.edge_marks.specs.Marks.{codes_marked}
 use Rattle.facet_images.specs.Images.{NumbersOf, facet_words, is_wanted, is_chosen, next_choice, chosen_from}
 use Rattle.facet_images.specs.declared.Choice.{Choice}
 use Rattle.facet_images.specs.declared.Choice.TheVariants.{Left, Chosen, Repeated}
-use Rattle.std.specs.Int.{from_bool}
 use Rattle.edge_marks.specs.MarkTurns.{codes_more}
 
 -- ---- edge numbers
@@ -52,15 +47,6 @@ numbers_all marks numbers code h r = record {
   at = λ c l. (r.at c (omega arith)).0;
   small = record { below = λ c l. (r.at c (omega arith)).1 };
 }
-
--- ---- facets of a list
-
-pub marks_turn : (n : ℕ) (list : List ℕ) (marks : List Bool) (i : ℕ) → i < length list → marks ≡ marked (replicate n false) (take i list) → set marks (get_or list i 0) true ≡ marked (replicate n false) (take (i + 1) list)
-marks_turn n list marks i h e = rw e (sym (ap (marked (replicate n false)) (take_more list i 0 h) ∙ marked_more (replicate n false) (take i list) (get_or list i 0)))
-
-pub marks_start : (n : ℕ) (list : List ℕ) → replicate n false ≡ marked (replicate n false) (take 0 list)
-unfolding marked
-marks_start n list = refl
 
 -- ---- the edges of an image
 
@@ -111,59 +97,12 @@ module _ (inside : List Bool) where
   choice_none before id e f = rw (e, f) refl
 
   module _ (ids : List ℕ) where
-    pub chosen_count : (i : ℕ) (before choice : Choice) (one total whole : ℕ) → i < length ids → choice ≡ next_choice inside before (get_or ids i 0) → one ≡ from_bool (is_chosen choice)
-        → total + length (chosen_from inside before (drop i ids)) ≡ whole → (total + one + length (chosen_from inside choice (drop (i + 1) ids)) ≡ whole) × (one ≤ 1)
+    -- what is left from a place on, by what comes of the image there
+    pub chosen_next : (i id : ℕ) (before choice : Choice) → i < length ids → id ≡ get_or ids i 0 → choice ≡ next_choice inside before id
+        → chosen_from inside before (drop i ids) ≡ cond (is_chosen choice) (id ∷ chosen_from inside choice (drop (i + 1) ids)) (chosen_from inside choice (drop (i + 1) ids))
     unfolding chosen_from
-    chosen_count i before choice one total whole h c e f =
-        let d : drop i ids ≡ get_or ids i 0 ∷ drop (suc i) ids = drop-cons ids i 0 h in
-        let later = chosen_from inside choice (drop (suc i) ids) in
-        let next : length (chosen_from inside before (drop i ids)) ≡ length (cond (is_chosen choice) (get_or ids i 0 ∷ later) later) = rw (d, ← c) refl in
-        let g = ap (λ (j : ℕ). length (chosen_from inside choice (drop j ids))) (add-one i) in
-        go (is_chosen choice) e next g
-      where
-        go : (b : Bool) → one ≡ from_bool b
-            → length (chosen_from inside before (drop i ids)) ≡ length (cond b (get_or ids i 0 ∷ chosen_from inside choice (drop (suc i) ids)) (chosen_from inside choice (drop (suc i) ids)))
-            → length (chosen_from inside choice (drop (i + 1) ids)) ≡ length (chosen_from inside choice (drop (suc i) ids))
-            → (total + one + length (chosen_from inside choice (drop (i + 1) ids)) ≡ whole) × (one ≤ 1)
-        go true p q r = (omega (arith, p, q, r, f), omega (arith, p))
-        go false p q r = (omega (arith, p, q, r, f), omega (arith, p))
+    chosen_next i id before choice h e c = rw (drop-cons ids i 0 h, c, e, add-one i) refl
 
     pub chosen_end : (i : ℕ) (before : Choice) → length ids ≤ i → chosen_from inside before (drop i ids) ≡ []
     unfolding chosen_from
     chosen_end i before h = rw (drop_of_length-le ids h) refl
-
-    -- what is written and what is left are the whole
-    module _ (f : ℕ → List ℕ) where
-      pub record Partly (i : ℕ) (choice : Choice) (before after : Writer) : Type 0 where
-        pub words : List ℕ
-        pub writes : Writes before after words
-        pub rest : words ++ flat_map f (chosen_from inside choice (drop i ids)) ≡ flat_map f (chosen_from inside Left ids)
-
-      pub partly_none : (w : Writer) → Partly 0 Left w w
-      partly_none w = record { words = []; writes = writes_none w; rest = refl }
-
-      pub partly_more : {i : ℕ} {choice : Choice} {u v w : Writer} → Partly i choice u v → (next : Choice) → i < length ids → next ≡ next_choice inside choice (get_or ids i 0)
-          → Writes v w (cond (is_chosen next) (f (get_or ids i 0)) []) → Partly (i + 1) next u w
-      unfolding chosen_from flat_map
-      partly_more {i} {choice} p next h c x =
-          let d : drop i ids ≡ get_or ids i 0 ∷ drop (suc i) ids = drop-cons ids i 0 h in
-          let later = chosen_from inside next (drop (suc i) ids) in
-          let step : flat_map f (chosen_from inside choice (drop i ids)) ≡ flat_map f (cond (is_chosen next) (get_or ids i 0 ∷ later) later) = rw (d, ← c) refl in
-          let one = cond (is_chosen next) (f (get_or ids i 0)) [] in
-          let split : flat_map f (cond (is_chosen next) (get_or ids i 0 ∷ later) later) ≡ one ++ flat_map f later = go (is_chosen next) in
-          record {
-            words = p.words ++ one;
-            writes = writes_then p.writes x;
-            rest =
-                ap (λ (j : ℕ). p.words ++ one ++ flat_map f (chosen_from inside next (drop j ids))) (add-one i)
-                ∙ (append_assoc p.words one (flat_map f later) ∙ (ap (λ (l : List ℕ). p.words ++ l) (sym (step ∙ split)) ∙ p.rest));
-          }
-        where
-          go : (b : Bool) → flat_map f (cond b (get_or ids i 0 ∷ chosen_from inside next (drop (suc i) ids)) (chosen_from inside next (drop (suc i) ids))) ≡ cond b (f (get_or ids i 0)) [] ++ flat_map f (chosen_from inside next (drop (suc i) ids))
-          go true = refl
-          go false = refl
-
-      pub partly_all : {i : ℕ} {choice : Choice} {u v : Writer} → Partly i choice u v → length ids ≤ i → Writes u v (flat_map f (chosen_from inside Left ids))
-      unfolding flat_map
-      partly_all {i} {choice} p h =
-          writes_as p.writes (sym (append-nil p.words) ∙ (ap (λ (l : List ℕ). p.words ++ flat_map f l) (sym (chosen_end i choice h)) ∙ p.rest))

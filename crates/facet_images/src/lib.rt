@@ -39,9 +39,8 @@ pub fn list_marks(lists: Lists, k: usize) -> [bool; 1024]
     ensures { result ≡ marked (replicate 1024 false) (list_of lists.entry.area lists.entry.bytes.now k) }
 {
     let mut marks = [false; 1024];
-    let n = lists.length(k);
-    for i in 0..n {
-        marks[lists.item(k, i) as usize] = true;
+    for x in lists.items(k) {
+        marks[usize::from(x)] = true;
     }
     marks
 }
@@ -67,7 +66,9 @@ pub fn image_marks(facets: Facets, x: usize, row: usize) -> [bool; 400]
 // ---- images in order
 
 // The images of all facets, as their numbers: `count` of four bytes. The number of facet x's image under a row is x + 1,024 × row, and 131,072 more where the image equals the one before it. So packed
-// the numbers lie in the bytes of the workspace, since there is no heap, and are taken apart where they are used.
+// the numbers lie in the bytes of the workspace, since there is no heap, and are taken apart where they are used. No struct of the three parts (facet, row, whether it equals the one before): the
+// definitions, `next_choice` and `Ids::get` go by the number, and each reader asks one or two of the parts.
+// The count stands beside the bytes, which are the workspace from the numbers on: who makes these knows the count, and bytes cut to length would give it by a division by four alone.
 #[derive(Clone, Copy)]
 pub struct Ids<'a> {
     pub bytes: &'a [u8],
@@ -120,6 +121,8 @@ pub struct Wanted<'a> {
 }
 
 impl<'a> Wanted<'a> {
+    ghost use Rattle.facet_images.specs.Chosen.{chosen_left};
+
     // What comes of an image, from what came of the one before it.
     pub fn next_choice(self, before: Choice, id: usize) -> Choice
         ensures { result ≡ next_choice self.entry.inside.now before id }
@@ -134,17 +137,54 @@ impl<'a> Wanted<'a> {
         }
     }
 
+    // The numbers of the chosen images, in order.
+    pub fn chosen(self) -> Chosen<'a>
+        ensures { chosen_left result ≡ chosen_from self.entry.inside.now Left (words 4 self.entry.ids.bytes.now self.entry.ids.count) }
+    {
+        Chosen {
+            wanted: self,
+            at: 0,
+            before: Choice::Left,
+        }
+    }
+
     // How many images are chosen.
     pub fn count_chosen(self) -> usize
         ensures { (result ≡ length (chosen_from self.entry.inside.now Left (words 4 self.entry.ids.bytes.now self.entry.ids.count))) × (result ≤ self.entry.ids.count) }
     {
-        let mut total = 0;
-        let mut choice = Choice::Left;
-        for i in 0..self.ids.count {
-            choice = self.next_choice(choice, self.ids.get(i));
-            total += usize::from(choice.is_chosen());
+        self.chosen().count()
+    }
+}
+
+// The numbers of the chosen images from place `at` on, and what came of the image before it.
+#[derive(Clone, Copy)]
+pub struct Chosen<'a> {
+    wanted: Wanted<'a>,
+    at: usize,
+    before: Choice,
+}
+
+impl<'a> Iterator for Chosen<'a> {
+    ghost use Rattle.std.specs.Iterator.{YieldsFirst, item_count};
+    ghost use Rattle.facet_images.specs.Chosen.{chosen_left};
+
+    type Item = usize;
+
+    ghost next_gives = { YieldsFirst chosen_left };
+
+    ghost remaining = { item_count chosen_left };
+
+    // The images before it that are not chosen are passed.
+    fn next(&mut self) -> Option<usize> {
+        for i in self.at..self.wanted.ids.count {
+            let id = self.wanted.ids.get(i);
+            self.at = i + 1;
+            self.before = self.wanted.next_choice(self.before, id);
+            if self.before.is_chosen() {
+                return Some(id);
+            }
         }
-        total
+        None
     }
 }
 
@@ -171,28 +211,15 @@ impl<'a> NumberedFacets<'a> {
         }
     }
 
-    // The image with an id, where it is chosen.
-    fn write_chosen(self, w: &mut Writer, choice: Choice, id: usize)
-        requires { (id % 1024 < count self.facets.edges.bytes.now) × (id % 131072 / 1024 < self.facets.rows.count) }
-        ensures { Writes w.old w.new (cond (is_chosen choice) (id_words self.entry.facets.edges.bytes.now self.entry.facets.rows.bytes.now self.entry.numbers.now id) []) }
-    {
-        if choice.is_chosen() {
-            let image = image_marks(self.facets, id % 1024, id % 131072 / 1024);
-            self.write_facet(w, &image);
-        }
-    }
-
     // The chosen images, in order. `IdsBelow` stays a clause, and so it does where `entry_prices` and `polyhedra` ask it: it speaks of the numbers and of the facets, two parameters, and a
-    // summary counts the chosen numbers where there are no `Facets`.
+    // summary, which counts the chosen numbers, asks for no `Facets`.
     pub fn write_images(self, w: &mut Writer, wanted: Wanted)
         requires { IdsBelow (count self.facets.edges.bytes.now) self.facets.rows.count (words 4 wanted.ids.bytes.now wanted.ids.count) }
         ensures { Writes w.old w.new (flat_map (id_words self.entry.facets.edges.bytes.now self.entry.facets.rows.bytes.now self.entry.numbers.now) (chosen_from wanted.entry.inside.now Left (words 4 wanted.entry.ids.bytes.now wanted.entry.ids.count))) }
     {
-        let mut choice = Choice::Left;
-        for i in 0..wanted.ids.count {
-            let id = wanted.ids.get(i);
-            choice = wanted.next_choice(choice, id);
-            self.write_chosen(w, choice, id);
+        for id in wanted.chosen() {
+            let image = image_marks(self.facets, id % 1024, id % 131072 / 1024);
+            self.write_facet(w, &image);
         }
     }
 }

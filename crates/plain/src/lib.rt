@@ -69,12 +69,12 @@ fn plain_passed(
         Called::Ends(_, _) => {
             let mut w = Writer::new(answer);
             write_one(&mut w);
-            answering::close(w)
+            Ok(answering::close(w))
         }
         Called::Left(level, _) => {
             let mut w = Writer::new(answer);
             write_plain(&mut w, ws, level);
-            answering::close(w)
+            Ok(answering::close(w))
         }
     }
 }

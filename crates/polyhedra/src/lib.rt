@@ -12,14 +12,12 @@ ghost use Rattle.shelf.specs.Leaves.{lists_left};
 ghost use Rattle.facet_images.specs.Images.{IdsBelow};
 ghost use Rattle.polyhedra.specs.Solids.{polyhedron_from, ImagesStand, solid_from, solid_summary_from};
 ghost use Rattle.polyhedra.specs.SolidWritten.{WroteSolidAnswer};
-ghost use Rattle.writing.specs.Standing.{Standing};
 
 use edge_marks::Facets;
 use facet_images::{Ids, NumberedFacets, Wanted};
-use openers::Rows;
 use possible_facets::Polygons;
 use words::Writer;
-use writing::{Budget, EntryFigure, Left};
+use writing::{Budget, Carried, EntryFigure, Left};
 
 // ---- rank 4
 
@@ -50,38 +48,63 @@ pub fn entry_facets(left: Left, k: usize) -> [bool; 1024]
     facet_images::list_marks(left.lists(), k)
 }
 
-// Entries of rank 4: polyhedra over n points, of all images of their facets under the rows. The ids are those of all images of facets, in order.
+// What a call of rank 4 left, its rows, and the images of its facets in order.
+#[derive(Clone, Copy)]
+pub struct Imaged<'a> {
+    pub carried: Carried<'a>,
+    pub ids: Ids<'a>,
+    pub ghost images: { ImagesStand carried.rows.count carried.left.level carried.left.ws.now ids.bytes.now ids.count },
+}
+
+impl<'a> Imaged<'a> {
+    // Both together. A function and no literal, as `Carried::new` is one.
+    pub fn new(carried: Carried<'a>, ids: Ids<'a>) -> Self
+        requires { ImagesStand carried.rows.count carried.left.level carried.left.ws.now ids.bytes.now ids.count }
+        ensures { (result.carried.left.level ≡ carried.entry.left.level) × (result.carried.left.ws.now ≡ carried.entry.left.ws.now) × (result.carried.rows.count ≡ carried.entry.rows.count) × (result.carried.rows.bytes.now ≡ carried.entry.rows.bytes.now) × (result.ids.bytes.now ≡ ids.entry.bytes.now) × (result.ids.count ≡ ids.entry.count) }
+    {
+        Imaged { carried, ids }
+    }
+}
+
+// Entries of rank 4: polyhedra over n points, of all images of their facets under the rows.
 #[derive(Drop)]
 struct Solids<'a> {
-    rows: Rows<'a>,
+    imaged: Imaged<'a>,
     n: usize,
-    ids: Ids<'a>,
+    ghost small: { n ≤ 20 },
 }
 
 impl<'a> EntryFigure for Solids<'a> {
-    ghost stands = { λ it level s. Standing it.rows.count it.rows.bytes.now level s × ImagesStand it.rows.count level s it.ids.bytes.now it.ids.count × (it.n ≤ 20) };
+    ghost level = { λ it. it.imaged.carried.left.level };
 
-    ghost figure = { λ it level s. solid_from it.n it.rows.count it.rows.bytes.now level s (words 4 it.ids.bytes.now it.ids.count) };
+    ghost ws = { λ it. it.imaged.carried.left.ws.now };
 
-    ghost summary = { λ it level s. solid_summary_from it.n it.rows.count it.rows.bytes.now level s (words 4 it.ids.bytes.now it.ids.count) };
+    ghost figure = { λ it. solid_from it.n it.imaged.carried.rows.count it.imaged.carried.rows.bytes.now it.imaged.carried.left.level it.imaged.carried.left.ws.now (words 4 it.imaged.ids.bytes.now it.imaged.ids.count) };
 
-    fn write_figure(&self, w: &mut Writer, left: Left, k: usize) {
-        let marks = writing::entry_marks(left, self.rows, k);
-        let inside = entry_facets(left, k);
-        let wanted = Wanted {
-            ids: self.ids,
-            inside: &inside,
-        };
-        let facets = left.facets(self.rows);
-        write_polyhedron(w, self.n, &marks, wanted, facets);
+    ghost summary = { λ it. solid_summary_from it.n it.imaged.carried.rows.count it.imaged.carried.rows.bytes.now it.imaged.carried.left.level it.imaged.carried.left.ws.now (words 4 it.imaged.ids.bytes.now it.imaged.ids.count) };
+
+    fn left(&self) -> Left<'_> {
+        self.imaged.carried.left
     }
 
-    fn write_summary(&self, w: &mut Writer, left: Left, k: usize) {
-        let marks = writing::entry_marks(left, self.rows, k);
-        let inside = entry_facets(left, k);
+    fn write_figure(&self, w: &mut Writer, k: usize) {
+        let carried = self.imaged.carried;
+        let marks = carried.entry_marks(k);
+        let inside = entry_facets(carried.left, k);
+        let wanted = Wanted {
+            ids: self.imaged.ids,
+            inside: &inside,
+        };
+        write_polyhedron(w, self.n, &marks, wanted, carried.facets());
+    }
+
+    fn write_summary(&self, w: &mut Writer, k: usize) {
+        let carried = self.imaged.carried;
+        let marks = carried.entry_marks(k);
+        let inside = entry_facets(carried.left, k);
         let lines = edge_marks::count_marks(&marks);
         let wanted = Wanted {
-            ids: self.ids,
+            ids: self.imaged.ids,
             inside: &inside,
         };
         let facets = wanted.count_chosen();
@@ -89,19 +112,15 @@ impl<'a> EntryFigure for Solids<'a> {
     }
 }
 
-// The answer of a call of rank 4 from what it leaves and from its facets' images in order. `standing` (specs/Written) and `images_stand` (specs/SolidWritten) say that these are what is
-// asked for here.
-pub fn write_solid_answer(
-    w: &mut Writer,
-    left: Left,
-    rows: Rows,
-    n: usize,
-    ids: Ids,
-    budget: Budget,
-)
-    requires { Standing rows.count rows.bytes.now left.level left.ws.now × ImagesStand rows.count left.level left.ws.now ids.bytes.now ids.count × (n ≤ 20) }
-    ensures { WroteSolidAnswer n rows.entry.count rows.entry.bytes.now left.entry.level left.entry.ws.now (words 4 ids.entry.bytes.now ids.entry.count) budget.whole budget.rest w.old w.new }
+// The answer of a call of rank 4 from what it leaves and from its facets' images in order. `standing` (specs/Written) and `images_stand` (specs/SolidWritten) say that these are what `Imaged` asks
+// for.
+pub fn write_solid_answer(w: &mut Writer, imaged: Imaged, n: usize, budget: Budget)
+    requires { n ≤ 20 }
+    ensures { WroteSolidAnswer n imaged.entry.carried.rows.count imaged.entry.carried.rows.bytes.now imaged.entry.carried.left.level imaged.entry.carried.left.ws.now (words 4 imaged.entry.ids.bytes.now imaged.entry.ids.count) budget.whole budget.rest w.old w.new }
 {
-    let facets = Polygons { ws: left.ws, n };
-    writing::write_parts(w, left, &Solids { rows, n, ids }, &facets, budget);
+    let facets = Polygons {
+        ws: imaged.carried.left.ws,
+        n,
+    };
+    writing::write_parts(w, &Solids { imaged, n }, &facets, budget);
 }

@@ -15,7 +15,7 @@ ghost use Rattle.orbits.specs.Workspace.{orbits_in};
 ghost use Rattle.labels.specs.Labels.{labels_in};
 ghost use Rattle.openers.specs.Rows.{rows_in};
 ghost use Rattle.words.specs.Words.{words};
-ghost use Rattle.edge_marks.specs.Marks.{EdgesFit, marks_of};
+ghost use Rattle.edge_marks.specs.Marks.{marks_of};
 ghost use Rattle.shelf.specs.Areas.{area_of};
 ghost use Rattle.shelf.specs.Keeps.{owners_part, edges_part};
 ghost use Rattle.shelf.specs.Leaves.{lists_left, both_left, order_left, emitted_pool};
@@ -80,7 +80,7 @@ impl<'a> Left<'a> {
         requires { k < self.level.count }
         ensures { result ≡ get_or (order_left self.entry.level self.entry.ws.now) k 0 }
     {
-        u16::get(self.ws, self.level.lists + self.level.bytes + 2 * k) as usize
+        usize::from(u16::get(self.ws, self.level.lists + self.level.bytes + 2 * k))
     }
 
     // The orbit of each facet.
@@ -94,7 +94,7 @@ impl<'a> Left<'a> {
         }
     }
 
-    // The edges of each facet.
+    // The edges of each facet. `Sound` stays a clause: it does not follow from what `Left` holds, that the lists stand.
     fn edges(self) -> Pool<'a>
         requires { Sound 2 1024 (edges_part self.level.shelf self.ws.now) }
         ensures { (result.bytes.now ≡ edges_part self.entry.level.shelf self.entry.ws.now) × (result.most ≡ 1024) }
@@ -105,28 +105,45 @@ impl<'a> Left<'a> {
             most: 1024,
         }
     }
+}
+
+// What a call left, and its rows, which carry the facets to their images.
+#[derive(Clone, Copy)]
+pub struct Carried<'a> {
+    pub left: Left<'a>,
+    pub rows: Rows<'a>,
+    pub ghost standing: { Standing rows.count rows.bytes.now left.level left.ws.now },
+}
+
+impl<'a> Carried<'a> {
+    // Both together. A function and no literal: they come of two loans, which a call takes as one, and where a literal had to (tried in `answering`) the proof did not close.
+    pub fn new(left: Left<'a>, rows: Rows<'a>) -> Self
+        requires { Standing rows.count rows.bytes.now left.level left.ws.now }
+        ensures { (result.left.level ≡ left.entry.level) × (result.left.ws.now ≡ left.entry.ws.now) × (result.rows.count ≡ rows.entry.count) × (result.rows.bytes.now ≡ rows.entry.bytes.now) }
+    {
+        Carried { left, rows }
+    }
 
     // The facets, with the rows that carry them.
-    pub fn facets(self, rows: Rows<'a>) -> Facets<'a>
-        requires { EdgesFit rows.count rows.bytes.now (edges_part self.level.shelf self.ws.now) }
-        ensures { (result.edges.bytes.now ≡ edges_part self.entry.level.shelf self.entry.ws.now) × (result.rows.bytes.now ≡ rows.entry.bytes.now) × (result.rows.count ≡ rows.entry.count) }
+    pub fn facets(self) -> Facets<'a>
+        ensures { (result.edges.bytes.now ≡ edges_part self.entry.left.level.shelf self.entry.left.ws.now) × (result.rows.bytes.now ≡ self.entry.rows.bytes.now) × (result.rows.count ≡ self.entry.rows.count) }
     {
         Facets {
-            edges: self.edges(),
-            rows,
+            edges: self.left.edges(),
+            rows: self.rows,
         }
+    }
+
+    // The marks of the edges of entry k.
+    pub fn entry_marks(self, k: usize) -> [bool; 400]
+        requires { k < self.left.level.count }
+        ensures { result ≡ marks_of (rows_in 32 self.entry.rows.count self.entry.rows.bytes.now) (edges_in self.entry.left.level self.entry.left.ws.now) (get_or (lists_left self.entry.left.level self.entry.left.ws.now) k []) }
+    {
+        edge_marks::mark_list(self.left.lists(), k, self.facets())
     }
 }
 
 // ---- the words of entries
-
-// The marks of the edges of entry k.
-pub fn entry_marks(left: Left, rows: Rows, k: usize) -> [bool; 400]
-    requires { Standing rows.count rows.bytes.now left.level left.ws.now × (k < left.level.count) }
-    ensures { result ≡ marks_of (rows_in 32 rows.entry.count rows.entry.bytes.now) (edges_in left.entry.level left.entry.ws.now) (get_or (lists_left left.entry.level left.entry.ws.now) k []) }
-{
-    edge_marks::mark_list(left.lists(), k, left.facets(rows))
-}
 
 // The two lists of entry k: split, and as the search emitted it.
 pub fn write_entry_lists(w: &mut Writer, left: Left, names: FacetNames, k: usize)
@@ -140,59 +157,72 @@ pub fn write_entry_lists(w: &mut Writer, left: Left, names: FacetNames, k: usize
     names.write_list(w, emitted, number);
 }
 
-// What is written of the entries of a call: a figure of each, and its summary.
+// The entries of a call as they are written: a figure of each, and its summary.
 pub trait EntryFigure {
-    // what the words of an entry lean on, in the workspace that the call leaves
-    ghost stands: { Self → Level → List ℕ → Type 0 };
+    // the level that the entries are of, and the workspace that it lies in
+    ghost level: { Self → Level };
+
+    ghost ws: { Self → List ℕ };
 
     // the words for an entry, from its split list
-    ghost figure: { Self → Level → List ℕ → List ℕ → List ℕ };
+    ghost figure: { Self → List ℕ → List ℕ };
 
-    ghost summary: { Self → Level → List ℕ → List ℕ → List ℕ };
+    ghost summary: { Self → List ℕ → List ℕ };
+
+    // What the call left.
+    fn left(&self) -> Left<'_>
+        ensures { (result.level ≡ level self.now) × (result.ws.now ≡ ws self.now) };
 
     // The figure of entry k.
-    fn write_figure(&self, w: &mut Writer, left: Left, k: usize)
-        requires { stands self.now left.level left.ws.now × (k < left.level.count) }
-        ensures { Writes w.old w.new (figure self.now left.entry.level left.entry.ws.now (get_or (lists_left left.entry.level left.entry.ws.now) k [])) };
+    fn write_figure(&self, w: &mut Writer, k: usize)
+        requires { k < (level self.now).count }
+        ensures { Writes w.old w.new (figure self.now (get_or (lists_left (level self.now) (ws self.now)) k [])) };
 
     // The summary of entry k.
-    fn write_summary(&self, w: &mut Writer, left: Left, k: usize)
-        requires { stands self.now left.level left.ws.now × (k < left.level.count) }
-        ensures { Writes w.old w.new (summary self.now left.entry.level left.entry.ws.now (get_or (lists_left left.entry.level left.entry.ws.now) k [])) };
+    fn write_summary(&self, w: &mut Writer, k: usize)
+        requires { k < (level self.now).count }
+        ensures { Writes w.old w.new (summary self.now (get_or (lists_left (level self.now) (ws self.now)) k [])) };
 }
 
 // Entries of rank 3: polygons over n points, of all images of their facets' edges under the rows.
 #[derive(Drop)]
 pub struct Polygons<'a> {
-    pub rows: Rows<'a>,
+    pub carried: Carried<'a>,
     pub n: usize,
+    pub ghost small: { n ≤ 20 },
 }
 
 impl<'a> EntryFigure for Polygons<'a> {
-    ghost stands = { λ it level s. Standing it.rows.count it.rows.bytes.now level s × (it.n ≤ 20) };
+    ghost level = { λ it. it.carried.left.level };
 
-    ghost figure = { λ it level s. polygon_from it.n (rows_in 32 it.rows.count it.rows.bytes.now) (edges_in level s) };
+    ghost ws = { λ it. it.carried.left.ws.now };
 
-    ghost summary = { λ it level s. summary_from it.n (rows_in 32 it.rows.count it.rows.bytes.now) (edges_in level s) };
+    ghost figure = { λ it. polygon_from it.n (rows_in 32 it.carried.rows.count it.carried.rows.bytes.now) (edges_in it.carried.left.level it.carried.left.ws.now) };
 
-    fn write_figure(&self, w: &mut Writer, left: Left, k: usize) {
-        let marks = entry_marks(left, self.rows, k);
+    ghost summary = { λ it. summary_from it.n (rows_in 32 it.carried.rows.count it.carried.rows.bytes.now) (edges_in it.carried.left.level it.carried.left.ws.now) };
+
+    fn left(&self) -> Left<'_> {
+        self.carried.left
+    }
+
+    fn write_figure(&self, w: &mut Writer, k: usize) {
+        let marks = self.carried.entry_marks(k);
         edge_marks::write_marked(w, self.n, &marks);
     }
 
     // The edges are the facets.
-    fn write_summary(&self, w: &mut Writer, left: Left, k: usize) {
-        let marks = entry_marks(left, self.rows, k);
+    fn write_summary(&self, w: &mut Writer, k: usize) {
+        let marks = self.carried.entry_marks(k);
         let edges = edge_marks::count_marks(&marks);
         edge_marks::write_summary(w, &marks, self.n, edges, edges);
     }
 }
 
 // How many entries there are, and each: its split list, the list before splitting, and its figure.
-pub fn write_entries<T: EntryFigure>(w: &mut Writer, left: Left, figures: &T)
-    requires { T.stands figures.now left.level left.ws.now }
-    ensures { Writes w.old w.new (counted (figured (owners_in left.entry.level left.entry.ws.now) (T.figure figures.now left.entry.level left.entry.ws.now)) (both_left left.entry.level left.entry.ws.now)) }
+pub fn write_entries<T: EntryFigure>(w: &mut Writer, figures: &T)
+    ensures { Writes w.old w.new (counted (figured (owners_in (T.level figures.now) (T.ws figures.now)) (T.figure figures.now)) (both_left (T.level figures.now) (T.ws figures.now))) }
 {
+    let left = figures.left();
     let owners = left.owners();
     let firsts = entry_lists::first_facets(owners);
     let names = FacetNames {
@@ -202,17 +232,17 @@ pub fn write_entries<T: EntryFigure>(w: &mut Writer, left: Left, figures: &T)
     w.push(left.level.count as u32);
     for k in 0..left.level.count {
         write_entry_lists(w, left, names, k);
-        figures.write_figure(w, left, k);
+        figures.write_figure(w, k);
     }
 }
 
 // A summary of each entry.
-pub fn write_summaries<T: EntryFigure>(w: &mut Writer, left: Left, figures: &T)
-    requires { T.stands figures.now left.level left.ws.now }
-    ensures { Writes w.old w.new (flat_map (T.summary figures.now left.entry.level left.entry.ws.now) (lists_left left.entry.level left.entry.ws.now)) }
+pub fn write_summaries<T: EntryFigure>(w: &mut Writer, figures: &T)
+    ensures { Writes w.old w.new (flat_map (T.summary figures.now) (lists_left (T.level figures.now) (T.ws figures.now))) }
 {
+    let left = figures.left();
     for k in 0..left.level.count {
-        figures.write_summary(w, left, k);
+        figures.write_summary(w, k);
     }
 }
 
@@ -253,30 +283,31 @@ pub fn write_labels(w: &mut Writer, left: Left)
 }
 
 // The parts of an answer, one behind the other: what was examined and the counts, the entries, the possible facets, the compounds, the summaries.
+// `PartsStanding` stays a clause: this function alone asks it, of the entries of either rank.
 pub fn write_parts<T: EntryFigure, F: FacetFigure>(
     w: &mut Writer,
-    left: Left,
     entries: &T,
     facets: &F,
     budget: Budget,
 )
-    requires { PartsStanding left.level left.ws.now × T.stands entries.now left.level left.ws.now × ((orbit : ℕ) → orbit < left.level.shelf.orbits → F.knows facets.now orbit) }
-    ensures { Writes w.old w.new (parts_from (T.figure entries.now left.entry.level left.entry.ws.now) (T.summary entries.now left.entry.level left.entry.ws.now) (λ (orbit : ℕ). F.words (F.size facets.now orbit)) left.entry.level left.entry.ws.now budget.whole budget.rest) }
+    requires { PartsStanding (T.level entries.now) (T.ws entries.now) × ((orbit : ℕ) → orbit < (T.level entries.now).shelf.orbits → F.knows facets.now orbit) }
+    ensures { Writes w.old w.new (parts_from (T.figure entries.now) (T.summary entries.now) (λ (orbit : ℕ). F.words (F.size facets.now orbit)) (T.level entries.now) (T.ws entries.now) budget.whole budget.rest) }
 {
+    let left = entries.left();
     let orbits = left.level.shelf.orbits;
     write_front(w, left.ws, orbits, budget);
-    write_entries(w, left, entries);
+    write_entries(w, entries);
     possible_facets::write_possible(w, facets, left.owners(), orbits, left.edges());
     write_labels(w, left);
-    write_summaries(w, left, entries);
+    write_summaries(w, entries);
 }
 
-// The answer of a call of rank 3 from what it leaves. `standing` (specs/Written) says that what it leaves is what is asked for here.
-pub fn write_answer(w: &mut Writer, left: Left, rows: Rows, n: usize, budget: Budget)
-    requires { Standing rows.count rows.bytes.now left.level left.ws.now × (n ≤ 20) }
-    ensures { WroteAnswer n rows.entry.count rows.entry.bytes.now left.entry.level left.entry.ws.now budget.whole budget.rest w.old w.new }
+// The answer of a call of rank 3 from what it leaves. `standing` (specs/Written) says that what it leaves is what `Carried` asks for.
+pub fn write_answer(w: &mut Writer, carried: Carried, n: usize, budget: Budget)
+    requires { n ≤ 20 }
+    ensures { WroteAnswer n carried.entry.rows.count carried.entry.rows.bytes.now carried.entry.left.level carried.entry.left.ws.now budget.whole budget.rest w.old w.new }
 {
-    write_parts(w, left, &Polygons { rows, n }, &Edges, budget);
+    write_parts(w, &Polygons { carried, n }, &Edges, budget);
 }
 
 // ---- rank 2

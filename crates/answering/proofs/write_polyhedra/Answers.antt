@@ -20,10 +20,21 @@ invariant_of-left c = let asked = solid_asked c.requires.1 c.order_left-images.e
 pub invariant_of-ids : goal.invariant_of-ids
 invariant_of-ids c = let asked = solid_asked c.requires.1 c.order_left-images.ensures in record { room = asked.1.room }
 
-pub write_solid_answer-requires : goal.write_solid_answer-requires
-write_solid_answer-requires c =
+pub new-carried-requires : goal.new-carried-requires
+new-carried-requires c = let asked = solid_asked c.requires.1 c.order_left-images.ensures in asked.0
+
+pub new-imaged-requires : goal.new-imaged-requires
+new-imaged-requires c =
     let asked = solid_asked c.requires.1 c.order_left-images.ensures in
-    (asked.0, asked.1, asked.2)
+    let carried = c.new-carried.ensures in
+    rw (carried.0, carried.1, carried.2) asked.1
+
+pub write_solid_answer-requires : goal.write_solid_answer-requires
+write_solid_answer-requires c = let asked = solid_asked c.requires.1 c.order_left-images.ensures in asked.2
 
 pub returns : goal.returns
-returns c = λ kept w. solid_wrote w c.order_left-images.ensures c.write_solid_answer.ensures
+returns c =
+    let carried = c.new-carried.ensures in
+    let imaged = c.new-imaged.ensures in
+    let wrote = rw (imaged.0, imaged.1, imaged.2, imaged.3, imaged.4, imaged.5, carried.0, carried.1, carried.2, carried.3) at c.write_solid_answer.ensures in
+    λ kept w. solid_wrote w c.order_left-images.ensures wrote

@@ -1,27 +1,26 @@
-use mathlib.Core.Bool.{true, false}
-use mathlib.Core.List.{List}
-use mathlib.Core.Path.{refl, ap, ◌∙◌}
+use mathlib.Core.Bool.{true}
+use mathlib.Core.Path.{refl, sym, ap, subst, ◌∙◌}
 use Prim.Native.Nat.{ℕ}
 use native.Mathlib.Omega.{arith}
-use lib.ListN.{get_or, set, length-set, replicate}
-use lib.Seq.{take_all}
-use Rattle.laws.specs.Lists.{member_at}
+use lib.ListN.{set, length-set}
+use Rattle.laws.specs.Lists.{Mem, here, there}
 use Rattle.openers.specs.Marks.{marked}
-use Rattle.order.specs.Areas.{list_of}
-use Rattle.facet_images.proofs.Choosing.{marks_start, marks_turn}
+use Rattle.order.specs.Areas.{left_in}
 use Rattle.facet_images.proofs.list_marks.Goals as goal
 
-pub loop-i-init : goal.loop-i-init
-loop-i-init c = (omega arith, refl, marks_start 1024 (list_of c.args.lists.area c.args.lists.bytes.now c.args.k))
+pub bounds-marks-from : goal.bounds-marks-from
+bounds-marks-from c = omega (arith, c.from.ensures, c.loop-x.invariant.1 c.in-Some.x (subst (Mem c.in-Some.x) (sym c.in-Some.ensures.steps) (here refl)))
 
-pub bounds-marks-item : goal.bounds-marks-item
-bounds-marks-item c = let l = c.loop-i in let list = list_of c.args.lists.area c.args.lists.bytes.now c.args.k in
-    omega (arith, c.item.ensures, c.requires.1 (get_or list l.i 0) (member_at list l.i 0 (omega (arith, c.length-n.ensures))))
-
-pub loop-i-preserved : goal.loop-i-preserved
-loop-i-preserved c = let l = c.loop-i in let list = list_of c.args.lists.area c.args.lists.bytes.now c.args.k in
-    (omega arith, length-set l.marks _ _ ∙ l.invariant.1, ap (λ (x : ℕ). set l.marks x true) c.item.ensures ∙ marks_turn 1024 list l.marks l.i (omega (arith, c.length-n.ensures)) l.invariant.2)
+pub loop-x-preserved : goal.loop-x-preserved
+unfolding marked
+loop-x-preserved c =
+    let at-loop = c.loop-x in
+    let first = c.in-Some.ensures.steps in (
+      length-set at-loop.marks _ _ ∙ at-loop.invariant.0,
+      λ y i. at-loop.invariant.1 y (subst (Mem y) (sym first) (there i)),
+      ap (λ (x : ℕ). marked (set at-loop.marks x true) (left_in c.next.new.self)) c.from.ensures ∙ (ap (marked at-loop.marks) (sym first) ∙ at-loop.invariant.2),
+    )
 
 pub returns : goal.returns
-returns c = let l = c.loop-i in let list = list_of c.args.lists.area c.args.lists.bytes.now c.args.k in
-    l.invariant.2 ∙ ap (λ (r : List ℕ). marked (replicate 1024 false) r) (take_all l.i list (omega (arith, c.length-n.ensures)))
+unfolding marked
+returns c = ap (marked c.loop-x.marks) (sym c.in-None.ensures.steps.0) ∙ c.loop-x.invariant.2

@@ -6,6 +6,7 @@ use lib.ListN.{length, get_or, take}
 use lib.Seq.{take_all}
 use Rattle.definitions.specs.Job.{counted}
 use Rattle.words.specs.Words.{words}
+use Rattle.shelf.specs.declared.Level.{Level}
 use Rattle.shelf.specs.Leaves.{both_left, both_length, first_of_both}
 use Rattle.words.specs.Wrote.{writes_none, writes_then, writes_as}
 use Rattle.writing.specs.Standing.{owners_in, both_words, figured}
@@ -19,19 +20,35 @@ loop-k-init g c = (omega arith, writes_none _)
 pub write_entry_lists-requires : goal.write_entry_lists-requires
 write_entry_lists-requires g c = (λ t. words 2 (c.owners-owners.ensures.0 t) (c.owners-owners.ensures.1 t), omega arith)
 
+pub write_figure-requires : goal.write_figure-requires
+write_figure-requires g c = omega (arith, ap (λ (l : Level). l.count) c.left-left.ensures.0)
+
 pub loop-k-preserved : goal.loop-k-preserved
 unfolding figured
-loop-k-preserved g c = let l = c.loop-k in let level = c.args.left.level in let ws = c.args.left.ws.now in let lists = both_left level ws in
+loop-k-preserved g c =
+    let at-loop = c.loop-k in
+    let left = c.left-left in
+    let level = g.T.EntryFigure.level c.args.figures.now in
+    let ws = g.T.EntryFigure.ws c.args.figures.now in
+    let figure = g.T.EntryFigure.figure c.args.figures.now in
     let owners = owners_in level ws in
-    let figure = g.T.EntryFigure.figure c.args.figures.now level ws in
-    let here : l.k < length lists = omega (arith, both_length level ws, c.loop-k-test.true) in
-    let same = ap (λ (l₀ : List ℕ). flat_map (figured owners figure) (take l.k lists) ++ (both_words owners (get_or lists l.k ([], [])) ++ figure l₀)) (sym (first_of_both level ws c.args.left.standing.area l.k c.loop-k-test.true)) in
-    (omega (arith, c.loop-k-test.true), writes_as (writes_then l.invariant.1 (writes_then c.write_entry_lists.ensures c.write_figure.ensures)) (same ∙ flat_more (figured owners figure) lists l.k ([], []) here))
+    let lists = both_left level ws in
+    let below : at-loop.k < level.count = omega (arith, ap (λ (l : Level). l.count) left.ensures.0, c.loop-k-test.true) in
+    let here : at-loop.k < length lists = omega (arith, both_length level ws, below) in
+    let standing = rw (left.ensures.0, left.ensures.1) at left.result.standing in
+    let both = rw (left.ensures.0, left.ensures.1) at c.write_entry_lists.ensures in
+    let same = ap (λ (l : List ℕ). flat_map (figured owners figure) (take at-loop.k lists) ++ (both_words owners (get_or lists at-loop.k ([], [])) ++ figure l)) (sym (first_of_both level ws standing.area at-loop.k below)) in
+    (omega arith, writes_as (writes_then at-loop.invariant.1 (writes_then both c.write_figure.ensures)) (same ∙ flat_more (figured owners figure) lists at-loop.k ([], []) here))
 
 pub returns : goal.returns
 unfolding counted
-returns g c = let l = c.loop-k in let level = c.args.left.level in let ws = c.args.left.ws.now in let lists = both_left level ws in
-    let entry = figured (owners_in level ws) (g.T.EntryFigure.figure c.args.figures.now level ws) in
+returns g c =
+    let at-loop = c.loop-k in
+    let left = c.left-left in
+    let level = g.T.EntryFigure.level c.args.figures.now in
+    let ws = g.T.EntryFigure.ws c.args.figures.now in
+    let entry = figured (owners_in level ws) (g.T.EntryFigure.figure c.args.figures.now) in
+    let same = ap (λ (l : Level). l.count) left.ensures.0 in
     let many = both_length level ws in
-    let all = take_all l.k lists (omega (arith, many, c.loop-k-test.false)) in
-    writes_as (writes_then c.push.ensures.writes l.invariant.1) (λ t. sym many t ∷ flat_map entry (all t))
+    let all = take_all at-loop.k (both_left level ws) (omega (arith, same, many, c.loop-k-test.false)) in
+    writes_as (writes_then c.push.ensures.writes at-loop.invariant.1) (λ t. (same ∙ sym many) t ∷ flat_map entry (all t))

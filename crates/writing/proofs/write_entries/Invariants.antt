@@ -9,5 +9,6 @@ use Rattle.writing.proofs.write_entries.Given as goal
 
 abbrev pub invariant-loop-k : goal.invariant-loop-k
 invariant-loop-k g l =
-    (l.k ≤ l.left.level.count)
-    × Writes l.initial.w l.w (flat_map (figured (owners_in l.left.level l.left.ws.now) (g.T.EntryFigure.figure l.figures l.left.level l.left.ws.now)) (take l.k (both_left l.left.level l.left.ws.now)))
+    let level = g.T.EntryFigure.level l.figures in
+    let ws = g.T.EntryFigure.ws l.figures in
+    (l.k ≤ level.count) × Writes l.initial.w l.w (flat_map (figured (owners_in level ws) (g.T.EntryFigure.figure l.figures)) (take l.k (both_left level ws)))

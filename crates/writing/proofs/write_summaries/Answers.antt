@@ -4,6 +4,7 @@ use Prim.Native.Nat.{◌<◌}
 use native.Mathlib.Omega.{arith}
 use lib.ListN.{length}
 use lib.Seq.{take_all}
+use Rattle.shelf.specs.declared.Level.{Level}
 use Rattle.shelf.specs.Leaves.{lists_left}
 use Rattle.words.specs.Wrote.{writes_none, writes_then, writes_as}
 use Rattle.writing.specs.Asked.{many_lists}
@@ -14,13 +15,25 @@ pub loop-k-init : goal.loop-k-init
 unfolding flat_map
 loop-k-init g c = (omega arith, writes_none _)
 
+pub write_summary-requires : goal.write_summary-requires
+write_summary-requires g c = omega (arith, ap (λ (l : Level). l.count) c.left-left.ensures.0)
+
 pub loop-k-preserved : goal.loop-k-preserved
-loop-k-preserved g c = let l = c.loop-k in let level = c.args.left.level in let ws = c.args.left.ws.now in let lists = lists_left level ws in
-    let summary = g.T.EntryFigure.summary c.args.figures.now level ws in
-    let here : l.k < length lists = omega (arith, many_lists c.args.left.standing, c.loop-k-test.true) in
-    (omega (arith, c.loop-k-test.true), writes_as (writes_then l.invariant.1 c.write_summary.ensures) (flat_more summary lists l.k [] here))
+loop-k-preserved g c =
+    let at-loop = c.loop-k in
+    let left = c.left-left in
+    let level = g.T.EntryFigure.level c.args.figures.now in
+    let lists = lists_left level (g.T.EntryFigure.ws c.args.figures.now) in
+    let below : at-loop.k < level.count = omega (arith, ap (λ (l : Level). l.count) left.ensures.0, c.loop-k-test.true) in
+    let standing = rw (left.ensures.0, left.ensures.1) at left.result.standing in
+    let here : at-loop.k < length lists = omega (arith, many_lists standing, below) in
+    (omega arith, writes_as (writes_then at-loop.invariant.1 c.write_summary.ensures) (flat_more (g.T.EntryFigure.summary c.args.figures.now) lists at-loop.k [] here))
 
 pub returns : goal.returns
-returns g c = let l = c.loop-k in let level = c.args.left.level in let ws = c.args.left.ws.now in let lists = lists_left level ws in
-    let summary = g.T.EntryFigure.summary c.args.figures.now level ws in
-    writes_as l.invariant.1 (ap (flat_map summary) (take_all l.k lists (omega (arith, many_lists c.args.left.standing, c.loop-k-test.false))))
+returns g c =
+    let at-loop = c.loop-k in
+    let left = c.left-left in
+    let lists = lists_left (g.T.EntryFigure.level c.args.figures.now) (g.T.EntryFigure.ws c.args.figures.now) in
+    let same = ap (λ (l : Level). l.count) left.ensures.0 in
+    let standing = rw (left.ensures.0, left.ensures.1) at left.result.standing in
+    writes_as at-loop.invariant.1 (ap (flat_map (g.T.EntryFigure.summary c.args.figures.now)) (take_all at-loop.k lists (omega (arith, same, many_lists standing, c.loop-k-test.false))))

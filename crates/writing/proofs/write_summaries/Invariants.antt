@@ -7,4 +7,7 @@ use Rattle.words.specs.Wrote.{Writes}
 use Rattle.writing.proofs.write_summaries.Given as goal
 
 abbrev pub invariant-loop-k : goal.invariant-loop-k
-invariant-loop-k g l = (l.k ≤ l.left.level.count) × Writes l.initial.w l.w (flat_map (g.T.EntryFigure.summary l.figures l.left.level l.left.ws.now) (take l.k (lists_left l.left.level l.left.ws.now)))
+invariant-loop-k g l =
+    let level = g.T.EntryFigure.level l.figures in
+    let ws = g.T.EntryFigure.ws l.figures in
+    (l.k ≤ level.count) × Writes l.initial.w l.w (flat_map (g.T.EntryFigure.summary l.figures) (take l.k (lists_left level ws)))

@@ -1,28 +1,47 @@
-use mathlib.Core.Path.{subst, sym, ap, ◌∙◌}
-use mathlib.Core.Bool.{cond}
-use mathlib.Core.List.{[]}
-use Prim.Native.Nat.{◌%◌, ◌/◌, ℕ, ◌<◌}
-use native.Mathlib.Omega.{arith}
-use Rattle.words.specs.Words.{words_length, words}
+use Rattle.std.proofs.Common.{Bool, List, length, ap, sym, ◌∙◌}
+use mathlib.Core.List.{[], flat_map, map-id}
+use Rattle.std.proofs.lemmas.List.{flat_map_more}
+use Rattle.std.proofs.lemmas.Iterator.{YieldsList}
+use Rattle.std.proofs.lemmas.Iterator.Consumers.{YieldsList-from_first, YieldsList-turn, YieldsList-end}
+use Rattle.std.specs.Iterator.{YieldsFirst}
+use Rattle.words.specs.Words.{words}
+use Rattle.words.specs.Wrote.{writes_none, writes_then, writes_as}
 use Rattle.pool.specs.Pool.{count}
-use Rattle.facet_images.specs.Images.{is_chosen, next_choice, id_words}
-use Rattle.words.specs.Wrote.{writes_as}
-use Rattle.facet_images.proofs.Choosing.{partly_none, partly_more, partly_all}
+use Rattle.facet_images.specs.declared.Choice.TheVariants.{Left}
+use Rattle.facet_images.specs.Images.{facet_words, id_words, chosen_from}
+use Rattle.facet_images.specs.Chosen.{chosen_left, chosen_below, turn_below}
+use Rattle.facet_images.proofs.NumberedFacets.write_images.Goals.{After-into_iter-id-iterator}
 use Rattle.facet_images.proofs.NumberedFacets.write_images.Goals as goal
 
-pub loop-i-init : goal.loop-i-init
-loop-i-init c = (omega arith, partly_none _ _ _ _)
+-- the loop goes over the chosen images
+the_chosen : (c : After-into_iter-id-iterator) → YieldsList (YieldsFirst chosen_left) (λ x. x) c.into_iter-id-iterator.result (chosen_from c.args.wanted.inside.now Left (words 4 c.args.wanted.ids.bytes.now c.args.wanted.ids.count))
+the_chosen c = YieldsList-from_first (λ x. x) chosen_left _ (ap chosen_left c.into_iter-id-iterator.ensures.into_iter_gives ∙ c.chosen-id-items.ensures)
 
-pub write_chosen-requires : goal.write_chosen-requires
-write_chosen-requires c = let l = c.loop-i in let n = words_length 4 c.args.wanted.ids.bytes.now c.args.wanted.ids.count in
-    (subst (λ (id : ℕ). id % 1024 < count c.args.self.facets.edges.bytes.now) (sym c.get-id.ensures) (c.requires.facet l.i (omega arith)), subst (λ (id : ℕ). id % 131072 / 1024 < c.args.self.facets.rows.count) (sym c.get-id.ensures) (c.requires.row l.i (omega arith)))
+pub loop-id-init : goal.loop-id-init
+unfolding flat_map
+loop-id-init c = (tt, tt, writes_none _)
 
-pub loop-i-preserved : goal.loop-i-preserved
-loop-i-preserved c = let l = c.loop-i in let ids = words 4 c.args.wanted.ids.bytes.now c.args.wanted.ids.count in
-    let n = words_length 4 c.args.wanted.ids.bytes.now c.args.wanted.ids.count in
-    let e = c.get-id.ensures in
-    let words = id_words c.args.self.facets.edges.bytes.now c.args.self.facets.rows.bytes.now c.args.self.numbers.now in
-    (omega arith, partly_more c.args.wanted.inside.now ids words l.invariant.1 c.next_choice-choice.result (omega arith) (c.next_choice-choice.ensures ∙ ap (next_choice c.args.wanted.inside.now l.choice) e) (writes_as c.write_chosen.ensures (ap (λ (id : ℕ). cond (is_chosen c.next_choice-choice.result) (words id) []) e)))
+pub image_marks-image-requires : goal.image_marks-image-requires
+image_marks-image-requires c =
+    let at-loop = c.loop-id in
+    let facets = c.args.self.facets in
+    let ids = words 4 c.args.wanted.ids.bytes.now c.args.wanted.ids.count in
+    let chosen = chosen_from c.args.wanted.inside.now Left ids in
+    let turn = YieldsList-turn (the_chosen (goal.at.image_marks-image-requires c).After-into_iter-id-iterator) at-loop.yielded _ at-loop.yielded_by _ _ c.in-Some.id c.in-Some.is c.next.ensures.steps in
+    turn_below (count facets.edges.bytes.now) facets.rows.count chosen (length at-loop.yielded) c.in-Some.id (chosen_below c.args.wanted.inside.now (count facets.edges.bytes.now) facets.rows.count Left ids c.requires) turn
+
+pub loop-id-preserved : goal.loop-id-preserved
+unfolding id_words flat_map
+loop-id-preserved c =
+    let at-loop = c.loop-id in
+    let numbers = c.args.self.numbers.now in
+    let image = ap (λ (marks : List Bool). facet_words marks numbers) c.image_marks-image.ensures in
+    let words = id_words c.args.self.facets.edges.bytes.now c.args.self.facets.rows.bytes.now numbers in
+    (tt, tt, writes_as (writes_then at-loop.invariant.2 (writes_as c.write_facet.ensures image)) (flat_map_more words [] at-loop.yielded c.in-Some.id))
 
 pub returns : goal.returns
-returns c = let l = c.loop-i in let n = words_length 4 c.args.wanted.ids.bytes.now c.args.wanted.ids.count in partly_all _ _ _ l.invariant.1 (omega arith)
+returns c =
+    let at-loop = c.loop-id in
+    let words = id_words c.args.self.facets.edges.bytes.now c.args.self.facets.rows.bytes.now c.args.self.numbers.now in
+    let end = YieldsList-end (the_chosen (goal.at.returns c).After-into_iter-id-iterator) at-loop.yielded _ at-loop.yielded_by _ _ c.in-None.is c.next.ensures.steps in
+    writes_as at-loop.invariant.2 (ap (flat_map words) (sym (map-id at-loop.yielded) ∙ end.0))
