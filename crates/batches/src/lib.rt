@@ -55,16 +55,16 @@ fn write_record(job: &[u8], workspace: &mut [u8], records: &mut [u8]) -> Result<
     }
     match answering::answer_job(job, workspace, &mut records[HEAD_BYTES..]) {
         Err(refusal) => {
-            u16::put(records, LENGTH_BYTES, refusal.number() as u16);
+            u16::put(records, LENGTH_BYTES, u16::from(refusal.number()));
             Ok(HEAD_BYTES)
         }
         Ok(None) => Err(Refusal::Records),
         Ok(Some(many)) => {
-            if 4294967295 < many {
+            let Ok(length) = u32::try_from(many) else {
                 records.fill(0);
                 return Err(Refusal::Records);
-            }
-            u32::put(records, 0, many as u32);
+            };
+            u32::put(records, 0, length);
             Ok(HEAD_BYTES + many)
         }
     }

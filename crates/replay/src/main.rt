@@ -60,7 +60,7 @@ fn replay(input: &mut impl Read, buffers: &mut Buffers) -> io::Result<bool> {
     let room = next_number(input)? as usize;
     let refused = next_number(input)?;
     let length = next_number(input)?;
-    let sum = next_number(input)? as u64;
+    let sum = u64::from(next_number(input)?);
     let code = code_of(refused, length);
     if buffers.workspace.len() < size || buffers.answer.len() < room {
         return Ok(false);
