@@ -19,11 +19,27 @@ root = Path(folders[0]) if folders else Path(__file__).resolve().parent.parent
 sources = sorted(root.glob("crates/*/src/**/*.rt"))
 
 
+def numbered(path):
+    """The lines of a file with their numbers, each clause as one line with the number of its first."""
+    joined = []
+    for number, line in enumerate(path.read_text().split("\n"), 1):
+        last = joined[-1][1] if joined else ""
+        if re.match(r"\s*(requires|ensures|ghost)\b", last) and last.count("{") > last.count("}"):
+            joined[-1] = (joined[-1][0], f"{last} {line.strip()}")
+        else:
+            joined.append((number, line))
+    return joined
+
+
+def source(path):
+    return "\n".join(line for _, line in numbered(path))
+
+
 def lines(pattern, clauses=False):
     """The places where a line of code, or a line of clauses, has the pattern."""
     found = []
     for path in sources:
-        for number, line in enumerate(path.read_text().split("\n"), 1):
+        for number, line in numbered(path):
             text = line.strip()
             if text.startswith("//"):
                 continue
@@ -36,7 +52,7 @@ def lines(pattern, clauses=False):
 def functions():
     """Each function's place, its name and its parameters' names with their types."""
     for path in sources:
-        text = path.read_text()
+        text = source(path)
         for match in re.finditer(r"\bfn (\w+)(?:<[^(]*>)?\(([^{}]*?)\)\s*(?:->|where|requires|ensures|;|\{)", text):
             params = [p.strip() for p in match.group(2).replace("\n", " ").split(",") if p.strip()]
             pairs = [tuple(x.strip() for x in p.replace("mut ", "").split(":", 1)) for p in params if ":" in p]
@@ -68,8 +84,9 @@ def asked():
     """The functions that ask for a fact, by the name that the fact's definition has in specs/."""
     found = {}
     for path in sources:
-        text = path.read_text()
-        named = {name for line in re.findall(r"ghost use Rattle\.\w+\.specs\.[\w.]+\{([^}]*)\}", text) for name in line.split(", ")}
+        text = source(path)
+        imports = re.findall(r"ghost use Rattle\.\w+\.specs\.[\w.]+\{([^}]*)\}", text)
+        named = {name for line in imports for name in line.split(", ")}
         function = ""
         for line in text.split("\n"):
             if match := re.match(r"\s*(?:pub )?fn (\w+)", line):
@@ -107,7 +124,7 @@ points = [
     ("5", "rows beside their number", having(lambda p: "rows" in p and "m" in p)),
     ("5", "an answer buffer beside its cursor", having(lambda p: "answer" in p and "at" in p)),
     ("5", "both limits on lengths", having(lambda p: "min" in p and "max" in p)),
-    ("5", "a workspace beside its areas", having(lambda p: ("ws" in p or "s" in p) and any(t in ("Areas", "Level", "Shelf", "Desk", "Area", "Images") for t in p.values()))),
+    ("5", "a workspace beside its areas", having(lambda p: ("ws" in p or "s" in p) and any(t in ("Areas", "Level", "KeptLayout", "TableLayout", "Area", "Images") for t in p.values()))),
     ("5", "clauses that ask a fact of a point, a plane or a pool", lines(r"\b(PointsFit|SubspaceFits|Sound|Holding|Permutations|Ascending)\b", clauses=True)),
     ("6", "arrays or slices beside how many are used", having(lambda p: any(k in p for k in ("count", "many", "known", "k")) and any(re.match(r"&(mut )?\[|\[", t) for t in p.values()))),
     ("6", "structs of an array and a count", lines(r"^\s*pub (at|codes): \[")),

@@ -23,12 +23,24 @@ def plain(text):
     return re.sub(r"\s+", " ", text).strip().replace("( ", "(").replace(", )", ")")
 
 
+def whole(lines):
+    """The lines, with each clause on one."""
+    joined = []
+    for line in lines:
+        last = joined[-1] if joined else ""
+        if re.match(r"\s*(requires|ensures|ghost)\b", last) and last.count("{") > last.count("}"):
+            joined[-1] = f"{last} {line.strip()}"
+        else:
+            joined.append(line)
+    return joined
+
+
 def functions(root):
     """{crate::path: [signature, clause, ..]}, and the same of structs, enums and traits."""
     found, types = {}, {}
     for path in sorted(root.glob("crates/*/src/**/*.rt")):
         crate = path.relative_to(root).parts[1]
-        lines = [line for line in path.read_text().split("\n") if not line.strip().startswith("//")]
+        lines = whole(line for line in path.read_text().split("\n") if not line.strip().startswith("//"))
         at, place = 0, None
         while at < len(lines):
             line = lines[at]

@@ -1,5 +1,6 @@
-// A row of jobs, each behind its length, and a record for each [15.1] [15.2] [15.3]. The row is looked through before any job is run. The records are written one behind the other into a
-// buffer that was cleared once; each job gets the whole workspace, as the job before left it.
+// A row of jobs, each behind its length, and a record for each [15.1] [15.2] [15.3]. The row is looked through before
+// any job is run. The records are written one behind the other into a buffer that was cleared once; each job gets the
+// whole workspace, as the job before left it.
 
 #![tactic(auto)]
 
@@ -43,12 +44,16 @@ pub fn is_cut(row: &[u8]) -> bool
 // A record's head: the answer's length as u32 and the refusal's number as u16.
 const HEAD_BYTES: usize = 6;
 
-// The record of a job at the front of a cleared buffer: how many bytes it has, or refusal 27 where it has no room or no u32 for its length. Of a refused job only the number is written, of an accepted one only the length: the rest of the head is zero already.
-// That the buffer is cleared stays a clause, here and below: the function writes the buffer that it speaks of.
+// The record of a job at the front of a cleared buffer: how many bytes it has, or refusal 27 where it has no room or
+// no u32 for its length. Of a refused job only the number is written, of an accepted one only the length: the rest of
+// the head is zero already. That the buffer is cleared stays a clause, here and below: the function writes the buffer
+// that it speaks of.
 fn write_record(job: &[u8], workspace: &mut [u8], records: &mut [u8]) -> Result<usize, Refusal>
     requires { records.old ≡ replicate (length records.old) 0 }
-    ensures result { outcome_of result ≡ recorded_as (record_in (length records.old) (alone job.now (length workspace.old))) }
-    ensures buffer { records.new ≡ buffer_of (length records.old) (record_in (length records.old) (alone job.now (length workspace.old))) }
+    ensures result { outcome_of result
+        ≡ recorded_as (record_in (length records.old) (alone job.now (length workspace.old))) }
+    ensures buffer { records.new
+        ≡ buffer_of (length records.old) (record_in (length records.old) (alone job.now (length workspace.old))) }
 {
     if records.len() < HEAD_BYTES {
         return Err(Refusal::Records);
@@ -70,11 +75,13 @@ fn write_record(job: &[u8], workspace: &mut [u8], records: &mut [u8]) -> Result<
     }
 }
 
-// The records of a row's jobs, into a cleared buffer, which is cleared again where one has no room. That the row is cut stays a clause: this function alone asks it, of the one that tested it.
+// The records of a row's jobs, into a cleared buffer, which is cleared again where one has no room. That the row is
+// cut stays a clause: this function alone asks it, of the one that tested it.
 fn write_records(row: &[u8], workspace: &mut [u8], records: &mut [u8]) -> Result<usize, Refusal>
     requires { (is_cut (jobs_in row.now) ≡ true) × (records.old ≡ replicate (length records.old) 0) }
     ensures result { outcome_of result ≡ recorded_as (batch row.now (length workspace.old) (length records.old)) }
-    ensures buffer { records.new ≡ buffer_of (length records.old) (batch row.now (length workspace.old) (length records.old)) }
+    ensures buffer { records.new
+        ≡ buffer_of (length records.old) (batch row.now (length workspace.old) (length records.old)) }
 {
     let mut at = 0;
     let mut end = 0;
@@ -96,7 +103,8 @@ fn write_records(row: &[u8], workspace: &mut [u8], records: &mut [u8]) -> Result
 // The records of a row, whatever its bytes: their length, or refusal 26 or 27.
 pub fn answer_row(row: &[u8], workspace: &mut [u8], records: &mut [u8]) -> Result<usize, Refusal>
     ensures result { outcome_of result ≡ recorded_as (batch row.now (length workspace.old) (length records.old)) }
-    ensures buffer { records.new ≡ buffer_of (length records.old) (batch row.now (length workspace.old) (length records.old)) }
+    ensures buffer { records.new
+        ≡ buffer_of (length records.old) (batch row.now (length workspace.old) (length records.old)) }
 {
     records.fill(0);
     if is_cut(row) {

@@ -1,7 +1,7 @@
--- What a norm enters, with the norm as a parameter: the geometry of a call word for word (chapters 4 and 5), and above
--- it the definitions' own text, given the orbits and planes that come of it (`call_on_set`, `prepare_from`, `answer_from`).
--- With the norm itself they are the definitions (`Covered` proves it, so that nothing has to be believed of this file);
--- with another one they show which of its values count.
+-- What a norm enters, with the norm as a parameter: the geometry of a call word for word (chapters 4 and 5), and
+-- above it the definitions' own text, given the orbits and planes that come of it (`call_on_set`, `prepare_from`,
+-- `answer_from`). With the norm itself they are the definitions (`Covered` proves it, so that nothing has to be
+-- believed of this file); with another one they show which of its values count.
 use Rattle.std.specs.Prelude.{Bool, cond, not, ◌&&◌, ◌||◌, ℕ, zero, suc, ◌-◌, leb, length, Float}
 use mathlib.Core.List.{List, [], ◌∷◌, ◌++◌, map, flat_map}
 use Rattle.std.proofs.Math.Dec.{compare_is_eq}
@@ -11,7 +11,8 @@ use Rattle.definitions.specs.Lists.{Pair, compare_nats, any_of, fresh, count_fro
 use Rattle.definitions.specs.Outcome.{Outcome, and_then}
 use Rattle.definitions.specs.Vectors.{Vec, minus}
 use Rattle.definitions.specs.Subspace.{Subspace, residual, is_hyperplane, flatten}
-use Rattle.definitions.specs.Orbits.{Row, Limits, Orbit, point_at, vertex_openers, too_short, too_long, pair_openers, pairs_from, tuples, set_image, most_vertices}
+use Rattle.definitions.specs.Orbits.{Row, Limits, Orbit, point_at, vertex_openers, too_short, too_long, pair_openers}
+use Rattle.definitions.specs.Orbits.{pairs_from, tuples, set_image, most_vertices}
 use Rattle.definitions.specs.Recursion.{Rules, Bounds, Answer, Call, Inner, edge_call, call_on_set}
 use Rattle.definitions.specs.Faceting.{plain_way, Prepared, prepare_from, answer_from}
 use Rattle.definitions.specs.Job.{Bytes, Job, read_job, tests, pass_all, rules_of, plane_of, answer_bytes, fitting}
@@ -63,13 +64,15 @@ module _ (norm : Vec → Float) where
       let orbit : Orbit = record { vertices = set; count = length joined } in
       let old = hyperplanes_by tolerance most flat rows seen ts in
       let new = orbit ∷ hyperplanes_by tolerance most flat rows (joined ++ seen) ts in
-      cond (is_hyperplane s && not (any_of (λ (q : List ℕ). compare_is_eq (compare_nats set q)) seen) && leb (length set) most) new old
+      cond (is_hyperplane s && not (any_of (λ (q : List ℕ). compare_is_eq (compare_nats set q)) seen)
+      && leb (length set) most) new old
 
   unfoldable pub hyperplane_orbits_by : Float → Limits → ℕ → ℕ → List Vec → List Vec → List Row → List Orbit
   hyperplane_orbits_by tolerance limits rule more points flat rows =
       let n = length points in
       let breaks = breaks_limit_by tolerance limits points in
-      let pairs = pair_openers (λ (p : Pair). breaks p.0 p.1) rows [] (pairs_from n (vertex_openers rows [] (count_from 0 n))) in
+      let pairs = pair_openers (λ (p : Pair). breaks p.0 p.1) rows []
+      (pairs_from n (vertex_openers rows [] (count_from 0 n))) in
       hyperplanes_by tolerance (most_vertices rule more n) flat rows [] (flat_map (tuples breaks n more) pairs)
 
   -- ---- Recursion and Faceting

@@ -5,7 +5,8 @@ use Rattle.definitions.specs.Open.{open_all}
 use Rattle.definitions.specs.Vectors.{dot, has_root}
 use Rattle.bounds.specs.Calls.{bound_at}
 
--- The promise says something: there are finite vectors whose norm asks for a root without a value. (2 ^ 512)² is an infinity, (2 ^ 511)² is not.
+-- The promise says something: there are finite vectors whose norm asks for a root without a value. (2 ^ 512)² is an
+-- infinity, (2 ^ 511)² is not.
 long_vector : has_root (dot (fin false 1 (pos 512) ∷ []) (fin false 1 (pos 512) ∷ [])) ≡ false
 unfolding open_all
 long_vector = refl

@@ -1,5 +1,6 @@
--- The promise as an equation: whatever a norm is where the root [3.2] has no value, the outcome is the same, for all bytes and both buffers' lengths (`outcome_is_indifferent`).
--- Before it the same for a job's call of any rank, with any rules whose tolerance is 1e-9 or more (`call_is_indifferent`). Leans on Covered and Jobs.
+-- The promise as an equation: whatever a norm is where the root [3.2] has no value, the outcome is the same, for all
+-- bytes and both buffers' lengths (`outcome_is_indifferent`). Before it the same for a job's call of any rank, with
+-- any rules whose tolerance is 1e-9 or more (`call_is_indifferent`). Leans on Covered and Jobs.
 use Rattle.std.specs.Prelude.{◌≡◌, refl, true, false, cond, zero, suc, Float, pos, negsuc}
 use Rattle.std.proofs.Common.{sym, true≢false}
 use Rattle.std.specs.Prelude.{Some}

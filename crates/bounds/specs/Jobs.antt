@@ -1,6 +1,9 @@
--- No root is refused inside a job. A job's numbers are doubles, its points' and offset's at most 2 ^ 16 in size and its basis' at most 1, so that Calls' theorem holds for every call of it:
--- for every rank and every tolerance from 1e-9 on, where a point has at most 5 coordinates; and so for every job that passes its own refusals. Leans on Calls and on `of_bits-fits`.
-use Rattle.std.specs.Prelude.{◌≡◌, refl, Bool, ◌&&◌, List, [], ◌∷◌, ℕ, zero, suc, ◌+◌, ◌-◌, ◌*◌, ◌^◌, ◌≤◌, T, leb, length, Float}
+-- No root is refused inside a job. A job's numbers are doubles, its points' and offset's at most 2 ^ 16 in size and
+-- its basis' at most 1, so that Calls' theorem holds for every call of it: for every rank and every tolerance from
+-- 1e-9 on, where a point has at most 5 coordinates; and so for every job that passes its own refusals. Leans on Calls
+-- and on `of_bits-fits`.
+use Rattle.std.specs.Prelude.{◌≡◌, refl, Bool, ◌&&◌, List, [], ◌∷◌, ℕ, zero, suc, ◌+◌, ◌-◌, ◌*◌, ◌^◌, ◌≤◌, T, leb}
+use Rattle.std.specs.Prelude.{length, Float}
 use Rattle.std.proofs.Common.{ap, ◌∙◌, zero-le, arith, leb→le}
 use Rattle.std.proofs.lemmas.List.{length-map}
 use Rattle.std.specs.Float.{nan, inf, fin, binary64}
@@ -12,8 +15,11 @@ use Rattle.laws.specs.Refusals.{AllPassed, passes_at, passed}
 use Rattle.definitions.specs.Lists.{all_of, count_from}
 use Rattle.definitions.specs.Vectors.{Vec}
 use Rattle.definitions.specs.Subspace.{Subspace}
-use Rattle.definitions.specs.Job.{Bytes, Job, float_at, floats_at, vectors_at, read_job, between, within, all_within, limit_good, floats_good, is_finite, tolerance_good, header_tests, value_tests, job_tests, least_tolerance, greatest_tolerance, plane_of}
-use Rattle.bounds.specs.Sizes.{Each, IsDouble, is_double_holds, each_of_map, each_so, each_both, Double, Small, small_wider}
+use Rattle.definitions.specs.Job.{Bytes, Job, float_at, floats_at, vectors_at, read_job, between, within, all_within}
+use Rattle.definitions.specs.Job.{limit_good, floats_good, is_finite, tolerance_good, header_tests, value_tests}
+use Rattle.definitions.specs.Job.{job_tests, least_tolerance, greatest_tolerance, plane_of}
+use Rattle.bounds.specs.Sizes.{Each, IsDouble, is_double_holds, each_of_map, each_so, each_both, Double, Small}
+use Rattle.bounds.specs.Sizes.{small_wider}
 use Rattle.bounds.specs.Calls.{Bounded, NormsFit, bound_at, flattened, flattened_small}
 
 -- ---- tests over lists
@@ -48,40 +54,52 @@ floats_read : (bytes : Bytes) (at d : ℕ) → Read d (floats_at bytes at d)
 unfolding floats_at float_at
 floats_read bytes at d = record {
   long = length-map (count_from 0 d) (λ (i : ℕ). float_at bytes (at + 8 * i)) ∙ count_length 0 d;
-  held = each_of_map (λ (x : Float). T (fits binary64 x)) (λ (i : ℕ). float_at bytes (at + 8 * i)) (λ i. of_bits-fits binary64 _) (count_from 0 d);
+  held =
+      each_of_map (λ (x : Float). T (fits binary64 x)) (λ (i : ℕ). float_at bytes (at + 8 * i))
+      (λ i. of_bits-fits binary64 _) (count_from 0 d);
 }
 
 vectors_read : (bytes : Bytes) (at d many : ℕ) → Each (Read d) (vectors_at bytes at d many)
 unfolding vectors_at
-vectors_read bytes at d many = each_of_map (Read d) (λ (i : ℕ). floats_at bytes (at + 8 * d * i) d) (λ i. floats_read bytes (at + 8 * d * i) d) (count_from 0 many)
+vectors_read bytes at d many =
+    each_of_map (Read d) (λ (i : ℕ). floats_at bytes (at + 8 * d * i) d) (λ i. floats_read bytes (at + 8 * d * i) d)
+    (count_from 0 many)
 
 vectors_length : (bytes : Bytes) (at d many : ℕ) → length (vectors_at bytes at d many) ≡ many
 unfolding vectors_at
-vectors_length bytes at d many = length-map (count_from 0 many) (λ (i : ℕ). floats_at bytes (at + 8 * d * i) d) ∙ count_length 0 many
+vectors_length bytes at d many =
+    length-map (count_from 0 many) (λ (i : ℕ). floats_at bytes (at + 8 * d * i) d) ∙ count_length 0 many
 
 read_small : (n d k most : ℕ) (v : Vec) → d ≤ n → most ≡ 2 ^ k → Read d v → T (all_within most v) → Small n k v
 unfolding all_within
 read_small n d k most v D e r t = record {
   short = let l = r.long in omega arith;
   sized =
-      each_so (λ (x : Float). T (fits binary64 x) × T (within most x)) (Double k) (λ x h. record { holds = h.0; within = within_power k most x e h.1 }) v
-      (each_both (λ (x : Float). T (fits binary64 x)) (λ (x : Float). T (within most x)) v r.held (each_passes (within most) v t));
+      each_so (λ (x : Float). T (fits binary64 x) × T (within most x)) (Double k) (λ x h. record {
+        holds = h.0;
+        within = within_power k most x e h.1;
+      }) v
+      (each_both (λ (x : Float). T (fits binary64 x)) (λ (x : Float). T (within most x)) v r.held
+      (each_passes (within most) v t));
 }
 
-vectors_small : (n d k most : ℕ) (vs : List Vec) → d ≤ n → most ≡ 2 ^ k → Each (Read d) vs → T (all_of (all_within most) vs) → Each (Small n k) vs
+vectors_small : (n d k most : ℕ) (vs : List Vec) → d ≤ n → most ≡ 2 ^ k → Each (Read d) vs
+    → T (all_of (all_within most) vs) → Each (Small n k) vs
 vectors_small n d k most vs D e r t =
     each_so (λ (v : Vec). Read d v × T (all_within most v)) (Small n k) (λ v h. read_small n d k most v D e h.0 h.1) vs
     (each_both (Read d) (λ (v : Vec). T (all_within most v)) vs r (each_passes (all_within most) vs t))
 
 -- ---- a job
 
--- what refusals 4 and 9 leave: points of at least rank − 1 and at most n coordinates, and numbers of the sizes of [11.2]
+-- what refusals 4 and 9 leave: points of at least rank − 1 and at most n coordinates, and numbers of the sizes of
+-- [11.2]
 pub record Admitted (n : ℕ) (job : Job) : Type 0 where
   pub enough : job.rank - 1 ≤ job.d
   pub few : job.d ≤ n
   pub good : T (floats_good job)
 
--- how a job's vectors are read, whatever its bytes; nothing more is needed of the bytes, so that what follows holds for any version that reads them so
+-- how a job's vectors are read, whatever its bytes; nothing more is needed of the bytes, so that what follows holds
+-- for any version that reads them so
 pub record Whole (job : Job) : Type 0 where
   pub offset : Read job.d job.offset
   pub basis : Each (Read job.d) job.basis
@@ -90,7 +108,12 @@ pub record Whole (job : Job) : Type 0 where
 
 pub job_whole : (bytes : Bytes) → Whole (read_job bytes)
 unfolding read_job
-job_whole bytes = record { offset = floats_read bytes _ _; basis = vectors_read bytes _ _ _; basis_length = vectors_length bytes _ _ _; points = vectors_read bytes _ _ _ }
+job_whole bytes = record {
+  offset = floats_read bytes _ _;
+  basis = vectors_read bytes _ _ _;
+  basis_length = vectors_length bytes _ _ _;
+  points = vectors_read bytes _ _ _;
+}
 
 pub job_bounded : (n : ℕ) (job : Job) → Whole job → Admitted n job → Bounded n 16 (plane_of job) job.points
 unfolding floats_good plane_of
@@ -108,7 +131,8 @@ job_bounded n job w h =
             (vectors_small n job.d 0 1 job.basis h.few refl w.basis (and_r (limits && offsets) bases before));
         few = let a = h.enough in let b = h.few in let e = w.basis_length in omega arith;
       };
-      small = vectors_small n job.d 16 65536 job.points h.few refl w.points (and_r (limits && offsets && bases) (all_of (all_within 65536) job.points) h.good);
+      small = vectors_small n job.d 16 65536 job.points h.few refl w.points
+          (and_r (limits && offsets && bases) (all_of (all_within 65536) job.points) h.good);
     }
 
 -- ---- every norm in a job has its root
@@ -118,7 +142,8 @@ unfolding bound_at
 bound_at_holds zero = refl
 bound_at_holds (suc depth) = let e = bound_at_holds depth in omega arith
 
--- points of at most 5 coordinates leave room down to depth 67; a job of at most 5 coordinates has no call deeper than 4
+-- points of at most 5 coordinates leave room down to depth 67; a job of at most 5 coordinates has no call deeper than
+-- 4
 pub room_at : (depth : ℕ) → depth ≤ 67 → NormsFit 5 (bound_at 5 16 depth)
 room_at depth h = let e = bound_at_holds depth in omega arith
 
@@ -132,12 +157,15 @@ pub record AllDoubles (plane : Subspace) (points : List Vec) : Type 0 where
 small_doubles : (n k : ℕ) (v : Vec) → Small n k v → Each IsDouble v
 small_doubles n k v s = each_so (Double k) IsDouble (is_double_holds k) v s.sized
 
-pub bounded_doubles : (n k : ℕ) (plane : Subspace) (points : List Vec) → NormsFit n k → Bounded n k plane points → AllDoubles plane points
+pub bounded_doubles : (n k : ℕ) (plane : Subspace) (points : List Vec) → NormsFit n k → Bounded n k plane points
+    → AllDoubles plane points
 bounded_doubles n k plane points room h = record {
   offset = small_doubles n k plane.offset h.tame.offset;
   basis = each_so (Small n 1) (Each IsDouble) (small_doubles n 1) plane.basis h.tame.basis;
   given = each_so (Small n k) (Each IsDouble) (small_doubles n k) points h.small;
-  flat = each_so (Small n (k + 2 + n)) (Each IsDouble) (small_doubles n (k + 2 + n)) (flattened plane points) (flattened_small n k plane points room h);
+  flat =
+      each_so (Small n (k + 2 + n)) (Each IsDouble) (small_doubles n (k + 2 + n)) (flattened plane points)
+      (flattened_small n k plane points room h);
 }
 
 -- ---- a job that passes its tests
@@ -148,10 +176,15 @@ passed_is_admitted bytes h =
     let job = read_job bytes in
     let dimension : T (leb (job.rank - 1) job.d && leb job.d 4) = passed 4 (job_tests bytes) h in
     let most = leb→le job.d 4 (and_r (leb (job.rank - 1) job.d) (leb job.d 4) dimension) in
-    record { enough = leb→le (job.rank - 1) job.d (and_l (leb (job.rank - 1) job.d) (leb job.d 4) dimension); few = omega arith; good = passed 9 (job_tests bytes) h }
+    record {
+      enough = leb→le (job.rank - 1) job.d (and_l (leb (job.rank - 1) job.d) (leb job.d 4) dimension);
+      few = omega arith;
+      good = passed 9 (job_tests bytes) h;
+    }
 
 -- refusal 22 leaves a tolerance from 1e-9 on
-pub tolerance_high_enough : (bytes : Bytes) → AllPassed (job_tests bytes) → T (le least_tolerance (read_job bytes).tolerance)
+pub tolerance_high_enough : (bytes : Bytes) → AllPassed (job_tests bytes)
+    → T (le least_tolerance (read_job bytes).tolerance)
 unfolding passes_at job_tests header_tests value_tests tolerance_good
 tolerance_high_enough bytes h =
     let tolerance = (read_job bytes).tolerance in

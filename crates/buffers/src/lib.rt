@@ -1,5 +1,5 @@
-// The buffers that the programs lend the register, and how they read their input into one. Each buffer stands in a function of its own, so that its bytes are known to a caller and nobody need
-// write them out.
+// The buffers that the programs lend the register, and how they read their input into one. Each buffer stands in a
+// function of its own, so that its bytes are known to a caller and nobody need write them out.
 #![tactic(auto)]
 
 ghost use Rattle.std.specs.Prelude.{◌≡◌, IfOk};

@@ -1,4 +1,4 @@
-pub mod Desks
-pub mod Stocks
+pub mod TableLayouts
+pub mod PreparedCalls
 pub mod Answers
 pub mod Searched

@@ -4,27 +4,28 @@
 #![tactic(auto)]
 
 ghost use Rattle.std.specs.Prelude.{◌≡◌};
-ghost use Rattle.call_search.specs.Desks.{desk_for};
-ghost use Rattle.call_search.specs.Stocks.{Stock, Stocked};
+ghost use Rattle.call_search.specs.TableLayouts.{table_layout_for};
+ghost use Rattle.call_search.specs.PreparedCalls.{PreparedCall, CallPrepared};
 ghost use Rattle.call_search.specs.Answers.{Searched};
 ghost use Rattle.call_search.specs.Searched.{ListsReady, EntriesListed};
 
 use calls::{Called, Rules};
 use facets::Areas;
-use openers::Rows;
+use layout::{KeptLayout, Level};
 use refusals::Refusal;
+use rows::Rows;
 use search::Course;
-use shares::Desk;
-use shelf::{Level, Shelf};
+use shares::TableLayout;
 
-// Where the tables and the search lie behind a shelf of rank 3, or of rank 4. At rank 3 an orbit has at most two ridges, and there are at most 20 ridge orbits and 190 orbits; at rank 4 at most
-// 190 ridges of an orbit, 190 ridge orbits and 256 orbits. The emitted lists have room for 1,024.
-// Told apart by the rank: what is chosen are numbers, no step.
-fn desk_for(rank: usize) -> Desk
-    ensures { result ≡ desk_for rank }
+// Where the tables and the search lie behind what a call of rank 3, or of rank 4, keeps. At rank 3 an orbit has at
+// most two ridges, and there are at most 20 ridge orbits and 190 orbits; at rank 4 at most 190 ridges of an orbit,
+// 190 ridge orbits and 256 orbits. The emitted lists have room for 1,024. Told apart by the rank: what is chosen are
+// numbers, no step.
+fn table_layout_for(rank: usize) -> TableLayout
+    ensures { result ≡ table_layout_for rank }
 {
     if rank == 3 {
-        return Desk {
+        return TableLayout {
             numbers: 20236,
             shares: 22296,
             touched: 34596,
@@ -35,7 +36,7 @@ fn desk_for(rank: usize) -> Desk
             end: 482318,
         };
     }
-    Desk {
+    TableLayout {
         numbers: 990244,
         shares: 1088560,
         touched: 1870908,
@@ -47,42 +48,45 @@ fn desk_for(rank: usize) -> Desk
     }
 }
 
-// The call's entries from the lists that its search emitted. At rank 3 no facet is a compound, and the lists are only put in order.
-// A test of the rank and no closure: the two ways differ here alone, and a caller would pick the closure by the same test.
-fn list_entries(ws: &mut [u8], shelf: Shelf, rank: usize, areas: Areas) -> Level
-    requires { ListsReady shelf rank areas ws.old }
-    ensures { EntriesListed shelf rank areas ws.old result ws.new }
+// The call's entries from the lists that its search emitted. At rank 3 no facet is a compound, and the lists are only
+// put in order. A test of the rank and no closure: the two ways differ here alone, and a caller would pick the
+// closure by the same test.
+fn list_entries(ws: &mut [u8], layout: KeptLayout, rank: usize, areas: Areas) -> Level
+    requires { ListsReady layout rank areas ws.old }
+    ensures { EntriesListed layout rank areas ws.old result ws.new }
 {
-    let at = shelf.owners + areas.lists;
+    let at = layout.owners + areas.lists;
     let bytes = areas.end - areas.lists;
     if rank == 3 {
-        return entries::sort_entries(ws, shelf, at, bytes);
+        return entries::sort_entries(ws, layout, at, bytes);
     }
-    entries::split_entries(ws, shelf, at, bytes)
+    entries::split_entries(ws, layout, at, bytes)
 }
 
-// What the workspace keeps of the inner calls is a clause: it speaks of some stock, and a ghost field cannot say which; and the workspace is written.
-// The second half of a call: from what it keeps of its inner calls to its answer, or a refusal. The search is given the workspace from the owners on, and
-// told whether closed lists are extended.
+// The second half of a call: from what it keeps of its inner calls to its answer, or a refusal. The search is given
+// the workspace from the owners on, and told whether closed lists are extended. `CallPrepared` stays a clause: it
+// speaks of some prepared call, and a ghost field cannot say which; and the workspace is written.
 pub fn search_call(
     ws: &mut [u8],
-    shelf: Shelf,
+    layout: KeptLayout,
     rank: usize,
     rows: Rows,
     rules: Rules,
     extended: bool,
     left: u32,
 ) -> Result<Called, Refusal>
-    requires { (k : Stock) × Stocked k shelf rank rows.bytes.now rows.count rules extended left ws.old }
-    ensures { (k : Stock) → Stocked k shelf rank rows.entry.bytes.now rows.entry.count rules extended left ws.old → Searched k rules result ws.new }
+    requires { (k : PreparedCall) × CallPrepared k layout rank rows.bytes.now rows.count rules extended left ws.old }
+    ensures { (k : PreparedCall)
+        → CallPrepared k layout rank rows.entry.bytes.now rows.entry.count rules extended left ws.old
+        → Searched k rules result ws.new }
 {
-    let desk = desk_for(rank);
-    let areas = ridges::lay_tables(rows, shelf, desk, ws);
+    let tables = table_layout_for(rank);
+    let areas = ridges::lay_tables(rows, layout, tables, ws);
     let course = Course {
         limit: rules.limit,
         extended,
     };
-    let found = search::search(&mut ws[shelf.owners..], areas, course, left)?;
-    let level = list_entries(ws, shelf, rank, areas);
+    let found = search::search(&mut ws[layout.owners..], areas, course, left)?;
+    let level = list_entries(ws, layout, rank, areas);
     Ok(Called::Left(level, found.left))
 }

@@ -2,4 +2,3 @@
 pub mod Steps
 pub mod Ends
 pub mod Layouts
-pub mod Swaps

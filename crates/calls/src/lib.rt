@@ -1,19 +1,21 @@
-// What a call takes and gives besides its points, and its small steps: the answer of rank 2 from the rows alone, and where a call of a rank keeps what.
+// What a call takes and gives besides its points, and its small steps: the answer of rank 2 from the rows alone, and
+// where a call of a rank keeps what.
 
 #![tactic(auto)]
 
 ghost use Rattle.std.specs.Prelude.{◌≡◌, ℕ, ◌≤◌, ◌<◌, eqb};
 ghost use Rattle.definitions.specs.Lists.{any_of};
 ghost use Rattle.definitions.specs.Orbits.{Row, image};
-ghost use Rattle.openers.specs.Rows.{rows_in};
-ghost use Rattle.calls.specs.Layouts.{shelf_for};
+ghost use Rattle.rows.specs.Rows.{rows_in};
+ghost use Rattle.calls.specs.Layouts.{layout_for};
 
-use openers::Rows;
-use shelf::{Level, Shelf};
+use layout::{KeptLayout, Level, ORBITS_BYTES};
+use rows::Rows;
 use space::Limits;
 
-// What is alike at every depth: the tolerance, the limits on lengths and on entries, how many hyperplane orbits, possible facets and entries a call may have, and the rule of crowded lines.
-// The rule is a number and no enum: public functions take any number, and a narrower type would ask more of their callers.
+// What is alike at every depth: the tolerance, the limits on lengths and on entries, how many hyperplane orbits,
+// possible facets and entries a call may have, and the rule of crowded lines. The rule is a number and no enum:
+// public functions take any number, and a narrower type would ask more of their callers.
 #[derive(Clone, Copy)]
 pub struct Rules {
     pub tolerance: f64,
@@ -25,7 +27,8 @@ pub struct Rules {
     pub rule: usize,
 }
 
-// What a call answers. At rank 2: whether some row swaps the ends. Above: where its answer stands in the workspace. Both with what is left of the budget. Both are answers, so that neither an Option nor a Result says it.
+// What a call answers. At rank 2: whether some row swaps the ends. Above: where its answer stands in the workspace.
+// Both with what is left of the budget. Both are answers, so that neither an Option nor a Result says it.
 #[derive(Clone, Copy)]
 pub enum Called {
     Ends(bool, u32),
@@ -34,21 +37,23 @@ pub enum Called {
 
 // Whether some row sends 0 to 1: all that a call of rank 2 asks.
 pub fn swaps_ends(rows: Rows) -> bool
-    ensures { (n : ℕ) → 0 < n → n ≤ 32 → result ≡ any_of (λ (row : Row). eqb 1 (image row 0)) (rows_in n rows.entry.count rows.entry.bytes.now) }
+    ensures { (n : ℕ) → 0 < n → n ≤ 32
+        → result ≡ any_of (λ (row : Row). eqb 1 (image row 0)) (rows_in n rows.entry.count rows.entry.bytes.now) }
 {
     (0..rows.count).any(|i| rows.image(i, 0) == 1)
 }
 
-// An empty shelf for a call of rank 3, or of rank 4: its areas have room for what such a call can keep.
-// Told apart by the rank, a number that `faceting` lowers by one: what is chosen are numbers, no step, so that a closure would say no more.
-pub fn shelf_for(rank: usize) -> Shelf
-    ensures { result ≡ shelf_for rank }
+// The layout for a call of rank 3, or of rank 4, with nothing kept yet: its areas have room for what such a call can
+// keep. Told apart by the rank, a number that `faceting` lowers by one: what is chosen are numbers, no step, so that
+// a closure would say no more.
+pub fn layout_for(rank: usize) -> KeptLayout
+    ensures { result ≡ layout_for rank }
 {
     if rank == 3 {
-        return Shelf {
+        return KeptLayout {
             orbits: 0,
             facets: 0,
-            edges: 2048,
+            edges: ORBITS_BYTES,
             labels: 6668,
             owners: 10764,
             ridges: 12812,
@@ -56,10 +61,10 @@ pub fn shelf_for(rank: usize) -> Shelf
             end: 20236,
         };
     }
-    Shelf {
+    KeptLayout {
         orbits: 0,
         facets: 0,
-        edges: 2048,
+        edges: ORBITS_BYTES,
         labels: 395276,
         owners: 399372,
         ridges: 401420,

@@ -25,11 +25,12 @@ impl<'a> Candidates<'a> {
     ghost use Rattle.facets.specs.Frames.{candidates as candidatesOf, low_of};
     ghost use Rattle.candidates.specs.Latest.{last_free};
 
-    // How many there are.
-    // What the bytes hold is a clause, here and in the other methods: it is asked of some table and promised for each that the bytes hold, and a ghost field cannot say which.
+    // How many there are. What the bytes hold is a clause, here and in the other methods: it is asked of some table
+    // and promised for each that the bytes hold, and a ghost field cannot say which.
     pub fn count(self) -> usize
         requires { (t : Table) × Inputs t self.areas self.ws.now }
-        ensures { (t : Table) → Inputs t self.entry.areas self.entry.ws.now → result ≡ length (numbers t self.entry.kind) }
+        ensures { (t : Table) → Inputs t self.entry.areas self.entry.ws.now
+            → result ≡ length (numbers t self.entry.kind) }
     {
         match self.kind {
             None => self.areas.facets,
@@ -40,7 +41,8 @@ impl<'a> Candidates<'a> {
     // The facet at a place among them.
     pub fn facet(self, i: usize) -> usize
         requires { (t : Table) × Inputs t self.areas self.ws.now × (i < length (numbers t self.kind)) }
-        ensures { (t : Table) → Inputs t self.entry.areas self.entry.ws.now → result ≡ get_or (numbers t self.entry.kind) i 0 }
+        ensures { (t : Table) → Inputs t self.entry.areas self.entry.ws.now
+            → result ≡ get_or (numbers t self.entry.kind) i 0 }
     {
         match self.kind {
             None => i,
@@ -54,7 +56,8 @@ impl<'a> Candidates<'a> {
     // The orbit of the facet at a place.
     fn orbit(self, i: usize) -> usize
         requires { (t : Table) × Inputs t self.areas self.ws.now × (i < length (numbers t self.kind)) }
-        ensures { (t : Table) → Inputs t self.entry.areas self.entry.ws.now → result ≡ (get_or (candidatesOf t self.entry.kind) i (0, 0)).0 }
+        ensures { (t : Table) → Inputs t self.entry.areas self.entry.ws.now
+            → result ≡ (get_or (candidatesOf t self.entry.kind) i (0, 0)).0 }
     {
         let x = self.facet(i);
         usize::from(u16::get(self.ws, 2 * x))
@@ -70,8 +73,13 @@ impl<'a> Candidates<'a> {
 
     // The last place from `low` to below `place` whose facet has an orbit that is not in use, if any.
     pub fn latest(self, low: usize, place: usize) -> Option<usize>
-        requires { (t : Table) × Inputs t self.areas self.ws.now × (place ≤ length (numbers t self.kind)) × (list : List Facet) × Uses self.areas list (used_part self.areas self.ws.now) }
-        ensures { (t : Table) (list : List Facet) → Inputs t self.entry.areas self.entry.ws.now → Uses self.entry.areas list (used_part self.entry.areas self.entry.ws.now) → result ≡ last_free t list self.entry.kind low place }
+        requires { (t : Table)
+            × Inputs t self.areas self.ws.now
+            × (place ≤ length (numbers t self.kind))
+            × (list : List Facet) × Uses self.areas list (used_part self.areas self.ws.now) }
+        ensures { (t : Table) (list : List Facet) → Inputs t self.entry.areas self.entry.ws.now
+            → Uses self.entry.areas list (used_part self.entry.areas self.entry.ws.now)
+            → result ≡ last_free t list self.entry.kind low place }
     {
         (low..place)
             .rev()

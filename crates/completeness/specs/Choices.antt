@@ -1,4 +1,5 @@
--- Choices as lists that ascend by orbit: each set is one list, and taking a facet out of one. Leans on the laws of lists; over any table.
+-- Choices as lists that ascend by orbit: each set is one list, and taking a facet out of one. Leans on the laws of
+-- lists; over any table.
 use Rattle.std.specs.Prelude.{◌≡◌, refl, ◌⊎◌, Bool, true, false, cond, not, ◌&&◌, ◌||◌, T, ltb, eqb, length}
 use Rattle.std.proofs.Common.{sym, ap, ◌∙◌, subst, inl, inr, arith, T_not, eqb→eq, ltb→lt}
 use mathlib.Core.List.{List, [], ◌∷◌, ◌++◌, Memᴰ, Permᴰ}
@@ -6,7 +7,8 @@ use Prim.Native.Nat.{ℕ, suc, ◌<◌, Ordering}
 use Rattle.std.proofs.Math.Dec.{compare_is_eq}
 use Rattle.definitions.specs.Lists.{compare_pair, member_pair, all_of, keep, count_from}
 use Rattle.definitions.specs.Search.{Table, Facet, all_facets, total, totals}
-use Rattle.definitions.specs.Demands.{is_possible, orbits_ascend, is_choice, is_closed_choice, lowest_open, is_next, without, is_order_of}
+use Rattle.definitions.specs.Demands.{is_possible, orbits_ascend, is_choice, is_closed_choice, lowest_open, is_next}
+use Rattle.definitions.specs.Demands.{without, is_order_of}
 use Rattle.laws.specs.Bools.{true→holds, holds→true, false→fails, first, second, either}
 use Rattle.laws.specs.Lists.{Mem, here, there, any_witness, all_of_holds, kept, in_keep, keep_all, in_map, in_count}
 use Rattle.laws.specs.Orders.{pairs, is_eq}
@@ -39,12 +41,19 @@ ascend_pairs (f ∷ g ∷ l) h = go (ascend_pairs (g ∷ l) (second (ltb f.0 g.0
 pub one_each : (l : List Facet) → Pairs Lower l → (f g : Facet) → Mem f l → Mem g l → f.0 ≡ g.0 → f ≡ g
 one_each [] p f g x4 _ e = elim x4 [ ]
 one_each (x ∷ l) p f g (Memᴰ.head a) (Memᴰ.head b) e = a ∙ sym b
-one_each (x ∷ l) p f g (Memᴰ.head a) (Memᴰ.tail k) e = let z = p.0 g k in let q = ap (λ (y : Facet). y.0) a in absurd (omega arith)
-one_each (x ∷ l) p f g (Memᴰ.tail h) (Memᴰ.head b) e = let z = p.0 f h in let q = ap (λ (y : Facet). y.0) b in absurd (omega arith)
+one_each (x ∷ l) p f g (Memᴰ.head a) (Memᴰ.tail k) e =
+    let z = p.0 g k in
+    let q = ap (λ (y : Facet). y.0) a in
+    absurd (omega arith)
+one_each (x ∷ l) p f g (Memᴰ.tail h) (Memᴰ.head b) e =
+    let z = p.0 f h in
+    let q = ap (λ (y : Facet). y.0) b in
+    absurd (omega arith)
 one_each (x ∷ l) p f g (Memᴰ.tail h) (Memᴰ.tail k) e = one_each l p.1 f g h k e
 
 -- two such lists with the same facets are one list
-pub same_choice : (l m : List Facet) → Pairs Lower l → Pairs Lower m → ((f : Facet) → Mem f l → Mem f m) → ((f : Facet) → Mem f m → Mem f l) → l ≡ m
+pub same_choice : (l m : List Facet) → Pairs Lower l → Pairs Lower m → ((f : Facet) → Mem f l → Mem f m)
+    → ((f : Facet) → Mem f m → Mem f l) → l ≡ m
 same_choice [] [] p q a b = refl
 same_choice [] (g ∷ m) p q a b = absurd (empty (b g (here refl)))
   where
@@ -54,7 +63,8 @@ same_choice (f ∷ l) [] p q a b = absurd (empty (a f (here refl)))
   where
     empty : Mem f [] → ⊥
     empty h = elim h [ ]
-same_choice (f ∷ l) (g ∷ m) p q a b = λ i. head i ∷ same_choice l m p.1 q.1 (tail_of l m p.0 heads a) (tail_of m l q.0 (sym heads) b) i
+same_choice (f ∷ l) (g ∷ m) p q a b =
+    λ i. head i ∷ same_choice l m p.1 q.1 (tail_of l m p.0 heads a) (tail_of m l q.0 (sym heads) b) i
   where
     -- neither head is lower than the other
     heads : f.0 ≡ g.0
@@ -68,7 +78,8 @@ same_choice (f ∷ l) (g ∷ m) p q a b = λ i. head i ∷ same_choice l m p.1 q
     head : f ≡ g
     head = one_each (g ∷ m) q f g (a f (here refl)) (here refl) heads
 
-    tail_of : (r s : List Facet) {x y : Facet} → ((z : Facet) → Mem z r → Lower x z) → x.0 ≡ y.0 → ((z : Facet) → Mem z (x ∷ r) → Mem z (y ∷ s)) → (z : Facet) → Mem z r → Mem z s
+    tail_of : (r s : List Facet) {x y : Facet} → ((z : Facet) → Mem z r → Lower x z) → x.0 ≡ y.0
+        → ((z : Facet) → Mem z (x ∷ r) → Mem z (y ∷ s)) → (z : Facet) → Mem z r → Mem z s
     tail_of r s {x} {y} low e sub z h = go (sub z (there h))
       where
         go : Mem z (y ∷ s) → Mem z s
@@ -80,12 +91,16 @@ same_choice (f ∷ l) (g ∷ m) p q a b = λ i. head i ∷ same_choice l m p.1 q
 pub of_without : (f g : Facet) (l : List Facet) → Mem g (without f l) → Mem g l × Different f g
 unfolding without
 of_without f g l h =
-    let r = kept (λ (x : Facet). not (compare_is_eq (compare_pair f x))) g l h in
-    (r.0, λ e. T_not (compare_is_eq (compare_pair f g)) r.1 (subst (λ (o : Ordering). T (compare_is_eq o)) (sym (ap (compare_pair f) (sym e) ∙ pairs.self f)) tt))
+    let r = kept (λ (x : Facet). not (compare_is_eq (compare_pair f x))) g l h in (
+      r.0,
+      λ e. T_not (compare_is_eq (compare_pair f g)) r.1
+          (subst (λ (o : Ordering). T (compare_is_eq o)) (sym (ap (compare_pair f) (sym e) ∙ pairs.self f)) tt),
+    )
 
 pub in_without : (f g : Facet) (l : List Facet) → Mem g l → Different f g → Mem g (without f l)
 unfolding without
-in_without f g l h n = in_keep (λ (x : Facet). not (compare_is_eq (compare_pair f x))) g l h (go (compare_is_eq (compare_pair f g)) refl)
+in_without f g l h n =
+    in_keep (λ (x : Facet). not (compare_is_eq (compare_pair f x))) g l h (go (compare_is_eq (compare_pair f g)) refl)
   where
     go : (b : Bool) → compare_is_eq (compare_pair f g) ≡ b → T (not b)
     go true e = absurd (n (pairs.equal f g (is_eq (compare_pair f g) (true→holds e))))
@@ -97,7 +112,9 @@ same_or_not f g = go (compare_is_eq (compare_pair f g)) refl
   where
     go : (b : Bool) → compare_is_eq (compare_pair f g) ≡ b → (f ≡ g) ⊎ Different f g
     go true e = inl (pairs.equal f g (is_eq (compare_pair f g) (true→holds e)))
-    go false e = inr (λ q. T_not (compare_is_eq (compare_pair f g)) (false→fails e) (subst (λ (o : Ordering). T (compare_is_eq o)) (sym (ap (compare_pair f) (sym q) ∙ pairs.self f)) tt))
+    go false e =
+        inr (λ q. T_not (compare_is_eq (compare_pair f g)) (false→fails e)
+        (subst (λ (o : Ordering). T (compare_is_eq o)) (sym (ap (compare_pair f) (sym q) ∙ pairs.self f)) tt))
 
 pub without_ascends : (f : Facet) (l : List Facet) → Pairs Lower l → Pairs Lower (without f l)
 unfolding without
@@ -105,15 +122,21 @@ without_ascends f l p = pairs_keep Lower (λ (x : Facet). not (compare_is_eq (co
 
 pub without_all : (f : Facet) (l : List Facet) → (Mem f l → ⊥) → without f l ≡ l
 unfolding without
-without_all f l n = keep_all (λ (x : Facet). not (compare_is_eq (compare_pair f x))) l (λ g h. go g h (compare_is_eq (compare_pair f g)) refl)
+without_all f l n =
+    keep_all (λ (x : Facet). not (compare_is_eq (compare_pair f x))) l
+    (λ g h. go g h (compare_is_eq (compare_pair f g)) refl)
   where
     go : (g : Facet) → Mem g l → (b : Bool) → compare_is_eq (compare_pair f g) ≡ b → T (not b)
-    go g h true e = absurd (n (subst (λ (x : Facet). Mem x l) (sym (pairs.equal f g (is_eq (compare_pair f g) (true→holds e)))) h))
+    go g h true e =
+        absurd
+        (n (subst (λ (x : Facet). Mem x l) (sym (pairs.equal f g (is_eq (compare_pair f g) (true→holds e)))) h))
     go g h false e = tt
 
 pub without_first : (f : Facet) (l : List Facet) → (Mem f l → ⊥) → without f (f ∷ l) ≡ l
 unfolding without keep
-without_first f l n = ap (λ (b : Bool). cond (not b) (f ∷ without f l) (without f l)) (holds→true (compare_is_eq (compare_pair f f)) (subst (λ (o : Ordering). T (compare_is_eq o)) (sym (pairs.self f)) tt)) ∙ without_all f l n
+without_first f l n =
+    ap (λ (b : Bool). cond (not b) (f ∷ without f l) (without f l)) (holds→true (compare_is_eq (compare_pair f f))
+    (subst (λ (o : Ordering). T (compare_is_eq o)) (sym (pairs.self f)) tt)) ∙ without_all f l n
 
 -- the facet and what is left are the list again
 pub without_perm : (f : Facet) (l : List Facet) → Pairs Lower l → Mem f l → Permᴰ l (f ∷ without f l)
@@ -123,15 +146,20 @@ without_perm f (x ∷ l) p h = go (compare_is_eq (compare_pair f x)) refl h (λ 
   where
     at_head : f ≡ x → Permᴰ (x ∷ l) (f ∷ keep (λ (y : Facet). not (compare_is_eq (compare_pair f y))) l)
     at_head e =
-        subst (λ (r : List Facet). Permᴰ (x ∷ l) (f ∷ r)) (sym (without_all f l (λ k. let z = p.0 f k in let q = ap (λ (y : Facet). y.0) e in omega arith)))
+        subst (λ (r : List Facet). Permᴰ (x ∷ l) (f ∷ r))
+        (sym (without_all f l (λ k. let z = p.0 f k in let q = ap (λ (y : Facet). y.0) e in omega arith)))
         (Permᴰ.cons (sym e) (mathlib.Core.List.Permᴰ.refl l))
 
     in_tail : compare_is_eq (compare_pair f x) ≡ false → Mem f (x ∷ l) → Mem f l
-    in_tail e (Memᴰ.head q) = absurd (T_not (compare_is_eq (compare_pair f x)) (false→fails e) (subst (λ (o : Ordering). T (compare_is_eq o)) (sym (ap (compare_pair f) (sym q) ∙ pairs.self f)) tt))
+    in_tail e (Memᴰ.head q) =
+        absurd (T_not (compare_is_eq (compare_pair f x)) (false→fails e)
+        (subst (λ (o : Ordering). T (compare_is_eq o)) (sym (ap (compare_pair f) (sym q) ∙ pairs.self f)) tt))
     in_tail e (Memᴰ.tail k) = k
 
-    go : (b : Bool) → compare_is_eq (compare_pair f x) ≡ b → Mem f (x ∷ l) → (Mem f l → Permᴰ l (f ∷ keep (λ (y : Facet). not (compare_is_eq (compare_pair f y))) l))
-        → Permᴰ (x ∷ l) (f ∷ cond (not b) (x ∷ keep (λ (y : Facet). not (compare_is_eq (compare_pair f y))) l) (keep (λ (y : Facet). not (compare_is_eq (compare_pair f y))) l))
+    go : (b : Bool) → compare_is_eq (compare_pair f x) ≡ b → Mem f (x ∷ l)
+        → (Mem f l → Permᴰ l (f ∷ keep (λ (y : Facet). not (compare_is_eq (compare_pair f y))) l))
+        → Permᴰ (x ∷ l) (f ∷ cond (not b) (x ∷ keep (λ (y : Facet). not (compare_is_eq (compare_pair f y))) l)
+        (keep (λ (y : Facet). not (compare_is_eq (compare_pair f y))) l))
     go true e k ih = at_head (pairs.equal f x (is_eq (compare_pair f x) (true→holds e)))
     go false e k ih = Permᴰ.trans (Permᴰ.cons refl (ih (in_tail e k))) (Permᴰ.swap refl refl)
 
@@ -150,14 +178,20 @@ empty_list (f ∷ l) h = let z = eqb→eq 0 (suc (length l)) h in absurd (omega 
 pub order_members : (t : Table) (taken remaining order : List Facet) → T (is_order_of t taken remaining order)
     → ((f : Facet) → Mem f order → Mem f remaining) × ((f : Facet) → Mem f remaining → Mem f order)
 unfolding is_order_of
-order_members t taken remaining [] h = ((λ f k. elim k [ ]), λ f k. subst (λ (l : List Facet). Mem f l) (empty_list remaining h) k)
+order_members t taken remaining [] h =
+    ((λ f k. elim k [ ]), λ f k. subst (λ (l : List Facet). Mem f l) (empty_list remaining h) k)
 order_members t taken remaining (g ∷ order) h =
-    go (order_members t (taken ++ (g ∷ [])) (without g remaining) order (second (member_pair g remaining && is_next t (lowest_open t taken) remaining g) (is_order_of t (taken ++ (g ∷ [])) (without g remaining) order) h))
+    go (order_members t (taken ++ (g ∷ [])) (without g remaining) order (second (member_pair g remaining && is_next t
+    (lowest_open t taken) remaining g) (is_order_of t (taken ++ (g ∷ [])) (without g remaining) order) h))
   where
     g_in : Mem g remaining
-    g_in = member_pair_holds g remaining (first (member_pair g remaining) (is_next t (lowest_open t taken) remaining g) (first (member_pair g remaining && is_next t (lowest_open t taken) remaining g) (is_order_of t (taken ++ (g ∷ [])) (without g remaining) order) h))
+    g_in =
+        member_pair_holds g remaining (first (member_pair g remaining) (is_next t (lowest_open t taken) remaining g)
+        (first (member_pair g remaining && is_next t (lowest_open t taken) remaining g)
+        (is_order_of t (taken ++ (g ∷ [])) (without g remaining) order) h))
 
-    go : ((f : Facet) → Mem f order → Mem f (without g remaining)) × ((f : Facet) → Mem f (without g remaining) → Mem f order)
+    go : ((f : Facet) → Mem f order → Mem f (without g remaining))
+        × ((f : Facet) → Mem f (without g remaining) → Mem f order)
         → ((f : Facet) → Mem f (g ∷ order) → Mem f remaining) × ((f : Facet) → Mem f remaining → Mem f (g ∷ order))
     go ih = (into, out)
       where
@@ -184,16 +218,25 @@ pub closed_choice_of : (t : Table) (c : List Facet) → T (is_closed_choice t c)
 unfolding is_closed_choice is_choice totals
 closed_choice_of t c h = record {
   some_facet = ltb→lt 0 (length c) (first (ltb 0 (length c)) (all_of (is_possible t) c) two);
-  possible = λ f k. possible_facet t f (all_of_holds (is_possible t) c (second (ltb 0 (length c)) (all_of (is_possible t) c) two) f k);
+  possible =
+      λ f k. possible_facet t f
+      (all_of_holds (is_possible t) c (second (ltb 0 (length c)) (all_of (is_possible t) c) two) f k);
   ascending = ascend_pairs c (second (ltb 0 (length c) && all_of (is_possible t) c) (orbits_ascend c) three);
-  totals_closed = λ ridge k. zero_two (total t c ridge) (all_of_holds (λ (n : ℕ). eqb 0 n || eqb 2 n) (totals t c) four (total t c ridge) (in_map (total t c) ridge (count_from 0 t.ridges) (in_count 0 t.ridges ridge (omega arith) (omega arith))));
+  totals_closed =
+      λ ridge k.
+      zero_two (total t c ridge) (all_of_holds (λ (n : ℕ). eqb 0 n || eqb 2 n) (totals t c) four (total t c ridge)
+      (in_map (total t c) ridge (count_from 0 t.ridges) (in_count 0 t.ridges ridge (omega arith) (omega arith))));
 }
   where
     three : T (ltb 0 (length c) && all_of (is_possible t) c && orbits_ascend c)
-    three = first (ltb 0 (length c) && all_of (is_possible t) c && orbits_ascend c) (all_of (λ (n : ℕ). eqb 0 n || eqb 2 n) (totals t c)) h
+    three =
+        first (ltb 0 (length c) && all_of (is_possible t) c && orbits_ascend c)
+        (all_of (λ (n : ℕ). eqb 0 n || eqb 2 n) (totals t c)) h
 
     four : T (all_of (λ (n : ℕ). eqb 0 n || eqb 2 n) (totals t c))
-    four = second (ltb 0 (length c) && all_of (is_possible t) c && orbits_ascend c) (all_of (λ (n : ℕ). eqb 0 n || eqb 2 n) (totals t c)) h
+    four =
+        second (ltb 0 (length c) && all_of (is_possible t) c && orbits_ascend c)
+        (all_of (λ (n : ℕ). eqb 0 n || eqb 2 n) (totals t c)) h
 
     two : T (ltb 0 (length c) && all_of (is_possible t) c)
     two = first (ltb 0 (length c) && all_of (is_possible t) c) (orbits_ascend c) three

@@ -13,20 +13,25 @@ use mathlib.Core.List.{List, [], ◌∷◌, map, reverse_aux, Memᴰ, Permᴰ}
 use Prim.Native.Nat.{ℕ, ◌+◌, ◌≤◌, ◌<◌, Ordering}
 use Rattle.std.proofs.Math.Dec.{T, compare_is_eq}
 use Rattle.definitions.specs.Lists.{compare_pair, member_pair, keep}
-use Rattle.definitions.specs.Search.{Table, Facet, Item, Verdict, over, closed, open_at, adds, total, all_facets, starts, joined, ones_at}
+use Rattle.definitions.specs.Search.{Table, Facet, Item, Verdict, over, closed, open_at, adds, total, all_facets}
+use Rattle.definitions.specs.Search.{starts, joined, ones_at}
 use Rattle.definitions.specs.Demands.{choice_of, is_closed_choice, equal_shares}
 use Rattle.definitions.specs.Noble.{NoneInside, AllMinimalChoices}
 use Rattle.laws.specs.Bools.{true→holds}
-use Rattle.laws.specs.Lists.{Mem, here, in_append, in_left, in_map, of_map, in_flat_map, of_flat_map, of_reversed, any_of_holds, kept, in_keep}
+use Rattle.laws.specs.Lists.{Mem, here, in_append, in_left, in_map, of_map, in_flat_map, of_flat_map, of_reversed}
+use Rattle.laws.specs.Lists.{any_of_holds, kept, in_keep}
 use Rattle.laws.specs.Orders.{pairs}
 use Rattle.laws.specs.Pairs.{pairs_keep, pairs→nodup}
 use Rattle.laws.specs.Sorting.{perm_member, pairs_perm}
 use Rattle.completeness.specs.Tree.{yield_eq, induct}
 use Rattle.completeness.specs.Verdicts.{Means, is_open, judge_means, ZeroOrTwo, total_perm, adds_within}
 use Rattle.completeness.specs.Facets.{ones_add}
-use Rattle.completeness.specs.Walk.{children_by, children, verdict_of, own, own_by, unused, falls, open_child, closed_in, closed_among, closed_lists}
-use Rattle.completeness.specs.Taken.{Extends, emitted_extends, emitted_order, start_at, start_of, choice_perm, in_choice, of_choice}
-use Rattle.completeness.specs.Choices.{Lower, same_choice, member_pair_holds, order_members, ClosedChoice, closed_choice_of}
+use Rattle.completeness.specs.Walk.{children_by, children, verdict_of, own, own_by, unused, falls, open_child}
+use Rattle.completeness.specs.Walk.{closed_in, closed_among, closed_lists}
+use Rattle.completeness.specs.Taken.{Extends, emitted_extends, emitted_order, start_at, start_of, choice_perm}
+use Rattle.completeness.specs.Taken.{in_choice, of_choice}
+use Rattle.completeness.specs.Choices.{Lower, same_choice, member_pair_holds, order_members, ClosedChoice}
+use Rattle.completeness.specs.Choices.{closed_choice_of}
 use Rattle.completeness.specs.Complete.{adding_one, below_child, every_choice}
 use Rattle.completeness.specs.Unique.{own_facet, lists_differ, choices_differ}
 
@@ -42,7 +47,8 @@ in_or_not f l = go (member_pair f l) refl
 in_list : (f : Facet) (l : List Facet) → Mem f l → T (member_pair f l)
 unfolding member_pair
 in_list f l h =
-    any_of_holds (λ (g : Facet). compare_is_eq (compare_pair f g)) f l h (subst (λ (o : Ordering). T (compare_is_eq o)) (sym (pairs.self f)) tt)
+    any_of_holds (λ (g : Facet). compare_is_eq (compare_pair f g)) f l h
+    (subst (λ (o : Ordering). T (compare_is_eq o)) (sym (pairs.self f)) tt)
 
 -- ---- a part of a choice, and the rest
 
@@ -57,7 +63,8 @@ keep_total t p (f ∷ l) ridge = go (p f) (keep_total t p l ridge)
     rest = keep (λ (g : Facet). not (p g)) l
 
     go : (b : Bool) → total t l ridge ≡ total t (keep p l) ridge + total t rest ridge
-        → total t (f ∷ l) ridge ≡ total t (cond b (f ∷ keep p l) (keep p l)) ridge + total t (cond (not b) (f ∷ rest) rest) ridge
+        → total t (f ∷ l) ridge
+        ≡ total t (cond b (f ∷ keep p l) (keep p l)) ridge + total t (cond (not b) (f ∷ rest) rest) ridge
     go true e = omega arith
     go false e = omega arith
 
@@ -71,7 +78,8 @@ zero_two_rest n m k e (inr a) (inr b) = inl (omega arith)
 unfoldable pub rest_of : List Facet → List Facet → List Facet
 rest_of c d = keep (λ (g : Facet). not (member_pair g d)) c
 
-module _ (t : Table) (c d : List Facet) (whole : ClosedChoice t c) (part : ClosedChoice t d) (inside : (f : Facet) → Mem f d → Mem f c) where
+module _ (t : Table) (c d : List Facet) (whole : ClosedChoice t c) (part : ClosedChoice t d)
+    (inside : (f : Facet) → Mem f d → Mem f c) where
   part_kept : d ≡ keep (λ (g : Facet). member_pair g d) c
   part_kept =
       same_choice d (keep within c) part.ascending (pairs_keep Lower within c whole.ascending)
@@ -88,12 +96,14 @@ module _ (t : Table) (c d : List Facet) (whole : ClosedChoice t c) (part : Close
 
   pub rest_closed : ZeroOrTwo t (rest_of c d)
   rest_closed ridge h =
-      zero_two_rest (total t c ridge) (total t d ridge) (total t (rest_of c d) ridge) (part_total ridge) (whole.totals_closed ridge h) (part.totals_closed ridge h)
+      zero_two_rest (total t c ridge) (total t d ridge) (total t (rest_of c d) ridge) (part_total ridge)
+      (whole.totals_closed ridge h) (part.totals_closed ridge h)
 
 -- ---- a list that begins in a closed part stays in it
 
 module _ (t : Table) (equal : T (equal_shares t)) (d e : List Facet) (part : ZeroOrTwo t d) (whole : ZeroOrTwo t e)
-    (within : (f : Facet) → Mem f e → T (not (member_pair f d)) → (ridge : ℕ) → total t d ridge + adds t ridge f ≤ total t e ridge) where
+    (within : (f : Facet) → Mem f e → T (not (member_pair f d)) → (ridge : ℕ)
+    → total t d ridge + adds t ridge f ≤ total t e ridge) where
   -- a total of 2 in the part leaves nothing to add for a facet outside
   no_more : (n m a : ℕ) → 0 < n → 0 < a → n + a ≤ m → (n ≡ 0) ⊎ (n ≡ 2) → (m ≡ 0) ⊎ (m ≡ 2) → ⊥
   no_more n m a p q h (inl x) y = omega arith
@@ -115,19 +125,23 @@ module _ (t : Table) (equal : T (equal_shares t)) (d e : List Facet) (part : Zer
       go (inl k) = k
       go (inr k) =
           let a = ones_add t equal ridge f possible ones in
-          absurd (no_more (total t d ridge) (total t e ridge) (adds t ridge f) some_there (omega arith) (within f m k ridge) (part ridge h) (whole ridge h))
+          absurd (no_more (total t d ridge) (total t e ridge) (adds t ridge f) some_there (omega arith)
+          (within f m k ridge) (part ridge h) (whole ridge h))
 
   abbrev Stays : Item → Type 0
-  Stays item = Mem e (closed_in false t item) → ((g : Facet) → Mem g item.list → Mem g d) → (g : Facet) → Mem g e → Mem g d
+  Stays item =
+      Mem e (closed_in false t item) → ((g : Facet) → Mem g item.list → Mem g d) → (g : Facet) → Mem g e → Mem g d
 
-  own_stays : (item : Item) (v : Verdict) → Mem e (own_by item.list v) → ((g : Facet) → Mem g item.list → Mem g d) → (g : Facet) → Mem g e → Mem g d
+  own_stays : (item : Item) (v : Verdict) → Mem e (own_by item.list v) → ((g : Facet) → Mem g item.list → Mem g d)
+      → (g : Facet) → Mem g e → Mem g d
   unfolding own_by
   own_stays item over h sub g m = elim h [ ]
   own_stays item (open_at r) h sub g m = elim h [ ]
   own_stays item closed (Memᴰ.head q) sub g m = sub g (subst (λ (l : List Facet). Mem g l) q m)
   own_stays item closed (Memᴰ.tail h) sub g m = elim h [ ]
 
-  child_stays : (item j : Item) (v : Verdict) → Means t item.list v → Mem j (children_by false t item v) → Mem e (closed_in false t j)
+  child_stays : (item j : Item) (v : Verdict) → Means t item.list v → Mem j (children_by false t item v)
+      → Mem e (closed_in false t j)
       → ((g : Facet) → Mem g item.list → Mem g d) → (g : Facet) → Mem g j.list → Mem g d
   unfolding children_by joined
   child_stays item j over m h k sub g i = elim h [ ]
@@ -150,13 +164,16 @@ module _ (t : Table) (equal : T (equal_shares t)) (d e : List Facet) (part : Zer
       at_item : (item : Item) → ((j : Item) → Mem j (children false t item) → Stays j) → Stays item
       at_item item ih m sub =
           go (in_append e (own t item) (closed_among false t (reverse_aux (children false t item) []))
-          (subst (λ (l : List (List Facet)). Mem e l) (yield_eq (children false t) (own t) (unused t) (falls false t) item) m))
+          (subst (λ (l : List (List Facet)). Mem e l)
+          (yield_eq (children false t) (own t) (unused t) (falls false t) item) m))
         where
-          from : (j : Item) → Mem j (children false t item) ⊎ Mem j [] → Mem e (closed_in false t j) → (g : Facet) → Mem g e → Mem g d
+          from : (j : Item) → Mem j (children false t item) ⊎ Mem j [] → Mem e (closed_in false t j) → (g : Facet)
+              → Mem g e → Mem g d
           from j (inl k) i = ih j k i (child_stays item j (verdict_of t item) (judge_means t item.list) k i sub)
           from j (inr k) i = elim k [ ]
 
-          go : Mem e (own t item) ⊎ Mem e (closed_among false t (reverse_aux (children false t item) [])) → (g : Facet) → Mem g e → Mem g d
+          go : Mem e (own t item) ⊎ Mem e (closed_among false t (reverse_aux (children false t item) []))
+              → (g : Facet) → Mem g e → Mem g d
           go (inl k) = own_stays item (verdict_of t item) k sub
           go (inr k) =
               let r = of_flat_map (closed_in false t) e (reverse_aux (children false t item) []) k in
@@ -195,10 +212,12 @@ module _ (t : Table) (equal : T (equal_shares t)) (e : List Facet) (emitted : Me
         first g (Memᴰ.head q) = subst (λ (y : Facet). Mem y d) (sym q) h
         first g (Memᴰ.tail k) = elim k [ ]
 
-        within : (g : Facet) → Mem g e → T (not (member_pair g d)) → (ridge : ℕ) → total t d ridge + adds t ridge g ≤ total t e ridge
+        within : (g : Facet) → Mem g e → T (not (member_pair g d)) → (ridge : ℕ)
+            → total t d ridge + adds t ridge g ≤ total t e ridge
         within g k n ridge =
             let a = split ridge in
-            let b = adds_within t ridge g (rest_of choice d) (in_keep (λ (x : Facet). not (member_pair x d)) g choice (in_choice g e k) n) in
+            let b = adds_within t ridge g (rest_of choice d)
+            (in_keep (λ (x : Facet). not (member_pair x d)) g choice (in_choice g e k) n) in
             omega arith
 
     -- begun in the rest, all of it is there, and nothing is in the part
@@ -216,21 +235,27 @@ module _ (t : Table) (equal : T (equal_shares t)) (e : List Facet) (emitted : Me
             go : Mem g d ⊎ T (not (member_pair g d)) → Mem g d
             go (inl i) = i
             go (inr i) =
-                absurd (T_not (member_pair g (rest_of choice d)) n (in_list g (rest_of choice d) (in_keep (λ (x : Facet). not (member_pair x d)) g choice (in_choice g e k) i)))
+                absurd (T_not (member_pair g (rest_of choice d)) n (in_list g (rest_of choice d)
+                (in_keep (λ (x : Facet). not (member_pair x d)) g choice (in_choice g e k) i)))
 
-        within : (g : Facet) → Mem g e → T (not (member_pair g (rest_of choice d))) → (ridge : ℕ) → total t (rest_of choice d) ridge + adds t ridge g ≤ total t e ridge
+        within : (g : Facet) → Mem g e → T (not (member_pair g (rest_of choice d))) → (ridge : ℕ)
+            → total t (rest_of choice d) ridge + adds t ridge g ≤ total t e ridge
         within g k n ridge =
             let a = split ridge in
             let b = adds_within t ridge g d (in_part g k n) in
             omega arith
 
         all_rest : (g : Facet) → Mem g e → Mem g (rest_of choice d)
-        all_rest = stays t equal (rest_of choice d) e (rest_closed t choice d whole_closed part inside) list_closed within (start_at f) m first
+        all_rest =
+            stays t equal (rest_of choice d) e (rest_closed t choice d whole_closed part inside) list_closed within
+            (start_at f) m first
 
-        nothing : (l : List Facet) → 0 < length l → ((g : Facet) → Mem g l → Mem g choice) → ((g : Facet) → Mem g l → Mem g d) → ⊥
+        nothing : (l : List Facet) → 0 < length l → ((g : Facet) → Mem g l → Mem g choice)
+            → ((g : Facet) → Mem g l → Mem g d) → ⊥
         nothing [] n sub back = omega arith
         nothing (g ∷ l) n sub back =
-            let r = kept (λ (x : Facet). not (member_pair x d)) g choice (all_rest g (of_choice g e (sub g (here refl)))) in
+            let r = kept (λ (x : Facet). not (member_pair x d)) g choice
+            (all_rest g (of_choice g e (sub g (here refl)))) in
             T_not (member_pair g d) r.1 (in_list g d (back g (here refl)))
 
     the_whole : d ≡ choice
@@ -245,10 +270,13 @@ module _ (t : Table) (equal : T (equal_shares t)) (e : List Facet) (emitted : Me
         by : (f : Facet) → Mem e (closed_in false t (start_at f)) → Mem f d ⊎ T (not (member_pair f d)) → d ≡ choice
         by f m (inl h) = begun_inside f m h
         by f m (inr n) =
-            absurd (begun_outside f m (in_keep (λ (x : Facet). not (member_pair x d)) f choice (in_choice f e (first_in f (emitted_extends false t (start_at f) e m))) n))
+            absurd (begun_outside f m (in_keep (λ (x : Facet). not (member_pair x d)) f choice
+            (in_choice f e (first_in f (emitted_extends false t (start_at f) e m))) n))
 
         from : (item : Item) → Mem item (starts t) ⊎ Mem item [] → Mem e (closed_in false t item) → d ≡ choice
-        from item (inl k) m = let s = start_of t item k in by s.0 (subst (λ (y : Item). Mem e (closed_in false t y)) s.2 m) (in_or_not s.0 d)
+        from item (inl k) m =
+            let s = start_of t item k in
+            by s.0 (subst (λ (y : Item). Mem e (closed_in false t y)) s.2 m) (in_or_not s.0 d)
         from item (inr k) m = elim k [ ]
 
   pub none_inside : NoneInside t choice
@@ -266,7 +294,8 @@ pub record Under (t : Table) (item : Item) (e : List Facet) : Type 0 where
 own_emitted : (t : Table) (item : Item) → verdict_of t item ≡ closed → Mem item.list (closed_in false t item)
 unfolding own own_by
 own_emitted t item e =
-    subst (λ (l : List (List Facet)). Mem item.list l) (sym (yield_eq (children false t) (own t) (unused t) (falls false t) item))
+    subst (λ (l : List (List Facet)). Mem item.list l)
+    (sym (yield_eq (children false t) (own t) (unused t) (falls false t) item))
     (in_left item.list (own t item) (closed_among false t (reverse_aux (children false t item) []))
     (subst (λ (v : Verdict). Mem item.list (own_by item.list v)) (sym e) (here refl)))
 
@@ -291,7 +320,8 @@ module _ (t : Table) where
       }
 
   -- any other puts in the same items in both trees
-  same_children : (item j : Item) (v : Verdict) → T (not (is_emitted v)) → Mem j (children_by true t item v) → Mem j (children_by false t item v)
+  same_children : (item j : Item) (v : Verdict) → T (not (is_emitted v)) → Mem j (children_by true t item v)
+      → Mem j (children_by false t item v)
   unfolding children_by is_emitted
   same_children item j over n h = h
   same_children item j (open_at r) n h = h
@@ -313,15 +343,22 @@ module _ (t : Table) where
           open_item : T (not (is_emitted (verdict_of t item))) → Under t item e
           open_item n =
               go (in_append e (own t item) (closed_among true t (reverse_aux (children true t item) []))
-              (subst (λ (l : List (List Facet)). Mem e l) (yield_eq (children true t) (own t) (unused t) (falls true t) item) m))
+              (subst (λ (l : List (List Facet)). Mem e l)
+              (yield_eq (children true t) (own t) (unused t) (falls true t) item) m))
             where
               from : (j : Item) → Mem j (children true t item) ⊎ Mem j [] → Mem e (closed_in true t j) → Under t item e
               from j (inl k) i =
                   let u = ih j k e i in
-                  record { list = u.list; emitted = below_child false t item j u.list (same_children item j (verdict_of t item) n k) u.emitted; inside = u.inside }
+                  record {
+                    list = u.list;
+                    emitted =
+                        below_child false t item j u.list (same_children item j (verdict_of t item) n k) u.emitted;
+                    inside = u.inside;
+                  }
               from j (inr k) i = elim k [ ]
 
-              go : Mem e (own t item) ⊎ Mem e (closed_among true t (reverse_aux (children true t item) [])) → Under t item e
+              go : Mem e (own t item) ⊎ Mem e (closed_among true t (reverse_aux (children true t item) []))
+                  → Under t item e
               go (inl k) = absurd (no_own item (verdict_of t item) e n k)
               go (inr k) =
                   let r = of_flat_map (closed_in true t) e (reverse_aux (children true t item) []) k in
@@ -333,34 +370,44 @@ module _ (t : Table) where
           by closed q = at_closed item q e m
 
   -- a closed choice with none inside is that of an emitted list
-  pub minimal_emitted : (c : List Facet) → T (is_closed_choice t c) → NoneInside t c → (e : List Facet) × Mem e (closed_lists false t) × (choice_of e ≡ c)
+  pub minimal_emitted : (c : List Facet) → T (is_closed_choice t c) → NoneInside t c
+      → (e : List Facet) × Mem e (closed_lists false t) × (choice_of e ≡ c)
   unfolding NoneInside
   minimal_emitted c h none =
       let r = every_choice t c h in
       let w = of_flat_map (closed_in true t) r.0 (reverse_aux (starts t) []) r.1 in
       let u = leads w.0 r.0 w.2 in
       let m = in_flat_map (closed_in false t) u.list w.0 (reverse_aux (starts t) []) w.1 u.emitted in
-      let members = order_members t [] c r.0 r.2 in
-      (u.list, m, none (choice_of u.list) (emitted_order false t u.list m).1 (λ f k. members.0 f (u.inside f (of_choice f u.list k))))
+      let members = order_members t [] c r.0 r.2 in (
+        u.list,
+        m,
+        none (choice_of u.list) (emitted_order false t u.list m).1
+            (λ f k. members.0 f (u.inside f (of_choice f u.list k))),
+      )
 
 -- ---- the emitted lists, in any order, have every such choice just once
 
 abbrev NotSame : List Facet → List Facet → Type 0
 NotSame c d = c ≡ d → ⊥
 
-pub minimal_choices : (t : Table) → T (equal_shares t) → (lists : List (List Facet)) → Permᴰ (closed_lists false t) lists → AllMinimalChoices t (map choice_of lists)
+pub minimal_choices : (t : Table) → T (equal_shares t) → (lists : List (List Facet))
+    → Permᴰ (closed_lists false t) lists → AllMinimalChoices t (map choice_of lists)
 minimal_choices t equal lists perm = record {
-  once = pairs→nodup (map choice_of lists) (pairs_perm NotSame (λ c d n e. n (sym e)) (Permᴰ.map choice_of perm) (choices_differ (closed_lists false t) (lists_differ false t equal)));
+  once =
+      pairs→nodup (map choice_of lists) (pairs_perm NotSame (λ c d n e. n (sym e)) (Permᴰ.map choice_of perm)
+      (choices_differ (closed_lists false t) (lists_differ false t equal)));
   these = λ c. (into c, out c);
 }
   where
     into : (c : List Facet) → T (is_closed_choice t c) × NoneInside t c → Mem c (map choice_of lists)
     into c h =
         let r = minimal_emitted t c h.0 h.1 in
-        subst (λ (d : List Facet). Mem d (map choice_of lists)) r.2 (in_map choice_of r.0 lists (perm_member perm r.0 r.1))
+        subst (λ (d : List Facet). Mem d (map choice_of lists)) r.2
+        (in_map choice_of r.0 lists (perm_member perm r.0 r.1))
 
     out : (c : List Facet) → Mem c (map choice_of lists) → T (is_closed_choice t c) × NoneInside t c
     out c h =
         let r = of_map choice_of c lists h in
         let m = perm_member (Permᴰ.symm perm) r.0 r.1 in
-        subst (λ (d : List Facet). T (is_closed_choice t d) × NoneInside t d) (sym r.2) ((emitted_order false t r.0 m).1, none_inside t equal r.0 m)
+        subst (λ (d : List Facet). T (is_closed_choice t d) × NoneInside t d) (sym r.2)
+        ((emitted_order false t r.0 m).1, none_inside t equal r.0 m)

@@ -1,5 +1,6 @@
--- What each sentence of [13.8] refuses alone, shown of the square, without the one that names the search (`exactly`): a list from which any entry is missing, one with an entry more, one with a foreign entry.
--- Leans on Determined and evaluates.
+-- What each sentence of [13.8] refuses alone, shown of the square, without the one that names the search (`exactly`):
+-- a list from which any entry is missing, one with an entry more, one with a foreign entry. Leans on Determined and
+-- evaluates.
 use Rattle.std.specs.Prelude.{◌≡◌, refl, Bool, not, List, [], ◌∷◌, ◌++◌, map, T, length, get_or, take, drop}
 use Rattle.std.proofs.Common.{sym, ◌∙◌, subst, arith, T_not}
 use Rattle.std.specs.Prelude.{None}
@@ -13,7 +14,8 @@ use Rattle.definitions.specs.Recursion.{Entry}
 use Rattle.definitions.specs.Faceting.{Prepared, table_for}
 use Rattle.definitions.specs.Job.{read_job, counted, entry_words}
 use Rattle.definitions.specs.Demands.{CallComplete, choice_of, choices_of, equal_shares}
-use Rattle.definitions.specs.RuledOut.{same_entries, square_bytes, square_entries, open_square, other_figure, closed_in_order, sensible}
+use Rattle.definitions.specs.RuledOut.{same_entries, square_bytes, square_entries, open_square, other_figure}
+use Rattle.definitions.specs.RuledOut.{closed_in_order, sensible}
 use Rattle.definitions.proofs.RuledOut.{only_these, square_accepted, square_sensible}
 use Rattle.laws.specs.Bools.{first}
 use Rattle.laws.specs.Lists.{Mem, any_of_holds, member_at}
@@ -38,7 +40,8 @@ pub square_equal : T (equal_shares (table_for p))
 unfolding sensible
 square_equal =
     let lists = map (λ (e : Entry). e.before) square_entries in
-    first (equal_shares (table_for p)) (closed_in_order (table_for p) lists) (subst (λ (o : Outcome Prepared). T (sensible o lists)) square_call.is_before square_sensible)
+    first (equal_shares (table_for p)) (closed_in_order (table_for p) lists)
+    (subst (λ (o : Outcome Prepared). T (sensible o lists)) square_call.is_before square_sensible)
 
 no_limit : (read_job square_bytes).entry_limit ≡ None
 unfolding open_square
@@ -56,7 +59,8 @@ among_them e = any_of (λ (x : Entry). same_entries (e ∷ []) (x ∷ []))
 pub among_them_holds : (e : Entry) (l : List Entry) → Mem e l → T (among_them e l)
 unfolding among_them same_entries
 among_them_holds e l m =
-    any_of_holds (λ (x : Entry). same_entries (e ∷ []) (x ∷ [])) e l m (subst (λ (o : Ordering). T (compare_is_eq o)) (sym (nat_lists.self (counted entry_words (e ∷ [])))) tt)
+    any_of_holds (λ (x : Entry). same_entries (e ∷ []) (x ∷ [])) e l m
+    (subst (λ (o : Ordering). T (compare_is_eq o)) (sym (nat_lists.self (counted entry_words (e ∷ [])))) tt)
 
 -- ---- every closed choice has an entry
 
@@ -73,7 +77,9 @@ pub as_many : (l : List Entry) → OneToOne p l → length l ≡ 7
 unfolding choices_of
 as_many l one =
     let choice : Entry → List Facet = λ e. choice_of e.before in
-    sym (length-map l choice) ∙ perm_length (same_choices p l square_entries one (square_call.complete.one_to_one no_limit square_equal)) ∙ length-map square_entries choice ∙ seven_entries
+    sym (length-map l choice)
+    ∙ perm_length (same_choices p l square_entries one (square_call.complete.one_to_one no_limit square_equal))
+    ∙ length-map square_entries choice ∙ seven_entries
 
 -- refuses every entry more, and so each of the seven twice
 pub none_twice : (e : Entry) → OneToOne p (e ∷ square_entries) → ⊥
@@ -82,7 +88,8 @@ none_twice e one = let n = as_many (e ∷ square_entries) one in let m = seven_e
 -- ---- every entry is that of a closed choice
 
 pub among_the_seven : (l : List Entry) → EveryEntry p l → (e : Entry) → Mem e l → Mem e square_entries
-among_the_seven l every = none_missing p square_equal l square_entries every (square_call.complete.every_choice no_limit)
+among_the_seven l every =
+    none_missing p square_equal l square_entries every (square_call.complete.every_choice no_limit)
 
 unfoldable pub first_of_other : Entry
 first_of_other = get_or other_figure 0 no_entry
@@ -101,4 +108,5 @@ unfolding first_of_other
 none_foreign every =
     let seven = seven_others in
     T_not (among_them first_of_other square_entries) other_is_foreign
-    (among_them_holds first_of_other square_entries (among_the_seven other_figure every first_of_other (member_at other_figure 0 no_entry (omega arith))))
+    (among_them_holds first_of_other square_entries
+    (among_the_seven other_figure every first_of_other (member_at other_figure 0 no_entry (omega arith))))

@@ -11,11 +11,14 @@ use Rattle.definitions.specs.Search.{Facet, Table, Found}
 use Rattle.definitions.specs.Recursion.{Rules, Entry}
 use Rattle.definitions.specs.Faceting.{Prepared, table_for, entries_of, search_from}
 use Rattle.definitions.specs.Job.{Bytes, Job, read_job, bounds1, rules_of, between, counted, entry_words}
-use Rattle.definitions.specs.Demands.{Demand3, CallComplete, Accepted, prepared_of, choice_of, is_closed_choice, is_order_of, equal_shares}
+use Rattle.definitions.specs.Demands.{Demand3, CallComplete, Accepted, prepared_of, choice_of, is_closed_choice}
+use Rattle.definitions.specs.Demands.{is_order_of, equal_shares}
 use Rattle.definitions.specs.Open.{open_all}
 use Rattle.definitions.specs.Examples.{open_examples, plain, square_job, bytes_of}
 use Rattle.definitions.specs.KnownJobs.{plain_square_answer}
-use Rattle.definitions.specs.RuledOut.{entries_after, entries_with, entries_of_job, same_entries, square_bytes, square_entries, open_square, only_last, first_twice, other_figure, other_before, backwards, closed_in_order, sensible, denies}
+use Rattle.definitions.specs.RuledOut.{entries_after, entries_with, entries_of_job, same_entries, square_bytes}
+use Rattle.definitions.specs.RuledOut.{square_entries, open_square, only_last, first_twice, other_figure, other_before}
+use Rattle.definitions.specs.RuledOut.{backwards, closed_in_order, sensible, denies}
 
 -- ---- entries that pass are those that the definition's search gives
 
@@ -27,20 +30,28 @@ only_these job entries done =
     ∙ sym (ap (entries_with (rules_of bounds1 job)) done.is_before)
 
 -- entries that are written otherwise than the definition's do not meet the third demand
-pub ruled_out : (bytes : Bytes) (entries : List Entry) → Accepted bytes → T (between 3 4 (read_job bytes).rank) → T (same_entries entries entries)
+pub ruled_out : (bytes : Bytes) (entries : List Entry) → Accepted bytes → T (between 3 4 (read_job bytes).rank)
+    → T (same_entries entries entries)
     → T (not (same_entries entries (entries_of_job (read_job bytes)))) → Demand3 bytes entries → ⊥
 ruled_out bytes entries accepted rank same differ demand =
     T_not (same_entries entries (entries_of_job (read_job bytes))) differ
-    (subst (λ (e : List Entry). T (same_entries entries e)) (only_these (read_job bytes) entries (demand.holds accepted rank)) same)
+    (subst (λ (e : List Entry). T (same_entries entries e))
+    (only_these (read_job bytes) entries (demand.holds accepted rank)) same)
 
 -- ---- the square
 
 pub square_accepted : Accepted square_bytes
 unfolding open_all open_examples square_bytes plain_square_answer
-square_accepted = record { workspace = 524288; room = 4000; answer = flat_map (bytes_of 4) plain_square_answer; is_answered_holds = refl }
+square_accepted = record {
+  workspace = 524288;
+  room = 4000;
+  answer = flat_map (bytes_of 4) plain_square_answer;
+  is_answered_holds = refl;
+}
 
 -- `ruled_out` at the square: both tests are computed
-pub square_ruled_out : (entries : List Entry) → T (same_entries entries entries) → T (not (same_entries entries square_entries)) → Demand3 square_bytes entries → ⊥
+pub square_ruled_out : (entries : List Entry) → T (same_entries entries entries)
+    → T (not (same_entries entries square_entries)) → Demand3 square_bytes entries → ⊥
 unfolding open_all open_examples square_bytes square_entries
 square_ruled_out entries same differ = ruled_out square_bytes entries square_accepted tt same differ
 

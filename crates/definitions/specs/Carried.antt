@@ -14,7 +14,8 @@ use Rattle.definitions.specs.Job.{Bytes, read_job, same_nats}
 use Rattle.definitions.specs.Demands.{Accepted}
 use Rattle.definitions.specs.Symmetry.{composed, closed_rows, Carries, RanksKept, CarriedByAll, Symmetric}
 use Rattle.definitions.specs.Open.{open_all}
-use Rattle.definitions.specs.Examples.{open_examples, bytes_of, job_with, plain, whole_points, identity, square_rows, symmetric_job}
+use Rattle.definitions.specs.Examples.{open_examples, bytes_of, job_with, plain, whole_points, identity, square_rows}
+use Rattle.definitions.specs.Examples.{symmetric_job}
 use Rattle.definitions.specs.RuledOut.{entries_after, entries_with, entries_of_job}
 
 -- ---- rows
@@ -59,14 +60,18 @@ unfoldable pub triangle : Entry
 triangle = record {
   list = (0, 0) ∷ [];
   before = (0, 0) ∷ [];
-  figure = ([] ∷ []) ∷ replicate 4 (0 ∷ []) ∷ ((0 ∷ 1 ∷ []) ∷ (0 ∷ 2 ∷ []) ∷ (1 ∷ 2 ∷ []) ∷ []) ∷ ((0 ∷ 1 ∷ 2 ∷ []) ∷ []) ∷ [];
+  figure =
+      ([] ∷ []) ∷ replicate 4 (0 ∷ []) ∷ ((0 ∷ 1 ∷ []) ∷ (0 ∷ 2 ∷ []) ∷ (1 ∷ 2 ∷ []) ∷ []) ∷ ((0 ∷ 1 ∷ 2 ∷ []) ∷ [])
+      ∷ [];
 }
 
 -- ---- rows that are not closed
 
 -- (0,0), (0,1), (2,2) with the identity and the turn
 unfoldable pub turned_job : Bytes
-turned_job = job_with (plain 3) 2 (whole_points ((0 ∷ 0 ∷ []) ∷ (0 ∷ 1 ∷ []) ∷ (2 ∷ 2 ∷ []) ∷ [])) ((0 ∷ 1 ∷ 2 ∷ []) ∷ turn ∷ [])
+turned_job =
+    job_with (plain 3) 2 (whole_points ((0 ∷ 0 ∷ []) ∷ (0 ∷ 1 ∷ []) ∷ (2 ∷ 2 ∷ []) ∷ []))
+    ((0 ∷ 1 ∷ 2 ∷ []) ∷ turn ∷ [])
 
 unfoldable pub turned_answer : List ℕ
 turned_answer =

@@ -1,5 +1,5 @@
--- What a figure costs [16.3] and its slip [16.6], evaluated on one triangle: the discount is taken of the polygon and of
--- its joints, and from no number of the slip. Quotes of whole jobs are evaluated in `crates/evaluated`.
+-- What a figure costs [16.3] and its slip [16.6], evaluated on one triangle: the discount is taken of the polygon and
+-- of its joints, and from no number of the slip. Quotes of whole jobs are evaluated in `crates/evaluated`.
 use Rattle.std.specs.Prelude.{◌≡◌, refl, [], ◌∷◌, take, drop}
 use Rattle.definitions.specs.Figures.{Figure}
 use Rattle.definitions.specs.Prices.{Tariff, total_of, slip_of}

@@ -2,7 +2,8 @@
 -- are statements only: what is proved of them, and where, docs/READING.md says.
 -- The second has a half that is shown by running the Rust, and a part of its own on the square root, `RootIsIeee`
 -- in Vectors.
-use Rattle.std.specs.Prelude.{◌≡◌, ◌↔◌, Bool, true, cond, not, ◌&&◌, ◌||◌, ℕ, ◌-◌, ◌≤◌, min, max, T, leb, ltb, eqb, ℤ, pos, neg_ℤ, length, get_or, take, drop, replicate}
+use Rattle.std.specs.Prelude.{◌≡◌, ◌↔◌, Bool, true, cond, not, ◌&&◌, ◌||◌, ℕ, ◌-◌, ◌≤◌, min, max, T, leb, ltb, eqb, ℤ}
+use Rattle.std.specs.Prelude.{pos, neg_ℤ, length, get_or, take, drop, replicate}
 use mathlib.Core.List.{List, [], ◌∷◌, ◌++◌, map, Memᴰ, Nodup, Pairwise}
 use Rattle.std.specs.Prelude.{Option, Some, None}
 use Rattle.std.proofs.Math.Dec.{compare_is_eq}
@@ -10,7 +11,8 @@ use Rattle.definitions.specs.Lists.{is_gt, compare_pair, sort_by, all_of, keep, 
 use Rattle.definitions.specs.Outcome.{Outcome, refused, answered}
 use Rattle.definitions.specs.Search.{Facet, Share, Table, Found, shares_of, all_facets, totals, ones_at}
 use Rattle.definitions.specs.Recursion.{Entry}
-use Rattle.definitions.specs.Faceting.{Prepared, prepare, faceting, table_for, entry_of, entries_of, compare_entries, search_from}
+use Rattle.definitions.specs.Faceting.{Prepared, prepare, faceting, table_for, entry_of, entries_of, compare_entries}
+use Rattle.definitions.specs.Faceting.{search_from}
 use Rattle.definitions.specs.Job.{Bytes, Job, read_job, bounds1, rules_of, plane_of, between, outcome}
 
 -- ---- the first
@@ -18,15 +20,18 @@ use Rattle.definitions.specs.Job.{Bytes, Job, read_job, bounds1, rules_of, plane
 -- [13.1] Of a call with these bytes, this much workspace and this much room, its return code and its answer buffer:
 -- the refusal's number and zeros, or an answer that fits and zeros behind it.
 pub record Demand1 (bytes : Bytes) (workspace room : ℕ) (code : ℤ) (buffer : Bytes) : Type 0 where
-  pub after_refusal : (number : ℕ) → outcome bytes workspace room ≡ refused number → (code ≡ neg_ℤ (pos number)) × (buffer ≡ replicate room 0)
+  pub after_refusal : (number : ℕ) → outcome bytes workspace room ≡ refused number
+      → (code ≡ neg_ℤ (pos number)) × (buffer ≡ replicate room 0)
   pub after_answer : (answer : Bytes) → outcome bytes workspace room ≡ answered answer
-      → (many : ℕ) × (code ≡ pos many) × (many ≤ room) × (length buffer ≡ room) × (drop many buffer ≡ replicate (room - many) 0)
+      → (many : ℕ) × (code ≡ pos many) × (many ≤ room) × (length buffer ≡ room)
+      × (drop many buffer ≡ replicate (room - many) 0)
 
 -- ---- the second
 
 -- [13.2] after an answer, the return code is its length and the front of the buffer is the answer
 pub record Demand2 (bytes : Bytes) (workspace room : ℕ) (code : ℤ) (buffer : Bytes) : Type 0 where
-  pub same_bytes : (answer : Bytes) → outcome bytes workspace room ≡ answered answer → (code ≡ pos (length answer)) × (take (length answer) buffer ≡ answer)
+  pub same_bytes : (answer : Bytes) → outcome bytes workspace room ≡ answered answer
+      → (code ≡ pos (length answer)) × (take (length answer) buffer ≡ answer)
 
 -- ---- the third: choices
 
@@ -97,7 +102,9 @@ same_where_same_ridge s t = not (eqb s.0 t.0) || eqb s.1 t.1
 
 -- [13.7] any two places of one facet in one ridge orbit do
 unfoldable pub equal_shares : Table → Bool
-equal_shares table = all_of (λ (f : Facet). let ss = shares_of table f in all_of (λ (s : Share). all_of (same_where_same_ridge s) ss) ss) (all_facets table)
+equal_shares table =
+    all_of (λ (f : Facet). let ss = shares_of table f in
+    all_of (λ (s : Share). all_of (same_where_same_ridge s) ss) ss) (all_facets table)
 
 -- [13.8] the list has every closed choice just once, and nothing else; so its length is the number of closed
 -- choices
@@ -109,11 +116,14 @@ pub record AllClosedChoices (table : Table) (choices : List (List Facet)) : Type
 
 -- [13.8] What is demanded of the entries of a call above rank 2, sentence by sentence: of its entry limit, what it
 -- had before its search, the lists its search emits, and the entries.
-pub record EntriesComplete (limit : Option ℕ) (p : Prepared) (emitted : List (List Facet)) (entries : List Entry) : Type 0 where
+pub record EntriesComplete (limit : Option ℕ) (p : Prepared) (emitted : List (List Facet))
+    (entries : List Entry) : Type 0 where
   -- sound: the choice that the record names is closed, and the entry is made from it
-  pub every_entry : (e : Entry) → Memᴰ e entries → T (is_closed_choice (table_for p) (choice_of e.before)) × EntryOfChoice p e (choice_of e.before)
+  pub every_entry : (e : Entry) → Memᴰ e entries
+      → T (is_closed_choice (table_for p) (choice_of e.before)) × EntryOfChoice p e (choice_of e.before)
   -- complete, where no limit cuts it off
-  pub every_choice : limit ≡ None → (c : List Facet) → T (is_closed_choice (table_for p) c) → (e : Entry) × Memᴰ e entries × EntryOfChoice p e c
+  pub every_choice : limit ≡ None → (c : List Facet) → T (is_closed_choice (table_for p) c)
+      → (e : Entry) × Memᴰ e entries × EntryOfChoice p e c
   -- under the proviso the choices that the records name, in the entries' order, are all closed choices, once each
   pub one_to_one : limit ≡ None → T (equal_shares (table_for p)) → AllClosedChoices (table_for p) (choices_of entries)
   -- and just one order, so that there is one entry that it may have
@@ -125,7 +135,8 @@ pub record EntriesComplete (limit : Option ℕ) (p : Prepared) (emitted : List (
   pub different_choices : (m : ℕ) → limit ≡ Some m → T (equal_shares (table_for p)) → Nodup (choices_of entries)
   -- and nothing is cut off before the limit is reached
   pub number : (m : ℕ) → limit ≡ Some m → T (equal_shares (table_for p))
-      → (choices : List (List Facet)) × AllClosedChoices (table_for p) choices × (length entries ≡ min (max m 1) (length choices))
+      → (choices : List (List Facet)) × AllClosedChoices (table_for p) choices
+      × (length entries ≡ min (max m 1) (length choices))
   -- sorted; equal lists may stand side by side
   pub ascending : Pairwise (λ (d e : Entry). T (not (is_gt (compare_entries d e)))) entries
   -- and just those of the lists that the search emits, as often as it emits them

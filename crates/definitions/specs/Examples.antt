@@ -1,6 +1,7 @@
 -- Jobs as bytes and what is expected of a call, for the tables of this crate. A job is written here from its
 -- fields, by words that share nothing with the definitions that read it.
-use Rattle.std.specs.Prelude.{Bool, false, cond, ◌&&◌, ℕ, zero, suc, ◌+◌, ◌-◌, ◌*◌, ◌/◌, ◌%◌, eqb, ℤ, pos, negsuc, neg_ℤ, length, replicate}
+use Rattle.std.specs.Prelude.{Bool, false, cond, ◌&&◌, ℕ, zero, suc, ◌+◌, ◌-◌, ◌*◌, ◌/◌, ◌%◌, eqb, ℤ, pos, negsuc}
+use Rattle.std.specs.Prelude.{neg_ℤ, length, replicate}
 use mathlib.Core.List.{List, [], ◌∷◌, ◌++◌, map, flat_map}
 use Rattle.std.proofs.Math.Dec.{compare_is_eq}
 use Rattle.std.specs.Float.{binary64}
@@ -40,9 +41,11 @@ pub record Terms : Type 0 where
 -- [10.2] a job whose offset is 0 and whose basis is the first rank − 1 unit vectors
 unfoldable pub job_with : Terms → ℕ → List (List ℕ) → List (List ℕ) → Bytes
 job_with terms d points rows =
-    (70 ∷ 67 ∷ 84 ∷ []) ++ bytes_of 2 terms.version ++ (terms.rank ∷ d ∷ length points ∷ []) ++ bytes_of 2 (length rows) ++ (terms.flags ∷ [])
+    (70 ∷ 67 ∷ 84 ∷ []) ++ bytes_of 2 terms.version ++ (terms.rank ∷ d ∷ length points ∷ [])
+    ++ bytes_of 2 (length rows) ++ (terms.flags ∷ [])
     ++ terms.present ++ bytes_of 4 terms.budget
-    ++ vector_bytes (replicate d 0 ∷ []) ++ vector_bytes (unit_vectors d (terms.rank - 1)) ++ vector_bytes points ++ flat_map (λ (row : List ℕ). row) rows
+    ++ vector_bytes (replicate d 0 ∷ []) ++ vector_bytes (unit_vectors d (terms.rank - 1)) ++ vector_bytes points
+    ++ flat_map (λ (row : List ℕ). row) rows
 
 -- no limits, and a budget of a million
 unfoldable pub plain : ℕ → Terms
@@ -63,11 +66,23 @@ with_entry_limit rank m = record { version = 1; rank = rank; flags = 4; present 
 
 -- version 2 with a tolerance, as a bit pattern
 unfoldable pub within_tolerance : ℕ → ℕ → Terms
-within_tolerance rank tolerance = record { version = 2; rank = rank; flags = 0; present = bytes_of 8 tolerance; budget = 1000000 }
+within_tolerance rank tolerance = record {
+  version = 2;
+  rank = rank;
+  flags = 0;
+  present = bytes_of 8 tolerance;
+  budget = 1000000;
+}
 
 -- version 3 with a tolerance, as a bit pattern, and a rule
 unfoldable pub under_rule : ℕ → ℕ → ℕ → Terms
-under_rule rank tolerance rule = record { version = 3; rank = rank; flags = 0; present = bytes_of 8 tolerance ++ (rule ∷ []); budget = 1000000 }
+under_rule rank tolerance rule = record {
+  version = 3;
+  rank = rank;
+  flags = 0;
+  present = bytes_of 8 tolerance ++ (rule ∷ []);
+  budget = 1000000;
+}
 
 -- the identity alone
 unfoldable pub identity : ℕ → List (List ℕ)
@@ -126,7 +141,9 @@ symmetric_job terms = job_with terms 2 square square_rows
 
 -- (0,0,0), (1,0,0), (0,1,0), (0,0,1)
 unfoldable pub corner_job : Terms → Bytes
-corner_job terms = job_with terms 3 (whole_points ((0 ∷ 0 ∷ 0 ∷ []) ∷ (1 ∷ 0 ∷ 0 ∷ []) ∷ (0 ∷ 1 ∷ 0 ∷ []) ∷ (0 ∷ 0 ∷ 1 ∷ []) ∷ [])) (identity 4)
+corner_job terms =
+    job_with terms 3 (whole_points ((0 ∷ 0 ∷ 0 ∷ []) ∷ (1 ∷ 0 ∷ 0 ∷ []) ∷ (0 ∷ 1 ∷ 0 ∷ []) ∷ (0 ∷ 0 ∷ 1 ∷ []) ∷ []))
+    (identity 4)
 
 -- two points at rank 2, with the given rows
 unfoldable pub segment_job : List (List ℕ) → Bytes
@@ -168,14 +185,20 @@ same_code (negsuc a) (negsuc b) = eqb a b
 unfoldable pub passes_within : Bounds → Case → Bool
 passes_within bounds c =
     let result = outcome_within bounds c.job c.workspace c.room in
-    same_code (code_of result) (expected_code c.expected) && compare_is_eq (compare_nats (buffer_of c.room result) (expected_buffer c.room c.expected))
+    same_code (code_of result) (expected_code c.expected)
+    && compare_is_eq (compare_nats (buffer_of c.room result) (expected_buffer c.room c.expected))
 
 unfoldable pub passes : Case → Bool
 passes = passes_within bounds1
 
 -- a job that is answered: with the least workspace of its rank, and three bytes more than it needs
 unfoldable pub answers : ℕ → Bytes → List ℕ → Case
-answers workspace job words = record { job = job; workspace = workspace; room = 4 * length words + 3; expected = gives words }
+answers workspace job words = record {
+  job = job;
+  workspace = workspace;
+  room = 4 * length words + 3;
+  expected = gives words;
+}
 
 -- a job that is refused, whatever the room
 unfoldable pub refused_with : ℕ → ℕ → Bytes → Case
@@ -183,5 +206,7 @@ refused_with number workspace job = record { job = job; workspace = workspace; r
 
 -- `open_examples` on an `unfolding` line opens the words of this file
 unfoldable pub open_examples : Unit {0}
-unfolding bytes_of whole whole_points vector_bytes unit_vectors job_with plain with_budget with_min with_max with_entry_limit within_tolerance under_rule identity square square_rows square_job symmetric_job corner_job segment_job three_points expected_code expected_buffer same_code passes_within passes answers refused_with
+unfolding bytes_of whole whole_points vector_bytes unit_vectors job_with plain with_budget with_min with_max
+    with_entry_limit within_tolerance under_rule identity square square_rows square_job symmetric_job corner_job
+    segment_job three_points expected_code expected_buffer same_code passes_within passes answers refused_with
 open_examples = tt

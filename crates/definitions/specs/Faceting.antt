@@ -10,9 +10,11 @@ use Rattle.definitions.specs.Subspace.{Subspace, flatten}
 use Rattle.definitions.specs.Orbits.{Row, Orbit, image, hyperplane_orbits}
 use Rattle.definitions.specs.Figures.{Figure, move_ends, figure_of, parts_of, label_irc}
 use Rattle.definitions.specs.Search.{Facet, Table, EntryLimits, Found, search}
-use Rattle.definitions.specs.Recursion.{Rules, Entry, Answer, Call, Inner, InnerCalls, edge_call, inner_call, inner_calls, move_sorted, table_of}
+use Rattle.definitions.specs.Recursion.{Rules, Entry, Answer, Call, Inner, InnerCalls, edge_call, inner_call}
+use Rattle.definitions.specs.Recursion.{inner_calls, move_sorted, table_of}
 
--- [17.8] How a call goes about its work: which of its hyperplane orbits it keeps, and whether it extends closed lists.
+-- [17.8] How a call goes about its work: which of its hyperplane orbits it keeps, and whether it extends closed
+-- lists.
 pub record Way : Type 0 where
   pub keeps : List Orbit → List Orbit
   pub extended : Bool
@@ -33,15 +35,24 @@ pub record Prepared : Type 0 where
 
 -- [9.1] the hyperplane orbits of a call above rank 2, whose points are flattened by its plane
 unfoldable pub orbits_of : ℕ → Rules → Subspace → List Vec → List Row → List Orbit
-orbits_of more rules plane points rows = hyperplane_orbits rules.tolerance rules.lengths rules.rule more points (map (flatten plane) points) rows
+orbits_of more rules plane points rows =
+    hyperplane_orbits rules.tolerance rules.lengths rules.rule more points (map (flatten plane) points) rows
 
 -- [9.1] From the orbits on: all of them not more than the bound, or 13, and the inner calls made on those that are
 -- kept. `inner` makes one of them.
-unfoldable pub prepare_from : Way → List Orbit → (Orbit → ℕ → Outcome Inner) → ℕ → Rules → ℕ → List Row → ℕ → Outcome Prepared
+unfoldable pub prepare_from : Way → List Orbit → (Orbit → ℕ → Outcome Inner) → ℕ → Rules → ℕ → List Row → ℕ
+    → Outcome Prepared
 prepare_from way orbits inner more rules n rows budget =
     refuse_if (ltb rules.bounds.orbits (length orbits)) 13 (λ u.
     and_then (inner_calls inner rules.bounds.facets (way.keeps orbits) 0 budget) (λ (done : InnerCalls).
-    answered (record { more = more; points = n; rows = rows; inner = done.calls; left = done.left; extended = way.extended })))
+    answered (record {
+      more = more;
+      points = n;
+      rows = rows;
+      inner = done.calls;
+      left = done.left;
+      extended = way.extended;
+    })))
 
 -- [9.1] A call up to its search: its orbits are found and the inner calls made. `call` is the call of the rank below.
 unfoldable pub prepare_with : Way → ℕ → Rules → Call → Subspace → List Vec → List Row → ℕ → Outcome Prepared

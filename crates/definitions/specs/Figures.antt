@@ -6,7 +6,8 @@ use mathlib.Core.List.{List, [], ◌∷◌, ◌++◌, map, flat_map}
 use Rattle.std.specs.Prelude.{Option, Some, None}
 use Prim.Native.Nat.{ℕ, zero, suc, ◌*◌, Ordering}
 use Rattle.std.proofs.Math.Dec.{compare_is_eq}
-use Rattle.definitions.specs.Lists.{Pair, is_gt, compare_list, compare_nats, sort_by, sort_nats, place_of, fresh, count_from}
+use Rattle.definitions.specs.Lists.{Pair, is_gt, compare_list, compare_nats, sort_by, sort_nats, place_of, fresh}
+use Rattle.definitions.specs.Lists.{count_from}
 
 -- [8.1] a rank: a list of elements, each the list of its subs
 abbrev pub Elements : Type 0
@@ -70,12 +71,15 @@ lowest_ranks facets = fresh compare_nats [] (flat_map (λ (ranks : List Elements
 unfoldable pub without_lowest : Elements → List Elements → List Elements
 without_lowest elements [] = []
 without_lowest elements (lowest ∷ []) = []
-without_lowest elements (lowest ∷ next ∷ more) = renumber (λ (i : ℕ). number_in elements (get_or lowest i [])) next ∷ more
+without_lowest elements (lowest ∷ next ∷ more) =
+    renumber (λ (i : ℕ). number_in elements (get_or lowest i [])) next ∷ more
 
 -- [8.5] the ranks of the figure from the edges up, from those of its facets; `more` is the figure's rank − 3
 unfoldable pub assemble : ℕ → List (List Elements) → List Elements
 assemble zero facets = let elements = lowest_ranks facets in elements ∷ (count_from 0 (length elements) ∷ []) ∷ []
-assemble (suc more) facets = let elements = lowest_ranks facets in elements ∷ assemble more (map (without_lowest elements) facets)
+assemble (suc more) facets =
+    let elements = lowest_ranks facets in
+    elements ∷ assemble more (map (without_lowest elements) facets)
 
 -- [8.5] the figure of facets, with n points
 unfoldable pub figure_of : ℕ → ℕ → List Figure → Figure
@@ -160,10 +164,12 @@ module _ {A : Type 0} (c : A → A → Ordering) where
   -- [8.8] the place of the first list that equals this one, counted from k
   unfoldable pub seek : List A → List (List A) → ℕ → Option ℕ
   seek items [] k = None
-  seek items (l ∷ ls) k = let later = seek items ls (suc k) in cond (compare_is_eq (compare_list c items l)) (Some k) later
+  seek items (l ∷ ls) k =
+      let later = seek items ls (suc k) in
+      cond (compare_is_eq (compare_list c items l)) (Some k) later
 
-  -- [8.8] The first list found inside these items decides: with a second component behind it there is a label, without
-  -- one there is none. The lists are those from place b on.
+  -- [8.8] The first list found inside these items decides: with a second component behind it there is a label,
+  -- without one there is none. The lists are those from place b on.
   unfoldable pub label_from : List A → List (List A) → ℕ → Option Pair
   label_from items [] b = None
   label_from items (l ∷ ls) b = elim (found_inside items l) [

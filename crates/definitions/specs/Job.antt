@@ -1,6 +1,7 @@
 -- Job, refusals and answer: docs/SPECIFICATION.md, chapters 10 to 12. From the job's bytes and the two buffers'
 -- lengths to the return value and the whole answer buffer. Leans on Faceting.
-use Rattle.std.specs.Prelude.{Bool, true, false, cond, not, ◌&&◌, ℕ, ◌+◌, ◌-◌, ◌*◌, ◌/◌, ◌%◌, leb, ltb, eqb, ℤ, pos, neg_ℤ, length, get_or, take, drop, replicate, Float}
+use Rattle.std.specs.Prelude.{Bool, true, false, cond, not, ◌&&◌, ℕ, ◌+◌, ◌-◌, ◌*◌, ◌/◌, ◌%◌, leb, ltb, eqb, ℤ, pos}
+use Rattle.std.specs.Prelude.{neg_ℤ, length, get_or, take, drop, replicate, Float}
 use mathlib.Core.List.{List, [], ◌∷◌, ◌++◌, map, flat_map}
 use Rattle.std.specs.Prelude.{Option, Some, None}
 use Rattle.std.proofs.Math.Dec.{compare_is_eq}
@@ -140,7 +141,8 @@ flagged_end flags = 11 + cond (flag_set flags 1) 8 0 + cond (flag_set flags 2) 8
 
 -- [10.3] a job with another version and with more bytes at a place behind its header
 unfoldable pub in_version : ℕ → ℕ → Bytes → Bytes → Bytes
-in_version version at more bytes = take 3 bytes ++ (version ∷ 0 ∷ []) ++ take (at - 5) (drop 5 bytes) ++ more ++ drop at bytes
+in_version version at more bytes =
+    take 3 bytes ++ (version ∷ 0 ∷ []) ++ take (at - 5) (drop 5 bytes) ++ more ++ drop at bytes
 
 -- [10.3] a job of version 1 as one of version 2: the bytes of a tolerance stand before its budget
 unfoldable pub with_tolerance : Bytes → Bytes → Bytes
@@ -235,7 +237,10 @@ job_tests bytes = header_tests bytes ++ value_tests bytes
 
 -- [11.1] 12: the workspace that was lent
 unfoldable pub workspace_tests : Bytes → ℕ → List Test
-workspace_tests bytes workspace = record { number = 12; passes = λ u. leb (workspace_for (read_job bytes).rank) workspace } ∷ []
+workspace_tests bytes workspace = record {
+  number = 12;
+  passes = λ u. leb (workspace_for (read_job bytes).rank) workspace;
+} ∷ []
 
 -- [11.1] all tests before the call, in their order
 unfoldable pub tests : Bytes → ℕ → List Test

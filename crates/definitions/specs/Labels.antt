@@ -20,8 +20,8 @@ pub left_behind : label_irc compare ((0 ∷ 1 ∷ 2 ∷ []) ∷ (0 ∷ 2 ∷ [])
 unfolding open_all
 left_behind = refl
 
--- 0 / 0,1 / 0,1,2 / 2: the first list found inside decides. 0 is found in 0,1,2 and leaves 1,2, which is none of them,
--- so that 0,1 and 2 are not tried.
+-- 0 / 0,1 / 0,1,2 / 2: the first list found inside decides. 0 is found in 0,1,2 and leaves 1,2, which is none of
+-- them, so that 0,1 and 2 are not tried.
 pub first_decides : label_irc compare ((0 ∷ []) ∷ (0 ∷ 1 ∷ []) ∷ (0 ∷ 1 ∷ 2 ∷ []) ∷ (2 ∷ []) ∷ []) ≡ []
 unfolding open_all
 first_decides = refl

@@ -1,7 +1,8 @@
 -- Noble figures: docs/SPECIFICATION.md, chapter 17. What a package says, which hyperplane orbits it keeps, and the
 -- closed choices with no closed choice inside. In the Rust it is the path of `faceting_subdim` with a
 -- `noble_package`. Leans on Orbits, Job and Demands.
-use Rattle.std.specs.Prelude.{◌≡◌, ◌↔◌, Bool, true, cond, not, ◌&&◌, ℕ, ◌+◌, ◌*◌, ◌/◌, T, leb, ltb, eqb, length, get_or, take, drop}
+use Rattle.std.specs.Prelude.{◌≡◌, ◌↔◌, Bool, true, cond, not, ◌&&◌, ℕ, ◌+◌, ◌*◌, ◌/◌, T, leb, ltb, eqb, length, get_or}
+use Rattle.std.specs.Prelude.{take, drop}
 use mathlib.Core.List.{List, [], ◌∷◌, ◌++◌, map, Memᴰ, Nodup}
 use Rattle.std.specs.Prelude.{Option, Some, None}
 use Rattle.definitions.specs.Lists.{member_nat, all_of, keep, map_at, count_from, fresh, compare_nats}
@@ -57,7 +58,8 @@ full_rows_good p = same_nats (get_or p.rows 0 []) (count_from 0 p.size) && all_o
 
 -- [17.3] what a package must pass, or 18
 unfoldable pub package_good : ℕ → Bytes → Bool
-package_good n bytes = package_counts n bytes && globals_good (read_package n bytes) && full_rows_good (read_package n bytes)
+package_good n bytes =
+    package_counts n bytes && globals_good (read_package n bytes) && full_rows_good (read_package n bytes)
 
 -- ---- keys
 
@@ -148,8 +150,7 @@ kept_by p orbits = keep (keeps_orbit p (tally_orbits p (record { marks = []; tal
 
 -- [17.7] a closed choice all of whose facets are this choice's is this choice
 unfoldable pub NoneInside : Table → List Facet → Type 0
-NoneInside table c =
-    (d : List Facet) → T (is_closed_choice table d) → ((f : Facet) → Memᴰ f d → Memᴰ f c) → d ≡ c
+NoneInside table c = (d : List Facet) → T (is_closed_choice table d) → ((f : Facet) → Memᴰ f d → Memᴰ f c) → d ≡ c
 
 -- [17.7] the list has every closed choice with no closed choice properly inside it just once, and nothing else
 pub record AllMinimalChoices (table : Table) (choices : List (List Facet)) : Type 0 where

@@ -1,11 +1,13 @@
 -- Orbits of vertices, pairs and hyperplanes in one call: docs/SPECIFICATION.md, chapter 5. Leans on Subspace.
-use Rattle.std.specs.Prelude.{Bool, false, cond, not, ◌&&◌, ◌||◌, ℕ, suc, ◌-◌, min, max, leb, eqb, length, get_or, Float}
+use Rattle.std.specs.Prelude.{Bool, false, cond, not, ◌&&◌, ◌||◌, ℕ, suc, ◌-◌, min, max, leb, eqb, length, get_or}
+use Rattle.std.specs.Prelude.{Float}
 use mathlib.Core.List.{List, [], ◌∷◌, ◌++◌, map, flat_map}
 use Rattle.std.specs.Prelude.{Option, Some, None}
 use Rattle.std.proofs.Math.Dec.{compare_is_eq}
 use Rattle.std.specs.Float.{binary64}
 use Rattle.std.specs.Float.Ieee.{add, sub, lt}
-use Rattle.definitions.specs.Lists.{Pair, member_nat, member_pair, sort_nats, any_of, all_of, keep, choose, count_from, fresh, compare_nats}
+use Rattle.definitions.specs.Lists.{Pair, member_nat, member_pair, sort_nats, any_of, all_of, keep, choose, count_from}
+use Rattle.definitions.specs.Lists.{fresh, compare_nats}
 use Rattle.definitions.specs.Vectors.{Vec, norm, minus}
 use Rattle.definitions.specs.Subspace.{Subspace, from_points, is_hyperplane, distance}
 
@@ -81,7 +83,8 @@ pairs_from n openers = flat_map (λ (v : ℕ). map (λ (w : ℕ). (v, w)) (above
 -- rank − 3
 unfoldable pub tuples : (ℕ → ℕ → Bool) → ℕ → ℕ → Pair → List (List ℕ)
 tuples breaks n more p =
-    map (λ (added : List ℕ). p.0 ∷ p.1 ∷ added) (keep (all_of (λ (u : ℕ). not (breaks p.0 u))) (choose (above n p.1) more))
+    map (λ (added : List ℕ). p.0 ∷ p.1 ∷ added)
+    (keep (all_of (λ (u : ℕ). not (breaks p.0 u))) (choose (above n p.1) more))
 
 -- [5.6] the vertices whose distance is below the tolerance, ascending from v on
 unfoldable pub points_near : Float → Subspace → List Vec → ℕ → List ℕ
@@ -104,8 +107,8 @@ pub record Orbit : Type 0 where
 unfoldable pub most_vertices : ℕ → ℕ → ℕ → ℕ
 most_vertices rule more n = cond (eqb rule 2 && eqb more 0) 2 n
 
--- [5.6] [5.7] [5.8] A tuple that makes no hyperplane, or whose set is seen or has more than `most` vertices, is passed
--- over. Any other opens an orbit; its images that are new join it and are seen from then on.
+-- [5.6] [5.7] [5.8] A tuple that makes no hyperplane, or whose set is seen or has more than `most` vertices, is
+-- passed over. Any other opens an orbit; its images that are new join it and are seen from then on.
 unfoldable pub hyperplanes : Float → ℕ → List Vec → List Row → List (List ℕ) → List (List ℕ) → List Orbit
 hyperplanes tolerance most flat rows seen [] = []
 hyperplanes tolerance most flat rows seen (tuple ∷ ts) =
@@ -115,12 +118,14 @@ hyperplanes tolerance most flat rows seen (tuple ∷ ts) =
     let orbit : Orbit = record { vertices = set; count = length joined } in
     let old = hyperplanes tolerance most flat rows seen ts in
     let new = orbit ∷ hyperplanes tolerance most flat rows (joined ++ seen) ts in
-    cond (is_hyperplane s && not (any_of (λ (q : List ℕ). compare_is_eq (compare_nats set q)) seen) && leb (length set) most) new old
+    cond (is_hyperplane s && not (any_of (λ (q : List ℕ). compare_is_eq (compare_nats set q)) seen)
+    && leb (length set) most) new old
 
 -- [5.7] all hyperplane orbits of a call, from its points as passed and its flattened points
 unfoldable pub hyperplane_orbits : Float → Limits → ℕ → ℕ → List Vec → List Vec → List Row → List Orbit
 hyperplane_orbits tolerance limits rule more points flat rows =
     let n = length points in
     let breaks = breaks_limit tolerance limits points in
-    let pairs = pair_openers (λ (p : Pair). breaks p.0 p.1) rows [] (pairs_from n (vertex_openers rows [] (count_from 0 n))) in
+    let pairs = pair_openers (λ (p : Pair). breaks p.0 p.1) rows []
+    (pairs_from n (vertex_openers rows [] (count_from 0 n))) in
     hyperplanes tolerance (most_vertices rule more n) flat rows [] (flat_map (tuples breaks n more) pairs)

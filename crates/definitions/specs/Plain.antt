@@ -25,7 +25,8 @@ module _ {A : Type 0} (c : A → A → Ordering) where
 
   -- [18.2] some other list is found in the list at this place
   unfoldable pub finds_other : List (List A) → ℕ → Bool
-  finds_other lists a = any_of (λ (b : ℕ). not (eqb a b) && finds (get_or lists a []) (get_or lists b [])) (count_from 0 (length lists))
+  finds_other lists a =
+      any_of (λ (b : ℕ). not (eqb a b) && finds (get_or lists a []) (get_or lists b [])) (count_from 0 (length lists))
 
   -- [18.2] `filter_irc`: the places of the lists in which no other is found, ascending
   unfoldable pub filter_irc : List (List A) → List ℕ

@@ -77,7 +77,8 @@ separate_ends left = record {
 
 -- [6.3] the call of rank 2, which looks at its rows alone
 unfoldable pub edge_call : Call
-edge_call plane points rows budget = answered (cond (any_of (λ (row : Row). eqb 1 (image row 0)) rows) (swapped_ends budget) (separate_ends budget))
+edge_call plane points rows budget =
+    answered (cond (any_of (λ (row : Row). eqb 1 (image row 0)) rows) (swapped_ends budget) (separate_ends budget))
 
 -- ---- the inner calls
 
@@ -103,7 +104,8 @@ rows_within vertices rows = map (row_within vertices) (keep (keeps_set vertices)
 unfoldable pub call_on_set : ℕ → Call → List Row → Orbit → Subspace → List Vec → ℕ → Outcome Inner
 call_on_set wanted call rows orbit plane points budget =
     refuse_if (not (eqb (length plane.basis) wanted)) 14 (λ u.
-    and_then (call plane points (rows_within orbit.vertices rows) budget) (λ (a : Answer). answered (record { orbit = orbit; answer = a })))
+    and_then (call plane points (rows_within orbit.vertices rows) budget)
+    (λ (a : Answer). answered (record { orbit = orbit; answer = a })))
 
 -- [6.4] the points of that set, and the plane through them
 unfoldable pub inner_call : ℕ → Rules → Call → List Vec → List Row → Orbit → ℕ → Outcome Inner
@@ -128,7 +130,8 @@ inner_calls inner bound (orbit ∷ orbits) facets left =
     and_then (inner orbit left) (λ (i : Inner).
     let stored = facets + length i.answer.entries in
     refuse_if (ltb bound stored) 15 (λ u.
-    and_then (inner_calls inner bound orbits stored i.answer.left) (λ (later : InnerCalls). answered (before_these i later))))
+    and_then (inner_calls inner bound orbits stored i.answer.left)
+    (λ (later : InnerCalls). answered (before_these i later))))
 
 -- ---- ridges
 
@@ -149,7 +152,9 @@ no_ridges = record { held = []; counts = [] }
 -- [6.7] the number of the ridge orbit that holds a ridge
 unfoldable pub held_by : Figure → List Held → Option ℕ
 held_by ridge [] = None
-held_by ridge (h ∷ hs) = let later = held_by ridge hs in cond (compare_is_eq (compare_figures ridge h.ridge)) (Some h.orbit) later
+held_by ridge (h ∷ hs) =
+    let later = held_by ridge hs in
+    cond (compare_is_eq (compare_figures ridge h.ridge)) (Some h.orbit) later
 
 -- [6.7] a figure moved and sorted
 unfoldable pub move_sorted : (ℕ → ℕ) → Figure → Figure
@@ -160,8 +165,12 @@ move_sorted to figure = sort_strong (move_ends to figure)
 unfoldable pub open_ridge_orbit : List Row → RidgeOrbits → Figure → RidgeOrbits
 open_ridge_orbit rows known ridge =
     let number = length known.counts in
-    let joining = fresh compare_figures (map (λ (h : Held). h.ridge) known.held) (map (λ (row : Row). move_sorted (image row) ridge) rows) in
-    record { held = map (λ (r : Figure). record { ridge = r; orbit = number }) joining ++ known.held; counts = known.counts ++ (length joining ∷ []) }
+    let joining = fresh compare_figures (map (λ (h : Held). h.ridge) known.held)
+    (map (λ (row : Row). move_sorted (image row) ridge) rows) in
+    record {
+      held = map (λ (r : Figure). record { ridge = r; orbit = number }) joining ++ known.held;
+      counts = known.counts ++ (length joining ∷ []);
+    }
 
 -- [6.7] the number of the ridge orbit that holds the ridge, or that of the one it opens
 unfoldable pub number_or_open : List Row → RidgeOrbits → Figure → Option ℕ → ℕ × RidgeOrbits
@@ -177,7 +186,8 @@ number_ridge rows vertices known inner =
 -- [6.7] for each orbit, for each of its inner orbits, for each ridge there, the number of its ridge orbit; they are
 -- numbered in this order
 unfoldable pub number_ridges : List Row → RidgeOrbits → List Inner → List (List (List ℕ)) × RidgeOrbits
-number_ridges rows = map_with (λ known (i : Inner). map_with (map_with (number_ridge rows i.orbit.vertices)) known i.answer.possible)
+number_ridges rows =
+    map_with (λ known (i : Inner). map_with (map_with (number_ridge rows i.orbit.vertices)) known i.answer.possible)
 
 -- ---- shares
 
@@ -190,7 +200,8 @@ share_of ridgeCounts inner numbers place =
 
 -- [6.8] the shares of each possible facet of an orbit, place by place
 unfoldable pub facet_shares : List ℕ → Inner → List (List ℕ) → List (List Share)
-facet_shares ridgeCounts inner numbers = map (λ (e : Entry). map (share_of ridgeCounts inner numbers) e.list) inner.answer.entries
+facet_shares ridgeCounts inner numbers =
+    map (λ (e : Entry). map (share_of ridgeCounts inner numbers) e.list) inner.answer.entries
 
 -- [6.9] the table that a call searches
 unfoldable pub table_of : List Row → List Inner → Table

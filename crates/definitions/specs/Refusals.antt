@@ -6,19 +6,26 @@ use Rattle.definitions.specs.Lists.{all_of, count_from}
 use Rattle.definitions.specs.Recursion.{Bounds}
 use Rattle.definitions.specs.Job.{Bytes}
 use Rattle.definitions.specs.Open.{open_all}
-use Rattle.definitions.specs.Examples.{Case, gives, refuses, open_examples, passes, passes_within, answers, refused_with, bytes_of, whole, job_with, plain, with_budget, with_min, with_max, within_tolerance, under_rule, identity, square, whole_points, thousandth, five_e_8, one_e_7, one_e_9, segment_job, square_job, symmetric_job, corner_job, three_points}
+use Rattle.definitions.specs.Examples.{Case, gives, refuses, open_examples, passes, passes_within, answers}
+use Rattle.definitions.specs.Examples.{refused_with, bytes_of, whole, job_with, plain, with_budget, with_min, with_max}
+use Rattle.definitions.specs.Examples.{within_tolerance, under_rule, identity, square, whole_points, thousandth}
+use Rattle.definitions.specs.Examples.{five_e_8, one_e_7, one_e_9, segment_job, square_job, symmetric_job, corner_job}
+use Rattle.definitions.specs.Examples.{three_points}
 use Rattle.definitions.specs.KnownJobs.{two_points_answer, symmetric_square_answer, plain_square_answer}
 
 -- ---- the order: each job breaks one rule and all that come after it
 
 -- the first 11 bytes
 unfoldable pub header : ℕ → ℕ → ℕ → ℕ → ℕ → ℕ → Bytes
-header version rank d n row_count flags = (70 ∷ 67 ∷ 84 ∷ []) ++ bytes_of 2 version ++ (rank ∷ d ∷ n ∷ []) ++ bytes_of 2 row_count ++ (flags ∷ [])
+header version rank d n row_count flags =
+    (70 ∷ 67 ∷ 84 ∷ []) ++ bytes_of 2 version ++ (rank ∷ d ∷ n ∷ []) ++ bytes_of 2 row_count ++ (flags ∷ [])
 
 -- the square of version 3 with a tolerance and another first coordinate, both given as bit patterns, a rule and other
 -- rows
 unfoldable pub square_with : ℕ → ℕ → ℕ → List (List ℕ) → Bytes
-square_with tolerance rule bits rows = let job = job_with (under_rule 3 tolerance rule) 2 square rows in take 72 job ++ bytes_of 8 bits ++ drop 80 job
+square_with tolerance rule bits rows =
+    let job = job_with (under_rule 3 tolerance rule) 2 square rows in
+    take 72 job ++ bytes_of 8 bits ++ drop 80 job
 
 abbrev pub not_a_number : ℕ
 not_a_number = 0x7ff8000000000000
@@ -46,7 +53,9 @@ in_order =
 
 -- n points on a line at rank 2, with so many rows, each the identity
 unfoldable pub line : ℕ → ℕ → Bytes
-line n rows = job_with (plain 2) 1 (whole_points (flat_map (λ (x : ℕ). (x ∷ []) ∷ []) (count_from 0 n))) (replicate rows (count_from 0 n))
+line n rows =
+    job_with (plain 2) 1 (whole_points (flat_map (λ (x : ℕ). (x ∷ []) ∷ []) (count_from 0 n)))
+    (replicate rows (count_from 0 n))
 
 unfoldable pub counts : List Case
 counts =
@@ -79,9 +88,11 @@ floats =
     ∷ answers 0 (segment_with 23 (whole 1)) two_points_answer ∷ refused_with 9 0 (segment_with 23 (whole 1 + 1))
     ∷ answers 0 (segment_with 31 (whole 65536)) two_points_answer ∷ refused_with 9 0 (segment_with 31 (whole 65536 + 1))
     -- below zero, by the sign bit
-    ∷ answers 0 (segment_with 31 (0x8000000000000000 + whole 65536)) two_points_answer ∷ refused_with 9 0 (segment_with 31 (0x8000000000000000 + whole 65536 + 1))
+    ∷ answers 0 (segment_with 31 (0x8000000000000000 + whole 65536)) two_points_answer
+    ∷ refused_with 9 0 (segment_with 31 (0x8000000000000000 + whole 65536 + 1))
     -- an infinity, either way, and not a number
-    ∷ refused_with 9 0 (segment_with 15 0x7ff0000000000000) ∷ refused_with 9 0 (segment_with 23 0xfff0000000000000) ∷ refused_with 9 0 (segment_with 31 not_a_number)
+    ∷ refused_with 9 0 (segment_with 15 0x7ff0000000000000) ∷ refused_with 9 0 (segment_with 23 0xfff0000000000000)
+    ∷ refused_with 9 0 (segment_with 31 not_a_number)
     -- min and max: −0 is not below 0
     ∷ answers 0 (segment_min 0x8000000000000000) two_points_answer ∷ refused_with 9 0 (segment_min 0x8000000000000001)
     ∷ answers 0 (segment_min (whole 131072)) two_points_answer ∷ refused_with 9 0 (segment_min (whole 131072 + 1))
@@ -97,14 +108,19 @@ unfoldable pub tolerances : List Case
 tolerances =
     -- both ends of the range, and the double beyond each
     answers 0 (segment_tolerance one_e_9) two_points_answer ∷ refused_with 22 0 (segment_tolerance (one_e_9 - 1))
-    ∷ answers 0 (segment_tolerance thousandth) two_points_answer ∷ refused_with 22 0 (segment_tolerance (thousandth + 1))
+    ∷ answers 0 (segment_tolerance thousandth) two_points_answer
+    ∷ refused_with 22 0 (segment_tolerance (thousandth + 1))
     -- 0, −0 and what is below
-    ∷ refused_with 22 0 (segment_tolerance 0) ∷ refused_with 22 0 (segment_tolerance 0x8000000000000000) ∷ refused_with 22 0 (segment_tolerance (0x8000000000000000 + one_e_7))
+    ∷ refused_with 22 0 (segment_tolerance 0) ∷ refused_with 22 0 (segment_tolerance 0x8000000000000000)
+    ∷ refused_with 22 0 (segment_tolerance (0x8000000000000000 + one_e_7))
     -- an infinity, either way, and not a number
-    ∷ refused_with 9 0 (segment_tolerance 0x7ff0000000000000) ∷ refused_with 9 0 (segment_tolerance 0xfff0000000000000) ∷ refused_with 9 0 (segment_tolerance not_a_number)
+    ∷ refused_with 9 0 (segment_tolerance 0x7ff0000000000000)
+    ∷ refused_with 9 0 (segment_tolerance 0xfff0000000000000) ∷ refused_with 9 0 (segment_tolerance not_a_number)
     -- versions 0, 4 and 257; version 2 without a tolerance, and version 1 with one
-    ∷ refused_with 2 0 (header 0 2 1 2 1 0) ∷ refused_with 2 0 (header 4 2 1 2 1 0) ∷ refused_with 2 0 (header 257 2 1 2 1 0)
-    ∷ refused_with 8 0 (header 2 2 1 2 1 0 ++ drop 11 (segment_job (identity 2))) ∷ refused_with 8 0 (header 1 2 1 2 1 0 ++ drop 11 (segment_tolerance one_e_7))
+    ∷ refused_with 2 0 (header 0 2 1 2 1 0) ∷ refused_with 2 0 (header 4 2 1 2 1 0)
+    ∷ refused_with 2 0 (header 257 2 1 2 1 0)
+    ∷ refused_with 8 0 (header 2 2 1 2 1 0 ++ drop 11 (segment_job (identity 2)))
+    ∷ refused_with 8 0 (header 1 2 1 2 1 0 ++ drop 11 (segment_tolerance one_e_7))
     ∷ []
 
 -- two points at rank 2 in version 3, with a rule
@@ -116,7 +132,8 @@ rules =
     answers 0 (segment_rule 1) two_points_answer ∷ answers 0 (segment_rule 2) two_points_answer
     ∷ refused_with 25 0 (segment_rule 0) ∷ refused_with 25 0 (segment_rule 3) ∷ refused_with 25 0 (segment_rule 255)
     -- version 3 without a rule, and version 2 with one
-    ∷ refused_with 8 0 (header 3 2 1 2 1 0 ++ drop 11 (segment_tolerance one_e_7)) ∷ refused_with 8 0 (header 2 2 1 2 1 0 ++ drop 11 (segment_rule 1))
+    ∷ refused_with 8 0 (header 3 2 1 2 1 0 ++ drop 11 (segment_tolerance one_e_7))
+    ∷ refused_with 8 0 (header 2 2 1 2 1 0 ++ drop 11 (segment_rule 1))
     ∷ []
 
 -- workspace, budget and room
@@ -130,15 +147,31 @@ buffers =
     ∷ answers 0 (job_with (with_budget 2 0) 1 (whole_points ((0 ∷ []) ∷ (1 ∷ []) ∷ [])) (identity 2)) two_points_answer
     ∷ refused_with 16 524288 (symmetric_job (with_budget 3 2))
     -- a buffer exactly full, and one byte short
-    ∷ record { job = symmetric_job (plain 3); workspace = 524288; room = 4 * length symmetric_square_answer; expected = gives symmetric_square_answer }
-    ∷ record { job = symmetric_job (plain 3); workspace = 524288; room = 4 * length symmetric_square_answer - 1; expected = refuses 17 }
+    ∷ record {
+      job = symmetric_job (plain 3);
+      workspace = 524288;
+      room = 4 * length symmetric_square_answer;
+      expected = gives symmetric_square_answer;
+    }
+    ∷ record {
+      job = symmetric_job (plain 3);
+      workspace = 524288;
+      room = 4 * length symmetric_square_answer - 1;
+      expected = refuses 17;
+    }
     ∷ record { job = symmetric_job (plain 3); workspace = 524288; room = 0; expected = refuses 17 }
     -- and one word short, at rank 2
-    ∷ record { job = segment_job (identity 2); workspace = 0; room = 4 * length two_points_answer - 4; expected = refuses 17 }
+    ∷ record {
+      job = segment_job (identity 2);
+      workspace = 0;
+      room = 4 * length two_points_answer - 4;
+      expected = refuses 17;
+    }
     ∷ []
 
 pub refusals : T (all_of passes (in_order ++ counts ++ floats ++ tolerances ++ rules ++ buffers))
-unfolding open_all open_examples header square_with in_order line counts segment_with segment_min segment_max floats segment_tolerance tolerances segment_rule rules buffers two_points_answer symmetric_square_answer
+unfolding open_all open_examples header square_with in_order line counts segment_with segment_min segment_max floats
+    segment_tolerance tolerances segment_rule rules buffers two_points_answer symmetric_square_answer
 refusals = tt
 
 -- ---- small bounds: the square has 6 hyperplane orbits, 6 possible facets and 7 entries

@@ -71,7 +71,8 @@ roots =
 
 -- below zero, the infinities, not a number
 unfoldable pub without_root : List ℕ
-without_root = 0x8000000000000001 ∷ 0xbff0000000000000 ∷ 0x7ff0000000000000 ∷ 0xfff0000000000000 ∷ 0x7ff8000000000000 ∷ []
+without_root =
+    0x8000000000000001 ∷ 0xbff0000000000000 ∷ 0x7ff0000000000000 ∷ 0xfff0000000000000 ∷ 0x7ff8000000000000 ∷ []
 
 pub roots_agree : T (all_of rooted roots && all_of rootless without_root)
 unfolding open_all bits_or rooted rootless roots without_root

@@ -11,7 +11,8 @@ use Rattle.definitions.specs.Search.{Facet, Table, Found}
 use Rattle.definitions.specs.Recursion.{Rules, Entry}
 use Rattle.definitions.specs.Faceting.{Prepared, table_for, entries_of, search_from}
 use Rattle.definitions.specs.Job.{Bytes, Job, read_job, bounds1, rules_of, between, counted, entry_words}
-use Rattle.definitions.specs.Demands.{Demand3, CallComplete, Accepted, prepared_of, choice_of, is_closed_choice, is_order_of, equal_shares}
+use Rattle.definitions.specs.Demands.{Demand3, CallComplete, Accepted, prepared_of, choice_of, is_closed_choice}
+use Rattle.definitions.specs.Demands.{is_order_of, equal_shares}
 use Rattle.definitions.specs.Open.{open_all}
 use Rattle.definitions.specs.Examples.{open_examples, plain, square_job, bytes_of}
 use Rattle.definitions.specs.KnownJobs.{plain_square_answer}
@@ -56,11 +57,21 @@ first_twice = take 1 square_entries ++ square_entries
 
 -- the first entry with another figure
 unfoldable pub other_figure : List Entry
-other_figure = map (λ (e : Entry). record { list = e.list; before = e.before; figure = dyad }) (take 1 square_entries) ++ drop 1 square_entries
+other_figure =
+    map (λ (e : Entry). record {
+      list = e.list;
+      before = e.before;
+      figure = dyad;
+    }) (take 1 square_entries) ++ drop 1 square_entries
 
 -- the first entry with another list before splitting
 unfoldable pub other_before : List Entry
-other_before = map (λ (e : Entry). record { list = e.list; before = reverse e.before; figure = e.figure }) (take 1 square_entries) ++ drop 1 square_entries
+other_before =
+    map (λ (e : Entry). record {
+      list = e.list;
+      before = reverse e.before;
+      figure = e.figure;
+    }) (take 1 square_entries) ++ drop 1 square_entries
 
 -- the entries in another order
 unfoldable pub backwards : List Entry
@@ -70,7 +81,8 @@ backwards = reverse square_entries
 
 -- the list before splitting of every entry of the square is an order of a closed choice; the shares are equal
 unfoldable pub closed_in_order : Table → List (List Facet) → Bool
-closed_in_order table = all_of (λ (l : List Facet). is_closed_choice table (choice_of l) && is_order_of table [] (choice_of l) l)
+closed_in_order table =
+    all_of (λ (l : List Facet). is_closed_choice table (choice_of l) && is_order_of table [] (choice_of l) l)
 
 unfoldable pub sensible : Outcome Prepared → List (List Facet) → Bool
 sensible (refused number) lists = false
@@ -84,4 +96,5 @@ denies (answered p) =
     && not (is_closed_choice (table_for p) ((0, 0) ∷ (1, 0) ∷ (2, 0) ∷ (3, 0) ∷ []))
     && not (is_closed_choice (table_for p) [])
     && is_closed_choice (table_for p) ((0, 0) ∷ (2, 0) ∷ (3, 0) ∷ (5, 0) ∷ [])
-    && not (is_order_of (table_for p) [] ((0, 0) ∷ (2, 0) ∷ (3, 0) ∷ (5, 0) ∷ []) ((0, 0) ∷ (5, 0) ∷ (2, 0) ∷ (3, 0) ∷ []))
+    && not
+    (is_order_of (table_for p) [] ((0, 0) ∷ (2, 0) ∷ (3, 0) ∷ (5, 0) ∷ []) ((0, 0) ∷ (5, 0) ∷ (2, 0) ∷ (3, 0) ∷ []))

@@ -1,6 +1,7 @@
 -- The search, over any table of facets and shares: docs/SPECIFICATION.md, chapter 7. Leans on Lists and Outcome;
 -- where a table comes from is in Recursion.
-use Rattle.std.specs.Prelude.{Bool, true, false, cond, not, ◌&&◌, ℕ, zero, suc, ◌+◌, ◌*◌, leb, ltb, eqb, length, get_or, replicate}
+use Rattle.std.specs.Prelude.{Bool, true, false, cond, not, ◌&&◌, ℕ, zero, suc, ◌+◌, ◌*◌, leb, ltb, eqb, length, get_or}
+use Rattle.std.specs.Prelude.{replicate}
 use mathlib.Core.List.{List, [], ◌∷◌, ◌++◌, map, flat_map, reverse_aux}
 use Rattle.std.specs.Prelude.{Option, Some, None}
 use Rattle.definitions.specs.Lists.{Pair, any_of, keep, place_of, map_at, count_from}
@@ -71,7 +72,9 @@ pub record Item : Type 0 where
 
 -- [7.5] every possible facet, ascending
 unfoldable pub all_facets : Table → List Facet
-all_facets table = flat_map (λ (fs : List Facet). fs) (map_at (λ orbit (facets : List (List Share)). map (λ (f : ℕ). (orbit, f)) (count_from 0 (length facets))) 0 table.shares)
+all_facets table =
+    flat_map (λ (fs : List Facet). fs) (map_at (λ orbit (facets : List (List Share)).
+    map (λ (f : ℕ). (orbit, f)) (count_from 0 (length facets))) 0 table.shares)
 
 -- [7.5] a list for each facet, with its orbit as mark
 unfoldable pub starts : Table → List Item
@@ -97,7 +100,8 @@ ones_at table ridge f = length (keep (λ (s : Share). eqb 1 s.1) (shares_at ridg
 -- facet that may join
 unfoldable pub open_next : Table → Item → ℕ → List Item
 open_next table item ridge =
-    map (joined item item.mark) (flat_map (λ (f : Facet). replicate (ones_at table ridge f) f) (keep (may_join item) (all_facets table)))
+    map (joined item item.mark)
+    (flat_map (λ (f : Facet). replicate (ones_at table ridge f) f) (keep (may_join item) (all_facets table)))
 
 -- [7.7] behind a closed list: a list for each facet that may join, its orbit becoming the mark
 unfoldable pub closed_next : Table → Item → List Item
@@ -131,14 +135,19 @@ pub record EntryLimits : Type 0 where
   pub extended : Bool
 
 -- [7.9] One more list is emitted, or 15. Then the limit is asked, and `next` goes on with what is emitted.
-unfoldable pub emit : EntryLimits → List Facet → ℕ → List (List Facet) → (List (List Facet) → Outcome Found) → Outcome Found
+unfoldable pub emit : EntryLimits → List Facet → ℕ → List (List Facet) → (List (List Facet) → Outcome Found)
+    → Outcome Found
 emit limits list left emitted next =
     let lists = emitted ++ (list ∷ []) in
     refuse_if (leb limits.bound (length emitted)) 15 (λ u.
-    elim (limit_reached limits.limit (length lists)) [ true ↦ answered (record { lists = lists; left = left }) | false ↦ next lists ])
+    elim (limit_reached limits.limit (length lists)) [
+      | true ↦ answered (record { lists = lists; left = left })
+      | false ↦ next lists
+    ])
 
 -- [7.8] a list that is over or open emits nothing
-unfoldable pub emit_if : Verdict → EntryLimits → List Facet → ℕ → List (List Facet) → (List (List Facet) → Outcome Found) → Outcome Found
+unfoldable pub emit_if : Verdict → EntryLimits → List Facet → ℕ → List (List Facet)
+    → (List (List Facet) → Outcome Found) → Outcome Found
 emit_if over limits list left emitted next = next emitted
 emit_if (open_at ridge) limits list left emitted next = next emitted
 emit_if closed limits list left emitted next = emit limits list left emitted next
@@ -151,7 +160,8 @@ examine table limits zero (item ∷ pending) emitted = refused 16
 examine table limits (suc left) [] emitted = answered (record { lists = emitted; left = suc left })
 examine table limits (suc left) (item ∷ pending) emitted =
     let verdict = judge (totals table item.list) in
-    emit_if verdict limits item.list left emitted (examine table limits left (reverse_aux (put_in limits.extended table item verdict) pending))
+    emit_if verdict limits item.list left emitted
+    (examine table limits left (reverse_aux (put_in limits.extended table item verdict) pending))
 
 -- [7.8] [7.10] from the lists of single facets on
 unfoldable pub search : Table → EntryLimits → ℕ → Outcome Found

@@ -1,5 +1,5 @@
--- The promised symmetry: docs/SPECIFICATION.md, [13.9] to [13.12]. Statements only: what is proved of them, and where,
--- docs/READING.md says. Leans on Job.
+-- The promised symmetry: docs/SPECIFICATION.md, [13.9] to [13.12]. Statements only: what is proved of them, and
+-- where, docs/READING.md says. Leans on Job.
 use Rattle.std.specs.Prelude.{◌≡◌, Bool, ℕ, T, get_or, drop}
 use mathlib.Core.List.{List, [], ◌∷◌, map, Memᴰ}
 use Rattle.definitions.specs.Lists.{all_of, any_of, sort_nats}
@@ -52,4 +52,5 @@ pub record CarriedByAll (rows : List Row) (entries : List Entry) : Type 0 where
 
 -- [13.12] of a job's bytes and any list of entries, for jobs of rank 3 or 4 whose rows are closed under composition
 pub record Symmetric (bytes : Bytes) (entries : List Entry) : Type 0 where
-  pub holds : T (between 3 4 (read_job bytes).rank) → T (closed_rows (read_job bytes).rows) → CarriedByAll (read_job bytes).rows entries
+  pub holds : T (between 3 4 (read_job bytes).rank) → T (closed_rows (read_job bytes).rows)
+      → CarriedByAll (read_job bytes).rows entries

@@ -2,7 +2,8 @@
 -- at binary64 are those of IEEE 754, rounded once each.
 -- The root is given twice: as a definition that computes, and by what IEEE 754 says of it (`NearestRoot`), with
 -- whole numbers only.
-use Rattle.std.specs.Prelude.{◌≡◌, Bool, true, false, cond, List, [], ◌∷◌, map, ℕ, zero, suc, ◌+◌, ◌*◌, ◌/◌, ◌%◌, ◌^◌, ◌≤◌, ◌<◌, T, leb, eqb, pos, negsuc, Float}
+use Rattle.std.specs.Prelude.{◌≡◌, Bool, true, false, cond, List, [], ◌∷◌, map, ℕ, zero, suc, ◌+◌, ◌*◌, ◌/◌, ◌%◌, ◌^◌}
+use Rattle.std.specs.Prelude.{◌≤◌, ◌<◌, T, leb, eqb, pos, negsuc, Float}
 use Rattle.std.specs.Prelude.{Option, Some, None}
 use Rattle.std.specs.Float.{nan, inf, fin, binary64}
 use Rattle.std.specs.Float.Ieee.{round, add, sub, mul, div, of_bits, to_bits, fits, up, down, low}
@@ -21,7 +22,9 @@ zero64 = of_bits binary64 0
 -- more.
 unfoldable pub whole_root : ℕ → ℕ → ℕ
 whole_root zero n = 0
-whole_root (suc digits) n = let twice = 2 * whole_root digits (n / 4) in cond (leb (suc twice * suc twice) n) (suc twice) twice
+whole_root (suc digits) n =
+    let twice = 2 * whole_root digits (n / 4) in
+    cond (leb (suc twice * suc twice) n) (suc twice) twice
 
 -- [3.2] 2 √n where √n is a whole number, and else the odd number next to it: it lies on the same side of every even
 -- number as 2 √n does.
@@ -79,10 +82,13 @@ pub record NearestRoot (x r : Float) : Type 0 where
   -- the root has the sign of x: that of −0 is −0
   pub sign : sign_of r ≡ sign_of x
   -- no double above r lies nearer, and none below
-  pub none_above : (y : Float) → T (is_double y) → sign_of y ≡ false → units_in r < units_in y → four_times x ≤ sum_squared r y
-  pub none_below : (y : Float) → T (is_double y) → sign_of y ≡ false → units_in y < units_in r → sum_squared r y ≤ four_times x
+  pub none_above : (y : Float) → T (is_double y) → sign_of y ≡ false → units_in r < units_in y
+      → four_times x ≤ sum_squared r y
+  pub none_below : (y : Float) → T (is_double y) → sign_of y ≡ false → units_in y < units_in r
+      → sum_squared r y ≤ four_times x
   -- at a tie the last bit of r is 0
-  pub even_at_tie : (y : Float) → T (is_double y) → sign_of y ≡ false → (units_in y ≡ units_in r → ⊥) → sum_squared r y ≡ four_times x → to_bits binary64 r % 2 ≡ 0
+  pub even_at_tie : (y : Float) → T (is_double y) → sign_of y ≡ false → (units_in y ≡ units_in r → ⊥)
+      → sum_squared r y ≡ four_times x → to_bits binary64 r % 2 ≡ 0
 
 -- [3.2] finite and not below zero; −0 is not below zero
 unfoldable pub has_root : Float → Bool
@@ -94,7 +100,8 @@ has_root (fin s (suc m) e) = cond s false true
 -- [3.3] [13.2] What is to be proved of the definition: it has a value exactly where [3.2] says so, and that is the
 -- nearest one.
 pub record RootIsIeee : Type 0 where
-  pub value : (x : Float) → T (is_double x) → has_root x ≡ true → (r : Float) × (square_root x ≡ Some r) × NearestRoot x r
+  pub value : (x : Float) → T (is_double x) → has_root x ≡ true
+      → (r : Float) × (square_root x ≡ Some r) × NearestRoot x r
   pub refusal : (x : Float) → has_root x ≡ false → square_root x ≡ None
 
 -- ---- vectors

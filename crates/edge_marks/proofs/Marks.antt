@@ -10,11 +10,12 @@ use Rattle.definitions.specs.Lists.{Pair}
 use Rattle.definitions.specs.Orbits.{pair_image}
 use Rattle.laws.specs.Lists.{Mem, flat_map_same, of_flat_map, member_at, map_at_holds}
 use Rattle.laws.specs.Places.{map_flat_map}
-use Rattle.openers.specs.Marks.{marked}
-use Rattle.openers.specs.Meaning.{pair_code}
-use Rattle.openers.specs.Rows.{rows_in, RowsFit}
+use Rattle.rows.specs.Marks.{marked}
+use Rattle.rows.specs.Codes.{pair_code}
+use Rattle.rows.specs.Rows.{rows_in, RowsFit}
 use Rattle.shapes.specs.EdgeSets.{edges_in_order}
-use Rattle.edge_marks.specs.Marks.{Ends, edge_images, edges_marked, facet_codes, image_codes, image_ends, marked_in_order, marks_of}
+use Rattle.edge_marks.specs.Marks.{Ends, edge_images, edges_marked, facet_codes, image_codes, image_ends}
+use Rattle.edge_marks.specs.Marks.{marked_in_order, marks_of}
 
 -- ---- the images of facets' edges, as codes and as pairs
 
@@ -27,15 +28,21 @@ module _ {n m : ℕ} {s : List ℕ} (fits : RowsFit n m s) where
     ends_at : (x : ℕ) → x < length edges → (e : Pair) → Mem e (get_or edges x []) → Ends n e
     ends_at x h e i = proper (get_or edges x []) (member_at edges x [] h) e i
 
-    facet_images_holds : (x : ℕ) → x < length edges → image_codes (rows_in 32 m s) (get_or (map (map pair_code) edges) x []) ≡ map pair_code (images x)
-    facet_images_holds x h = ap (image_codes (rows_in 32 m s)) (map_at_holds (map pair_code) edges x [] [] h) ∙ edge_images fits (get_or edges x []) (ends_at x h)
+    facet_images_holds : (x : ℕ) → x < length edges
+        → image_codes (rows_in 32 m s) (get_or (map (map pair_code) edges) x []) ≡ map pair_code (images x)
+    facet_images_holds x h =
+        ap (image_codes (rows_in 32 m s)) (map_at_holds (map pair_code) edges x [] [] h)
+        ∙ edge_images fits (get_or edges x []) (ends_at x h)
 
     pub marked_edges : (numbers : List ℕ) → ((x : ℕ) → Mem x numbers → x < length edges)
-        → edges_marked (marks_of (rows_in 32 m s) (map (map pair_code) edges) numbers) ≡ edges_in_order (flat_map images numbers)
+        → edges_marked (marks_of (rows_in 32 m s) (map (map pair_code) edges) numbers)
+        ≡ edges_in_order (flat_map images numbers)
     unfolding marks_of facet_codes
     marked_edges numbers h =
-        let codes : flat_map (λ (x : ℕ). image_codes (rows_in 32 m s) (get_or (map (map pair_code) edges) x [])) numbers ≡ map pair_code (flat_map images numbers) =
-        flat_map_same (λ (x : ℕ). image_codes (rows_in 32 m s) (get_or (map (map pair_code) edges) x [])) (λ (x : ℕ). map pair_code (images x)) numbers (λ x i. facet_images_holds x (h x i))
+        let codes : flat_map (λ (x : ℕ). image_codes (rows_in 32 m s) (get_or (map (map pair_code) edges) x []))
+        numbers ≡ map pair_code (flat_map images numbers) =
+        flat_map_same (λ (x : ℕ). image_codes (rows_in 32 m s) (get_or (map (map pair_code) edges) x []))
+        (λ (x : ℕ). map pair_code (images x)) numbers (λ x i. facet_images_holds x (h x i))
         ∙ sym (map_flat_map pair_code images numbers) in
         ap (λ (l : List ℕ). edges_marked (marked (replicate 400 false) l)) codes
         ∙ marked_in_order (flat_map images numbers) (λ p i.

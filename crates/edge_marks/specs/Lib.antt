@@ -1,5 +1,4 @@
 -- Edges as marks at their codes.
 pub mod Marks
-pub mod MarkTurns
+pub mod MarkSteps
 pub mod Summaries
-pub mod Ends

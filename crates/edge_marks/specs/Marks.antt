@@ -1,4 +1,5 @@
--- Edges as marks: a place for each code of a pair. What is marked, read off upward, is the marked edges in order, each once. Leans on the marks and codes of openers.
+-- Edges as marks: a place for each code of a pair. What is marked, read off upward, is the marked edges in order,
+-- each once. Leans on the marks and codes of the crate `rows`.
 use Rattle.std.specs.Prelude.{◌≡◌, refl, Bool, ◌||◌, cond, eqb, length, replicate}
 use Rattle.std.proofs.Math.Path.{sym, ap, subst}
 use Rattle.std.proofs.Common.{◌∙◌, inl, inr, arith}
@@ -13,7 +14,8 @@ use Rattle.std.proofs.lemmas.List.{length-replicate, get_or-replicate}
 use Rattle.definitions.specs.Lists.{Pair, keep, count_from, compare_pair, then_by, member_nat}
 use Rattle.definitions.specs.Orbits.{Row, image, pair_image}
 use Rattle.laws.specs.Bools.{either, left_of}
-use Rattle.laws.specs.Lists.{Mem, in_keep, kept, in_map, of_map, any_of_holds, any_witness, in_count, of_count, flat_map_same}
+use Rattle.laws.specs.Lists.{Mem, in_keep, kept, in_map, of_map, any_of_holds, any_witness, in_count, of_count}
+use Rattle.laws.specs.Lists.{flat_map_same}
 use Rattle.laws.specs.Segments.{le_or_lt}
 use Rattle.laws.specs.Orders.{nats, pairs, compare_lt, lt_compare}
 use Rattle.laws.specs.Pairs.{pairs_keep}
@@ -21,11 +23,11 @@ use Rattle.laws.specs.Ascending.{Ascends, same_ascending, in_order_ascends, in_i
 use Rattle.laws.specs.Places.{ascends_map, flat_map_map, map_flat_map}
 use Rattle.laws.specs.Ranges.{count_ascending}
 use Rattle.pool.specs.Pool.{count, Sound}
-use Rattle.openers.specs.Marks.{marked, marked_at_holds}
-use Rattle.openers.specs.Meaning.{pair_code, pair_of, pair_codes}
-use Rattle.openers.specs.Rows.{ImagesBelow, rows_in, RowsFit}
-use Rattle.openers.specs.Codes.{pair_of_code, code_small, row_below, map_codes}
-use Rattle.openers.proofs.Codes.{codes_wide}
+use Rattle.rows.specs.Marks.{marked, marked_at_holds}
+use Rattle.rows.specs.Codes.{pair_code, pair_of, pair_codes}
+use Rattle.rows.specs.Rows.{ImagesBelow, rows_in, RowsFit}
+use Rattle.rows.specs.Codes.{pair_of_code, code_small, row_below, map_codes}
+use Rattle.rows.proofs.Codes.{codes_wide}
 use Rattle.order.specs.Areas.{list_at}
 use Rattle.shapes.specs.FigureWords.{edge_words}
 use Rattle.shapes.specs.EdgeSets.{edges_in_order}
@@ -55,8 +57,10 @@ mark_words marks code = cond (get_or marks code false) (edge_words (pair_of code
 pub record EdgesFit (m : ℕ) (rows edges : List ℕ) : Type 0 where
   pub sound : Sound 2 1024 edges
   pub low : (k i : ℕ) → k < count edges → i < length (list_at 1024 edges k) → get_or (list_at 1024 edges k) i 0 < 400
-  pub first : (k i : ℕ) → k < count edges → i < length (list_at 1024 edges k) → ImagesBelow 20 (get_or (list_at 1024 edges k) i 0 / 20) m rows
-  pub second : (k i : ℕ) → k < count edges → i < length (list_at 1024 edges k) → ImagesBelow 20 (get_or (list_at 1024 edges k) i 0 % 20) m rows
+  pub first : (k i : ℕ) → k < count edges → i < length (list_at 1024 edges k)
+      → ImagesBelow 20 (get_or (list_at 1024 edges k) i 0 / 20) m rows
+  pub second : (k i : ℕ) → k < count edges → i < length (list_at 1024 edges k)
+      → ImagesBelow 20 (get_or (list_at 1024 edges k) i 0 % 20) m rows
 
 -- ---- pairs and codes
 
@@ -82,11 +86,14 @@ pairs_rise x y e =
 
 pub codes_up : (marks : List Bool) (bound : ℕ) → Ascends compare (codes_marked marks bound)
 unfolding codes_marked
-codes_up marks bound = pairs_keep (λ x y. compare x y ≡ Ordering.lt) (λ (code : ℕ). get_or marks code false) (count_from 0 bound) (count_ascending 0 bound)
+codes_up marks bound =
+    pairs_keep (λ x y. compare x y ≡ Ordering.lt) (λ (code : ℕ). get_or marks code false) (count_from 0 bound)
+    (count_ascending 0 bound)
 
 codes_ascend : (marks : List Bool) (bound : ℕ) → Ascends compare_pair (map pair_of (codes_marked marks bound))
 codes_ascend marks bound =
-    ascends_map compare nats compare_pair pairs pair_of (λ x. Unit {0}) (λ x y u v e. pairs_rise x y e) (codes_marked marks bound) (λ x i. tt) (codes_up marks bound)
+    ascends_map compare nats compare_pair pairs pair_of (λ x. Unit {0}) (λ x y u v e. pairs_rise x y e)
+    (codes_marked marks bound) (λ x i. tt) (codes_up marks bound)
 
 -- ---- what is marked is read off in order
 
@@ -97,14 +104,16 @@ module _ (ps : List Pair) (small : (p : Pair) → Mem p ps → Ends 20 p) where
   at_code : (c : ℕ) → c < 400 → get_or marks c false ≡ (member_nat c (map pair_code ps) || false)
   at_code c h =
       let e = length-replicate 400 false in
-      marked_at_holds (replicate 400 false) (map pair_code ps) c (omega arith) ∙ ap (λ (b : Bool). member_nat c (map pair_code ps) || b) (get_or-replicate 400 c false false h)
+      marked_at_holds (replicate 400 false) (map pair_code ps) c (omega arith)
+      ∙ ap (λ (b : Bool). member_nat c (map pair_code ps) || b) (get_or-replicate 400 c false false h)
 
   is_marked : (p : Pair) → Mem p ps → T (get_or marks (pair_code p) false)
   unfolding member_nat
   is_marked p i =
       let s = small p i in
       subst T (sym (at_code (pair_code p) (code_small p s.first s.second)))
-      (left_of (member_nat (pair_code p) (map pair_code ps)) false (any_of_holds (eqb (pair_code p)) (pair_code p) (map pair_code ps) (in_map pair_code p ps i) (eqb_refl (pair_code p))))
+      (left_of (member_nat (pair_code p) (map pair_code ps)) false (any_of_holds (eqb (pair_code p)) (pair_code p)
+      (map pair_code ps) (in_map pair_code p ps i) (eqb_refl (pair_code p))))
 
   of_marked : (c : ℕ) → c < 400 → T (get_or marks c false) → Mem (pair_of c) ps
   unfolding member_nat
@@ -121,19 +130,23 @@ module _ (ps : List Pair) (small : (p : Pair) → Mem p ps → Ends 20 p) where
   pub marked_in_order : edges_marked marks ≡ edges_in_order ps
   unfolding edges_marked codes_marked
   marked_in_order =
-      same_ascending compare_pair pairs (map pair_of (codes_marked marks 400)) (edges_in_order ps) (codes_ascend marks 400) (in_order_ascends compare_pair pairs ps)
+      same_ascending compare_pair pairs (map pair_of (codes_marked marks 400)) (edges_in_order ps)
+      (codes_ascend marks 400) (in_order_ascends compare_pair pairs ps)
       (record {
         into = λ x i.
             let r = of_map pair_of x (codes_marked marks 400) i in
             let k = kept (λ (code : ℕ). get_or marks code false) r.0 (count_from 0 400) r.1 in
             let below = of_count 0 400 r.0 k.0 in
-            in_in_order compare_pair pairs x ps (subst (λ (p : Pair). Mem p ps) (sym r.2) (of_marked r.0 (omega (arith, below.1)) k.1));
+            in_in_order compare_pair pairs x ps
+            (subst (λ (p : Pair). Mem p ps) (sym r.2) (of_marked r.0 (omega (arith, below.1)) k.1));
         back = λ x i.
             let m = of_in_order compare_pair pairs x ps i in
             let s = small x m in
             let low : pair_code x < 400 = code_small x s.first s.second in
             subst (λ (p : Pair). Mem p (map pair_of (codes_marked marks 400))) (pair_code_holds x s.second)
-            (in_map pair_of (pair_code x) (codes_marked marks 400) (in_keep (λ (code : ℕ). get_or marks code false) (pair_code x) (count_from 0 400) (in_count 0 400 (pair_code x) (omega arith) (omega arith)) (is_marked x m)));
+            (in_map pair_of (pair_code x) (codes_marked marks 400)
+            (in_keep (λ (code : ℕ). get_or marks code false) (pair_code x) (count_from 0 400)
+            (in_count 0 400 (pair_code x) (omega arith) (omega arith)) (is_marked x m)));
       })
 
 -- ---- the images of facets' edges, as codes and as pairs
@@ -150,14 +163,18 @@ module _ {n m : ℕ} {s : List ℕ} (fits : RowsFit n m s) where
       let g : p.1 ≡ max (image r.0 e.0) (image r.0 e.1) = ap (λ (x : Pair). x.1) r.2 in
       record { first = omega (arith, fits.n_fits); second = omega (arith, fits.n_fits) }
 
-  one_edge : (e : Pair) → Ends n e → pair_codes (rows_in 32 m s) (pair_of (pair_code e)) ≡ map pair_code (map (pair_image e) (rows_in n m s))
+  one_edge : (e : Pair) → Ends n e
+      → pair_codes (rows_in 32 m s) (pair_of (pair_code e)) ≡ map pair_code (map (pair_image e) (rows_in n m s))
   one_edge e h =
       ap (pair_codes (rows_in 32 m s)) (pair_code_holds e (omega (arith, h.second, fits.n_fits)))
       ∙ (codes_wide n m e.0 e.1 s h.first h.second fits.n_fits ∙ map_codes (rows_in n m s) e)
 
-  pub edge_images : (es : List Pair) → ((e : Pair) → Mem e es → Ends n e) → image_codes (rows_in 32 m s) (map pair_code es) ≡ map pair_code (flat_map (λ (e : Pair). map (pair_image e) (rows_in n m s)) es)
+  pub edge_images : (es : List Pair) → ((e : Pair) → Mem e es → Ends n e)
+      → image_codes (rows_in 32 m s) (map pair_code es)
+      ≡ map pair_code (flat_map (λ (e : Pair). map (pair_image e) (rows_in n m s)) es)
   unfolding image_codes
   edge_images es h =
       flat_map_map (λ (code : ℕ). pair_codes (rows_in 32 m s) (pair_of code)) pair_code es
-      ∙ (flat_map_same (λ (e : Pair). pair_codes (rows_in 32 m s) (pair_of (pair_code e))) (λ (e : Pair). map pair_code (map (pair_image e) (rows_in n m s))) es (λ e i. one_edge e (h e i))
+      ∙ (flat_map_same (λ (e : Pair). pair_codes (rows_in 32 m s) (pair_of (pair_code e)))
+      (λ (e : Pair). map pair_code (map (pair_image e) (rows_in n m s))) es (λ e i. one_edge e (h e i))
       ∙ sym (map_flat_map pair_code (λ (e : Pair). map (pair_image e) (rows_in n m s)) es))

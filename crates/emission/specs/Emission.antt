@@ -13,12 +13,17 @@ use borrow.Rule.Slice.PartMut.{put_same}
 use Rattle.definitions.specs.Search.{Table, uses_orbit}
 use Rattle.laws.specs.Options.{none_is_not_some}
 use Rattle.laws.specs.Segments.{placed, part_length, placed_length, part_placed, take_placed, part_placed_off, le_or_lt}
-use Rattle.pool.specs.Pool.{Sound, count, used, base, closed_lists, opened, emptied, pushed, ended, closed_length, emptied_sound, emptied_closed, emptied_opened, pushed_length, pushed_count, pushed_used, pushed_sound, pushed_closed, pushed_opened, ended_length, ended_count, ended_used, ended_sound, ended_closed, ended_opened}
+use Rattle.pool.specs.Pool.{Sound, count, used, base, closed_lists, opened, emptied, pushed, ended, closed_length}
+use Rattle.pool.specs.Pool.{emptied_sound, emptied_closed, emptied_opened, pushed_length, pushed_count, pushed_used}
+use Rattle.pool.specs.Pool.{pushed_sound, pushed_closed, pushed_opened, ended_length, ended_count, ended_used}
+use Rattle.pool.specs.Pool.{ended_sound, ended_closed, ended_opened}
 use Rattle.facets.specs.declared.Areas.{Areas}
 use Rattle.facets.specs.Kept.{map_last}
 use Rattle.facets.specs.Frames.{root}
-use Rattle.facets.specs.Layout.{Inputs, AreasFit, holds_kept, facet_of, numbers, code_of, totals_part, used_part, frames_part, lists_part, Totals, Uses, flag}
-use Rattle.frames.specs.Paths.{kind_at, place_at, path, list_to, frames_to, taken_at, Path, PathStands, Numbered, Emitted, emitted_in, pushed_all, with_frame}
+use Rattle.facets.specs.Layout.{Inputs, AreasFit, holds_kept, facet_of, numbers, code_of, totals_part, used_part}
+use Rattle.facets.specs.Layout.{frames_part, lists_part, Totals, Uses, flag}
+use Rattle.frames.specs.Paths.{kind_at, place_at, path, list_to, frames_to, taken_at, Path, PathHeld, Numbered, Emitted}
+use Rattle.frames.specs.Paths.{emitted_in, pushed_all, with_frame}
 use Rattle.totals.specs.Change.{placed_placed}
 use Rattle.facets.specs.Sums.{sum_at}
 use Rattle.facets.specs.Numbers.{numbers_all_length}
@@ -30,7 +35,8 @@ use Rattle.definitions.specs.Lists.{any_of}
 
 -- ---- items pushed one after another
 
-pub pushed_last : (most : ℕ) (l vs : List ℕ) (v : ℕ) → pushed_all most l (vs ++ (v ∷ [])) ≡ pushed 2 most (pushed_all most l vs) v
+pub pushed_last : (most : ℕ) (l vs : List ℕ) (v : ℕ)
+    → pushed_all most l (vs ++ (v ∷ [])) ≡ pushed 2 most (pushed_all most l vs) v
 unfolding pushed_all
 pushed_last most l [] v = refl
 pushed_last most l (w ∷ vs) v = pushed_last most (pushed 2 most l w) vs v
@@ -43,17 +49,26 @@ pub record Pushed (most : ℕ) (l vs r : List ℕ) : Type 0 where
   pub shut : closed_lists 2 most r ≡ closed_lists 2 most l
   pub rest : opened 2 most r ≡ opened 2 most l ++ vs
 
-pub pushed_all_holds : (most : ℕ) (l vs : List ℕ) → Sound 2 most l → base most + 2 * (used l + length vs) ≤ length l → used l + length vs < 4294967296 → ((i : ℕ) → i < length vs → get_or vs i 0 < 65536)
+pub pushed_all_holds : (most : ℕ) (l vs : List ℕ) → Sound 2 most l → base most + 2 * (used l + length vs) ≤ length l
+    → used l + length vs < 4294967296 → ((i : ℕ) → i < length vs → get_or vs i 0 < 65536)
     → Pushed most l vs (pushed_all most l vs)
 unfolding pushed_all
-pushed_all_holds most l [] ok room few small = record { sound = ok; long = refl; items = omega arith; lists = refl; shut = refl; rest = sym (append-nil (opened 2 most l)) }
+pushed_all_holds most l [] ok room few small = record {
+  sound = ok;
+  long = refl;
+  items = omega arith;
+  lists = refl;
+  shut = refl;
+  rest = sym (append-nil (opened 2 most l));
+}
 pushed_all_holds most l (v ∷ vs) ok room few small =
     let r : base most + 2 * (used l + 1) ≤ length l = omega arith in
     let f : used l + 1 < 4294967296 = omega arith in
     let s : v < 256 ^ 2 = small 0 (omega arith) in
     let u = pushed_used 2 most l v ok r f s in
     let n = pushed_length 2 most l v ok r f s in
-    let rest = pushed_all_holds most (pushed 2 most l v) vs (pushed_sound 2 most l v ok r f s) (omega arith) (omega arith) (λ i h. small (suc i) (omega arith)) in
+    let rest = pushed_all_holds most (pushed 2 most l v) vs (pushed_sound 2 most l v ok r f s) (omega arith)
+    (omega arith) (λ i h. small (suc i) (omega arith)) in
     let i = rest.items in
     record {
       sound = rest.sound;
@@ -61,7 +76,9 @@ pushed_all_holds most l (v ∷ vs) ok room few small =
       items = omega arith;
       lists = rest.lists ∙ pushed_count 2 most l v ok r f s;
       shut = rest.shut ∙ pushed_closed 2 most l v ok r f s;
-      rest = rest.rest ∙ (ap (λ (o : List ℕ). o ++ vs) (pushed_opened 2 most l v ok r f s) ∙ append_assoc (opened 2 most l) (v ∷ []) vs);
+      rest =
+          rest.rest ∙ (ap (λ (o : List ℕ). o ++ vs) (pushed_opened 2 most l v ok r f s)
+          ∙ append_assoc (opened 2 most l) (v ∷ []) vs);
     }
 
 -- ---- the path's facets
@@ -84,13 +101,16 @@ module _ (a : Areas) (s q : List ℕ) (f : AreasFit a (length s)) (l : length q 
   lists_tables = take_placed a.lists (a.end - a.lists) s q a.frames (omega arith) (omega arith)
 
   pub lists_frames : frames_part a after ≡ frames_part a s
-  lists_frames = part_placed_off a.lists (a.end - a.lists) s q a.frames (a.totals - a.frames) (omega arith) l (inl (omega arith))
+  lists_frames =
+      part_placed_off a.lists (a.end - a.lists) s q a.frames (a.totals - a.frames) (omega arith) l (inl (omega arith))
 
   pub lists_totals : totals_part a after ≡ totals_part a s
-  lists_totals = part_placed_off a.lists (a.end - a.lists) s q a.totals (a.used - a.totals) (omega arith) l (inl (omega arith))
+  lists_totals =
+      part_placed_off a.lists (a.end - a.lists) s q a.totals (a.used - a.totals) (omega arith) l (inl (omega arith))
 
   pub lists_used : used_part a after ≡ used_part a s
-  lists_used = part_placed_off a.lists (a.end - a.lists) s q a.used (a.lists - a.used) (omega arith) l (inl (omega arith))
+  lists_used =
+      part_placed_off a.lists (a.end - a.lists) s q a.used (a.lists - a.used) (omega arith) l (inl (omega arith))
 
   pub lists_are : lists_part a after ≡ q
   lists_are = part_placed a.lists (a.end - a.lists) s q (omega arith) l
@@ -98,8 +118,8 @@ module _ (a : Areas) (s q : List ℕ) (f : AreasFit a (length s)) (l : length q 
   pub lists_inputs : (t : Table) → Inputs t a s → Inputs t a after
   lists_inputs t h = record { fits = rw lists_length f; holds = holds_kept t a s after f lists_tables h.holds }
 
-  pub lists_stands : (t : Table) (d m : ℕ) → PathStands t a s d m → PathStands t a after d m
-  lists_stands t d m st = record {
+  pub lists_held : (t : Table) (d m : ℕ) → PathHeld t a s d m → PathHeld t a after d m
+  lists_held t d m st = record {
     inputs = lists_inputs t st.inputs;
     frames = rw lists_frames st.frames;
     totals = rw (lists_frames, lists_totals) st.totals;
@@ -108,7 +128,8 @@ module _ (a : Areas) (s q : List ℕ) (f : AreasFit a (length s)) (l : length q 
 
 -- ---- one list more
 
-numbered_last : (facets : ℕ) (lists : List (List ℕ)) (l : List ℕ) → Numbered facets lists → ((i : ℕ) → i < length l → get_or l i 0 < facets) → Numbered facets (lists ++ (l ∷ []))
+numbered_last : (facets : ℕ) (lists : List (List ℕ)) (l : List ℕ) → Numbered facets lists
+    → ((i : ℕ) → i < length l → get_or l i 0 < facets) → Numbered facets (lists ++ (l ∷ []))
 numbered_last facets lists l h f k i m j =
     ⊎_elim before last (le_or_lt (suc k) (length lists))
   where
@@ -121,13 +142,15 @@ numbered_last facets lists l h f k i m j =
     last q =
         let n = length-append lists (l ∷ []) in
         let z : k ≡ length lists = omega arith in
-        let e : get_or (lists ++ (l ∷ [])) k [] ≡ l = ap (λ (o : ℕ). get_or (lists ++ (l ∷ [])) o []) z ∙ get_or-append_seam lists l [] [] in
+        let e : get_or (lists ++ (l ∷ [])) k [] ≡ l = ap (λ (o : ℕ). get_or (lists ++ (l ∷ [])) o []) z
+        ∙ get_or-append_seam lists l [] [] in
         rw e (f i (rw e at j))
 
 unfoldable pub after_pushes : Areas → List ℕ → ℕ → List ℕ
 after_pushes a s k = placed a.lists (a.end - a.lists) s (pushed_all a.bound (lists_part a s) (path (frames_part a s) k))
 
-module _ (t : Table) (a : Areas) (s : List ℕ) (d : ℕ) (st : PathStands t a s d d) (em : Emitted a (lists_part a s)) (h : count (lists_part a s) < a.bound) where
+module _ (t : Table) (a : Areas) (s : List ℕ) (d : ℕ) (st : PathHeld t a s d d) (em : Emitted a (lists_part a s))
+    (h : count (lists_part a s) < a.bound) where
   abbrev l : List ℕ
   l = lists_part a s
 
@@ -142,7 +165,9 @@ module _ (t : Table) (a : Areas) (s : List ℕ) (d : ℕ) (st : PathStands t a s
 
   -- there is room for one list more
   product : count l * a.orbits + a.orbits ≤ a.bound * a.orbits
-  product = let e : (count l + 1) * a.orbits ≤ a.bound * a.orbits = mul-le-mul_right a.orbits (let q = h in omega arith) in omega arith
+  product =
+      let e : (count l + 1) * a.orbits ≤ a.bound * a.orbits = mul-le-mul_right a.orbits (let q = h in omega arith) in
+      omega arith
 
   room : (k : ℕ) → k ≤ d → base a.bound + 2 * (used l + k) ≤ length l
   room k i = let f = st.inputs.fits in let r = em.room in omega (arith, long, short, product)
@@ -158,7 +183,9 @@ module _ (t : Table) (a : Areas) (s : List ℕ) (d : ℕ) (st : PathStands t a s
       let n = length-append (path p k) (taken_at p k ∷ []) in
       ⊎_elim
       (λ q. rw (get_or-append (path p k) (taken_at p k ∷ []) 0 i q) (few_taken k (omega arith) i q))
-      (λ q. let z : i ≡ length (path p k) = omega arith in let v = st.frames.taken k h in let w = ap (λ (o : ℕ). get_or (path p k ++ (taken_at p k ∷ [])) o 0) z ∙ get_or-append_seam (path p k) (taken_at p k) [] 0 in omega arith)
+      (λ q. let z : i ≡ length (path p k) = omega arith in let v = st.frames.taken k h in
+      let w = ap (λ (o : ℕ). get_or (path p k ++ (taken_at p k ∷ [])) o 0) z
+      ∙ get_or-append_seam (path p k) (taken_at p k) [] 0 in omega arith)
       (le_or_lt (suc i) (length (path p k)))
 
   small : (k : ℕ) → k ≤ d → (i : ℕ) → i < length (path p k) → get_or (path p k) i 0 < 65536
@@ -191,7 +218,8 @@ module _ (t : Table) (a : Areas) (s : List ℕ) (d : ℕ) (st : PathStands t a s
   unfolding after_pushes
   pushes_lists k i = lists_are a s (pushed_all a.bound l (path p k)) st.inputs.fits (pushed_long k i)
 
-  pub pushes_room : (k : ℕ) → k < d → (base a.bound + 2 * (used (lists_part a (after_pushes a s k)) + 1) ≤ length (lists_part a (after_pushes a s k))) × (used (lists_part a (after_pushes a s k)) + 1 < 4294967296)
+  pub pushes_room : (k : ℕ) → k < d → (base a.bound + 2 * (used (lists_part a (after_pushes a s k)) + 1)
+      ≤ length (lists_part a (after_pushes a s k))) × (used (lists_part a (after_pushes a s k)) + 1 < 4294967296)
   pushes_room k i =
       let q = all_pushed k (omega arith) in
       let u = q.items in
@@ -201,18 +229,22 @@ module _ (t : Table) (a : Areas) (s : List ℕ) (d : ℕ) (st : PathStands t a s
       let f = few (suc k) i in
       rw (pushes_lists k (omega arith)) (omega arith, omega arith)
 
-  pub pushes_next : (k x : ℕ) (r : List ℕ) → k < d → x ≡ taken_at p k → r ≡ pushed 2 a.bound (lists_part a (after_pushes a s k)) x
+  pub pushes_next : (k x : ℕ) (r : List ℕ) → k < d → x ≡ taken_at p k
+      → r ≡ pushed 2 a.bound (lists_part a (after_pushes a s k)) x
       → placed a.lists (a.end - a.lists) (after_pushes a s k) r ≡ after_pushes a s (k + 1)
   unfolding after_pushes path
   pushes_next k x r i e q =
       let f = st.inputs.fits in
-      placed_placed a.lists (a.end - a.lists) s (pushed_all a.bound l (path p k)) r (omega arith) (pushed_long k (omega arith))
+      placed_placed a.lists (a.end - a.lists) s (pushed_all a.bound l (path p k)) r (omega arith)
+      (pushed_long k (omega arith))
       ∙ ap (placed a.lists (a.end - a.lists) s)
       (q ∙ (ap (λ (w : List ℕ). pushed 2 a.bound w x) (pushes_lists k (omega arith))
       ∙ (ap (pushed 2 a.bound (pushed_all a.bound l (path p k))) e
-      ∙ (sym (pushed_last a.bound l (path p k) (taken_at p k)) ∙ ap (λ (o : ℕ). pushed_all a.bound l (path p o)) (sym (add-one k))))))
+      ∙ (sym (pushed_last a.bound l (path p k) (taken_at p k))
+      ∙ ap (λ (o : ℕ). pushed_all a.bound l (path p o)) (sym (add-one k))))))
 
-  pub pushes_ready : (16 + 4 * count (lists_part a (after_pushes a s d)) ≤ length (lists_part a (after_pushes a s d))) × (count (lists_part a (after_pushes a s d)) + 1 < 4294967296)
+  pub pushes_ready : (16 + 4 * count (lists_part a (after_pushes a s d)) ≤ length (lists_part a (after_pushes a s d)))
+      × (count (lists_part a (after_pushes a s d)) + 1 < 4294967296)
   pushes_ready =
       let q = all_pushed d (omega arith) in
       let f = st.inputs.fits in
@@ -221,11 +253,13 @@ module _ (t : Table) (a : Areas) (s : List ℕ) (d : ℕ) (st : PathStands t a s
       rw (pushes_lists d (omega arith)) (omega (arith, long), omega arith)
 
   pub pushes_end : (r : List ℕ) → r ≡ ended (lists_part a (after_pushes a s d))
-      → placed a.lists (a.end - a.lists) (after_pushes a s d) r ≡ placed a.lists (a.end - a.lists) s (ended (pushed_all a.bound l (path p d)))
+      → placed a.lists (a.end - a.lists) (after_pushes a s d) r
+      ≡ placed a.lists (a.end - a.lists) s (ended (pushed_all a.bound l (path p d)))
   unfolding after_pushes
   pushes_end r q =
       let f = st.inputs.fits in
-      placed_placed a.lists (a.end - a.lists) s (pushed_all a.bound l (path p d)) r (omega arith) (pushed_long d (omega arith))
+      placed_placed a.lists (a.end - a.lists) s (pushed_all a.bound l (path p d)) r (omega arith)
+      (pushed_long d (omega arith))
       ∙ ap (placed a.lists (a.end - a.lists) s) (q ∙ ap ended (pushes_lists d (omega arith)))
 
   -- ---- what the areas hold then
@@ -243,10 +277,12 @@ module _ (t : Table) (a : Areas) (s : List ℕ) (d : ℕ) (st : PathStands t a s
   bounded = let f = st.inputs.fits in omega arith
 
   new_long : length new ≡ a.end - a.lists
-  new_long = ended_length 2 a.bound (pushed_all a.bound l (path p d)) (all_pushed d (omega arith)).sound more bounded ∙ pushed_long d (omega arith)
+  new_long =
+      ended_length 2 a.bound (pushed_all a.bound l (path p d)) (all_pushed d (omega arith)).sound more bounded
+      ∙ pushed_long d (omega arith)
 
-  pub emit_stands : PathStands t a then d d
-  emit_stands = lists_stands a s new st.inputs.fits new_long t d d st
+  pub emit_held : PathHeld t a then d d
+  emit_held = lists_held a s new st.inputs.fits new_long t d d st
 
   pub emit_tables : take a.frames then ≡ take a.frames s
   emit_tables = lists_tables a s new st.inputs.fits new_long
@@ -268,7 +304,14 @@ module _ (t : Table) (a : Areas) (s : List ℕ) (d : ℕ) (st : PathStands t a s
       (record {
         sound = ended_sound 2 a.bound (pushed_all a.bound l (path p d)) q.sound more bounded;
         none = ended_opened 2 a.bound (pushed_all a.bound l (path p d)) q.sound more bounded;
-        numbered = rw (ended_closed 2 a.bound (pushed_all a.bound l (path p d)) q.sound more bounded, q.shut, q.rest, em.none) (numbered_last a.facets (closed_lists 2 a.bound l) (path p d) em.numbered (few_taken d (omega arith)));
+        numbered =
+            rw (
+              ended_closed 2 a.bound (pushed_all a.bound l (path p d)) q.sound more bounded,
+              q.shut,
+              q.rest,
+              em.none,
+            )
+            (numbered_last a.facets (closed_lists 2 a.bound l) (path p d) em.numbered (few_taken d (omega arith)));
         room = rw (z, u) (omega (arith, short));
       })
 
@@ -276,14 +319,16 @@ module _ (t : Table) (a : Areas) (s : List ℕ) (d : ℕ) (st : PathStands t a s
   unfolding emitted_in list_to
   emit_lists =
       let q = all_pushed d (omega arith) in
-      let e : closed_lists 2 a.bound (pushed_all a.bound l (path p d)) ++ (opened 2 a.bound (pushed_all a.bound l (path p d)) ∷ []) ≡ closed_lists 2 a.bound l ++ (path p d ∷ []) =
+      let e : closed_lists 2 a.bound (pushed_all a.bound l (path p d))
+      ++ (opened 2 a.bound (pushed_all a.bound l (path p d)) ∷ []) ≡ closed_lists 2 a.bound l ++ (path p d ∷ []) =
       rw (q.shut, q.rest, em.none) refl in
       rw (lists_are a s new st.inputs.fits new_long)
       (ap (map (map (facet_of t))) (ended_closed 2 a.bound (pushed_all a.bound l (path p d)) q.sound more bounded ∙ e)
       ∙ map_last (map (facet_of t)) (closed_lists 2 a.bound l) (path p d))
 
 -- while the path is pushed the sizes and the frames are as they were
-module _ {t : Table} {a : Areas} {s : List ℕ} {d : ℕ} (st : PathStands t a s d d) (em : Emitted a (lists_part a s)) (h : count (lists_part a s) < a.bound) {k : ℕ} (w : List ℕ) (i : k ≤ d) (e : w ≡ after_pushes a s k) where
+module _ {t : Table} {a : Areas} {s : List ℕ} {d : ℕ} (st : PathHeld t a s d d) (em : Emitted a (lists_part a s))
+    (h : count (lists_part a s) < a.bound) {k : ℕ} (w : List ℕ) (i : k ≤ d) (e : w ≡ after_pushes a s k) where
   pub pushing_fits : AreasFit a (length w)
   pushing_fits = rw (e, pushes_length t a s d st em h k i) st.inputs.fits
 
@@ -298,7 +343,7 @@ emitted_count t a l = length-map (closed_lists 2 a.bound l) (map (facet_of t)) �
 -- ---- the start
 
 pub record Started (t : Table) (a : Areas) (s₀ s : List ℕ) : Type 0 where
-  pub stands : PathStands t a s 1 0
+  pub stands : PathHeld t a s 1 0
   pub frames : frames_to t (frames_part a s) 1 ≡ root t ∷ []
   pub emitted : Emitted a (lists_part a s)
   pub none : emitted_in t a (lists_part a s) ≡ []
@@ -309,7 +354,8 @@ emptied_used : (l : List ℕ) → 12 ≤ length l → used (emptied l) ≡ 0
 unfolding used emptied
 emptied_used l h =
     let n = put_length 4 l 0 0 in
-    number_at_put_off 4 (put 4 (put 4 l 0 0) 4 0) 8 0 4 4 (inl (omega arith)) ∙ number_at_put 4 (put 4 l 0 0) 4 0 (omega arith) (omega arith)
+    number_at_put_off 4 (put 4 (put 4 l 0 0) 4 0) 8 0 4 4 (inl (omega arith))
+    ∙ number_at_put 4 (put 4 l 0 0) 4 0 (omega arith) (omega arith)
 
 emptied_length : (l : List ℕ) → length (emptied l) ≡ length l
 unfolding emptied
@@ -328,15 +374,22 @@ module _ (t : Table) (a : Areas) (s r1 r2 r3 r4 : List ℕ) (h : Inputs t a s) w
   abbrev s4 : List ℕ
   s4 = placed a.frames (a.totals - a.frames) s3 r4
 
-  module _ (e1 : r1 ≡ replicate (length (totals_part a s)) 0) (e2 : r2 ≡ replicate (length (used_part a s1)) 0) (e3 : r3 ≡ emptied (lists_part a s2)) (e4 : r4 ≡ with_frame (frames_part a s3) 0 a.facets 0 0 None) where
+  module _ (e1 : r1 ≡ replicate (length (totals_part a s)) 0) (e2 : r2 ≡ replicate (length (used_part a s1)) 0)
+      (e3 : r3 ≡ emptied (lists_part a s2)) (e4 : r4 ≡ with_frame (frames_part a s3) 0 a.facets 0 0 None) where
     long_1 : length r1 ≡ a.used - a.totals
-    long_1 = let f = h.fits in ap length e1 ∙ (length-replicate (length (totals_part a s)) 0 ∙ part_length a.totals (a.used - a.totals) s (omega arith))
+    long_1 =
+        let f = h.fits in
+        ap length e1
+        ∙ (length-replicate (length (totals_part a s)) 0 ∙ part_length a.totals (a.used - a.totals) s (omega arith))
 
     size_1 : length s1 ≡ length s
     size_1 = let f = h.fits in placed_length a.totals (a.used - a.totals) s r1 (omega arith) long_1
 
     long_2 : length r2 ≡ a.lists - a.used
-    long_2 = let f = h.fits in ap length e2 ∙ (length-replicate (length (used_part a s1)) 0 ∙ part_length a.used (a.lists - a.used) s1 (omega (arith, size_1)))
+    long_2 =
+        let f = h.fits in
+        ap length e2 ∙ (length-replicate (length (used_part a s1)) 0
+        ∙ part_length a.used (a.lists - a.used) s1 (omega (arith, size_1)))
 
     size_2 : length s2 ≡ length s
     size_2 = let f = h.fits in placed_length a.used (a.lists - a.used) s1 r2 (omega (arith, size_1)) long_2 ∙ size_1
@@ -347,7 +400,8 @@ module _ (t : Table) (a : Areas) (s r1 r2 r3 r4 : List ℕ) (h : Inputs t a s) w
     tables_2 : take a.frames s2 ≡ take a.frames s
     tables_2 =
         let f = h.fits in
-        take_placed a.used (a.lists - a.used) s1 r2 a.frames (omega (arith, size_1)) (omega arith) ∙ take_placed a.totals (a.used - a.totals) s r1 a.frames (omega arith) (omega arith)
+        take_placed a.used (a.lists - a.used) s1 r2 a.frames (omega (arith, size_1)) (omega arith)
+        ∙ take_placed a.totals (a.used - a.totals) s r1 a.frames (omega arith) (omega arith)
 
     inputs_2 : Inputs t a s2
     inputs_2 = record { fits = fits_2; holds = holds_kept t a s s2 h.fits tables_2 h.holds }
@@ -355,7 +409,8 @@ module _ (t : Table) (a : Areas) (s r1 r2 r3 r4 : List ℕ) (h : Inputs t a s) w
     totals_2 : totals_part a s2 ≡ r1
     totals_2 =
         let f = h.fits in
-        part_placed_off a.used (a.lists - a.used) s1 r2 a.totals (a.used - a.totals) (omega (arith, size_1)) long_2 (inl (omega arith))
+        part_placed_off a.used (a.lists - a.used) s1 r2 a.totals (a.used - a.totals) (omega (arith, size_1)) long_2
+        (inl (omega arith))
         ∙ part_placed a.totals (a.used - a.totals) s r1 (omega arith) long_1
 
     used_2 : used_part a s2 ≡ r2
@@ -390,13 +445,19 @@ module _ (t : Table) (a : Areas) (s r1 r2 r3 r4 : List ℕ) (h : Inputs t a s) w
     no_code = omega arith
 
     long_4 : length r4 ≡ a.totals - a.frames
-    long_4 = ap length e4 ∙ (frame_length (frames_part a s3) 0 a.facets 0 0 None first_room few_facets_holds zero_small zero_mark no_code ∙ frames_long)
+    long_4 =
+        ap length e4 ∙ (frame_length (frames_part a s3) 0 a.facets 0 0 None first_room few_facets_holds zero_small
+        zero_mark no_code ∙ frames_long)
 
     kind_0 : kind_at r4 0 ≡ None
-    kind_0 = ap (λ (r : List ℕ). kind_at r 0) e4 ∙ frame_kind (frames_part a s3) 0 a.facets 0 0 None first_room few_facets_holds zero_small zero_mark no_code
+    kind_0 =
+        ap (λ (r : List ℕ). kind_at r 0) e4
+        ∙ frame_kind (frames_part a s3) 0 a.facets 0 0 None first_room few_facets_holds zero_small zero_mark no_code
 
     place_0 : place_at r4 0 ≡ a.facets
-    place_0 = ap (λ (r : List ℕ). place_at r 0) e4 ∙ frame_place (frames_part a s3) 0 a.facets 0 0 None first_room few_facets_holds zero_small zero_mark no_code
+    place_0 =
+        ap (λ (r : List ℕ). place_at r 0) e4
+        ∙ frame_place (frames_part a s3) 0 a.facets 0 0 None first_room few_facets_holds zero_small zero_mark no_code
 
     all_facets_holds : a.facets ≡ length (numbers t None)
     all_facets_holds = h.holds.facets ∙ sym (numbers_all_length t)
@@ -415,17 +476,30 @@ module _ (t : Table) (a : Areas) (s r1 r2 r3 r4 : List ℕ) (h : Inputs t a s) w
 
     no_totals : Totals t a [] r1
     unfolding sum_at
-    no_totals ridge r = let f = h.fits in ap (λ (l : List ℕ). get_or l ridge 0) e1 ∙ get_or-replicate (length (totals_part a s)) ridge 0 0 (let n = part_length a.totals (a.used - a.totals) s (omega arith) in omega arith)
+    no_totals ridge r =
+        let f = h.fits in
+        ap (λ (l : List ℕ). get_or l ridge 0) e1 ∙ get_or-replicate (length (totals_part a s)) ridge 0 0 (let n =
+        part_length a.totals (a.used - a.totals) s (omega arith) in omega arith)
 
     no_uses : Uses a [] r2
     unfolding uses_orbit any_of flag
-    no_uses orbit o = let f = h.fits in ap (λ (l : List ℕ). get_or l orbit 0) e2 ∙ get_or-replicate (length (used_part a s1)) orbit 0 0 (let n = part_length a.used (a.lists - a.used) s1 (omega (arith, size_1)) in omega arith)
+    no_uses orbit o =
+        let f = h.fits in
+        ap (λ (l : List ℕ). get_or l orbit 0) e2 ∙ get_or-replicate (length (used_part a s1)) orbit 0 0 (let n =
+        part_length a.used (a.lists - a.used) s1 (omega (arith, size_1)) in omega arith)
 
-    first_is : record { list = list_to t (frames_part a s3) 0; mark = 0; ridge = None; low = 0; place = a.facets } ∷ frames_to t (frames_part a s3) 0 ≡ root t ∷ []
+    first_is : record {
+      list = list_to t (frames_part a s3) 0;
+      mark = 0;
+      ridge = None;
+      low = 0;
+      place = a.facets;
+    } ∷ frames_to t (frames_part a s3) 0 ≡ root t ∷ []
     unfolding root list_to path frames_to
     first_is = rw (all_facets_holds ∙ sym (numbers_length t None)) refl
 
-    none_emitted : lists_part a s4 ≡ emptied (lists_part a s2) → base a.bound ≤ length (lists_part a s2) → emitted_in t a (lists_part a s4) ≡ []
+    none_emitted : lists_part a s4 ≡ emptied (lists_part a s2) → base a.bound ≤ length (lists_part a s2)
+        → emitted_in t a (lists_part a s4) ≡ []
     unfolding emitted_in
     none_emitted e b = rw (e, emptied_closed 2 a.bound (lists_part a s2) b) refl
 
@@ -433,7 +507,8 @@ module _ (t : Table) (a : Areas) (s r1 r2 r3 r4 : List ℕ) (h : Inputs t a s) w
     unfolding root list_to path frames_to
     started =
         let f3 = inputs_3.fits in
-        let lists-4 : lists_part a s4 ≡ emptied (lists_part a s2) = put_lists a s3 r4 f3 long_4 ∙ (lists_are a s2 r3 fits_2 long_3 ∙ e3) in
+        let lists-4 : lists_part a s4 ≡ emptied (lists_part a s2) = put_lists a s3 r4 f3 long_4
+        ∙ (lists_are a s2 r3 fits_2 long_3 ∙ e3) in
         let b : base a.bound ≤ length (lists_part a s2) = (let f = h.fits in omega (arith, lists_long)) in
         record {
           stands = record {
@@ -444,7 +519,8 @@ module _ (t : Table) (a : Areas) (s r1 r2 r3 r4 : List ℕ) (h : Inputs t a s) w
           };
           frames =
               rw (put_frames a s3 r4 f3 long_4, e4)
-              (frame_frames (frames_part a s3) 0 a.facets 0 0 None first_room few_facets_holds zero_small zero_mark no_code t ∙ first_is);
+              (frame_frames (frames_part a s3) 0 a.facets 0 0 None first_room few_facets_holds zero_small zero_mark
+              no_code t ∙ first_is);
           emitted = rw lists-4 (record {
             sound = emptied_sound 2 a.bound (lists_part a s2) b;
             none = emptied_opened 2 a.bound (lists_part a s2) b;

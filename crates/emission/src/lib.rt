@@ -7,17 +7,21 @@ ghost use Rattle.std.specs.Prelude.{◌≡◌, ◌-◌, ◌<◌};
 ghost use Rattle.definitions.specs.Search.{Table};
 ghost use Rattle.laws.specs.Segments.{placed};
 ghost use Rattle.facets.specs.Layout.{Inputs, frames_part, lists_part};
-ghost use Rattle.frames.specs.Paths.{PathStands, Emitted, path, pushed_all};
+ghost use Rattle.frames.specs.Paths.{PathHeld, Emitted, path, pushed_all};
 ghost use Rattle.emission.specs.Emission.{Started};
 ghost use Rattle.pool.specs.Pool.{count, ended};
 
 use facets::Areas;
 
-// The list joins the emitted ones. Its frames are gone through by their numbers: an iterator of them would hold the workspace, which each turn writes.
-// That the path stands is a clause, and below what the workspace holds: both speak of some table, and a ghost field cannot say which; and the bytes are written.
+// The list joins the emitted ones. Its frames are gone through by their numbers: an iterator of them would hold the
+// workspace, which each turn writes. `PathHeld` stays a clause, and below what the workspace holds: both speak of
+// some table, and a ghost field cannot say which; and the bytes are written.
 pub fn emit(ws: &mut [u8], a: Areas, depth: usize)
-    requires { (t : Table) × PathStands t a ws.old depth depth × Emitted a (lists_part a ws.old) × (count (lists_part a ws.old) < a.bound) }
-    ensures { ws.new ≡ placed a.lists (a.end - a.lists) ws.old (ended (pushed_all a.bound (lists_part a ws.old) (path (frames_part a ws.old) depth))) }
+    requires { (t : Table)
+        × PathHeld t a ws.old depth depth
+        × Emitted a (lists_part a ws.old) × (count (lists_part a ws.old) < a.bound) }
+    ensures { ws.new ≡ placed a.lists (a.end - a.lists) ws.old
+        (ended (pushed_all a.bound (lists_part a ws.old) (path (frames_part a ws.old) depth))) }
 {
     for k in 0..depth {
         let x = frames::taken(a.frames(ws), k);

@@ -1,5 +1,7 @@
--- Splitting numbered facets is splitting the facets of a call: where every orbit's compounds are composed of lists that are not empty, of at most 190 items, 380 steps for each facet leave what
--- `kept_parts` says, and every number stays that of a facet. Where no orbit has compounds nothing is split. Leans on Facets, and on the laws of splitting on numbers and on lists.
+-- Splitting numbered facets is splitting the facets of a call: where every orbit's compounds are composed of lists
+-- that are not empty, of at most 190 items, 380 steps for each facet leave what `kept_parts` says, and every number
+-- stays that of a facet. Where no orbit has compounds nothing is split. Leans on Facets, and on the laws of splitting
+-- on numbers and on lists.
 use Rattle.std.specs.Prelude.{◌≡◌, ◌⊎◌, ℕ, ◌+◌, ◌≤◌, ◌<◌, length}
 use Rattle.std.proofs.Math.Path.{refl, ap, subst}
 use Rattle.std.proofs.Common.{sym, ◌∙◌, inl, inr}
@@ -24,11 +26,12 @@ use Rattle.shapes.specs.Compounds.{Composed, components_of_holds}
 use Rattle.shapes.specs.LowRanks.{nothing_to_split}
 use Rattle.shapes.specs.SplitCalls.{SplitAnswer, lists_of}
 use Rattle.shapes.specs.Kept.{Kept, kept_of, kept_parts}
-use Rattle.shelf.specs.Keeps.{facets_in, raised, labels_from}
-use Rattle.shelf.specs.Leaves.{facet_at}
+use Rattle.layout.specs.Keeps.{facets_in, raised, labels_from}
+use Rattle.layout.specs.Leaves.{facet_at}
 use Rattle.entries.specs.Facets.{no_orbit, kept_in, start_of, facet_count, labels_length, located, numbered}
 
--- What splitting needs of an orbit: lists, as long as its facets' lists of places, that its compounds are composed of. They are its inner call's entries' lists.
+-- What splitting needs of an orbit: lists, as long as its facets' lists of places, that its compounds are composed
+-- of. They are its inner call's entries' lists.
 pub record Splittable (k : Kept) : Type 0 where
   pub lists : List (List Pair)
   pub lengths : map length lists ≡ map length k.places
@@ -38,7 +41,8 @@ pub record Splittable (k : Kept) : Type 0 where
   pub distinct : (l : List Pair) → Mem l lists → Distinct l
 
 -- so it is of every inner call whose entries' lists have at most 190 items
-pub inner_splittable : (i : Inner) → SplitAnswer i.answer → ((l : List Pair) → Mem l (lists_of i.answer) → length l ≤ 190) → Splittable (kept_of i)
+pub inner_splittable : (i : Inner) → SplitAnswer i.answer
+    → ((l : List Pair) → Mem l (lists_of i.answer) → length l ≤ 190) → Splittable (kept_of i)
 unfolding kept_of
 inner_splittable i h few = record {
   lists = lists_of i.answer;
@@ -49,7 +53,8 @@ inner_splittable i h few = record {
   distinct = h.distinct;
 }
   where
-    same : (es : List Entry) → map length (map (λ (e : Entry). e.list) es) ≡ map length (map (λ (e : Entry). map (λ (place : Pair). place.0) e.list) es)
+    same : (es : List Entry) → map length (map (λ (e : Entry). e.list) es)
+        ≡ map length (map (λ (e : Entry). map (λ (place : Pair). place.0) e.list) es)
     same [] = refl
     same (e ∷ es) = rw (length-map e.list (λ (place : Pair). place.0), same es) refl
 
@@ -58,7 +63,8 @@ module _ (k : Kept) (h : Splittable k) where
   lists_many = sym (length-map h.lists length) ∙ (ap length h.lengths ∙ length-map k.places length)
 
   -- components are facets of the orbit
-  pub components_below : (f : ℕ) (p : Pair) → components_of k.compounds f ≡ Some p → (p.0 < facets_in k) × (p.1 < facets_in k)
+  pub components_below : (f : ℕ) (p : Pair) → components_of k.compounds f ≡ Some p
+      → (p.0 < facets_in k) × (p.1 < facets_in k)
   components_below f p e =
       let c = h.compounds _ (components_of_holds k.compounds f p e) in
       let m = lists_many in
@@ -80,18 +86,22 @@ module _ (kept : List Kept) (each : (k : Kept) → Mem k kept → Splittable k) 
   own orbit h = each (kept_in kept orbit) (member_at kept orbit no_orbit h)
 
   -- the numbers of the components
-  module _ (orbit : ℕ) (h : orbit < length kept) (f : ℕ) (o : Option Pair) (e : components_of (kept_in kept orbit).compounds f ≡ o) where
-    pub raised_in : (p : Pair) → raised (0 + start_of kept orbit) o ≡ Some p → Of to bound orbit p.0 × Of to bound orbit p.1
+  module _ (orbit : ℕ) (h : orbit < length kept) (f : ℕ) (o : Option Pair)
+      (e : components_of (kept_in kept orbit).compounds f ≡ o) where
+    pub raised_in : (p : Pair) → raised (0 + start_of kept orbit) o ≡ Some p
+        → Of to bound orbit p.0 × Of to bound orbit p.1
     unfolding raised
     raised_in = go o e
       where
-        one : (x : ℕ) → x < facets_in (kept_in kept orbit) → (y : ℕ) → 0 + start_of kept orbit + x ≡ y → Of to bound orbit y
+        one : (x : ℕ) → x < facets_in (kept_in kept orbit) → (y : ℕ) → 0 + start_of kept orbit + x ≡ y
+            → Of to bound orbit y
         one x b y q =
             let n = numbered kept orbit x h b in
             let z : start_of kept orbit + x ≡ y = omega arith in
             subst (Of to bound orbit) z (n.0, ap (λ (g : Facet). g.0) n.1)
 
-        go : (o : Option Pair) → components_of (kept_in kept orbit).compounds f ≡ o → (p : Pair) → raised (0 + start_of kept orbit) o ≡ Some p → Of to bound orbit p.0 × Of to bound orbit p.1
+        go : (o : Option Pair) → components_of (kept_in kept orbit).compounds f ≡ o → (p : Pair)
+            → raised (0 + start_of kept orbit) o ≡ Some p → Of to bound orbit p.0 × Of to bound orbit p.1
         go None q p r = absurd (none_is_not_some p r)
         go (Some parts) q p r =
             let b = components_below (kept_in kept orbit) (own orbit h) f parts q in
@@ -105,10 +115,12 @@ module _ (kept : List Kept) (each : (k : Kept) → Mem k kept → Splittable k) 
   table_below a p e = go (le_or_lt bound a)
     where
       go : (bound ≤ a) ⊎ (a < bound) → (p.0 < bound) × (p.1 < bound)
-      go (inl h) = absurd (none_is_not_some p (sym (get_or-eq_default table None (omega (arith, labels_length kept))) ∙ e))
+      go (inl h) =
+          absurd (none_is_not_some p (sym (get_or-eq_default table None (omega (arith, labels_length kept))) ∙ e))
       go (inr h) =
           let r = located kept a h in
-          let b = raised_in r.orbit r.inside r.facet (components_of (kept_in kept r.orbit).compounds r.facet) refl p (sym r.label ∙ e) in
+          let b = raised_in r.orbit r.inside r.facet (components_of (kept_in kept r.orbit).compounds r.facet) refl p
+          (sym r.label ∙ e) in
           (b.0.0, b.1.0)
 
   pub parts_below : (ls : List (List ℕ)) → AllBelow bound ls → AllBelow bound (map (split_list 380 table) ls)
@@ -130,8 +142,12 @@ module _ (kept : List Kept) (plain : (k : Kept) → Mem k kept → k.compounds �
   no_compounds orbit = go (le_or_lt (length kept) orbit)
     where
       go : (length kept ≤ orbit) ⊎ (orbit < length kept) → get_or (map (λ (k : Kept). k.compounds) kept) orbit [] ≡ []
-      go (inl h) = let m = length-map kept (λ (k : Kept). k.compounds) in get_or-eq_default (map (λ (k : Kept). k.compounds) kept) [] (omega arith)
-      go (inr h) = map_at_holds (λ (k : Kept). k.compounds) kept orbit [] no_orbit h ∙ plain (kept_in kept orbit) (member_at kept orbit no_orbit h)
+      go (inl h) =
+          let m = length-map kept (λ (k : Kept). k.compounds) in
+          get_or-eq_default (map (λ (k : Kept). k.compounds) kept) [] (omega arith)
+      go (inr h) =
+          map_at_holds (λ (k : Kept). k.compounds) kept orbit [] no_orbit h
+          ∙ plain (kept_in kept orbit) (member_at kept orbit no_orbit h)
 
   one_part : (f : Facet) → kept_parts kept f ≡ f ∷ []
   unfolding kept_parts parts_of

@@ -1,8 +1,10 @@
--- Emitted lists split: their pool is moved to the byte behind the shelf, each list is split by the components that the shelf has, and the split lists stand in a pool behind it, of
--- 2,101,260 bytes: 1,024 lists of 1,024 items. Leans on the shelf and on splitting in pools.
+-- Emitted lists split: their pool is moved to the byte behind what is kept, each list is split by the components that
+-- are kept, and the split lists stand in a pool behind it, of 2,101,260 bytes: 1,024 lists of 1,024 items. Leans on
+-- the layout and on splitting in pools.
 use Rattle.std.specs.Prelude.{◌≡◌, refl, length, take, drop}
 use Rattle.std.proofs.Math.Path.{sym, ap}
-use Rattle.std.proofs.Common.{◌∙◌, subst, arith, length-append, length-drop, take_at, drop_at, take-add, take-take, length-take-le, take_all}
+use Rattle.std.proofs.Common.{◌∙◌, subst, arith, length-append, length-drop, take_at, drop_at, take-add, take-take}
+use Rattle.std.proofs.Common.{length-take-le, take_all}
 use mathlib.Core.List.{List, [], ◌∷◌, ◌++◌, map, flat_map}
 use Rattle.std.specs.Prelude.{Option}
 use Prim.Native.Nat.{ℕ, ◌+◌, ◌-◌, ◌*◌, ◌≤◌, ◌<◌, compare}
@@ -14,45 +16,50 @@ use Rattle.definitions.specs.Orbits.{Row}
 use Rattle.definitions.specs.Figures.{labels_of}
 use Rattle.laws.specs.Lists.{Mem, here, there}
 use Rattle.laws.specs.Places.{flat_map_map}
-use Rattle.laws.specs.Segments.{part, placed, part_take, part_part, part_length, part_placed, take_placed, placed_length}
+use Rattle.laws.specs.Segments.{part, placed, part_take, part_part, part_length, part_placed, take_placed}
+use Rattle.laws.specs.Segments.{placed_length}
 use Rattle.words.specs.Words.{words, words_take}
-use Rattle.pool.specs.Pool.{count, base, closed_lists, emptied, Sound, closed_length, emptied_sound, emptied_closed, emptied_opened, emptied_used, emptied_length}
-use Rattle.splitting.specs.declared.Layout.{Layout}
+use Rattle.pool.specs.Pool.{count, base, closed_lists, emptied, Sound, closed_length, emptied_sound, emptied_closed}
+use Rattle.pool.specs.Pool.{emptied_opened, emptied_used, emptied_length}
+use Rattle.splitting.specs.declared.SplitLayout.{SplitLayout}
 use Rattle.labels.specs.Labels.{label_of, labels_in}
 use Rattle.order.specs.Numbers.{AllBelow}
-use Rattle.splitting.specs.Splitting.{split_list, fill_all, fill_all_filled, Filled, PoolRoom, facet_labels, pool_of, rest_of, parts_in}
+use Rattle.splitting.specs.Splitting.{split_list, fill_all, fill_all_filled, Filled, PoolRoom, facet_labels, pool_of}
+use Rattle.splitting.specs.Splitting.{rest_of, parts_in}
 use Rattle.splitting.specs.Splitting as compounds
 use Rattle.shapes.specs.Kept.{Kept}
-use Rattle.shelf.specs.declared.Shelf.{Shelf}
-use Rattle.shelf.specs.declared.Level.{Level}
-use Rattle.shelf.specs.Keeps.{Keeps, ShelfFits, labels_part}
-use Rattle.shelf.specs.Front.{keeps_front}
-use Rattle.shelf.specs.Leaves.{order_left, EmittedStand, Leaves}
+use Rattle.layout.specs.declared.KeptLayout.{KeptLayout}
+use Rattle.layout.specs.declared.Level.{Level}
+use Rattle.layout.specs.Keeps.{Keeps, LayoutFits, labels_part}
+use Rattle.layout.specs.Front.{keeps_front}
+use Rattle.layout.specs.Leaves.{order_left, EmittedHeld, Leaves}
 use Rattle.entries.specs.Listed.{in_list_order, ListsBehind, Listed}
 
--- the components of each facet, as the shelf has them
-unfoldable pub components_in : Shelf → List ℕ → List (Option Pair)
-components_in shelf s = labels_in 0 shelf.facets (labels_part shelf s)
+-- the components of each facet, as they are kept
+unfoldable pub components_in : KeptLayout → List ℕ → List (Option Pair)
+components_in layout s = labels_in 0 layout.facets (labels_part layout s)
 
 -- a list split by them: 380 steps are enough for a facet whose own list has at most 190 items
-abbrev pub split_on : Shelf → List ℕ → List ℕ → List ℕ
-split_on shelf s = split_list 380 (components_in shelf s)
+abbrev pub split_on : KeptLayout → List ℕ → List ℕ → List ℕ
+split_on layout s = split_list 380 (components_in layout s)
 
--- what is asked: a pool anywhere, room for it behind the shelf and for what is made behind it, and split lists that fit there
-pub record Splits (shelf : Shelf) (from bytes : ℕ) (s : List ℕ) : Type 0 where
-  pub fits : ShelfFits shelf (length s)
-  pub few_facets : shelf.facets ≤ 1024
+-- what is asked: a pool anywhere, room for it behind what is kept and for what is made behind it, and split lists
+-- that fit there
+pub record Splits (layout : KeptLayout) (from bytes : ℕ) (s : List ℕ) : Type 0 where
+  pub fits : LayoutFits layout (length s)
+  pub few_facets : layout.facets ≤ 1024
   pub inside : from + bytes ≤ length s
   pub sound : Sound 2 1024 (part from bytes s)
-  pub room : shelf.owners + (bytes + 2109452) ≤ length s
-  pub short : (l : List ℕ) → Mem l (closed_lists 2 1024 (part from bytes s)) → length (split_on shelf s l) ≤ 1024
-  pub whole : AllBelow shelf.facets (closed_lists 2 1024 (part from bytes s))
-  pub numbers : AllBelow shelf.facets (map (split_on shelf s) (closed_lists 2 1024 (part from bytes s)))
+  pub room : layout.owners + (bytes + 2109452) ≤ length s
+  pub short : (l : List ℕ) → Mem l (closed_lists 2 1024 (part from bytes s)) → length (split_on layout s l) ≤ 1024
+  pub whole : AllBelow layout.facets (closed_lists 2 1024 (part from bytes s))
+  pub numbers : AllBelow layout.facets (map (split_on layout s) (closed_lists 2 1024 (part from bytes s)))
 
 -- ---- lists and parts
 
 -- lists of at most so many items, joined
-pub joined_few : {A B : Type 0} (f : A → List B) (most : ℕ) (l : List A) → ((x : A) → Mem x l → length (f x) ≤ most) → length (flat_map f l) ≤ most * length l
+pub joined_few : {A B : Type 0} (f : A → List B) (most : ℕ) (l : List A) → ((x : A) → Mem x l → length (f x) ≤ most)
+    → length (flat_map f l) ≤ most * length l
 unfolding flat_map
 joined_few f most [] h = omega arith
 joined_few f most (x ∷ l) h =
@@ -76,31 +83,37 @@ module _ (d : List ℕ) (at : ℕ) (s : List ℕ) (n : ℕ) (h : at ≤ length d
 
 -- ---- the steps
 
-module _ (shelf : Shelf) (from bytes : ℕ) (s : List ℕ) (r : Splits shelf from bytes s) where
+module _ (layout : KeptLayout) (from bytes : ℕ) (s : List ℕ) (r : Splits layout from bytes s) where
   -- where the pool is moved to, and the split lists begin
   abbrev at : ℕ
-  at = shelf.owners + 2048
+  at = layout.owners + 2048
 
   abbrev to : ℕ
-  to = shelf.owners + 2048 + bytes
+  to = layout.owners + 2048 + bytes
 
   abbrev labels : ℕ
-  labels = shelf.labels
+  labels = layout.labels
 
   abbrev emitted : List (List ℕ)
   emitted = closed_lists 2 1024 (part from bytes s)
 
   abbrev lists : List (List ℕ)
-  lists = map (split_on shelf s) emitted
+  lists = map (split_on layout s) emitted
 
   -- the part that splitting works in, and how it is laid out
   abbrev wide : ℕ
   wide = to + 2101260 - labels
 
-  abbrev layout : Layout
-  layout = record { facets = shelf.facets; from = at - labels; to = at - labels + bytes; most = 1024; steps = 380 }
+  abbrev split_layout : SplitLayout
+  split_layout = record {
+    facets = layout.facets;
+    from = at - labels;
+    to = at - labels + bytes;
+    most = 1024;
+    steps = 380;
+  }
 
-  labels_before : labels + 4096 ≤ shelf.owners
+  labels_before : labels + 4096 ≤ layout.owners
   labels_before = r.fits.label_room
 
   module _ (s1 : List ℕ) (moved : s1 ≡ paste s at (drop from s) bytes) where
@@ -125,7 +138,7 @@ module _ (shelf : Shelf) (from bytes : ℕ) (s : List ℕ) (r : Splits shelf fro
     u_length : length u ≡ wide
     u_length = part_length labels wide s1 (omega (arith, long1, r.room, labels_before))
 
-    pool_is : pool_of layout u ≡ part from bytes s
+    pool_is : pool_of split_layout u ≡ part from bytes s
     pool_is =
         let b : at - labels + bytes - (at - labels) ≡ bytes = omega arith in
         let e : labels + (at - labels) ≡ at = omega (arith, labels_before) in
@@ -133,34 +146,37 @@ module _ (shelf : Shelf) (from bytes : ℕ) (s : List ℕ) (r : Splits shelf fro
         ∙ (part_part (at - labels) bytes labels wide s1 (omega (arith, labels_before))
         ∙ (ap (λ (n : ℕ). part n bytes s1) e ∙ pool1))
 
-    table_is : facet_labels layout u ≡ components_in shelf s
+    table_is : facet_labels split_layout u ≡ components_in layout s
     unfolding components_in labels_in
     table_is =
         ap (map label_of)
-        (words_take 4 (drop labels s1) wide shelf.facets (omega (arith, labels_before, r.few_facets))
-        ∙ (sym (words_take 4 (drop labels s1) (shelf.owners - labels) shelf.facets (omega (arith, labels_before, r.few_facets)))
-        ∙ ap (λ (l : List ℕ). words 4 l shelf.facets) same))
+        (words_take 4 (drop labels s1) wide layout.facets (omega (arith, labels_before, r.few_facets))
+        ∙ (sym (words_take 4 (drop labels s1) (layout.owners - labels) layout.facets
+        (omega (arith, labels_before, r.few_facets)))
+        ∙ ap (λ (l : List ℕ). words 4 l layout.facets) same))
       where
-        same : part labels (shelf.owners - labels) s1 ≡ part labels (shelf.owners - labels) s
+        same : part labels (layout.owners - labels) s1 ≡ part labels (layout.owners - labels) s
         same =
-            sym (part_take at s1 labels (shelf.owners - labels) (omega (arith, labels_before)))
-            ∙ (ap (part labels (shelf.owners - labels)) front1 ∙ part_take at s labels (shelf.owners - labels) (omega (arith, labels_before)))
+            sym (part_take at s1 labels (layout.owners - labels) (omega (arith, labels_before)))
+            ∙ (ap (part labels (layout.owners - labels)) front1
+            ∙ part_take at s labels (layout.owners - labels) (omega (arith, labels_before)))
 
-    parts_are : map (parts_in layout u) (closed_lists 2 1024 (pool_of layout u)) ≡ lists
+    parts_are : map (parts_in split_layout u) (closed_lists 2 1024 (pool_of split_layout u)) ≡ lists
     parts_are = rw (pool_is, table_is) refl
 
-    all_few : length (flat_map (parts_in layout u) (closed_lists 2 1024 (pool_of layout u))) ≤ 1048576
+    all_few : length (flat_map (parts_in split_layout u) (closed_lists 2 1024 (pool_of split_layout u))) ≤ 1048576
     all_few =
         let c = closed_length 2 1024 (part from bytes s) in
-        rw (pool_is, table_is) (omega (arith, joined_few (split_on shelf s) 1024 emitted r.short, r.sound.few))
+        rw (pool_is, table_is) (omega (arith, joined_few (split_on layout s) 1024 emitted r.short, r.sound.few))
 
-    rest_length : length (rest_of layout u) ≡ 2101260
+    rest_length : length (rest_of split_layout u) ≡ 2101260
     rest_length = length-drop (at - labels + bytes) u ∙ omega (arith, u_length, labels_before)
 
     -- what `split_lists` is asked
-    pub split_asked : compounds.SplittingRoom layout u
-        × (base 1024 + 2 * length (flat_map (parts_in layout u) (closed_lists 2 1024 (pool_of layout u))) ≤ length (rest_of layout u))
-        × (length (flat_map (parts_in layout u) (closed_lists 2 1024 (pool_of layout u))) < 4294967296)
+    pub split_asked : compounds.SplittingRoom split_layout u
+        × (base 1024 + 2 * length (flat_map (parts_in split_layout u) (closed_lists 2 1024 (pool_of split_layout u)))
+        ≤ length (rest_of split_layout u))
+        × (length (flat_map (parts_in split_layout u) (closed_lists 2 1024 (pool_of split_layout u))) < 4294967296)
     split_asked = (
       record {
         table = omega (arith, labels_before, r.few_facets);
@@ -176,12 +192,14 @@ module _ (shelf : Shelf) (from bytes : ℕ) (s : List ℕ) (r : Splits shelf fro
 
     -- ---- the split lists
 
-    module _ (p : List ℕ) (many : length p ≡ length u) (split : p ≡ take (at - labels + bytes) u ++ fill_all 1024 (emptied (rest_of layout u)) (map (parts_in layout u) (closed_lists 2 1024 (pool_of layout u)))) where
+    module _ (p : List ℕ) (many : length p ≡ length u) (split : p
+        ≡ take (at - labels + bytes) u ++ fill_all 1024 (emptied (rest_of split_layout u))
+        (map (parts_in split_layout u) (closed_lists 2 1024 (pool_of split_layout u)))) where
       abbrev s2 : List ℕ
       s2 = placed labels wide s1 p
 
       abbrev empty : List ℕ
-      empty = emptied (rest_of layout u)
+      empty = emptied (rest_of split_layout u)
 
       front_length : length (take (at - labels + bytes) u) ≡ at - labels + bytes
       front_length = length-take-le (at - labels + bytes) u (omega (arith, u_length, labels_before))
@@ -194,31 +212,37 @@ module _ (shelf : Shelf) (from bytes : ℕ) (s : List ℕ) (r : Splits shelf fro
 
       filled : Filled 1024 (omega arith) empty (fill_all 1024 empty lists) lists
       filled =
-          fill_all_filled 1024 (omega arith) empty lists (λ l i v j. let b = r.numbers l i v j in omega (arith, r.few_facets)) (emptied_opened 2 1024 (rest_of layout u) fits) room free
+          fill_all_filled 1024 (omega arith) empty lists (λ l i v j. let b = r.numbers l i v j in
+          omega (arith, r.few_facets)) (emptied_opened 2 1024 (rest_of split_layout u) fits) room free
         where
-          fits : base 1024 ≤ length (rest_of layout u)
+          fits : base 1024 ≤ length (rest_of split_layout u)
           fits = omega (arith, rest_length)
 
           none_closed : count empty ≡ 0
-          none_closed = sym (closed_length 2 1024 empty) ∙ ap length (emptied_closed 2 1024 (rest_of layout u) fits)
+          none_closed =
+              sym (closed_length 2 1024 empty) ∙ ap length (emptied_closed 2 1024 (rest_of split_layout u) fits)
 
           all : length (flat_map (λ (l : List ℕ). l) lists) ≤ 1048576
           all =
-              let e = ap length (flat_map_map (λ (l : List ℕ). l) (split_on shelf s) emitted) in
+              let e = ap length (flat_map_map (λ (l : List ℕ). l) (split_on layout s) emitted) in
               let c = closed_length 2 1024 (part from bytes s) in
-              let j = joined_few (split_on shelf s) 1024 emitted r.short in
+              let j = joined_few (split_on layout s) 1024 emitted r.short in
               omega (arith, r.sound.few)
 
           room : PoolRoom 1024 empty (length (flat_map (λ (l : List ℕ). l) lists))
           room =
-              let n = emptied_used 2 1024 (rest_of layout u) fits in
-              let l = emptied_length (rest_of layout u) in
-              record { sound = emptied_sound 2 1024 (rest_of layout u) fits; fits = omega (arith, all, rest_length); small = omega (arith, all) }
+              let n = emptied_used 2 1024 (rest_of split_layout u) fits in
+              let l = emptied_length (rest_of split_layout u) in
+              record {
+                sound = emptied_sound 2 1024 (rest_of split_layout u) fits;
+                fits = omega (arith, all, rest_length);
+                small = omega (arith, all);
+              }
 
           free : count empty + length lists ≤ 1024
           free =
               let c = closed_length 2 1024 (part from bytes s) in
-              let m = length-map emitted (split_on shelf s) in
+              let m = length-map emitted (split_on layout s) in
               omega (arith, none_closed, r.sound.few)
 
       -- ---- the workspace with them
@@ -239,15 +263,17 @@ module _ (shelf : Shelf) (from bytes : ℕ) (s : List ℕ) (r : Splits shelf fro
           ∙ (take_all 2101260 (drop (at - labels + bytes) p) (omega (arith, many, u_length, labels_before)) ∙ rest_is)))
 
       split_closed : closed_lists 2 1024 (part to 2101260 s2) ≡ lists
-      split_closed = ap (closed_lists 2 1024) split_part ∙ (filled.lists ∙ ap (λ (l : List (List ℕ)). l ++ lists) (emptied_closed 2 1024 (rest_of layout u) (omega (arith, rest_length))))
+      split_closed =
+          ap (closed_lists 2 1024) split_part ∙ (filled.lists ∙ ap (λ (l : List (List ℕ)). l ++ lists)
+          (emptied_closed 2 1024 (rest_of split_layout u) (omega (arith, rest_length))))
 
       -- what `sort_entries` is asked
-      pub sort_asked : ListsBehind shelf to 2101260 s2
+      pub sort_asked : ListsBehind layout to 2101260 s2
       sort_asked = record {
         behind = omega arith;
         sound = sound2;
         room = omega (arith, sound2.few, long2, r.room);
-        numbers = subst (AllBelow shelf.facets) (sym split_closed) r.numbers;
+        numbers = subst (AllBelow layout.facets) (sym split_closed) r.numbers;
       }
         where
           sound2 : Sound 2 1024 (part to 2101260 s2)
@@ -258,7 +284,8 @@ module _ (shelf : Shelf) (from bytes : ℕ) (s : List ℕ) (r : Splits shelf fro
           let e : labels + (at - labels) ≡ at = omega (arith, labels_before) in
           ap (λ (n : ℕ). take n s2) (sym e)
           ∙ (take-add labels (at - labels) s2
-          ∙ (ap (λ (l : List ℕ). l ++ part labels (at - labels) s2) (take_placed labels wide s1 p labels (omega (arith, long1, r.room, labels_before)) (omega arith))
+          ∙ (ap (λ (l : List ℕ). l ++ part labels (at - labels) s2)
+          (take_placed labels wide s1 p labels (omega (arith, long1, r.room, labels_before)) (omega arith))
           ∙ (ap (λ (l : List ℕ). take labels s1 ++ l) inner
           ∙ (sym (take-add labels (at - labels) s1) ∙ (ap (λ (n : ℕ). take n s1) e ∙ front1)))))
         where
@@ -267,7 +294,8 @@ module _ (shelf : Shelf) (from bytes : ℕ) (s : List ℕ) (r : Splits shelf fro
               sym (take-take (at - labels) wide (drop labels s2) (omega (arith, labels_before)))
               ∙ (ap (take (at - labels)) (own ∙ split)
               ∙ (take-append-le (at - labels) (take (at - labels + bytes) u) _ (omega (arith, front_length))
-              ∙ (take-take (at - labels) (at - labels + bytes) u (omega arith) ∙ take-take (at - labels) wide (drop labels s1) (omega (arith, labels_before)))))
+              ∙ (take-take (at - labels) (at - labels + bytes) u (omega arith)
+              ∙ take-take (at - labels) wide (drop labels s1) (omega (arith, labels_before)))))
 
       -- the moved pool is as it was
       pool2 : part at bytes s2 ≡ part from bytes s
@@ -286,48 +314,99 @@ module _ (shelf : Shelf) (from bytes : ℕ) (s : List ℕ) (r : Splits shelf fro
       abbrev ls : List (List ℕ)
       ls = closed_lists 2 1024 (part to 2101260 s2)
 
-      module _ (level : Level) (t : List ℕ) (l : Listed shelf to to 2101260 to 2101260 ls ls s2 level t) where
+      module _ (level : Level) (t : List ℕ) (l : Listed layout to to 2101260 to 2101260 ls ls s2 level t) where
         -- the level that splitting leaves, whose emitted lists stand in another pool
         abbrev apart : Level
-        apart = record { shelf = shelf; emitted = at; extent = bytes; lists = to; bytes = 2101260; count = level.count }
+        apart = record {
+          layout = layout;
+          emitted = at;
+          extent = bytes;
+          lists = to;
+          bytes = 2101260;
+          count = level.count;
+        }
 
-        sorted_is : level ≡ record { shelf = shelf; emitted = to; extent = 2101260; lists = to; bytes = 2101260; count = level.count }
+        sorted_is : level ≡ record {
+          layout = layout;
+          emitted = to;
+          extent = 2101260;
+          lists = to;
+          bytes = 2101260;
+          count = level.count;
+        }
         sorted_is =
             l.level_is
-            ∙ ap (λ (n : ℕ). record { shelf = shelf; emitted = to; extent = 2101260; lists = to; bytes = 2101260; count = n }) (sym (ap (λ (x : Level). x.count) l.level_is))
+            ∙ ap (λ (n : ℕ). record {
+              layout = layout;
+              emitted = to;
+              extent = 2101260;
+              lists = to;
+              bytes = 2101260;
+              count = n;
+            }) (sym (ap (λ (x : Level). x.count) l.level_is))
 
         still : part at bytes t ≡ part from bytes s
-        still = sym (part_take to t at bytes (omega arith)) ∙ (ap (part at bytes) l.front ∙ (part_take to s2 at bytes (omega arith) ∙ pool2))
+        still =
+            sym (part_take to t at bytes (omega arith))
+            ∙ (ap (part at bytes) l.front ∙ (part_take to s2 at bytes (omega arith) ∙ pool2))
 
         parted : closed_lists 2 1024 (take 2101260 (drop to t)) ≡ lists
-        parted = subst (λ (x : Level). closed_lists 2 1024 (take x.bytes (drop x.lists t)) ≡ ls) sorted_is l.split_are ∙ split_closed
+        parted =
+            subst (λ (x : Level). closed_lists 2 1024 (take x.bytes (drop x.lists t)) ≡ ls) sorted_is l.split_are
+            ∙ split_closed
 
-        stand : EmittedStand apart t
+        stand : EmittedHeld apart t
         stand = record {
           behind = omega arith;
           before = omega arith;
           sound = subst (Sound 2 1024) (sym still) r.sound;
           as_many =
               sym (closed_length 2 1024 (take 2101260 (drop to t)))
-              ∙ (ap length parted ∙ (length-map emitted (split_on shelf s) ∙ (ap (λ (pool : List ℕ). length (closed_lists 2 1024 pool)) (sym still) ∙ closed_length 2 1024 (part at bytes t))));
-          numbers = subst (λ (pool : List ℕ). AllBelow shelf.facets (closed_lists 2 1024 pool)) (sym still) r.whole;
+              ∙ (ap length parted ∙ (length-map emitted (split_on layout s)
+              ∙ (ap (λ (pool : List ℕ). length (closed_lists 2 1024 pool)) (sym still)
+              ∙ closed_length 2 1024 (part at bytes t))));
+          numbers = subst (λ (pool : List ℕ). AllBelow layout.facets (closed_lists 2 1024 pool)) (sym still) r.whole;
         }
 
-        left : (more n : ℕ) (rows : List Row) (kept : List Kept) → Keeps n shelf kept s → Leaves more n rows kept apart t
+        left : (more n : ℕ) (rows : List Row) (kept : List Kept) → Keeps n layout kept s
+            → Leaves more n rows kept apart t
         left more n rows kept k =
-            let w = subst (λ (x : Level). Leaves more n rows kept x t) sorted_is (l.leaves more n rows kept (keeps_front n shelf kept s s2 front2 long2 k)) in
-            record { keeps = w.keeps; behind = w.behind; area = w.area; few_entries = w.few_entries; room = w.room; numbers = w.numbers; ascends = w.ascends; emitted = stand }
+            let w = subst (λ (x : Level). Leaves more n rows kept x t) sorted_is
+            (l.leaves more n rows kept (keeps_front n layout kept s s2 front2 long2 k)) in
+            record {
+              keeps = w.keeps;
+              behind = w.behind;
+              area = w.area;
+              few_entries = w.few_entries;
+              room = w.room;
+              numbers = w.numbers;
+              ascends = w.ascends;
+              emitted = stand;
+            }
 
-        pub split_left : Listed shelf at at bytes to 2101260 emitted lists s apart t
+        pub split_left : Listed layout at at bytes to 2101260 emitted lists s apart t
         split_left = record {
-          level_is = ap (λ (n : ℕ). record { shelf = shelf; emitted = at; extent = bytes; lists = to; bytes = 2101260; count = n }) (ap (λ (x : Level). x.count) l.level_is ∙ ap length split_closed);
+          level_is =
+              ap (λ (n : ℕ). record {
+                layout = layout;
+                emitted = at;
+                extent = bytes;
+                lists = to;
+                bytes = 2101260;
+                count = n;
+              }) (ap (λ (x : Level). x.count) l.level_is ∙ ap length split_closed);
           emitted_are_holds = ap (closed_lists 2 1024) still;
           split_are = parted;
-          order_is = subst (λ (x : Level). order_left x t ≡ in_list_order ls) sorted_is l.order_is ∙ ap in_list_order split_closed;
+          order_is =
+              subst (λ (x : Level). order_left x t ≡ in_list_order ls) sorted_is l.order_is
+              ∙ ap in_list_order split_closed;
           labels_are =
-              subst (λ (x : Level). labels_in (x.bytes + 2048) x.count (drop x.lists t) ≡ labels_of compare (sort_by compare_nats ls)) sorted_is l.labels_are
+              subst (λ (x : Level). labels_in (x.bytes + 2048) x.count (drop x.lists t)
+              ≡ labels_of compare (sort_by compare_nats ls)) sorted_is l.labels_are
               ∙ ap (λ (ls : List (List ℕ)). labels_of compare (sort_by compare_nats ls)) split_closed;
-          front = sym (take-take at to t (omega arith)) ∙ (ap (take at) l.front ∙ (take-take at to s2 (omega arith) ∙ front2));
+          front =
+              sym (take-take at to t (omega arith))
+              ∙ (ap (take at) l.front ∙ (take-take at to s2 (omega arith) ∙ front2));
           long = l.long ∙ long2;
           leaves = left;
         }

@@ -1,4 +1,5 @@
-// From the lists that a call's search emitted to the entries that the call leaves: split, in order, labelled. The lists are pools of numbered facets behind the shelf.
+// From the lists that a call's search emitted to the entries that the call leaves: split, in order, labelled. The
+// lists are pools of numbered facets behind what is kept.
 
 #![tactic(auto)]
 
@@ -8,36 +9,40 @@ ghost use Rattle.pool.specs.Pool.{closed_lists};
 ghost use Rattle.entries.specs.Listed.{many, labelled, Pool, ListsBehind, Listed};
 ghost use Rattle.entries.specs.Split.{split_on, Splits};
 
+use layout::{KeptLayout, Level, ORDER_BYTES, OWNERS_BYTES};
 use order::Area;
-use shelf::{Level, Shelf};
-use splitting::Layout;
+use pool::MOST_LISTS;
+use splitting::SplitLayout;
 
 // ---- the order and the labels
 
-// The lists of the pool in the first bytes are put in order behind it, and labelled behind their order; how many there are.
+// The lists of the pool in the first bytes are put in order behind it, and labelled behind their order; how many
+// there are.
 fn order_lists(s: &mut [u8], bytes: usize) -> usize
     requires { Pool bytes s.old }
     ensures { (result ≡ many bytes s.old) × (s.new ≡ labelled bytes s.old) }
 {
     let count = pool::lists(&s[0..bytes]) as usize;
     let area = Area {
-        most: 1024,
+        most: MOST_LISTS,
         bytes,
         count,
     };
-    order::sort_lists(s, 1024, bytes);
-    labels::label_irc(s, area, bytes + 2048);
+    order::sort_lists(s, MOST_LISTS, bytes);
+    labels::label_irc(s, area, bytes + ORDER_BYTES);
     count
 }
 
-// The entries of a call whose emitted lists need no splitting: the pool from a place on, in order and labelled. It is the pool of the emitted lists as well.
-pub fn sort_entries(ws: &mut [u8], shelf: Shelf, at: usize, bytes: usize) -> Level
-    requires { ListsBehind shelf at bytes ws.old }
-    ensures { Listed shelf at at bytes at bytes (closed_lists 2 1024 (part at bytes ws.old)) (closed_lists 2 1024 (part at bytes ws.old)) ws.old result ws.new }
+// The entries of a call whose emitted lists need no splitting: the pool from a place on, in order and labelled. It is
+// the pool of the emitted lists as well.
+pub fn sort_entries(ws: &mut [u8], layout: KeptLayout, at: usize, bytes: usize) -> Level
+    requires { ListsBehind layout at bytes ws.old }
+    ensures { Listed layout at at bytes at bytes (closed_lists 2 1024 (part at bytes ws.old))
+        (closed_lists 2 1024 (part at bytes ws.old)) ws.old result ws.new }
 {
     let count = order_lists(&mut ws[at..], bytes);
     Level {
-        shelf,
+        layout,
         emitted: at,
         extent: bytes,
         lists: at,
@@ -48,24 +53,33 @@ pub fn sort_entries(ws: &mut [u8], shelf: Shelf, at: usize, bytes: usize) -> Lev
 
 // ---- splitting
 
-// The entries of a call whose facets may be compound: the emitted lists' pool is moved to the byte behind the shelf, the lists are split into a pool behind it, and these are put in order and
-// labelled; the moved pool stays as it is. The table of components is the shelf's own, so the part that splitting works in begins there.
-pub fn split_entries(ws: &mut [u8], shelf: Shelf, from: usize, bytes: usize) -> Level
-    requires { Splits shelf from bytes ws.old }
-    ensures { Listed shelf (shelf.owners + 2048) (shelf.owners + 2048) bytes (shelf.owners + 2048 + bytes) 2101260 (closed_lists 2 1024 (part from bytes ws.old)) (map (split_on shelf ws.old) (closed_lists 2 1024 (part from bytes ws.old))) ws.old result ws.new }
+// The bytes of a pool of as many lists as there may be entries, each of as many items as there may be facets.
+const SPLIT_BYTES: usize = 2101260;
+
+// The steps that splitting one facet may take: twice as many as its parts, which are no more than pairs of 20 points.
+const SPLIT_STEPS: usize = 380;
+
+// The entries of a call whose facets may be compound: the emitted lists' pool is moved to the byte behind what is
+// kept, the lists are split into a pool behind it, and these are put in order and labelled; the moved pool stays as
+// it is. The table of components is the kept area of labels, so the part that splitting works in begins there.
+pub fn split_entries(ws: &mut [u8], layout: KeptLayout, from: usize, bytes: usize) -> Level
+    requires { Splits layout from bytes ws.old }
+    ensures { Listed layout (layout.owners + 2048) (layout.owners + 2048) bytes (layout.owners + 2048 + bytes) 2101260
+        (closed_lists 2 1024 (part from bytes ws.old))
+        (map (split_on layout ws.old) (closed_lists 2 1024 (part from bytes ws.old))) ws.old result ws.new }
 {
-    let at = shelf.owners + 2048;
+    let at = layout.owners + OWNERS_BYTES;
     let to = at + bytes;
-    let layout = Layout {
-        facets: shelf.facets,
-        from: at - shelf.labels,
-        to: at - shelf.labels + bytes,
-        most: 1024,
-        steps: 380,
+    let split_layout = SplitLayout {
+        facets: layout.facets,
+        from: at - layout.labels,
+        to: at - layout.labels + bytes,
+        most: MOST_LISTS,
+        steps: SPLIT_STEPS,
     };
     ws.copy_within(from..from + bytes, at);
-    splitting::split_lists(&mut ws[shelf.labels..to + 2101260], layout);
-    let sorted = sort_entries(ws, shelf, to, 2101260);
+    splitting::split_lists(&mut ws[layout.labels..to + SPLIT_BYTES], split_layout);
+    let sorted = sort_entries(ws, layout, to, SPLIT_BYTES);
     Level {
         emitted: at,
         extent: bytes,

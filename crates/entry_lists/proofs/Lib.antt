@@ -1,2 +1,2 @@
 -- What the proofs of this crate cite.
-pub mod Turns
+pub mod ItemSteps

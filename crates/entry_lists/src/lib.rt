@@ -1,4 +1,5 @@
-// The words of the counts of a call's orbits, of lists of its facets, and of the compounds among its entries. Leans on the words of figures.
+// The words of the counts of a call's orbits, of lists of its facets, and of the compounds among its entries. Leans
+// on the words of figures.
 
 #![tactic(auto)]
 
@@ -17,6 +18,7 @@ ghost use Rattle.possible_facets.specs.Facets.{item_words, list_words, OwnersBel
 ghost use Rattle.entry_lists.specs.Counts.{count_words};
 
 use order::Pool;
+use pool::MOST_ORBITS;
 use possible_facets::Owners;
 use words::{Word, Writer};
 
@@ -33,23 +35,25 @@ pub fn write_counts(w: &mut Writer, ws: &[u8], orbits: usize)
     }
 }
 
-// The number of the first facet of each orbit that has facets: the last facet comes first, so that the first one stays.
-pub fn first_facets(owners: Owners) -> [usize; 256]
+// The number of the first facet of each orbit that has facets: the last facet comes first, so that the first one
+// stays.
+pub fn first_facets(owners: Owners) -> [usize; MOST_ORBITS]
     requires { OwnersBelow 256 (words 2 owners.bytes.now owners.facets) }
     ensures { Firsts (words 2 owners.entry.bytes.now owners.entry.facets) result }
 {
-    let mut firsts = [0; 256];
+    let mut firsts = [0; MOST_ORBITS];
     for x in (0..owners.facets).rev() {
         firsts[owners.orbit(x)] = x;
     }
     firsts
 }
 
-// What a facet's name in an answer comes from: the orbit of each facet, and the number of the first facet of each orbit.
+// What a facet's name in an answer comes from: the orbit of each facet, and the number of the first facet of each
+// orbit.
 #[derive(Clone, Copy)]
 pub struct FacetNames<'a> {
     pub owners: Owners<'a>,
-    pub firsts: &'a [usize; 256],
+    pub firsts: &'a [usize; MOST_ORBITS],
     pub ghost few: { owners.facets < 4294967296 },
     pub ghost below: { OwnersBelow 256 (words 2 owners.bytes.now owners.facets) },
     pub ghost first: { Firsts (words 2 owners.bytes.now owners.facets) firsts.now },
@@ -66,10 +70,12 @@ impl<'a> FacetNames<'a> {
         w.push((x - self.firsts[orbit]) as u32);
     }
 
-    // List k of a pool: its length, and its facets. `ItemsBelow` stays a clause: it speaks of that one list, and k is another parameter.
+    // List k of a pool: its length, and its facets. `ItemsBelow` stays a clause: it speaks of that one list, and k is
+    // another parameter.
     pub fn write_list(self, w: &mut Writer, lists: Pool, k: usize)
         requires { (k < count lists.bytes.now) × ItemsBelow self.owners.facets (list_at lists.most lists.bytes.now k) }
-        ensures { Writes w.old w.new (list_words (words 2 self.entry.owners.bytes.now self.entry.owners.facets) (list_at lists.entry.most lists.entry.bytes.now k)) }
+        ensures { Writes w.old w.new (list_words (words 2 self.entry.owners.bytes.now self.entry.owners.facets)
+            (list_at lists.entry.most lists.entry.bytes.now k)) }
     {
         w.push(lists.length(k) as u32);
         for x in lists.items(k) {

@@ -9,9 +9,11 @@ use Rattle.definitions.specs.Search.{Facet}
 use Rattle.definitions.specs.Recursion.{Entry}
 use Rattle.definitions.specs.Job.{Bytes, Job, read_job, bounds1, rules_of, number_at, alone}
 use Rattle.definitions.specs.Noble.{Package, read_package}
-use Rattle.definitions.specs.NobleCalls.{noble_call_of, noble_alone, noble_prepared_of, NobleCallComplete, NobleComplete}
+use Rattle.definitions.specs.NobleCalls.{noble_call_of, noble_alone, noble_prepared_of, NobleCallComplete}
+use Rattle.definitions.specs.NobleCalls.{NobleComplete}
 use Rattle.definitions.specs.Examples.{identity}
-use Rattle.definitions.specs.RuledOut.{same_entries, entries_after, entries_with, square_bytes, square_entries, open_square}
+use Rattle.definitions.specs.RuledOut.{same_entries, entries_after, entries_with, square_bytes, square_entries}
+use Rattle.definitions.specs.RuledOut.{open_square}
 use Rattle.evaluated.specs.Packages.{package_bytes}
 
 -- ---- the square
@@ -30,12 +32,18 @@ refused_with number (refused k) = eqb k number
 refused_with number (answered a) = false
 
 -- with count 2 all six lines are kept: the same entries, and fewer lists examined; with count 1 none is
-pub square_examined : T (examined (alone square_bytes 524288) 35 && examined (noble_alone square_bytes (square_pack 2) 524288) 22 && examined (noble_alone square_bytes (square_pack 1) 524288) 0)
+pub square_examined : T (examined (alone square_bytes 524288) 35
+    && examined (noble_alone square_bytes (square_pack 2) 524288) 22
+    && examined (noble_alone square_bytes (square_pack 1) 524288) 0)
 unfolding open_square package_bytes square_pack examined
 square_examined = tt
 
 -- 13 counts all six, also where none is kept
-pub thirteen_counts_all : T (refused_with 13 (noble_call_of (record { orbits = 5; facets = 1024; entries = 1024 }) (read_job square_bytes) (read_package 4 (square_pack 1))))
+pub thirteen_counts_all : T (refused_with 13 (noble_call_of (record {
+  orbits = 5;
+  facets = 1024;
+  entries = 1024;
+}) (read_job square_bytes) (read_package 4 (square_pack 1))))
 unfolding open_square package_bytes square_pack refused_with
 thirteen_counts_all = tt
 
@@ -57,7 +65,8 @@ eighteen_between = tt
 unfoldable pub noble_entries : Job → Package → List Entry
 noble_entries job pack = entries_with (rules_of bounds1 job) (noble_prepared_of job pack)
 
-pub only_these : (job : Job) (pack : Package) (entries : List Entry) → NobleCallComplete job pack entries → entries ≡ noble_entries job pack
+pub only_these : (job : Job) (pack : Package) (entries : List Entry) → NobleCallComplete job pack entries
+    → entries ≡ noble_entries job pack
 unfolding entries_after entries_with noble_entries
 only_these job pack entries done =
     done.complete.exactly
@@ -72,11 +81,13 @@ pub square_same : T (same_entries square_nobles square_entries)
 unfolding open_square package_bytes square_pack noble_entries square_nobles
 square_same = tt
 
-pub square_ruled_out : (entries : List Entry) → T (same_entries entries entries) → T (not (same_entries entries square_nobles)) → NobleComplete square_bytes (square_pack 2) entries → ⊥
+pub square_ruled_out : (entries : List Entry) → T (same_entries entries entries)
+    → T (not (same_entries entries square_nobles)) → NobleComplete square_bytes (square_pack 2) entries → ⊥
 unfolding open_square package_bytes square_pack noble_entries square_nobles
 square_ruled_out entries same differ demand =
     T_not (same_entries entries square_nobles) differ
-    (subst (λ (e : List Entry). T (same_entries entries e)) (only_these (read_job square_bytes) (read_package 4 (square_pack 2)) entries (demand.holds tt)) same)
+    (subst (λ (e : List Entry). T (same_entries entries e))
+    (only_these (read_job square_bytes) (read_package 4 (square_pack 2)) entries (demand.holds tt)) same)
 
 unfoldable pub open_nobles : Unit {0}
 unfolding open_square package_bytes square_pack noble_entries square_nobles
@@ -109,7 +120,8 @@ together [] = []
 together (e ∷ entries) = e.before ++ together entries
 
 unfoldable pub compound_added : List Entry
-compound_added = square_nobles ++ (record { list = together square_nobles; before = together square_nobles; figure = dyad } ∷ [])
+compound_added =
+    square_nobles ++ (record { list = together square_nobles; before = together square_nobles; figure = dyad } ∷ [])
 
 pub not_with_compound : NobleComplete square_bytes (square_pack 2) compound_added → ⊥
 unfolding open_nobles together compound_added

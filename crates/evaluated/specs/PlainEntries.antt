@@ -10,7 +10,8 @@ use Rattle.definitions.specs.Job.{Bytes, same_nats}
 use Rattle.definitions.specs.Prices.{answer_of}
 use Rattle.definitions.specs.Plain.{split_lists, plain_ones, Inside, nothing, passed, taken}
 use Rattle.definitions.specs.Open.{open_all}
-use Rattle.definitions.specs.Examples.{open_examples, bytes_of, job_with, whole_points, plain, with_budget, identity, segment_job, square_job}
+use Rattle.definitions.specs.Examples.{open_examples, bytes_of, job_with, whole_points, plain, with_budget, identity}
+use Rattle.definitions.specs.Examples.{segment_job, square_job}
 
 -- ---- jobs
 
@@ -26,7 +27,9 @@ two_points = record { job = segment_job (identity 2); workspace = 0; kept = 0 �
 -- the list (0,0), (0,4) holds the list (0,4), which begins above it
 unfoldable pub begins_above : PlainCase
 begins_above = record {
-  job = job_with (plain 4) 3 (whole_points ((0 ∷ 0 ∷ 0 ∷ []) ∷ (0 ∷ 0 ∷ 0 ∷ []) ∷ (1 ∷ 0 ∷ 0 ∷ []) ∷ (1 ∷ 1 ∷ 1 ∷ []) ∷ []))
+  job =
+      job_with (plain 4) 3
+      (whole_points ((0 ∷ 0 ∷ 0 ∷ []) ∷ (0 ∷ 0 ∷ 0 ∷ []) ∷ (1 ∷ 0 ∷ 0 ∷ []) ∷ (1 ∷ 1 ∷ 1 ∷ []) ∷ []))
       ((0 ∷ 1 ∷ 2 ∷ 3 ∷ []) ∷ (1 ∷ 2 ∷ 3 ∷ 0 ∷ []) ∷ []);
   workspace = 4194304;
   kept = 0 ∷ 1 ∷ [];
@@ -35,7 +38,9 @@ begins_above = record {
 -- entry 1 is left out, and has no label
 unfoldable pub no_label : PlainCase
 no_label = record {
-  job = job_with (plain 4) 3 (whole_points ((1 ∷ 0 ∷ 0 ∷ []) ∷ (0 ∷ 0 ∷ 0 ∷ []) ∷ (1 ∷ 0 ∷ 0 ∷ []) ∷ (1 ∷ 1 ∷ 0 ∷ []) ∷ []))
+  job =
+      job_with (plain 4) 3
+      (whole_points ((1 ∷ 0 ∷ 0 ∷ []) ∷ (0 ∷ 0 ∷ 0 ∷ []) ∷ (1 ∷ 0 ∷ 0 ∷ []) ∷ (1 ∷ 1 ∷ 0 ∷ []) ∷ []))
       ((0 ∷ 1 ∷ 2 ∷ 3 ∷ []) ∷ (1 ∷ 2 ∷ 0 ∷ 3 ∷ []) ∷ (2 ∷ 0 ∷ 1 ∷ 3 ∷ []) ∷ []);
   workspace = 4194304;
   kept = 0 ∷ [];
@@ -44,7 +49,9 @@ no_label = record {
 -- split lists: before splitting no list of this job stands in another
 unfoldable pub by_split_lists : PlainCase
 by_split_lists = record {
-  job = job_with (plain 4) 3 (whole_points ((1 ∷ 0 ∷ 0 ∷ []) ∷ (0 ∷ 1 ∷ 0 ∷ []) ∷ (0 ∷ 0 ∷ 1 ∷ []) ∷ (1 ∷ 0 ∷ 0 ∷ []) ∷ []))
+  job =
+      job_with (plain 4) 3
+      (whole_points ((1 ∷ 0 ∷ 0 ∷ []) ∷ (0 ∷ 1 ∷ 0 ∷ []) ∷ (0 ∷ 0 ∷ 1 ∷ []) ∷ (1 ∷ 0 ∷ 0 ∷ []) ∷ []))
       ((0 ∷ 1 ∷ 2 ∷ 3 ∷ []) ∷ (3 ∷ 2 ∷ 0 ∷ 1 ∷ []) ∷ []);
   workspace = 4194304;
   kept = 0 ∷ 2 ∷ [];
@@ -53,7 +60,9 @@ by_split_lists = record {
 -- entry 2 has the list (1,2), (4,0), (2,0), and the list (1,2), (2,0) of entry 0 stands inside it
 unfoldable pub walk_ends : PlainCase
 walk_ends = record {
-  job = job_with (plain 4) 3 (whole_points ((0 ∷ 2 ∷ 2 ∷ []) ∷ (0 ∷ 0 ∷ 0 ∷ []) ∷ (2 ∷ 1 ∷ 2 ∷ []) ∷ (0 ∷ 0 ∷ 2 ∷ []) ∷ (0 ∷ 2 ∷ 1 ∷ []) ∷ []))
+  job =
+      job_with (plain 4) 3 (whole_points ((0 ∷ 2 ∷ 2 ∷ []) ∷ (0 ∷ 0 ∷ 0 ∷ []) ∷ (2 ∷ 1 ∷ 2 ∷ []) ∷ (0 ∷ 0 ∷ 2 ∷ [])
+      ∷ (0 ∷ 2 ∷ 1 ∷ []) ∷ []))
       ((0 ∷ 1 ∷ 2 ∷ 3 ∷ 4 ∷ []) ∷ (0 ∷ 1 ∷ 2 ∷ 4 ∷ 3 ∷ []) ∷ (0 ∷ 4 ∷ 1 ∷ 2 ∷ 3 ∷ []) ∷ []);
   workspace = 4194304;
   kept = 0 ∷ 2 ∷ 3 ∷ [];
@@ -77,7 +86,8 @@ readings = tt
 
 -- the job's own refusals come first, 17 last, for the numbers' bytes and not for the answer's
 pub refusals : T (refuses 1 (plain_ones [] 0 0) && refuses 12 (plain_ones (square_job (plain 3)) 524287 0)
-    && refuses 16 (plain_ones (square_job (with_budget 3 0)) 524288 0) && refuses 17 (plain_ones (segment_job (identity 2)) 0 7))
+    && refuses 16 (plain_ones (square_job (with_budget 3 0)) 524288 0)
+    && refuses 17 (plain_ones (segment_job (identity 2)) 0 7))
 unfolding open_all open_examples refuses
 refusals = tt
 
@@ -92,4 +102,6 @@ walk_ends_lists = lists_in (answer_of walk_ends.job 4194304)
 
 pub kept_with_another_inside : Inside (get_or walk_ends_lists 0 []) (get_or walk_ends_lists 2 [])
 unfolding open_all open_examples walk_ends lists_in walk_ends_lists
-kept_with_another_inside = taken (1, 2) ((2, 0) ∷ []) ((4, 0) ∷ (2, 0) ∷ []) (passed (4, 0) ((2, 0) ∷ []) ((2, 0) ∷ []) (taken (2, 0) [] [] (nothing [])))
+kept_with_another_inside =
+    taken (1, 2) ((2, 0) ∷ []) ((4, 0) ∷ (2, 0) ∷ [])
+    (passed (4, 0) ((2, 0) ∷ []) ((2, 0) ∷ []) (taken (2, 0) [] [] (nothing [])))

@@ -6,13 +6,16 @@ use Rattle.definitions.specs.Lists.{all_of, count_from}
 use Rattle.definitions.specs.Job.{Bytes, same_nats, buffer_of}
 use Rattle.definitions.specs.Outcome.{Outcome, refused, answered}
 use Rattle.definitions.specs.Recursion.{Answer}
-use Rattle.definitions.specs.Prices.{read_tariff, total_of, answer_of, quote_from, quote, quote_code, subtotals, by_size, slip_of, with_room}
+use Rattle.definitions.specs.Prices.{read_tariff, total_of, answer_of, quote_from, quote, quote_code, subtotals}
+use Rattle.definitions.specs.Prices.{by_size, slip_of, with_room}
 use Rattle.definitions.specs.Open.{open_all}
-use Rattle.definitions.specs.Examples.{open_examples, bytes_of, same_code, plain, with_budget, identity, square_job, corner_job, segment_job}
+use Rattle.definitions.specs.Examples.{open_examples, bytes_of, same_code, plain, with_budget, identity, square_job}
+use Rattle.definitions.specs.Examples.{corner_job, segment_job}
 
 -- a tariff as bytes: a price for each edge count from 1 to 190, a joint, a discount
 unfoldable pub tariff_with : (ℕ → ℕ) → ℕ → ℕ → Bytes
-tariff_with price joint discount = flat_map (bytes_of 4) (map price (count_from 1 190)) ++ bytes_of 4 joint ++ bytes_of 4 discount
+tariff_with price joint discount =
+    flat_map (bytes_of 4) (map price (count_from 1 190)) ++ bytes_of 4 joint ++ bytes_of 4 discount
 
 -- a polygon costs as many pence as it has edges
 unfoldable pub by_edges : ℕ → ℕ → Bytes
@@ -39,7 +42,8 @@ totals =
 
 unfoldable pub quotes_all : Bytes → Outcome Answer → List (Bytes × ℕ) → Bool
 quotes_all job (refused number) expected = false
-quotes_all job (answered a) expected = all_of (λ (e : Bytes × ℕ). same_code (quote_code (quote_from total_of job 0 e.0 a)) (pos e.1)) expected
+quotes_all job (answered a) expected =
+    all_of (λ (e : Bytes × ℕ). same_code (quote_code (quote_from total_of job 0 e.0 a)) (pos e.1)) expected
 
 pub tetrahedron_quotes : T (quotes_all (corner_job (plain 4)) (answer_of (corner_job (plain 4)) 4194304) totals)
 unfolding open_all open_examples tariff_with by_edges only totals quotes_all
@@ -58,7 +62,13 @@ unfoldable pub is_refused : Asked → Bool
 is_refused a = same_code (quote_code (quote a.job a.workspace a.entry a.tariff)) (neg_ℤ (pos a.number))
 
 unfoldable pub refuses : ℕ → Bytes → ℕ → ℕ → Bytes → Asked
-refuses number job workspace entry tariff = record { number = number; job = job; workspace = workspace; entry = entry; tariff = tariff }
+refuses number job workspace entry tariff = record {
+  number = number;
+  job = job;
+  workspace = workspace;
+  entry = entry;
+  tariff = tariff;
+}
 
 -- both sides of the tariff's bounds, on a job that is refused with 20 where its tariff is good
 unfoldable pub tariffs : List Asked
@@ -91,14 +101,15 @@ beyond_the_list = tt
 
 -- ---- by size
 
--- prices k for k edges, polygons of the first and the last edge count that have a price, two of one size apart from each
--- other, and two without a price: what stands in the first five places and in the last two, and the total
+-- prices k for k edges, polygons of the first and the last edge count that have a price, two of one size apart from
+-- each other, and two without a price: what stands in the first five places and in the last two, and the total
 unfoldable pub by_sizes : Bool
 by_sizes =
     let tariff = read_tariff (by_edges 7 500) in
     let sizes : List ℕ = 4 ∷ 190 ∷ 3 ∷ 0 ∷ 4 ∷ 191 ∷ 1 ∷ [] in
     let all = subtotals tariff sizes in
-    same_nats (take 5 all) (1 ∷ 0 ∷ 3 ∷ 8 ∷ 0 ∷ []) && same_nats (drop 188 all) (0 ∷ 190 ∷ []) && eqb (by_size tariff sizes 2) 108
+    same_nats (take 5 all) (1 ∷ 0 ∷ 3 ∷ 8 ∷ 0 ∷ []) && same_nats (drop 188 all) (0 ∷ 190 ∷ [])
+    && eqb (by_size tariff sizes 2) 108
 
 pub added_by_size : T by_sizes
 unfolding open_all open_examples tariff_with by_edges by_sizes
@@ -113,18 +124,21 @@ triangles pence = flat_map (bytes_of 8) (map (λ (edges : ℕ). cond (eqb edges 
 -- each tariff with what the triangles cost: neither joints nor discount change it
 unfoldable pub slips : List (Bytes × ℕ)
 slips =
-    (by_edges 0 0, 12) ∷ (by_edges 7 0, 12) ∷ (by_edges 7 500, 12) ∷ (by_edges 7 1000, 12) ∷ (only 3 11 0 0, 44) ∷ (only 2 11 0 0, 0)
+    (by_edges 0 0, 12) ∷ (by_edges 7 0, 12) ∷ (by_edges 7 500, 12) ∷ (by_edges 7 1000, 12) ∷ (only 3 11 0 0, 44)
+    ∷ (only 2 11 0 0, 0)
     ∷ (tariff_with (λ (edges : ℕ). 1000000) 1000000 0, 4000000) ∷ []
 
 -- in its own length, and with a zero behind it
 unfoldable pub is_slip : Outcome Bytes → Bytes → Bool
 is_slip o expected =
-    same_nats (buffer_of 1520 (with_room 1520 o)) expected && same_nats (buffer_of 1521 (with_room 1521 o)) (expected ++ (0 ∷ []))
+    same_nats (buffer_of 1520 (with_room 1520 o)) expected
+    && same_nats (buffer_of 1521 (with_room 1521 o)) (expected ++ (0 ∷ []))
     && same_nats (buffer_of 1519 (with_room 1519 o)) (replicate 1519 0)
 
 unfoldable pub slips_all : Bytes → Outcome Answer → List (Bytes × ℕ) → Bool
 slips_all job (refused number) expected = false
-slips_all job (answered a) expected = all_of (λ (e : Bytes × ℕ). is_slip (quote_from slip_of job 0 e.0 a) (triangles e.1)) expected
+slips_all job (answered a) expected =
+    all_of (λ (e : Bytes × ℕ). is_slip (quote_from slip_of job 0 e.0 a) (triangles e.1)) expected
 
 pub tetrahedron_slips : T (slips_all (corner_job (plain 4)) (answer_of (corner_job (plain 4)) 4194304) slips)
 unfolding open_all open_examples tariff_with by_edges only triangles slips is_slip slips_all
@@ -133,12 +147,15 @@ tetrahedron_slips = tt
 -- 17 behind all others: the return value of an entry at a tariff in so much room
 unfoldable pub room_asked : List (ℕ × Bytes × ℕ × ℤ)
 room_asked =
-    (0, [], 0, neg_ℤ (pos 19)) ∷ (1, by_edges 1 0, 0, neg_ℤ (pos 21)) ∷ (0, by_edges 1 0, 0, neg_ℤ (pos 17)) ∷ (0, by_edges 1 0, 1519, neg_ℤ (pos 17))
+    (0, [], 0, neg_ℤ (pos 19)) ∷ (1, by_edges 1 0, 0, neg_ℤ (pos 21)) ∷ (0, by_edges 1 0, 0, neg_ℤ (pos 17))
+    ∷ (0, by_edges 1 0, 1519, neg_ℤ (pos 17))
     ∷ (1, by_edges 1 0, 1519, neg_ℤ (pos 21)) ∷ (0, by_edges 1 0, 1520, pos 18) ∷ []
 
 unfoldable pub codes_all : Bytes → Outcome Answer → List (ℕ × Bytes × ℕ × ℤ) → Bool
 codes_all job (refused number) expected = false
-codes_all job (answered a) expected = all_of (λ (e : ℕ × Bytes × ℕ × ℤ). same_code (quote_code (with_room e.2 (quote_from total_of job e.0 e.1 a))) e.3) expected
+codes_all job (answered a) expected =
+    all_of (λ (e : ℕ × Bytes × ℕ × ℤ).
+    same_code (quote_code (with_room e.2 (quote_from total_of job e.0 e.1 a))) e.3) expected
 
 pub room_comes_last : T (codes_all (corner_job (plain 4)) (answer_of (corner_job (plain 4)) 4194304) room_asked)
 unfolding open_all open_examples tariff_with by_edges room_asked codes_all

@@ -6,8 +6,11 @@ use Rattle.std.specs.Float.Ieee.{round}
 use Rattle.definitions.specs.Lists.{all_of}
 use Rattle.definitions.specs.Job.{Bytes, tolerance1, least_tolerance, greatest_tolerance}
 use Rattle.definitions.specs.Open.{open_all}
-use Rattle.definitions.specs.Examples.{Terms, Case, open_examples, passes, answers, bytes_of, whole, half, thousandth, four_e_8, one_e_7, one_e_9, five_e_4, within_tolerance, job_with, identity, symmetric_job}
-use Rattle.definitions.specs.KnownJobs.{symmetric_square_answer, symmetric_square_max05_answer, corner_answer, crowded_line_answer, flat_triangle_answer}
+use Rattle.definitions.specs.Examples.{Terms, Case, open_examples, passes, answers, bytes_of, whole, half, thousandth}
+use Rattle.definitions.specs.Examples.{four_e_8, one_e_7, one_e_9, five_e_4, within_tolerance, job_with, identity}
+use Rattle.definitions.specs.Examples.{symmetric_job}
+use Rattle.definitions.specs.KnownJobs.{symmetric_square_answer, symmetric_square_max05_answer, corner_answer}
+use Rattle.definitions.specs.KnownJobs.{crowded_line_answer, flat_triangle_answer}
 
 -- ---- the three tolerances that have names are the doubles nearest to 0.0000001, 0.000000001 and 0.001
 
@@ -46,16 +49,22 @@ between_limits tolerance = record {
 unfoldable pub with_tolerances : List Case
 with_tolerances =
     -- a point off a line, or on it
-    answers 524288 (three_within one_e_9 (near_line four_e_8)) flat_triangle_answer ∷ answers 524288 (three_within one_e_7 (near_line four_e_8)) crowded_line_answer
-    ∷ answers 524288 (three_within one_e_7 (near_line five_e_4)) flat_triangle_answer ∷ answers 524288 (three_within thousandth (near_line five_e_4)) crowded_line_answer
+    answers 524288 (three_within one_e_9 (near_line four_e_8)) flat_triangle_answer
+    ∷ answers 524288 (three_within one_e_7 (near_line four_e_8)) crowded_line_answer
+    ∷ answers 524288 (three_within one_e_7 (near_line five_e_4)) flat_triangle_answer
+    ∷ answers 524288 (three_within thousandth (near_line five_e_4)) crowded_line_answer
     -- (0,0), (0.0005, 0), (0,1): the first two are too near to make a line
-    ∷ answers 524288 (three_within thousandth ((0 ∷ 0 ∷ []) ∷ (five_e_4 ∷ 0 ∷ []) ∷ (0 ∷ whole 1 ∷ []) ∷ [])) crowded_line_answer
+    ∷ answers 524288
+    (three_within thousandth ((0 ∷ 0 ∷ []) ∷ (five_e_4 ∷ 0 ∷ []) ∷ (0 ∷ whole 1 ∷ []) ∷ [])) crowded_line_answer
     -- lengths that break both limits, and are within the tolerance of them
-    ∷ answers 524288 (symmetric_job (between_limits one_e_7)) symmetric_square_max05_answer ∷ answers 524288 (symmetric_job (between_limits thousandth)) symmetric_square_answer
+    ∷ answers 524288 (symmetric_job (between_limits one_e_7)) symmetric_square_max05_answer
+    ∷ answers 524288 (symmetric_job (between_limits thousandth)) symmetric_square_answer
     -- (0,0,0), (1,0,0), (0.5, 0.00000004, 0), (0,0,1): a face of this tetrahedron is nearly a line
-    ∷ answers 4194304 (job_with (within_tolerance 4 one_e_9) 3 ((0 ∷ 0 ∷ 0 ∷ []) ∷ (whole 1 ∷ 0 ∷ 0 ∷ []) ∷ (half ∷ four_e_8 ∷ 0 ∷ []) ∷ (0 ∷ 0 ∷ whole 1 ∷ []) ∷ []) (identity 4)) corner_answer
+    ∷ answers 4194304 (job_with (within_tolerance 4 one_e_9) 3 ((0 ∷ 0 ∷ 0 ∷ []) ∷ (whole 1 ∷ 0 ∷ 0 ∷ [])
+    ∷ (half ∷ four_e_8 ∷ 0 ∷ []) ∷ (0 ∷ 0 ∷ whole 1 ∷ []) ∷ []) (identity 4)) corner_answer
     ∷ []
 
 pub tolerance_decides : T (all_of passes with_tolerances)
-unfolding open_all open_examples three_within near_line between_limits with_tolerances symmetric_square_answer symmetric_square_max05_answer corner_answer crowded_line_answer flat_triangle_answer
+unfolding open_all open_examples three_within near_line between_limits with_tolerances symmetric_square_answer
+    symmetric_square_max05_answer corner_answer crowded_line_answer flat_triangle_answer
 tolerance_decides = tt

@@ -1,4 +1,5 @@
-// The images of a call's facets in order: which of them an entry has, each once, and their words, an edge as its number among the entry's edges. Leans on marked edges.
+// The images of a call's facets in order: which of them an entry has, each once, and their words, an edge as its
+// number among the entry's edges. Leans on marked edges.
 
 #![tactic(auto)]
 
@@ -8,23 +9,25 @@ ghost use Rattle.words.specs.Words.{words};
 ghost use Rattle.pool.specs.Pool.{count};
 ghost use Rattle.order.specs.Areas.{list_of};
 ghost use Rattle.order.specs.Numbers.{ItemsBelow};
-ghost use Rattle.openers.specs.Marks.{marked};
+ghost use Rattle.rows.specs.Marks.{marked};
 ghost use Rattle.words.specs.Wrote.{Writes};
-ghost use Rattle.facet_images.specs.Images.{NumbersOf, NumbersBelow, image_marks, facet_words, id_words, IdsBelow, is_wanted, is_chosen, next_choice, chosen_from};
+ghost use Rattle.facet_images.specs.Images.{NumbersOf, NumbersBelow, image_marks, facet_words, id_words, IdsBelow};
+ghost use Rattle.facet_images.specs.Images.{is_wanted, is_chosen, next_choice, chosen_from};
 ghost use Rattle.facet_images.specs.declared.Choice.TheVariants.{Left};
 
 use edge_marks::Facets;
-use openers::Rows;
 use order::Lists;
+use pool::MOST_FACETS;
+use rows::{EDGE_CODES, ROW_BYTES, Rows};
 use words::{Word, Writer};
 
 // ---- the facets of a polyhedron
 
 // The number of each marked edge: how many marks lie below it.
-pub fn edge_numbers(marks: &[bool; 400]) -> [usize; 400]
+pub fn edge_numbers(marks: &[bool; EDGE_CODES]) -> [usize; EDGE_CODES]
     ensures { NumbersOf marks.now result }
 {
-    let mut numbers = [0; 400];
+    let mut numbers = [0; EDGE_CODES];
     let mut many = 0;
     for (code, marked) in marks.iter().enumerate() {
         numbers[code] = many;
@@ -33,12 +36,13 @@ pub fn edge_numbers(marks: &[bool; 400]) -> [usize; 400]
     numbers
 }
 
-// The facets of the list at place k. `ItemsBelow` stays a clause: it speaks of that one list, and k is another parameter.
-pub fn list_marks(lists: Lists, k: usize) -> [bool; 1024]
+// The facets of the list at place k. `ItemsBelow` stays a clause: it speaks of that one list, and k is another
+// parameter.
+pub fn list_marks(lists: Lists, k: usize) -> [bool; MOST_FACETS]
     requires { (k < lists.area.count) × ItemsBelow 1024 (list_of lists.area lists.bytes.now k) }
     ensures { result ≡ marked (replicate 1024 false) (list_of lists.entry.area lists.entry.bytes.now k) }
 {
-    let mut marks = [false; 1024];
+    let mut marks = [false; MOST_FACETS];
     for x in lists.items(k) {
         marks[usize::from(x)] = true;
     }
@@ -46,29 +50,36 @@ pub fn list_marks(lists: Lists, k: usize) -> [bool; 1024]
 }
 
 // The edges of the image of facet x under a row.
-pub fn image_marks(facets: Facets, x: usize, row: usize) -> [bool; 400]
+pub fn image_marks(facets: Facets, x: usize, row: usize) -> [bool; EDGE_CODES]
     requires { (x < count facets.edges.bytes.now) × (row < facets.rows.count) }
     ensures { result ≡ image_marks facets.entry.edges.bytes.now facets.entry.rows.bytes.now x row }
 {
     let rows = Rows {
-        bytes: &facets.rows.bytes[32 * row..],
+        bytes: &facets.rows.bytes[ROW_BYTES * row..],
         count: 1,
     };
     let under = Facets {
         edges: facets.edges,
         rows,
     };
-    let mut marks = [false; 400];
+    let mut marks = [false; EDGE_CODES];
     edge_marks::mark_facet(under, x, &mut marks);
     marks
 }
 
 // ---- images in order
 
-// The images of all facets, as their numbers: `count` of four bytes. The number of facet x's image under a row is x + 1,024 × row, and 131,072 more where the image equals the one before it. So packed
-// the numbers lie in the bytes of the workspace, since there is no heap, and are taken apart where they are used. No struct of the three parts (facet, row, whether it equals the one before): the
-// definitions, `next_choice` and `Ids::get` go by the number, and each reader asks one or two of the parts.
-// The count stands beside the bytes, which are the workspace from the numbers on: who makes these knows the count, and bytes cut to length would give it by a division by four alone.
+// The number of facet x's image under a row is x + ROW × row, and EQUAL more where the image equals the one before
+// it.
+pub const ROW: usize = 1024;
+
+pub const EQUAL: usize = 131072;
+
+// The images of all facets, as their numbers: `count` of four bytes. So packed the numbers lie in the bytes of the
+// workspace, since there is no heap, and are taken apart where they are used. No struct of the three parts (facet,
+// row, whether it equals the one before): the definitions, `next_choice` and `Ids::get` go by the number, and each
+// reader asks one or two of the parts. The count stands beside the bytes, which are the workspace from the numbers
+// on: who makes these knows the count, and bytes cut to length would give it by a division by four alone.
 #[derive(Clone, Copy)]
 pub struct Ids<'a> {
     pub bytes: &'a [u8],
@@ -110,14 +121,14 @@ impl Choice {
 fn was_chosen(before: Choice, id: usize) -> bool
     ensures { result ≡ (leb 131072 id && is_wanted before) }
 {
-    131072 <= id && before != Choice::Left
+    EQUAL <= id && before != Choice::Left
 }
 
 // The images of all facets, and which facets have theirs written or counted: they travel together.
 #[derive(Clone, Copy)]
 pub struct Wanted<'a> {
     pub ids: Ids<'a>,
-    pub inside: &'a [bool; 1024],
+    pub inside: &'a [bool; MOST_FACETS],
 }
 
 impl<'a> Wanted<'a> {
@@ -130,7 +141,7 @@ impl<'a> Wanted<'a> {
         if was_chosen(before, id) {
             return Choice::Repeated;
         }
-        if self.inside[id % 1024] {
+        if self.inside[id % ROW] {
             Choice::Chosen
         } else {
             Choice::Left
@@ -139,7 +150,8 @@ impl<'a> Wanted<'a> {
 
     // The numbers of the chosen images, in order.
     pub fn chosen(self) -> Chosen<'a>
-        ensures { chosen_left result ≡ chosen_from self.entry.inside.now Left (words 4 self.entry.ids.bytes.now self.entry.ids.count) }
+        ensures { chosen_left result
+            ≡ chosen_from self.entry.inside.now Left (words 4 self.entry.ids.bytes.now self.entry.ids.count) }
     {
         Chosen {
             wanted: self,
@@ -150,7 +162,9 @@ impl<'a> Wanted<'a> {
 
     // How many images are chosen.
     pub fn count_chosen(self) -> usize
-        ensures { (result ≡ length (chosen_from self.entry.inside.now Left (words 4 self.entry.ids.bytes.now self.entry.ids.count))) × (result ≤ self.entry.ids.count) }
+        ensures { (result ≡ length
+            (chosen_from self.entry.inside.now Left (words 4 self.entry.ids.bytes.now self.entry.ids.count)))
+            × (result ≤ self.entry.ids.count) }
     {
         self.chosen().count()
     }
@@ -194,13 +208,13 @@ impl<'a> Iterator for Chosen<'a> {
 #[derive(Clone, Copy)]
 pub struct NumberedFacets<'a> {
     pub facets: Facets<'a>,
-    pub numbers: &'a [usize; 400],
+    pub numbers: &'a [usize; EDGE_CODES],
     pub ghost small: { NumbersBelow numbers.now },
 }
 
 impl<'a> NumberedFacets<'a> {
     // A facet: how many edges it has, and their numbers.
-    fn write_facet(self, w: &mut Writer, image: &[bool; 400])
+    fn write_facet(self, w: &mut Writer, image: &[bool; EDGE_CODES])
         ensures { Writes w.old w.new (facet_words image.now self.entry.numbers.now) }
     {
         w.push(edge_marks::count_marks(image) as u32);
@@ -211,14 +225,18 @@ impl<'a> NumberedFacets<'a> {
         }
     }
 
-    // The chosen images, in order. `IdsBelow` stays a clause, and so it does where `entry_prices` and `polyhedra` ask it: it speaks of the numbers and of the facets, two parameters, and a
-    // summary, which counts the chosen numbers, asks for no `Facets`.
+    // The chosen images, in order. `IdsBelow` stays a clause, and so it does where `entry_prices` and `polyhedra` ask
+    // it: it speaks of the numbers and of the facets, two parameters, and a summary, which counts the chosen numbers,
+    // asks for no `Facets`.
     pub fn write_images(self, w: &mut Writer, wanted: Wanted)
-        requires { IdsBelow (count self.facets.edges.bytes.now) self.facets.rows.count (words 4 wanted.ids.bytes.now wanted.ids.count) }
-        ensures { Writes w.old w.new (flat_map (id_words self.entry.facets.edges.bytes.now self.entry.facets.rows.bytes.now self.entry.numbers.now) (chosen_from wanted.entry.inside.now Left (words 4 wanted.entry.ids.bytes.now wanted.entry.ids.count))) }
+        requires { IdsBelow (count self.facets.edges.bytes.now) self.facets.rows.count
+            (words 4 wanted.ids.bytes.now wanted.ids.count) }
+        ensures { Writes w.old w.new (flat_map (id_words self.entry.facets.edges.bytes.now
+            self.entry.facets.rows.bytes.now self.entry.numbers.now) (chosen_from wanted.entry.inside.now Left
+            (words 4 wanted.entry.ids.bytes.now wanted.entry.ids.count))) }
     {
         for id in wanted.chosen() {
-            let image = image_marks(self.facets, id % 1024, id % 131072 / 1024);
+            let image = image_marks(self.facets, id % ROW, id % EQUAL / ROW);
             self.write_facet(w, &image);
         }
     }

@@ -24,12 +24,16 @@ use Rattle.faceting.specs.Ways.{all_taken, found_too_many, some_taken, taken_or_
 
 module _ (way : def.Way) (bound : ℕ) (orbits : List Orbit) (n : ℕ) (s : List ℕ) where
   module _ (count : ℕ) (e : answer_in n (Ok count) s ≡ taken_or_refusal way bound orbits) where
-    found_whole : refuse_if (ltb bound (length orbits)) 13 (λ u. answered (way.keeps orbits)) ≡ answered (map (orbit_of n) (orbits_in s count))
+    found_whole : refuse_if (ltb bound (length orbits)) 13 (λ u. answered (way.keeps orbits))
+        ≡ answered (map (orbit_of n) (orbits_in s count))
     unfolding answer_in taken_or_refusal
     found_whole = sym e
 
-    all : (ltb bound (length orbits) ≡ false) × (answered (way.keeps orbits) ≡ answered (map (orbit_of n) (orbits_in s count)))
-    all = not_refused_if (ltb bound (length orbits)) 13 (λ u. answered (way.keeps orbits)) (map (orbit_of n) (orbits_in s count)) found_whole
+    all : (ltb bound (length orbits) ≡ false)
+        × (answered (way.keeps orbits) ≡ answered (map (orbit_of n) (orbits_in s count)))
+    all =
+        not_refused_if (ltb bound (length orbits)) 13 (λ u. answered (way.keeps orbits))
+        (map (orbit_of n) (orbits_in s count)) found_whole
 
     -- and else no more
     pub found_few : length orbits ≤ bound
@@ -47,8 +51,11 @@ module _ (way : def.Way) (bound : ℕ) (orbits : List Orbit) (n : ℕ) (s : List
 -- ---- what is kept of the orbits that were found
 
 module _ (n : ℕ) (bound : ℕ) (orbits : List Orbit) where
-  pub kept_refused : (way : Option Package) (e : Refusal) (s u : List ℕ) → answer_in n (Err e) s ≡ orbits_or_refusal bound orbits → answer_in n (Err e) u ≡ taken_or_refusal (way_of n way) bound orbits
-  kept_refused way e s u found = let k = found_too_many plain_way bound orbits n s e (found ∙ all_taken bound orbits) in too_many (way_of n way) bound orbits n u e k.0 k.1
+  pub kept_refused : (way : Option Package) (e : Refusal) (s u : List ℕ) → answer_in n (Err e) s
+      ≡ orbits_or_refusal bound orbits → answer_in n (Err e) u ≡ taken_or_refusal (way_of n way) bound orbits
+  kept_refused way e s u found =
+      let k = found_too_many plain_way bound orbits n s e (found ∙ all_taken bound orbits) in
+      too_many (way_of n way) bound orbits n u e k.0 k.1
 
   module _ (count : ℕ) (s : List ℕ) (found : answer_in n (Ok count) s ≡ orbits_or_refusal bound orbits) where
     plainly : answer_in n (Ok count) s ≡ taken_or_refusal plain_way bound orbits
@@ -60,10 +67,16 @@ module _ (n : ℕ) (bound : ℕ) (orbits : List Orbit) where
 
     pub few_counted : count ≤ bound
     unfolding plain_way
-    few_counted = let e = found_count plain_way bound orbits n s count plainly in let f = found_few plain_way bound orbits n s count plainly in omega arith
+    few_counted =
+        let e = found_count plain_way bound orbits n s count plainly in
+        let f = found_few plain_way bound orbits n s count plainly in
+        omega arith
 
-    pub kept_some : (pack : Package) (r : ℕ) (u : List ℕ) → map (orbit_of n) (orbits_in u r) ≡ kept_by (package_in n pack) (map (orbit_of n) (orbits_in s count)) → answer_in n (Ok r) u ≡ taken_or_refusal (way_of n (Some pack)) bound orbits
+    pub kept_some : (pack : Package) (r : ℕ) (u : List ℕ)
+        → map (orbit_of n) (orbits_in u r) ≡ kept_by (package_in n pack) (map (orbit_of n) (orbits_in s count))
+        → answer_in n (Ok r) u ≡ taken_or_refusal (way_of n (Some pack)) bound orbits
     unfolding noble_way
     kept_some pack r u kept =
         some_taken (way_of n (Some pack)) bound orbits n u r (found_few plain_way bound orbits n s count plainly)
-        (kept ∙ (ap (kept_by (package_in n pack)) (sym are) ∙ ap (λ (w : def.Way). w.keeps orbits) (sym (way_noble n pack))))
+        (kept ∙ (ap (kept_by (package_in n pack)) (sym are)
+        ∙ ap (λ (w : def.Way). w.keeps orbits) (sym (way_noble n pack))))

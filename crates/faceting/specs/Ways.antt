@@ -1,5 +1,6 @@
--- The way of a call by what the code holds: no package, which is the plain way, or the package of a full set whose global numbers and rows are lent [17.8]. What is taken of the orbits that were found, and what 13 counts: all
--- of them. Leans on the package in bytes and on the orbits' answer.
+-- The way of a call by what the code holds: no package, which is the plain way, or the package of a full set whose
+-- global numbers and rows are lent [17.8]. What is taken of the orbits that were found, and what 13 counts: all of
+-- them. Leans on the package in bytes and on the orbits' answer.
 use Rattle.std.specs.Prelude.{◌≡◌, Bool, not, List, map, ℕ, ◌≤◌, ◌<◌, ltb, length}
 use Rattle.std.proofs.Math.Path.{refl, sym, ap}
 use Rattle.std.proofs.Common.{◌∙◌, subst, le-ltb, lt-ltb}
@@ -67,34 +68,44 @@ unfoldable pub taken_or_refusal : def.Way → ℕ → List Orbit → Outcome (Li
 taken_or_refusal way bound orbits = refuse_if (ltb bound (length orbits)) 13 (λ u. answered (way.keeps orbits))
 
 -- the plain way takes them all
-pub all_taken : (bound : ℕ) (orbits : List Orbit) → orbits_or_refusal bound orbits ≡ taken_or_refusal plain_way bound orbits
+pub all_taken : (bound : ℕ) (orbits : List Orbit)
+    → orbits_or_refusal bound orbits ≡ taken_or_refusal plain_way bound orbits
 unfolding orbits_or_refusal taken_or_refusal plain_way
 all_taken bound orbits = refl
 
 module _ (way : def.Way) (bound : ℕ) (orbits : List Orbit) (n : ℕ) (s : List ℕ) where
   -- refusal 13: there are more orbits than the bound
-  pub found_too_many : (e : Refusal) → answer_in n (Err e) s ≡ taken_or_refusal way bound orbits → (number_of e ≡ 13) × (bound < length orbits)
+  pub found_too_many : (e : Refusal) → answer_in n (Err e) s ≡ taken_or_refusal way bound orbits
+      → (number_of e ≡ 13) × (bound < length orbits)
   unfolding answer_in taken_or_refusal refuse_if
   found_too_many e is = ⊎_elim
       (λ h.
-      let q : refused (number_of e) ≡ answered (way.keeps orbits) = is ∙ ap (λ (b : Bool). refuse_if b 13 (λ u. answered (way.keeps orbits))) (le-ltb bound (length orbits) h) in
-      cc)
+      let q : refused (number_of e) ≡ answered (way.keeps orbits) = is
+      ∙ ap (λ (b : Bool). refuse_if b 13 (λ u. answered (way.keeps orbits))) (le-ltb bound (length orbits) h) in cc)
       (λ h.
-      let q : refused (number_of e) ≡ refused 13 = is ∙ ap (λ (b : Bool). refuse_if b 13 (λ u. answered (way.keeps orbits))) (lt-ltb bound (length orbits) h) in
+      let q : refused (number_of e) ≡ refused 13 = is
+      ∙ ap (λ (b : Bool). refuse_if b 13 (λ u. answered (way.keeps orbits))) (lt-ltb bound (length orbits) h) in
       (cc, h))
       (le_or_lt (length orbits) bound)
 
-  pub too_many : (e : Refusal) → number_of e ≡ 13 → bound < length orbits → answer_in n (Err e) s ≡ taken_or_refusal way bound orbits
+  pub too_many : (e : Refusal) → number_of e ≡ 13 → bound < length orbits
+      → answer_in n (Err e) s ≡ taken_or_refusal way bound orbits
   unfolding answer_in taken_or_refusal refuse_if
-  too_many e is h = ap refused is ∙ sym (ap (λ (b : Bool). refuse_if b 13 (λ u. answered (way.keeps orbits))) (lt-ltb bound (length orbits) h))
+  too_many e is h =
+      ap refused is
+      ∙ sym (ap (λ (b : Bool). refuse_if b 13 (λ u. answered (way.keeps orbits))) (lt-ltb bound (length orbits) h))
 
-  pub some_taken : (count : ℕ) → length orbits ≤ bound → map (orbit_of n) (orbits_in s count) ≡ way.keeps orbits → answer_in n (Ok count) s ≡ taken_or_refusal way bound orbits
+  pub some_taken : (count : ℕ) → length orbits ≤ bound → map (orbit_of n) (orbits_in s count) ≡ way.keeps orbits
+      → answer_in n (Ok count) s ≡ taken_or_refusal way bound orbits
   unfolding answer_in taken_or_refusal refuse_if
   some_taken count few e =
-      ap answered e ∙ sym (ap (λ (b : Bool). refuse_if b 13 (λ u. answered (way.keeps orbits))) (le-ltb bound (length orbits) few))
+      ap answered e ∙ sym
+      (ap (λ (b : Bool). refuse_if b 13 (λ u. answered (way.keeps orbits))) (le-ltb bound (length orbits) few))
 
 -- ---- what is kept of the orbits that were found
 
 module _ (n bound : ℕ) (orbits : List Orbit) where
-  pub kept_plain : (r : Result ℕ Refusal) (s : List ℕ) → answer_in n r s ≡ orbits_or_refusal bound orbits → answer_in n r s ≡ taken_or_refusal (way_of n None) bound orbits
-  kept_plain r s found = found ∙ (all_taken bound orbits ∙ ap (λ (w : def.Way). taken_or_refusal w bound orbits) (sym (way_plain n)))
+  pub kept_plain : (r : Result ℕ Refusal) (s : List ℕ) → answer_in n r s ≡ orbits_or_refusal bound orbits
+      → answer_in n r s ≡ taken_or_refusal (way_of n None) bound orbits
+  kept_plain r s found =
+      found ∙ (all_taken bound orbits ∙ ap (λ (w : def.Way). taken_or_refusal w bound orbits) (sym (way_plain n)))

@@ -1,5 +1,6 @@
-// The register as a program: a job on standard input, its answer on standard output. Where the job is refused nothing is written there, and a line on standard error has the number.
-// A job has at most 3,212 bytes, so what is longer than the buffer is refused for its length all the same.
+// The register as a program: a job on standard input, its answer on standard output. Where the job is refused nothing
+// is written there, and a line on standard error has the number. A job has at most 3,212 bytes, so what is longer
+// than the buffer is refused for its length all the same.
 #![tactic(auto)]
 
 use std::io;

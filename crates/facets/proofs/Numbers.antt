@@ -19,17 +19,22 @@ use Rattle.facets.specs.Numbers.{numbers_are}
 pub numbers_length : (t : Table) (kind : Option ℕ) → length (candidates t kind) ≡ length (numbers t kind)
 numbers_length t kind = ap length (sym (numbers_are t kind)) ∙ length-map (numbers t kind) (facet_of t)
 
-pub candidate_at : (t : Table) (kind : Option ℕ) (i : ℕ) → i < length (numbers t kind) → get_or (candidates t kind) i (0, 0) ≡ facet_of t (get_or (numbers t kind) i 0)
-candidate_at t kind i h = ap (λ (l : List Facet). get_or l i (0, 0)) (sym (numbers_are t kind)) ∙ map_at_holds (facet_of t) (numbers t kind) i (0, 0) 0 h
+pub candidate_at : (t : Table) (kind : Option ℕ) (i : ℕ) → i < length (numbers t kind)
+    → get_or (candidates t kind) i (0, 0) ≡ facet_of t (get_or (numbers t kind) i 0)
+candidate_at t kind i h =
+    ap (λ (l : List Facet). get_or l i (0, 0)) (sym (numbers_are t kind))
+    ∙ map_at_holds (facet_of t) (numbers t kind) i (0, 0) 0 h
 
 in_numbers : (t : Table) (kind : Option ℕ) (x : ℕ) → Mem x (numbers t kind) → x < length (all_facets t)
 unfolding numbers ones_of
 in_numbers t None x m = let r = (of_count 0 (length (all_facets t)) x m).1 in omega arith
 in_numbers t (Some ridge) x m =
-    let r = of_flat_map (λ (y : ℕ). replicate (ones_at t ridge (facet_of t y)) y) x (count_from 0 (length (all_facets t))) m in
+    let r = of_flat_map (λ (y : ℕ). replicate (ones_at t ridge (facet_of t y)) y) x
+    (count_from 0 (length (all_facets t))) m in
     let e = in_replicate (ones_at t ridge (facet_of t r.0)) x r.0 r.2 in
     let k = (of_count 0 (length (all_facets t)) r.0 r.1).1 in
     omega arith
 
-pub numbers_small : (t : Table) (kind : Option ℕ) (i : ℕ) → i < length (numbers t kind) → get_or (numbers t kind) i 0 < length (all_facets t)
+pub numbers_small : (t : Table) (kind : Option ℕ) (i : ℕ) → i < length (numbers t kind)
+    → get_or (numbers t kind) i 0 < length (all_facets t)
 numbers_small t kind i h = in_numbers t kind (get_or (numbers t kind) i 0) (member_at (numbers t kind) i 0 h)

@@ -1,4 +1,5 @@
--- Laws of the items that pass a test, of the first that passes, and of a list reversed. Over any items. Leans on the laws of lists.
+-- Laws of the items that pass a test, of the first that passes, and of a list reversed. Over any items. Leans on the
+-- laws of lists.
 use Rattle.std.specs.Prelude.{◌≡◌, Bool, not, ◌&&◌, ltb, length, get_or, take, drop}
 use Rattle.std.proofs.Math.Path.{refl, sym, ap}
 use Rattle.std.proofs.Common.{◌∙◌, arith, take-suc, length-take-le}
@@ -33,7 +34,8 @@ module _ {A : Type 0} where
   keep_and p q (x ∷ l) = go (p x) (keep_and p q l)
     where
       go : (b : Bool) → keep (λ (y : A). p y && q y) l ≡ keep q (keep p l)
-          → cond (b && q x) (x ∷ keep (λ (y : A). p y && q y) l) (keep (λ (y : A). p y && q y) l) ≡ keep q (cond b (x ∷ keep p l) (keep p l))
+          → cond (b && q x) (x ∷ keep (λ (y : A). p y && q y) l) (keep (λ (y : A). p y && q y) l)
+          ≡ keep q (cond b (x ∷ keep p l) (keep p l))
       go true e = ap (λ (r : List A). cond (q x) (x ∷ r) r) e
       go false e = e
 
@@ -46,12 +48,14 @@ module _ {A : Type 0} where
       go false = refl
   keep_replicate p (suc n) x = go (p x) (keep_replicate p n x)
     where
-      go : (b : Bool) → keep p (replicate n x) ≡ cond b (replicate n x) [] → cond b (x ∷ keep p (replicate n x)) (keep p (replicate n x)) ≡ cond b (replicate (suc n) x) []
+      go : (b : Bool) → keep p (replicate n x) ≡ cond b (replicate n x) []
+          → cond b (x ∷ keep p (replicate n x)) (keep p (replicate n x)) ≡ cond b (replicate (suc n) x) []
       go true e = ap (λ (r : List A). x ∷ r) e
       go false e = e
 
   -- items repeated, each so often as a number says: the test may come first or last
-  pub keep_repeated : (p : A → Bool) (n : A → ℕ) (l : List A) → flat_map (λ (x : A). replicate (n x) x) (keep p l) ≡ keep p (flat_map (λ (x : A). replicate (n x) x) l)
+  pub keep_repeated : (p : A → Bool) (n : A → ℕ) (l : List A)
+      → flat_map (λ (x : A). replicate (n x) x) (keep p l) ≡ keep p (flat_map (λ (x : A). replicate (n x) x) l)
   unfolding keep flat_map
   keep_repeated p n [] = refl
   keep_repeated p n (x ∷ l) =
@@ -59,8 +63,10 @@ module _ {A : Type 0} where
       ∙ (ap (λ (r : List A). r ++ keep p (flat_map (λ (y : A). replicate (n y) y) l)) (sym (keep_replicate p (n x) x))
       ∙ sym (keep_append p (replicate (n x) x) (flat_map (λ (y : A). replicate (n y) y) l)))
     where
-      go : (b : Bool) → flat_map (λ (y : A). replicate (n y) y) (keep p l) ≡ keep p (flat_map (λ (y : A). replicate (n y) y) l)
-          → flat_map (λ (y : A). replicate (n y) y) (cond b (x ∷ keep p l) (keep p l)) ≡ cond b (replicate (n x) x) [] ++ keep p (flat_map (λ (y : A). replicate (n y) y) l)
+      go : (b : Bool)
+          → flat_map (λ (y : A). replicate (n y) y) (keep p l) ≡ keep p (flat_map (λ (y : A). replicate (n y) y) l)
+          → flat_map (λ (y : A). replicate (n y) y) (cond b (x ∷ keep p l) (keep p l))
+          ≡ cond b (replicate (n x) x) [] ++ keep p (flat_map (λ (y : A). replicate (n y) y) l)
       go true e = ap (λ (r : List A). replicate (n x) x ++ r) e
       go false e = e
 
@@ -75,14 +81,17 @@ module _ {A : Type 0} where
       above : T (ltb mark (key x)) → (y : A) → Mem y l → T (ltb mark (key y))
       above t y m = let k = ltb→lt mark (key x) t in let q = h.0 y m in lt→ltb mark (key y) (omega arith)
 
-      go : (b : Bool) → ltb mark (key x) ≡ b → keep (λ (y : A). ltb mark (key y)) l ≡ drop (place_of (λ (y : A). ltb mark (key y)) l) l
-          → cond b (x ∷ keep (λ (y : A). ltb mark (key y)) l) (keep (λ (y : A). ltb mark (key y)) l) ≡ drop (cond b 0 (suc (place_of (λ (y : A). ltb mark (key y)) l))) (x ∷ l)
+      go : (b : Bool) → ltb mark (key x) ≡ b
+          → keep (λ (y : A). ltb mark (key y)) l ≡ drop (place_of (λ (y : A). ltb mark (key y)) l) l
+          → cond b (x ∷ keep (λ (y : A). ltb mark (key y)) l) (keep (λ (y : A). ltb mark (key y)) l)
+          ≡ drop (cond b 0 (suc (place_of (λ (y : A). ltb mark (key y)) l))) (x ∷ l)
       go true e ih = ap (λ (r : List A). x ∷ r) (keep_all (λ (y : A). ltb mark (key y)) l (above (true→holds e)))
       go false e ih = ih
 
   -- ---- a stretch of a list, its last item taken off
 
-  pub stretch_last : (l : List A) (low i : ℕ) (d : A) → low ≤ i → i < length l → drop low (take (suc i) l) ≡ drop low (take i l) ++ (get_or l i d ∷ [])
+  pub stretch_last : (l : List A) (low i : ℕ) (d : A) → low ≤ i → i < length l
+      → drop low (take (suc i) l) ≡ drop low (take i l) ++ (get_or l i d ∷ [])
   stretch_last l low i d h k =
       let t = length-take-le i l (omega arith) in
       ap (drop low) (take-suc l i d k) ∙ drop-append-le low (take i l) (get_or l i d ∷ []) (omega arith)

@@ -1,6 +1,9 @@
--- The workspace of a search: what its areas hold. The tables come first (each facet's orbit; what it adds, as one list for each facet; the facets with shares of 1, as one list for
--- each ridge orbit), then the frames, the totals, the orbits in use, and the emitted lists. Facets are counted from 0 in the order of `all_facets`. Leans on Sums, Words and Pool.
-use Rattle.std.specs.Prelude.{◌≡◌, Bool, true, false, cond, ◌||◌, ℕ, zero, suc, ◌+◌, ◌-◌, ◌*◌, ◌/◌, ◌%◌, ◌≤◌, ◌<◌, ltb, eqb, length, get_or, set, take, replicate}
+-- The workspace of a search: what its areas hold. The tables come first (each facet's orbit; what it adds, as one
+-- list for each facet; the facets with shares of 1, as one list for each ridge orbit), then the frames, the totals,
+-- the orbits in use, and the emitted lists. Facets are counted from 0 in the order of `all_facets`. Leans on Sums,
+-- Words and Pool.
+use Rattle.std.specs.Prelude.{◌≡◌, Bool, true, false, cond, ◌||◌, ℕ, zero, suc, ◌+◌, ◌-◌, ◌*◌, ◌/◌, ◌%◌, ◌≤◌, ◌<◌, ltb}
+use Rattle.std.specs.Prelude.{eqb, length, get_or, set, take, replicate}
 use Rattle.std.proofs.Common.{refl, sym, ap, ◌∙◌, arith}
 use mathlib.Core.List.{List, [], ◌∷◌, map, flat_map}
 use Rattle.std.specs.Prelude.{Option, Some, None, SomeIff}
@@ -29,9 +32,11 @@ facet_of t x = get_or (all_facets t) x (0, 0)
 
 -- the facets with a share 1 in a ridge orbit, ascending, once per such share
 unfoldable pub ones_of : Table → ℕ → List ℕ
-ones_of t ridge = flat_map (λ (x : ℕ). replicate (ones_at t ridge (facet_of t x)) x) (count_from 0 (length (all_facets t)))
+ones_of t ridge =
+    flat_map (λ (x : ℕ). replicate (ones_at t ridge (facet_of t x)) x) (count_from 0 (length (all_facets t)))
 
--- the candidates of a list: of a closed one all facets, of one that is open those with shares of 1. The kind is the ridge orbit at which it is open, if any
+-- the candidates of a list: of a closed one all facets, of one that is open those with shares of 1. The kind is the
+-- ridge orbit at which it is open, if any
 unfoldable pub numbers : Table → Option ℕ → List ℕ
 numbers t None = count_from 0 (length (all_facets t))
 numbers t (Some ridge) = ones_of t ridge
@@ -92,8 +97,10 @@ pub record Tables (t : Table) (a : Areas) (os touched ones : List ℕ) : Type 0 
   pub orbit_of : os ≡ map (λ (f : Facet). f.0) (all_facets t)
   pub touched_sound : Sound 2 a.facets touched
   pub touched_count : count touched ≡ a.facets
-  pub amounts : (x : ℕ) → x < a.facets → (ridge : ℕ) → ridge < a.ridges → amount_in ridge (codes a touched x) ≡ amount t ridge (facet_of t x)
-  pub within : (x : ℕ) → x < a.facets → (i : ℕ) → i < length (codes a touched x) → get_or (codes a touched x) i 0 / 4 < a.ridges
+  pub amounts : (x : ℕ) → x < a.facets → (ridge : ℕ) → ridge < a.ridges
+      → amount_in ridge (codes a touched x) ≡ amount t ridge (facet_of t x)
+  pub within : (x : ℕ) → x < a.facets → (i : ℕ) → i < length (codes a touched x)
+      → get_or (codes a touched x) i 0 / 4 < a.ridges
   pub ones_sound : Sound 2 a.ridges ones
   pub ones_are : closed_lists 2 a.ridges ones ≡ map (ones_of t) (count_from 0 a.ridges)
 
@@ -122,10 +129,12 @@ pub record Inputs (t : Table) (a : Areas) (s : List ℕ) : Type 0 where
   pub holds : HoldsTables t a s
 
 -- the tables lie before the frames
-pub holds_kept : (t : Table) (a : Areas) (s s' : List ℕ) → AreasFit a (length s) → take a.frames s' ≡ take a.frames s → HoldsTables t a s → HoldsTables t a s'
+pub holds_kept : (t : Table) (a : Areas) (s s' : List ℕ) → AreasFit a (length s) → take a.frames s' ≡ take a.frames s
+    → HoldsTables t a s → HoldsTables t a s'
 holds_kept t a s s' f e h =
     let o : words 2 s' a.facets ≡ words 2 s a.facets =
-    sym (words_take 2 s' a.frames a.facets (omega arith)) ∙ (ap (λ (r : List ℕ). words 2 r a.facets) e ∙ words_take 2 s a.frames a.facets (omega arith)) in
+    sym (words_take 2 s' a.frames a.facets (omega arith))
+    ∙ (ap (λ (r : List ℕ). words 2 r a.facets) e ∙ words_take 2 s a.frames a.facets (omega arith)) in
     let p : touched_part a s' ≡ touched_part a s =
     sym (part_take a.frames s' a.touched (a.ones - a.touched) (omega arith))
     ∙ (ap (touched_part a) e ∙ part_take a.frames s a.touched (a.ones - a.touched) (omega arith)) in
@@ -173,7 +182,8 @@ lifted ts [] = false
 lifted ts (c ∷ cs) = ltb 2 (get_or ts (c / 4) 0 + c % 4) || lifted (set ts (c / 4) (get_or ts (c / 4) 0 + c % 4)) cs
 
 unfoldable pub with_totals : (ℕ → ℕ → ℕ) → Areas → List ℕ → ℕ → List ℕ
-with_totals by a s x = placed a.totals (a.used - a.totals) s (changed by (totals_part a s) (codes a (touched_part a s) x))
+with_totals by a s x =
+    placed a.totals (a.used - a.totals) s (changed by (totals_part a s) (codes a (touched_part a s) x))
 
 unfoldable pub with_use : Areas → List ℕ → ℕ → ℕ → List ℕ
 with_use a s x v = placed a.used (a.lists - a.used) s (set (used_part a s) (number_at s (2 * x) 2) v)

@@ -17,7 +17,8 @@ pub enum Verdict {
     Closed,
 }
 
-// How many facets, ridge orbits and orbits there are, how many lists may be emitted, and where in the workspace each area begins.
+// How many facets, ridge orbits and orbits there are, how many lists may be emitted, and where in the workspace each
+// area begins.
 #[derive(Clone, Copy)]
 pub struct Areas {
     pub facets: usize,
@@ -33,11 +34,12 @@ pub struct Areas {
     pub end: usize,
 }
 
-// The areas that are read. An area that is written is a range of the workspace where it is written: of a method that hands out a part of a `&mut` slice the check proves no clause.
-// What writes takes the workspace and the areas side by side, here and in the crates of the search: of a struct that held both and is lent to be written, each contract would have to say
-// besides that the areas and the loan are as they were.
-// That the areas fit is a clause of each, as it is of what reads beside them in the crates of the search: a struct of the workspace, the areas and that fact would be made anew for each call,
-// since the search writes the workspace between two.
+// The areas that are read. An area that is written is a range of the workspace where it is written: of a method that
+// hands out a part of a `&mut` slice the check proves no clause. What writes takes the workspace and the areas side
+// by side, here and in the crates of the search: of a struct that held both and is lent to be written, each contract
+// would have to say besides that the areas and the loan are as they were. That the areas fit is a clause of each, as
+// it is of what reads beside them in the crates of the search: a struct of the workspace, the areas and that fact
+// would be made anew for each call, since the search writes the workspace between two.
 impl Areas {
     // What each facet adds, one list for each facet.
     pub fn touched(self, ws: &[u8]) -> &[u8]
@@ -71,7 +73,8 @@ fn lowest(totals: &[u8]) -> Option<usize>
     totals.iter().position(|total| *total == 1)
 }
 
-// The verdict from the totals and from whether one is above 2: then over, else open at the lowest total of 1, else closed. The scan ends at that total.
+// The verdict from the totals and from whether one is above 2: then over, else open at the lowest total of 1, else
+// closed. The scan ends at that total.
 pub fn judge_totals(totals: &[u8], over: bool) -> Verdict
     requires { (length totals.now < 65536) × (over ≡ any_of (ltb 2) totals.now) }
     ensures { verdict result ≡ judge totals.now }

@@ -1,6 +1,7 @@
 -- The turns of loops that write: the words of one item more. Leans on the lists of the laws.
 use Rattle.std.specs.List.{filter, list_any, range_with_len}
-use Rattle.std.specs.Prelude.{◌≡◌, Bool, ◌||◌, cond, refl, ℕ, zero, suc, ◌+◌, ◌-◌, ◌/◌, ◌%◌, ◌<◌, length, get_or, take, drop}
+use Rattle.std.specs.Prelude.{◌≡◌, Bool, ◌||◌, cond, refl, ℕ, zero, suc, ◌+◌, ◌-◌, ◌/◌, ◌%◌, ◌<◌, length, get_or, take}
+use Rattle.std.specs.Prelude.{drop}
 use Rattle.std.proofs.Common.{sym, ap, ◌∙◌, add-one, arith, length-drop, take_all}
 use mathlib.Core.List.{List, [], ◌∷◌, ◌++◌, map, flat_map, append-nil, map-append}
 use Rattle.std.proofs.lemmas.List.{length-map}
@@ -9,7 +10,7 @@ use Rattle.definitions.specs.Job.{figure_words}
 use Rattle.laws.specs.Lists as counted
 use Rattle.laws.specs.Lists.{flat_map_append}
 use Rattle.laws.specs.Parts.{take_more}
-use Rattle.openers.specs.Meaning.{pair_of}
+use Rattle.rows.specs.Codes.{pair_of}
 use Rattle.shapes.specs.Edges.{edge_figure}
 use Rattle.shapes.specs.EdgeSets.{polygon}
 use Rattle.shapes.specs.FigureWords.{point_words, edge_words, body_words, edge_words_holds, polygon_words_holds}
@@ -26,21 +27,21 @@ points_more n = grow n ∙ ap point_words (sym (add-one n))
     grow (suc n) = ap (λ (l : List ℕ). 1 ∷ 0 ∷ l) (grow n)
 
 -- the words of the first items of a list, and of one more
-pub flat_more : {A B : Type 0} (f : A → List B) (l : List A) (i : ℕ) (z : A) → i < length l → flat_map f (take i l) ++ f (get_or l i z) ≡ flat_map f (take (i + 1) l)
+pub flat_more : {A B : Type 0} (f : A → List B) (l : List A) (i : ℕ) (z : A) → i < length l
+    → flat_map f (take i l) ++ f (get_or l i z) ≡ flat_map f (take (i + 1) l)
 unfolding flat_map
 flat_more f l i z h =
-    sym (ap (flat_map f) (take_more l i z h) ∙ (flat_map_append f (take i l) (get_or l i z ∷ []) ∙ ap (λ r. flat_map f (take i l) ++ r) (append-nil (f (get_or l i z)))))
+    sym (ap (flat_map f) (take_more l i z h) ∙ (flat_map_append f (take i l) (get_or l i z ∷ [])
+    ∙ ap (λ r. flat_map f (take i l) ++ r) (append-nil (f (get_or l i z)))))
 
 -- the edges with these codes, and with more
-pub edges_append : (codes others : List ℕ) → edge_words (map pair_of (codes ++ others)) ≡ edge_words (map pair_of codes) ++ edge_words (map pair_of others)
+pub edges_append : (codes others : List ℕ)
+    → edge_words (map pair_of (codes ++ others)) ≡ edge_words (map pair_of codes) ++ edge_words (map pair_of others)
 unfolding edge_words
 edges_append codes others =
     let words : Pair → List ℕ = λ e. 2 ∷ e.0 ∷ e.1 ∷ [] in
-    ap (flat_map words) (map-append pair_of codes others) ∙ flat_map_append words (map pair_of codes) (map pair_of others)
-
--- one more
-pub edges_more : (codes : List ℕ) (i : ℕ) → i < length codes → edge_words (map pair_of (take i codes)) ++ edge_words (pair_of (get_or codes i 0) ∷ []) ≡ edge_words (map pair_of (take (i + 1) codes))
-edges_more codes i h = sym (ap (λ (l : List ℕ). edge_words (map pair_of l)) (take_more codes i 0 h) ∙ edges_append (take i codes) (get_or codes i 0 ∷ []))
+    ap (flat_map words) (map-append pair_of codes others)
+    ∙ flat_map_append words (map pair_of codes) (map pair_of others)
 
 pub edges_none : edge_words [] ≡ []
 unfolding edge_words flat_map
@@ -82,12 +83,14 @@ module _ {A : Type 0} (p : A → Bool) where
 
 -- ---- figures
 
-pub edge_figure_holds : (code : ℕ) → 3 ∷ 1 ∷ 0 ∷ 2 ∷ point_words 2 ++ (1 ∷ edge_words (pair_of code ∷ [])) ≡ figure_words (edge_figure (pair_of code))
+pub edge_figure_holds : (code : ℕ) → 3 ∷ 1 ∷ 0 ∷ 2 ∷ point_words 2 ++ (1 ∷ edge_words (pair_of code ∷ []))
+    ≡ figure_words (edge_figure (pair_of code))
 unfolding point_words edge_words flat_map
 edge_figure_holds code = sym (edge_words_holds (pair_of code))
 
 pub polygon_is : (n many : ℕ) (codes : List ℕ) → many ≡ length codes
-    → 4 ∷ 1 ∷ 0 ∷ n ∷ point_words n ++ (many ∷ edge_words (map pair_of codes) ++ body_words many) ≡ figure_words (polygon n (map pair_of codes))
+    → 4 ∷ 1 ∷ 0 ∷ n ∷ point_words n ++ (many ∷ edge_words (map pair_of codes) ++ body_words many)
+    ≡ figure_words (polygon n (map pair_of codes))
 polygon_is n many codes e =
     let l : many ≡ length (map pair_of codes) = e ∙ sym (length-map codes pair_of) in
     rw l (sym (polygon_words_holds n (map pair_of codes)))

@@ -1,5 +1,6 @@
-// The words of a figure into an answer: points, edges, a body, a whole edge or polygon. Every function takes the answer's writer; its contract names the words that it writes behind those
-// that stand there (`Writes`). Words for which there is no room are dropped, and the writer's cursor tells.
+// The words of a figure into an answer: points, edges, a body, a whole edge or polygon. Every function takes the
+// answer's writer; its contract names the words that it writes behind those that stand there (`Writes`). Words for
+// which there is no room are dropped, and the writer's cursor tells.
 
 #![tactic(auto)]
 
@@ -8,7 +9,7 @@ ghost use Rattle.words.specs.Wrote.{Writes};
 ghost use Rattle.pool.specs.Pool.{count};
 ghost use Rattle.definitions.specs.Job.{figure_words};
 ghost use Rattle.order.specs.Areas.{list_at};
-ghost use Rattle.openers.specs.Meaning.{pair_of};
+ghost use Rattle.rows.specs.Codes.{pair_of};
 ghost use Rattle.shapes.specs.Edges.{edge_figure};
 ghost use Rattle.shapes.specs.EdgeSets.{polygon};
 ghost use Rattle.shapes.specs.FigureWords.{point_words, edge_words, body_words};
@@ -38,7 +39,8 @@ pub fn write_head(w: &mut Writer, ranks: u32, n: usize)
     write_points(w, n);
 }
 
-// The ends of the edge with a code, 20 v + w: packed, since the lists of codes lie in bytes of the workspace that a caller lends (no heap), and taken apart here, where it is used.
+// The ends of the edge with a code, 20 v + w: packed, since the lists of codes lie in bytes of the workspace that a
+// caller lends (no heap), and taken apart here, where it is used.
 pub fn write_edge(w: &mut Writer, code: usize)
     requires { code < 65536 }
     ensures { Writes w.old w.new (edge_words (pair_of code ∷ [])) }
@@ -83,7 +85,8 @@ pub fn write_edge_figure(w: &mut Writer, code: usize)
 // The polygon over n points with the edges whose codes are list k of a pool.
 pub fn write_polygon(w: &mut Writer, n: usize, pool: Pool, k: usize)
     requires { (n < 4294967296) × (k < count pool.bytes.now) }
-    ensures { Writes w.old w.new (figure_words (polygon n (map pair_of (list_at pool.entry.most pool.entry.bytes.now k)))) }
+    ensures { Writes w.old w.new
+        (figure_words (polygon n (map pair_of (list_at pool.entry.most pool.entry.bytes.now k)))) }
 {
     let edges = pool.length(k);
     write_head(w, 4, n);

@@ -1,4 +1,5 @@
-// `filter_irc` on sorted lists of numbered facets: the entries in which no other is found. Leans on the walk of `label_irc`, and on the order of the lists.
+// `filter_irc` on sorted lists of numbered facets: the entries in which no other is found. Leans on the walk of
+// `label_irc`, and on the order of the lists.
 
 #![tactic(auto)]
 
@@ -14,17 +15,16 @@ ghost use Rattle.filter.specs.Found.{Begun, Filters};
 ghost use Rattle.filter.specs.Noted.{Noted};
 
 use order::{Area, Lists};
+use pool::MOST_LISTS;
 use words::Word;
-
-// So many lists at most.
-const LISTS: usize = 1024;
 
 // ---- what each list has in common with the one before it
 
 // How many items the lists at places k and k + 1 have in common, from the first on.
 fn shared_items(lists: Lists, k: usize) -> usize
     requires { k + 1 < lists.area.count }
-    ensures { result ≡ shared (list_of lists.entry.area lists.entry.bytes.now k) (list_of lists.entry.area lists.entry.bytes.now (k + 1)) }
+    ensures { result ≡ shared (list_of lists.entry.area lists.entry.bytes.now k)
+        (list_of lists.entry.area lists.entry.bytes.now (k + 1)) }
 {
     let m = lists.length(k);
     let n = lists.length(k + 1);
@@ -34,7 +34,7 @@ fn shared_items(lists: Lists, k: usize) -> usize
 }
 
 // For each list but the first, at its place, how many items it has in common with the one before it.
-fn note_shared(lists: Lists, notes: &mut [usize; LISTS])
+fn note_shared(lists: Lists, notes: &mut [usize; MOST_LISTS])
     requires { lists.area.count ≤ 1024 }
     ensures { Noted (lists_of lists.entry.area lists.entry.bytes.now) lists.entry.area.count notes.new }
 {
@@ -45,11 +45,16 @@ fn note_shared(lists: Lists, notes: &mut [usize; LISTS])
 
 // ---- filter_irc
 
-// Whether some other list is found in the list at place a, none of those before the start being found there [18.2]. The lists ascend: behind one
-// that begins above list a every list begins above it, and none of them is found in it. A list that begins as the one before it does, up to and
-// with the first item of that one that is not found, is not found either. That the lists ascend stays a clause: the workspace that it speaks of is written between two calls.
-fn finds_other(lists: Lists, notes: &[usize; LISTS], a: usize, start: usize) -> bool
-    requires { AllAscending (lists_of lists.area lists.bytes.now) × (a < lists.area.count) × Begun (lists_of lists.area lists.bytes.now) a start × (lists.area.count ≤ 1024) × Noted (lists_of lists.area lists.bytes.now) lists.area.count notes.now }
+// Whether some other list is found in the list at place a, none of those before the start being found there [18.2].
+// The lists ascend: behind one that begins above list a every list begins above it, and none of them is found in it.
+// A list that begins as the one before it does, up to and with the first item of that one that is not found, is not
+// found either. That the lists ascend stays a clause: the workspace that it speaks of is written between two calls.
+fn finds_other(lists: Lists, notes: &[usize; MOST_LISTS], a: usize, start: usize) -> bool
+    requires { AllAscending (lists_of lists.area lists.bytes.now)
+        × (a < lists.area.count)
+        × Begun (lists_of lists.area lists.bytes.now) a start
+        × (lists.area.count ≤ 1024)
+        × Noted (lists_of lists.area lists.bytes.now) lists.area.count notes.now }
     ensures { result ≡ finds_other compare (lists_of lists.entry.area lists.entry.bytes.now) a }
 {
     // how many items of the list before were found, once a walk was made
@@ -71,10 +76,10 @@ fn finds_other(lists: Lists, notes: &[usize; LISTS], a: usize, start: usize) -> 
     false
 }
 
-// The places of the lists in which no other is found, as `filter_irc` writes them. A list that begins below list a is found neither in it nor in a
-// later list, so that no search looks at it again. How many are kept is counted by hand: each is written behind those kept before, and a chain that picks them would hold the workspace
-// that is written.
-fn filter_noted(ws: &mut [u8], notes: &[usize; LISTS], area: Area, at: usize) -> usize
+// The places of the lists in which no other is found, as `filter_irc` writes them. A list that begins below list a is
+// found neither in it nor in a later list, so that no search looks at it again. How many are kept is counted by hand:
+// each is written behind those kept before, and a chain that picks them would hold the workspace that is written.
+fn filter_noted(ws: &mut [u8], notes: &[usize; MOST_LISTS], area: Area, at: usize) -> usize
     requires { Filters area at ws.old × Noted (lists_of area ws.old) area.count notes.now }
     ensures many { result ≡ length (filter_irc compare (lists_of area ws.old)) }
     ensures numbers { ws.new ≡ sets ws.old at (run 4 (filter_irc compare (lists_of area ws.old))) }
@@ -92,13 +97,14 @@ fn filter_noted(ws: &mut [u8], notes: &[usize; LISTS], area: Area, at: usize) ->
     many
 }
 
-// The places of the lists in which no other is found, ascending, as u32 from place `at` on, and how many they are [18.2].
+// The places of the lists in which no other is found, ascending, as u32 from place `at` on, and how many they are
+// [18.2].
 pub fn filter_irc(ws: &mut [u8], area: Area, at: usize) -> usize
     requires { Filters area at ws.old }
     ensures many { result ≡ length (filter_irc compare (lists_of area ws.old)) }
     ensures numbers { ws.new ≡ sets ws.old at (run 4 (filter_irc compare (lists_of area ws.old))) }
 {
-    let mut notes = [0; LISTS];
+    let mut notes = [0; MOST_LISTS];
     note_shared(Lists { bytes: ws, area }, &mut notes);
     filter_noted(ws, &notes, area, at)
 }

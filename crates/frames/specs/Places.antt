@@ -1,4 +1,5 @@
--- The frames' bytes: a place taken or a frame written at one depth, and what the frames below stand for. Leans on Layout and Words.
+-- The frames' bytes: a place taken or a frame written at one depth, and what the frames below stand for. Leans on
+-- Layout and Words.
 use Rattle.std.specs.Prelude.{◌≡◌, Option, ◌⊎◌, List, ◌∷◌, map, length}
 use Rattle.std.proofs.Math.Path.{refl, ap}
 use Rattle.std.proofs.Common.{sym, ◌∙◌}
@@ -10,7 +11,8 @@ use Rattle.definitions.specs.Search.{Table}
 use Rattle.words.specs.Words.{put, put_length, number_at_put, number_at_put_off}
 use Rattle.facets.specs.Frames.{moved}
 use Rattle.facets.specs.Layout.{facet_of, ridge_of, code_of, ridge_of_code}
-use Rattle.frames.specs.Paths.{path, list_to, frame_at, frames_to, place_at, low_at, mark_at, kind_at, taken_at, with_place, with_frame}
+use Rattle.frames.specs.Paths.{path, list_to, frame_at, frames_to, place_at, low_at, mark_at, kind_at, taken_at}
+use Rattle.frames.specs.Paths.{with_place, with_frame}
 
 -- the first k frames are the same, byte for byte
 abbrev pub SameFrames : List ℕ → List ℕ → ℕ → Type 0
@@ -45,7 +47,14 @@ module _ (p q : List ℕ) (k : ℕ) (b : SameFrames p q k) where
 
   pub same_frame : (t : Table) (j : ℕ) → j < k → frame_at t q j ≡ frame_at t p j
   unfolding frame_at low_at mark_at
-  same_frame t j h = rw (same_list t j (omega arith), b j 8 2 h (omega arith), same_kind j h, b j 4 4 h (omega arith), same_place j h) refl
+  same_frame t j h =
+      rw (
+        same_list t j (omega arith),
+        b j 8 2 h (omega arith),
+        same_kind j h,
+        b j 4 4 h (omega arith),
+        same_place j h,
+      ) refl
 
   pub same_frames : (t : Table) (j : ℕ) → j ≤ k → frames_to t q j ≡ frames_to t p j
   unfolding frames_to
@@ -54,7 +63,8 @@ module _ (p q : List ℕ) (k : ℕ) (b : SameFrames p q k) where
 
 -- ---- a place taken
 
-module _ (p : List ℕ) (k place x : ℕ) (room : 16 * k + 16 ≤ length p) (small : place < 4294967296) (few : x < 65536) where
+module _ (p : List ℕ) (k place x : ℕ) (room : 16 * k + 16 ≤ length p) (small : place < 4294967296)
+    (few : x < 65536) where
   abbrev q : List ℕ
   q = with_place p k place x
 
@@ -69,7 +79,8 @@ module _ (p : List ℕ) (k place x : ℕ) (room : 16 * k + 16 ≤ length p) (sma
   place_length = put_length 2 p1 (16 * k + 12) x ∙ length_1
 
   -- a number beside the two
-  beside : (i w : ℕ) → (i + w ≤ 16 * k) ⊎ (16 * k + 4 ≤ i) → (i + w ≤ 16 * k + 12) ⊎ (16 * k + 14 ≤ i) → number_at q i w ≡ number_at p i w
+  beside : (i w : ℕ) → (i + w ≤ 16 * k) ⊎ (16 * k + 4 ≤ i) → (i + w ≤ 16 * k + 12) ⊎ (16 * k + 14 ≤ i)
+      → number_at q i w ≡ number_at p i w
   unfolding with_place
   beside i w a b = number_at_put_off 2 p1 (16 * k + 12) x i w (later b) ∙ number_at_put_off 4 p (16 * k) place i w a
     where
@@ -82,7 +93,9 @@ module _ (p : List ℕ) (k place x : ℕ) (room : 16 * k + 16 ≤ length p) (sma
 
   pub place_is : place_at q k ≡ place
   unfolding with_place place_at
-  place_is = number_at_put_off 2 p1 (16 * k + 12) x (16 * k) 4 (inl (omega arith)) ∙ number_at_put 4 p (16 * k) place (omega arith) small
+  place_is =
+      number_at_put_off 2 p1 (16 * k + 12) x (16 * k) 4 (inl (omega arith))
+      ∙ number_at_put 4 p (16 * k) place (omega arith) small
 
   pub place_taken : taken_at q k ≡ x
   unfolding with_place taken_at
@@ -110,7 +123,8 @@ module _ (p : List ℕ) (k place x : ℕ) (room : 16 * k + 16 ≤ length p) (sma
 
 -- ---- a frame written
 
-module _ (p : List ℕ) (k place low mark : ℕ) (kind : Option ℕ) (room : 16 * k + 16 ≤ length p) (a : place < 4294967296) (b : low < 4294967296) (c : mark < 65536) (d : code_of kind < 65536) where
+module _ (p : List ℕ) (k place low mark : ℕ) (kind : Option ℕ) (room : 16 * k + 16 ≤ length p)
+    (a : place < 4294967296) (b : low < 4294967296) (c : mark < 65536) (d : code_of kind < 65536) where
   abbrev r : List ℕ
   r = with_frame p k place low mark kind
 
@@ -141,29 +155,49 @@ module _ (p : List ℕ) (k place low mark : ℕ) (kind : Option ℕ) (room : 16 
   frame_below j o w h l =
       number_at_put_off 2 r3 (16 * k + 10) (code_of kind) (16 * j + o) w (inl (omega arith))
       ∙ (number_at_put_off 2 r2 (16 * k + 8) mark (16 * j + o) w (inl (omega arith))
-      ∙ (number_at_put_off 4 r1 (16 * k + 4) low (16 * j + o) w (inl (omega arith)) ∙ number_at_put_off 4 p (16 * k) place (16 * j + o) w (inl (omega arith))))
+      ∙ (number_at_put_off 4 r1 (16 * k + 4) low (16 * j + o) w (inl (omega arith))
+      ∙ number_at_put_off 4 p (16 * k) place (16 * j + o) w (inl (omega arith))))
 
   pub frame_place : place_at r k ≡ place
   unfolding with_frame place_at
   frame_place =
       number_at_put_off 2 r3 (16 * k + 10) (code_of kind) (16 * k) 4 (inl (omega arith))
       ∙ (number_at_put_off 2 r2 (16 * k + 8) mark (16 * k) 4 (inl (omega arith))
-      ∙ (number_at_put_off 4 r1 (16 * k + 4) low (16 * k) 4 (inl (omega arith)) ∙ number_at_put 4 p (16 * k) place (omega arith) a))
+      ∙ (number_at_put_off 4 r1 (16 * k + 4) low (16 * k) 4 (inl (omega arith))
+      ∙ number_at_put 4 p (16 * k) place (omega arith) a))
 
   frame_low : low_at r k ≡ low
   unfolding with_frame low_at
   frame_low =
       number_at_put_off 2 r3 (16 * k + 10) (code_of kind) (16 * k + 4) 4 (inl (omega arith))
-      ∙ (number_at_put_off 2 r2 (16 * k + 8) mark (16 * k + 4) 4 (inl (omega arith)) ∙ number_at_put 4 r1 (16 * k + 4) low (omega (arith, long_1)) b)
+      ∙ (number_at_put_off 2 r2 (16 * k + 8) mark (16 * k + 4) 4 (inl (omega arith))
+      ∙ number_at_put 4 r1 (16 * k + 4) low (omega (arith, long_1)) b)
 
   frame_mark : mark_at r k ≡ mark
   unfolding with_frame mark_at
-  frame_mark = number_at_put_off 2 r3 (16 * k + 10) (code_of kind) (16 * k + 8) 2 (inl (omega arith)) ∙ number_at_put 2 r2 (16 * k + 8) mark (omega (arith, long_2)) c
+  frame_mark =
+      number_at_put_off 2 r3 (16 * k + 10) (code_of kind) (16 * k + 8) 2 (inl (omega arith))
+      ∙ number_at_put 2 r2 (16 * k + 8) mark (omega (arith, long_2)) c
 
   pub frame_kind : kind_at r k ≡ kind
   unfolding with_frame kind_at
-  frame_kind = ap ridge_of (number_at_put 2 r3 (16 * k + 10) (code_of kind) (omega (arith, long_3)) d) ∙ ridge_of_code kind
+  frame_kind =
+      ap ridge_of (number_at_put 2 r3 (16 * k + 10) (code_of kind) (omega (arith, long_3)) d) ∙ ridge_of_code kind
 
-  pub frame_frames : (t : Table) → frames_to t r (suc k) ≡ record { list = list_to t p k; mark = mark; ridge = kind; low = low; place = place } ∷ frames_to t p k
+  pub frame_frames : (t : Table) → frames_to t r (suc k) ≡ record {
+    list = list_to t p k;
+    mark = mark;
+    ridge = kind;
+    low = low;
+    place = place;
+  } ∷ frames_to t p k
   unfolding frames_to frame_at
-  frame_frames t = rw (same_list p r k frame_below t k (omega arith), frame_mark, frame_kind, frame_low, frame_place, same_frames p r k frame_below t k (omega arith)) refl
+  frame_frames t =
+      rw (
+        same_list p r k frame_below t k (omega arith),
+        frame_mark,
+        frame_kind,
+        frame_low,
+        frame_place,
+        same_frames p r k frame_below t k (omega arith),
+      ) refl

@@ -1,12 +1,12 @@
 // The frames of a search's path in bytes: for each depth the place of the facet that was taken among its candidates.
 // The frames together stand for the lists put in and not yet examined, so that no such list waits in memory. What the
-// steps of a search make of them stands in specs/. A frame has 16 bytes: the place (4 bytes), the lowest place (4), the
-// mark (2), the kind (2), the facet taken (2). It is packed, since the frames lie in the bytes of the workspace that a
-// caller lends: no heap. `k` is the number of a frame, no length of the bytes beside it; that frame k lies in them is a
-// clause of each function, since k is another one at each call.
-// No struct of the five fields is read and put whole. Who reads asks one to three of them: the facet taken alone, or the
-// kind alone; the kind with the mark or the facet taken; the kind, the place and the lowest place. `put_frame` puts four,
-// `take_place` two. To read a frame whole is to read what is not asked, in the loop of the search.
+// steps of a search make of them stands in specs/. A frame has 16 bytes: the place (4 bytes), the lowest place (4),
+// the mark (2), the kind (2), the facet taken (2). It is packed, since the frames lie in the bytes of the workspace
+// that a caller lends: no heap. `k` is the number of a frame, no length of the bytes beside it; that frame k lies in
+// them is a clause of each function, since k is another one at each call. No struct of the five fields is read and
+// put whole. Who reads asks one to three of them: the facet taken alone, or the kind alone; the kind with the mark or
+// the facet taken; the kind, the place and the lowest place. `put_frame` puts four, `take_place` two. To read a frame
+// whole is to read what is not asked, in the loop of the search.
 
 #![tactic(auto)]
 

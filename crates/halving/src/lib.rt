@@ -1,12 +1,13 @@
-// The first place at which a test fails, found by halving. What is searched here lies in bytes, or is found by way of numbers: it is no slice of elements, such as the library's
-// `partition_point` searches.
+// The first place at which a test fails, found by halving. What is searched here lies in bytes, or is found by way of
+// numbers: it is no slice of elements, such as the library's `partition_point` searches.
 
 #![tactic(auto)]
 
 ghost use Rattle.std.specs.Prelude.{◌≡◌, true, false, ℕ, ◌+◌, ◌≤◌, ◌<◌};
 
-// A place from 0 to n: the test holds just before it, unless it is 0, and fails at it, unless it is n. Where no place passes behind one that fails, it is the first that fails.
-// Half of what is left is ruled out at a time. No `for`: the two ends move by halves.
+// A place from 0 to n: the test holds just before it, unless it is 0, and fails at it, unless it is n. Where no place
+// passes behind one that fails, it is the first that fails. Half of what is left is ruled out at a time. No `for`:
+// the two ends move by halves.
 pub fn first_not<F: Fn(usize) -> bool>(n: usize, test: F) -> usize
     requires { (i : ℕ) → i < n → F.pre test i }
     ensures within { result ≤ n }

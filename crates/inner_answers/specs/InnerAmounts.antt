@@ -1,4 +1,5 @@
--- How much is kept of one inner call: from its answer alone. Leans on Amounts and on the sizes of answers of rank 2 and 3.
+-- How much is kept of one inner call: from its answer alone. Leans on Amounts and on the sizes of answers of rank 2
+-- and 3.
 use Rattle.std.specs.Prelude.{◌≡◌}
 use Rattle.std.proofs.Common.{◌∙◌, subst}
 use Rattle.std.proofs.Math.Path.{ap}
@@ -27,7 +28,7 @@ use Rattle.shapes.proofs.EntryFigures.{entry_polygon}
 use Rattle.shapes.specs.KeptSizes.{two_few}
 use Rattle.shapes.proofs.KeptSizes.{answer_sized, few_counts}
 use Rattle.shapes.specs.Kept.{kept_of}
-use Rattle.shelf.specs.Keeps.{ridge_code, ridge_codes}
+use Rattle.layout.specs.Keeps.{ridge_code, ridge_codes}
 use Rattle.keep.specs.Rooms.{kept_evenly}
 use Rattle.inner_answers.specs.Amounts.{OrbitAmounts, most_at}
 
@@ -44,7 +45,8 @@ module _ (i : Inner) where
   codes_few = zip_few ridge_code (kept_of i).ends i.answer.counts
 
   -- a facet's places and edges, from its entry
-  places_of_holds : (b : ℕ) → ((e : Entry) → Mem e i.answer.entries → length e.list ≤ b) → (l : List ℕ) → Mem l (kept_of i).places → length l ≤ b
+  places_of_holds : (b : ℕ) → ((e : Entry) → Mem e i.answer.entries → length e.list ≤ b) → (l : List ℕ)
+      → Mem l (kept_of i).places → length l ≤ b
   unfolding kept_of
   places_of_holds b h l m =
       let r = of_map (λ (e : Entry). map (λ (place : Pair). place.0) e.list) l i.answer.entries m in
@@ -52,7 +54,9 @@ module _ (i : Inner) where
       let k = h r.0 r.1 in
       omega arith
 
-  edges_of_holds : (c : ℕ) → ((e : Entry) → Mem e i.answer.entries → length (edge_pairs (move_ends (λ (v : ℕ). get_or i.orbit.vertices v 0) e.figure)) ≤ c) → (l : List Pair) → Mem l (kept_of i).edges → length l ≤ c
+  edges_of_holds : (c : ℕ) → ((e : Entry) → Mem e i.answer.entries
+      → length (edge_pairs (move_ends (λ (v : ℕ). get_or i.orbit.vertices v 0) e.figure)) ≤ c) → (l : List Pair)
+      → Mem l (kept_of i).edges → length l ≤ c
   unfolding kept_of possible_facets
   edges_of_holds c h l m =
       let to : ℕ → ℕ = λ v. get_or i.orbit.vertices v 0 in
@@ -63,7 +67,8 @@ module _ (i : Inner) where
       omega arith
 
 -- an inner call of rank 2
-pub two_amounts : (rules : Rules) (plane : Subspace) (points : List Vec) (rows : List Row) (budget : ℕ) (i : Inner) → faceting 0 rules plane points rows budget ≡ answered i.answer → OrbitAmounts (most_at 0) (kept_of i)
+pub two_amounts : (rules : Rules) (plane : Subspace) (points : List Vec) (rows : List Row) (budget : ℕ) (i : Inner)
+    → faceting 0 rules plane points rows budget ≡ answered i.answer → OrbitAmounts (most_at 0) (kept_of i)
 unfolding edge_pairs rank_of move_ends dyad most_at kept_of
 two_amounts rules plane points rows budget i e =
     let r = rank_two rules plane points rows budget i.answer e in
@@ -71,13 +76,21 @@ two_amounts rules plane points rows budget i e =
     let n : length i.answer.counts ≡ r.ends = ap length r.counts ∙ length-replicate r.ends (2 / r.ends) in
     record {
       ridges = let k = codes_few i in omega arith;
-      facets = let k = length-map i.answer.entries (λ (x : Entry). map (λ (place : Pair). place.0) x.list) in let q = ap length r.entries in omega arith;
+      facets =
+          let k = length-map i.answer.entries (λ (x : Entry). map (λ (place : Pair). place.0) x.list) in
+          let q = ap length r.entries in
+          omega arith;
       places = places_of_holds i 2 (λ x m. list_few r few n x (subst (λ (es : List Entry). Mem x es) r.entries m));
       edges = edges_of_holds i 1 (λ x m. edge_one x (subst (λ (es : List Entry). Mem x es) r.entries m));
       edges_many = kept_evenly i;
     }
   where
-    list_few : (r : RankTwo budget i.answer) → length i.answer.counts ≤ 2 → length i.answer.counts ≡ r.ends → (x : Entry) → Mem x (record { list = map (λ (v : ℕ). (v, 0)) (count_from 0 r.ends); before = map (λ (v : ℕ). (v, 0)) (count_from 0 r.ends); figure = dyad } ∷ []) → length x.list ≤ 2
+    list_few : (r : RankTwo budget i.answer) → length i.answer.counts ≤ 2 → length i.answer.counts ≡ r.ends
+        → (x : Entry) → Mem x (record {
+          list = map (λ (v : ℕ). (v, 0)) (count_from 0 r.ends);
+          before = map (λ (v : ℕ). (v, 0)) (count_from 0 r.ends);
+          figure = dyad;
+        } ∷ []) → length x.list ≤ 2
     list_few r few n x (Memᴰ.head q) =
         let k = ap (λ (y : Entry). length y.list) q in
         let c = length-map {B = Pair} (count_from 0 r.ends) (λ (v : ℕ). (v, 0)) in
@@ -85,13 +98,19 @@ two_amounts rules plane points rows budget i e =
         omega arith
     list_few r few n x (Memᴰ.tail m) = elim m [ ]
 
-    edge_one : {list : List Pair} (x : Entry) → Mem x (record { list = list; before = list; figure = dyad } ∷ []) → length (edge_pairs (move_ends (λ (v : ℕ). get_or i.orbit.vertices v 0) x.figure)) ≤ 1
-    edge_one x (Memᴰ.head q) = let k = ap (λ (y : Entry). length (edge_pairs (move_ends (λ (v : ℕ). get_or i.orbit.vertices v 0) y.figure))) q in omega arith
+    edge_one : {list : List Pair} (x : Entry) → Mem x (record { list = list; before = list; figure = dyad } ∷ [])
+        → length (edge_pairs (move_ends (λ (v : ℕ). get_or i.orbit.vertices v 0) x.figure)) ≤ 1
+    edge_one x (Memᴰ.head q) =
+        let k =
+        ap (λ (y : Entry). length (edge_pairs (move_ends (λ (v : ℕ). get_or i.orbit.vertices v 0) y.figure))) q in
+        omega arith
     edge_one x (Memᴰ.tail m) = elim m [ ]
 
 -- an inner call of rank 3 on 20 points at most
-pub three_amounts : (rules : Rules) (plane : Subspace) (points : List Vec) (rows : List Row) (budget : ℕ) (i : Inner) → Given points rows → length points ≤ 20
-    → faceting 1 rules plane points rows budget ≡ answered i.answer → rules.bounds.entries ≤ 1024 → OrbitAmounts (most_at 1) (kept_of i)
+pub three_amounts : (rules : Rules) (plane : Subspace) (points : List Vec) (rows : List Row) (budget : ℕ) (i : Inner)
+    → Given points rows → length points ≤ 20
+    → faceting 1 rules plane points rows budget ≡ answered i.answer → rules.bounds.entries ≤ 1024
+    → OrbitAmounts (most_at 1) (kept_of i)
 unfolding most_at kept_of
 three_amounts rules plane points rows budget i given small e bound =
     let few = few_counts 1 rules plane points rows budget i.answer (omega arith) small e in
@@ -100,13 +119,17 @@ three_amounts rules plane points rows budget i given small e bound =
     let to : ℕ → ℕ = λ v. get_or i.orbit.vertices v 0 in
     record {
       ridges = let k = codes_few i in omega arith;
-      facets = let k = length-map i.answer.entries (λ (x : Entry). map (λ (place : Pair). place.0) x.list) in let q = few_entries_holds 0 rules plane points rows i.answer c in omega arith;
+      facets =
+          let k = length-map i.answer.entries (λ (x : Entry). map (λ (place : Pair). place.0) x.list) in
+          let q = few_entries_holds 0 rules plane points rows i.answer c in
+          omega arith;
       places = places_of_holds i 190 (λ x m. let k = sized.few x m in omega arith);
       edges = edges_of_holds i 190 (λ x m.
           let p = entry_polygon rules plane points rows i.answer given c x m in
-          let figure : move_ends to x.figure ≡ polygon (length points) (map (ends_via to) p.0) = ap (move_ends to) p.1 ∙ polygon_raised to (length points) p.0 in
-          let n = ap (λ (f : Figure). length (edge_pairs f)) figure ∙ (ap length (polygon_edges (length points) (map (ends_via to) p.0)) ∙ length-map p.0 (ends_via to)) in
-          let k = pairs_few (length points) (length p.0) small (edges_few (length points) p.0 p.2) in
-          omega arith);
+          let figure : move_ends to x.figure ≡ polygon (length points) (map (ends_via to) p.0) = ap (move_ends to) p.1
+          ∙ polygon_raised to (length points) p.0 in
+          let n = ap (λ (f : Figure). length (edge_pairs f)) figure
+          ∙ (ap length (polygon_edges (length points) (map (ends_via to) p.0)) ∙ length-map p.0 (ends_via to)) in
+          let k = pairs_few (length points) (length p.0) small (edges_few (length points) p.0 p.2) in omega arith);
       edges_many = kept_evenly i;
     }

@@ -2,8 +2,8 @@ pub mod Amounts
 pub mod InnerAmounts
 pub mod State
 pub mod InnerLeft
-pub mod Turns
+pub mod OrbitSteps
 pub mod Spaces
-pub mod Says
+pub mod AnswerMatches
 pub mod Keeping
 pub mod Stored

@@ -1,4 +1,5 @@
--- What the check of a job answers: the number of the first test that is not passed, or the job's fields. Leans on the definition of a job and on its loaded fields.
+-- What the check of a job answers: the number of the first test that is not passed, or the job's fields. Leans on the
+-- definition of a job and on its loaded fields.
 use Rattle.std.specs.Prelude.{Bool, ◌&&◌, List, [], ◌∷◌, ℕ, leb, length, take, Float}
 use Rattle.std.specs.Prelude.{Option, Some, None}
 use Rattle.std.specs.Float.Ieee.{neg, le}

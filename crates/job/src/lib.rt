@@ -1,17 +1,33 @@
-// Whether a job is refused, and with which number: the refusals before the call in the order of [11.1], for every byte slice and every length of the workspace. A job that passes is handed on as its
-// fields. Each test equals the definition's; what it asks are the tests before it, by a clause or by the facts of the `load::Job` that it takes.
+// Whether a job is refused, and with which number: the refusals before the call in the order of [11.1], for every
+// byte slice and every length of the workspace. A job that passes is handed on as its fields. Each test equals the
+// definition's; what it asks are the tests before it, by a clause or by the facts of the `load::Job` that it takes.
 
 #![tactic(auto)]
 
 ghost use Rattle.std.specs.Prelude.{◌≡◌, ◌&&◌, ◌+◌, ◌*◌, ◌≤◌, length, take, drop};
 ghost use Rattle.definitions.specs.Lists.{all_of, count_from};
-ghost use Rattle.definitions.specs.Job.{read_job, floats_at, between, limit_good, is_finite, tolerance_good, floats_good, same_nats, is_permutation, workspace_for, header_tests, value_tests, job_tests};
+ghost use Rattle.definitions.specs.Job.{read_job, floats_at, between, limit_good, is_finite, tolerance_good};
+ghost use Rattle.definitions.specs.Job.{floats_good, same_nats, is_permutation, workspace_for, header_tests};
+ghost use Rattle.definitions.specs.Job.{value_tests, job_tests};
 ghost use Rattle.refusals.specs.Refused.{outcome_of};
 ghost use Rattle.load.specs.Meaning.{rows_at};
 ghost use Rattle.job.specs.Refusal.{has_mark, size_within, checked_by, checked_of};
 
 use load::{Fields, Job};
 use refusals::Refusal;
+use rows::{MOST_POINTS, MOST_ROWS};
+
+// ---- sizes
+
+// The largest limit on lengths that a job may have, and the largest size of a coordinate.
+const MOST_LENGTH: f64 = 131072.0;
+
+const MOST_COORDINATE: f64 = 65536.0;
+
+// The bytes of workspace that a job of rank 3 asks for, and one of rank 4.
+const WORKSPACE_3: usize = 524288;
+
+pub const WORKSPACE_4: usize = 4194304;
 
 // ---- single tests
 
@@ -39,7 +55,7 @@ fn within(x: f64, most: f64) -> bool
 fn limit_good(limit: Option<f64>) -> bool
     ensures { result ≡ limit_good limit }
 {
-    limit.is_none_or(|x| within(x, 131072.0) && 0.0 <= x)
+    limit.is_none_or(|x| within(x, MOST_LENGTH) && 0.0 <= x)
 }
 
 // The ends of the range of tolerances, both in it.
@@ -57,7 +73,8 @@ fn tolerance_good(tolerance: f64) -> bool
 
 // The f64 that stand before the budget.
 fn limits_good(fields: Fields) -> bool
-    ensures { result ≡ (limit_good fields.limits.shortest && limit_good fields.limits.longest && is_finite fields.tolerance) }
+    ensures { result
+        ≡ (limit_good fields.limits.shortest && limit_good fields.limits.longest && is_finite fields.tolerance) }
 {
     limit_good(fields.limits.shortest)
         && limit_good(fields.limits.longest)
@@ -81,13 +98,13 @@ fn floats_good(job: Job) -> bool
     if !limits_good(job.fields) {
         return false;
     }
-    if !all_within(job.bytes, job.fields.offset, job.fields.d, 65536.0) {
+    if !all_within(job.bytes, job.fields.offset, job.fields.d, MOST_COORDINATE) {
         return false;
     }
     if !all_within(job.bytes, job.fields.basis, in_basis, 1.0) {
         return false;
     }
-    all_within(job.bytes, job.fields.points, in_points, 65536.0)
+    all_within(job.bytes, job.fields.points, in_points, MOST_COORDINATE)
 }
 
 // ---- rows
@@ -100,12 +117,13 @@ pub fn is_identity(job: &[u8], at: usize, n: usize) -> bool
     (0..n).all(|i| usize::from(job[at + i]) == i)
 }
 
-// Each image is below n and was not met before. A loop, and no `all` as in the tests beside it: it marks each image that it meets.
+// Each image is below n and was not met before. A loop, and no `all` as in the tests beside it: it marks each image
+// that it meets.
 fn is_permutation(job: &[u8], at: usize, n: usize) -> bool
     requires { (n ≤ 20) × (at + n ≤ length job.now) }
     ensures { result ≡ is_permutation n (take n (drop at job.now)) }
 {
-    let mut marks = [false; 20];
+    let mut marks = [false; MOST_POINTS];
     for i in 0..n {
         let v = usize::from(job[at + i]);
         if n <= v {
@@ -135,9 +153,9 @@ pub fn workspace_for(rank: usize) -> usize
     if rank == 2 {
         0
     } else if rank == 3 {
-        524288
+        WORKSPACE_3
     } else {
-        4194304
+        WORKSPACE_4
     }
 }
 
@@ -160,10 +178,10 @@ fn check_header(job: &[u8]) -> Result<Fields, Refusal>
     if !between(h.rank - 1, 4, h.d) {
         return Err(Refusal::Dimension);
     }
-    if !between(2, 20, h.n) {
+    if !between(2, MOST_POINTS, h.n) {
         return Err(Refusal::Points);
     }
-    if !between(1, 120, h.count) {
+    if !between(1, MOST_ROWS, h.count) {
         return Err(Refusal::Rows);
     }
     if 8 <= h.flags {

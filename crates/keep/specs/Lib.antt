@@ -1,8 +1,7 @@
--- What a call stores of an inner call's answer on its shelf.
+-- What a call stores of an inner call's answer in its kept areas.
 pub mod Storing
-pub mod Stocked
+pub mod AreasHold
 pub mod Adding
 pub mod Cleared
 pub mod Rooms
 pub mod Short
-pub mod OneOrTwo

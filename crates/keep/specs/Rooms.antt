@@ -1,4 +1,4 @@
--- ListRoom on a shelf for one orbit more, in plain numbers. Leans on Adding.
+-- Room in the kept areas for the lists of one orbit more (`ListRoom`), in plain numbers. Leans on Adding.
 use Rattle.std.specs.Prelude.{◌≡◌, refl, ℕ, suc, ◌+◌, ◌*◌, ◌-◌, ◌≤◌, ◌<◌, length, get_or}
 use Rattle.std.proofs.Common.{sym, ◌∙◌, arith, length-append}
 use mathlib.Core.List.{List, [], ◌∷◌, map, flat_map}
@@ -11,24 +11,24 @@ use Rattle.definitions.specs.Recursion.{Entry, Inner}
 use Rattle.definitions.specs.Faceting.{possible_facets}
 use Rattle.laws.specs.Lists.{Mem, here, there, count_length}
 use Rattle.pool.specs.Pool.{base}
-use Rattle.openers.specs.Meaning.{pair_code}
+use Rattle.rows.specs.Codes.{pair_code}
 use Rattle.shapes.specs.Polygons.{edge_pairs}
 use Rattle.shapes.specs.Kept.{Kept, kept_of}
-use Rattle.shelf.specs.declared.Shelf.{Shelf}
-use Rattle.shelf.specs.Keeps.{ShelfFits, joined, facets_in, facets_of, places_of, edges_of, ridge_codes}
+use Rattle.layout.specs.declared.KeptLayout.{KeptLayout}
+use Rattle.layout.specs.Keeps.{LayoutFits, joined, facets_in, facets_of, places_of, edges_of, ridge_codes}
 use Rattle.keep.specs.Storing.{ListRoom}
-use Rattle.keep.specs.Stocked.{Stocked}
+use Rattle.keep.specs.AreasHold.{AreasHold}
 use Rattle.keep.specs.Adding.{facets_from}
 
--- room on a shelf for one orbit more: so many facets, and so many edges, ridges and places in all
-pub record RoomFor (shelf : Shelf) (kept : List Kept) (facets edges ridges places : ℕ) : Type 0 where
-  pub orbit_room : shelf.orbits < 256
-  pub facet_room : shelf.facets + facets ≤ 1024
+-- room in the kept areas for one orbit more: so many facets, and so many edges, ridges and places in all
+pub record RoomFor (layout : KeptLayout) (kept : List Kept) (facets edges ridges places : ℕ) : Type 0 where
+  pub orbit_room : layout.orbits < 256
+  pub facet_room : layout.facets + facets ≤ 1024
   pub evenly : (k : Kept) → Mem k kept → length k.edges ≡ facets_in k
-  pub edge_room : base 1024 + 2 * (length (joined (edges_of kept)) + edges) ≤ shelf.labels - shelf.edges
-  pub ridge_room : base 256 + 4 * (length (joined (map ridge_codes kept)) + ridges) ≤ shelf.places - shelf.ridges
-  pub place_room : base 1024 + 2 * (length (joined (places_of kept)) + places) ≤ shelf.end - shelf.places
-  pub small : shelf.end < 4294967296
+  pub edge_room : base 1024 + 2 * (length (joined (edges_of kept)) + edges) ≤ layout.labels - layout.edges
+  pub ridge_room : base 256 + 4 * (length (joined (map ridge_codes kept)) + ridges) ≤ layout.places - layout.ridges
+  pub place_room : base 1024 + 2 * (length (joined (places_of kept)) + places) ≤ layout.end - layout.places
+  pub small : layout.end < 4294967296
 
 -- there are as many lists of edges as of places
 pub kept_evenly : (i : Inner) → length (kept_of i).edges ≡ facets_in (kept_of i)
@@ -45,22 +45,27 @@ unfolding facets_from map_at flat_map
 facets_sum a [] = refl
 facets_sum a (k ∷ kept) =
     let own : List Facet = map (λ (f : ℕ). (a, f)) (count_from 0 (facets_in k)) in
-    let n : length own ≡ facets_in k = length-map {B = Facet} (count_from 0 (facets_in k)) (λ (f : ℕ). (a, f)) ∙ count_length 0 (facets_in k) in
+    let n : length own ≡ facets_in k = length-map {B = Facet} (count_from 0 (facets_in k)) (λ (f : ℕ). (a, f))
+    ∙ count_length 0 (facets_in k) in
     length-append own (facets_from (suc a) kept)
-    ∙ (omega (arith, n, facets_sum (suc a) kept) ∙ sym (length-append k.places (flat_map (λ (h : Kept). h.places) kept)))
+    ∙ (omega (arith, n, facets_sum (suc a) kept)
+    ∙ sym (length-append k.places (flat_map (λ (h : Kept). h.places) kept)))
 
 pub places_number : (kept : List Kept) → length (places_of kept) ≡ length (facets_of kept)
 unfolding places_of facets_of facets_from
 places_number kept = sym (facets_sum 0 kept)
 
-edges_sum : (kept : List Kept) → ((k : Kept) → Mem k kept → length k.edges ≡ facets_in k) → length (flat_map (λ (k : Kept). k.edges) kept) ≡ length (flat_map (λ (k : Kept). k.places) kept)
+edges_sum : (kept : List Kept) → ((k : Kept) → Mem k kept → length k.edges ≡ facets_in k)
+    → length (flat_map (λ (k : Kept). k.edges) kept) ≡ length (flat_map (λ (k : Kept). k.places) kept)
 unfolding flat_map
 edges_sum [] h = refl
 edges_sum (k ∷ kept) h =
     length-append k.edges (flat_map (λ (g : Kept). g.edges) kept)
-    ∙ (omega (arith, h k (here refl), edges_sum kept (λ g m. h g (there m))) ∙ sym (length-append k.places (flat_map (λ (g : Kept). g.places) kept)))
+    ∙ (omega (arith, h k (here refl), edges_sum kept (λ g m. h g (there m)))
+    ∙ sym (length-append k.places (flat_map (λ (g : Kept). g.places) kept)))
 
-pub edges_number : (kept : List Kept) → ((k : Kept) → Mem k kept → length k.edges ≡ facets_in k) → length (map (map pair_code) (edges_of kept)) ≡ length (facets_of kept)
+pub edges_number : (kept : List Kept) → ((k : Kept) → Mem k kept → length k.edges ≡ facets_in k)
+    → length (map (map pair_code) (edges_of kept)) ≡ length (facets_of kept)
 unfolding edges_of places_of
 edges_number kept h = length-map (edges_of kept) (map pair_code) ∙ (edges_sum kept h ∙ places_number kept)
 
@@ -68,15 +73,19 @@ pub codes_items : (ls : List (List Pair)) → length (joined (map (map pair_code
 unfolding flat_map
 codes_items [] = refl
 codes_items (l ∷ ls) =
-    length-append (map pair_code l) (joined (map (map pair_code) ls)) ∙ (omega (arith, length-map l pair_code, codes_items ls) ∙ sym (length-append l (joined ls)))
+    length-append (map pair_code l) (joined (map (map pair_code) ls))
+    ∙ (omega (arith, length-map l pair_code, codes_items ls) ∙ sym (length-append l (joined ls)))
 
 -- ---- room in each pool
 
-module _ {shelf : Shelf} {edges : List (List ℕ)} {labels : List (Option Pair)} {owners : List ℕ} {ridges places : List (List ℕ)} {s : List ℕ} (k : Stocked shelf edges labels owners ridges places s) (small : shelf.end < 4294967296) where
-  abbrev f : ShelfFits shelf (length s)
+module _ {layout : KeptLayout} {edges : List (List ℕ)} {labels : List (Option Pair)} {owners : List ℕ}
+    {ridges places : List (List ℕ)} {s : List ℕ} (k : AreasHold layout edges labels owners ridges places s)
+    (small : layout.end < 4294967296) where
+  abbrev f : LayoutFits layout (length s)
   f = k.fits
 
-  pub room_edges : (items : ℕ) → length edges < 1024 → base 1024 + 2 * (length (joined edges) + items) ≤ shelf.labels - shelf.edges → ListRoom 2 1024 shelf.edges (shelf.labels - shelf.edges) s items
+  pub room_edges : (items : ℕ) → length edges < 1024 → base 1024 + 2 * (length (joined edges) + items)
+      ≤ layout.labels - layout.edges → ListRoom 2 1024 layout.edges (layout.labels - layout.edges) s items
   room_edges items few room = record {
     inside = omega (arith, f.edge_room, f.label_room, f.owner_room, f.ridge_room, f.place_room, f.ends);
     lists = edges;
@@ -87,7 +96,8 @@ module _ {shelf : Shelf} {edges : List (List ℕ)} {labels : List (Option Pair)}
     small = omega (arith, f.label_room, f.owner_room, f.ridge_room, f.place_room);
   }
 
-  pub room_ridges : (items : ℕ) → length ridges < 256 → base 256 + 4 * (length (joined ridges) + items) ≤ shelf.places - shelf.ridges → ListRoom 4 256 shelf.ridges (shelf.places - shelf.ridges) s items
+  pub room_ridges : (items : ℕ) → length ridges < 256 → base 256 + 4 * (length (joined ridges) + items)
+      ≤ layout.places - layout.ridges → ListRoom 4 256 layout.ridges (layout.places - layout.ridges) s items
   room_ridges items few room = record {
     inside = omega (arith, f.ridge_room, f.place_room, f.ends);
     lists = ridges;
@@ -98,7 +108,8 @@ module _ {shelf : Shelf} {edges : List (List ℕ)} {labels : List (Option Pair)}
     small = omega (arith, f.place_room);
   }
 
-  pub room_places : (items : ℕ) → length places < 1024 → base 1024 + 2 * (length (joined places) + items) ≤ shelf.end - shelf.places → ListRoom 2 1024 shelf.places (shelf.end - shelf.places) s items
+  pub room_places : (items : ℕ) → length places < 1024 → base 1024 + 2 * (length (joined places) + items)
+      ≤ layout.end - layout.places → ListRoom 2 1024 layout.places (layout.end - layout.places) s items
   room_places items few room = record {
     inside = omega (arith, f.place_room, f.ends);
     lists = places;

@@ -1,5 +1,6 @@
 -- A list of one or two items, and numbers that fit in so many bytes.
-use Rattle.std.specs.Prelude.{◌≡◌, refl, Bool, true, false, cond, not, List, [], ◌∷◌, map, ℕ, zero, suc, ◌^◌, ◌≤◌, ◌<◌, length, get_or, take}
+use Rattle.std.specs.Prelude.{◌≡◌, refl, Bool, true, false, cond, not, List, [], ◌∷◌, map, ℕ, zero, suc, ◌^◌, ◌≤◌, ◌<◌}
+use Rattle.std.specs.Prelude.{length, get_or, take}
 use Rattle.std.proofs.Common.{arith}
 
 -- a list of one item, or of two
@@ -35,7 +36,8 @@ module _ (swapped : Bool) (many a b : ℕ) (e : many ≡ cond swapped 1 2) where
       go true = omega arith
       go false = omega arith
 
-  pub first_or_both_fitting : (w : ℕ) → a < 256 ^ w → b < 256 ^ w → Fitting w (map (λ (v : ℕ). v) (take many (a ∷ b ∷ [])))
+  pub first_or_both_fitting : (w : ℕ) → a < 256 ^ w → b < 256 ^ w
+      → Fitting w (map (λ (v : ℕ). v) (take many (a ∷ b ∷ [])))
   first_or_both_fitting w f g = rw e (go swapped)
     where
       go : (s : Bool) → Fitting w (map (λ (v : ℕ). v) (take (cond s 1 2) (a ∷ b ∷ [])))

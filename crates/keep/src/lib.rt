@@ -1,51 +1,54 @@
-// The shelf of a call: emptied before its loop, and what every orbit that is kept writes on it, the label and the
-// owner of a facet. What is kept of an inner call of rank 2 stands in `kept_edges`, of one of rank 3 in
-// `kept_polygons`. Leans on the shelf and on pools.
+// What is done to the areas that a call keeps, at either rank: their pools are emptied before the call's loop, a
+// facet's label and owner are written, and the layout counts one orbit more. The rest that is stored of an inner call
+// is in `kept_edges` for rank 2, and in `kept_polygons` for rank 3. Leans on the layout and on pools.
 
 #![tactic(auto)]
 
 ghost use Rattle.std.specs.Prelude.{◌≡◌, [], ℕ, ◌+◌, ◌*◌, ◌≤◌, ◌<◌, length};
 ghost use Rattle.words.specs.Words.{put};
-ghost use Rattle.shelf.specs.Keeps.{Keeps, Ridges, ShelfFits};
-ghost use Rattle.keep.specs.Stocked.{ShelfWritten};
+ghost use Rattle.layout.specs.Keeps.{Keeps, Ridges, LayoutFits};
+ghost use Rattle.keep.specs.AreasHold.{KeptWritten};
 ghost use Rattle.keep.specs.Adding.{with_facets};
 
-use shelf::Shelf;
+use layout::KeptLayout;
 use words::Word;
 
-// ---- a shelf with nothing on it
+// ---- a layout with nothing kept
 
-// The pools are emptied; the orbits found, in front of them, stay.
-// `ShelfFits` stays a clause, here and below: the workspace that it speaks of is written, and a struct that held it would have each contract say besides that the places and the loan are as they were.
-pub fn clear_shelf(ws: &mut [u8], shelf: Shelf)
-    requires { ShelfFits shelf (length ws.old) }
-    ensures within { ShelfWritten shelf ws.old ws.new }
-    ensures keeps { (n : ℕ) → shelf.orbits ≡ 0 → shelf.facets ≡ 0 → Keeps n shelf [] ws.new × Ridges shelf [] ws.new }
+// The pools are emptied; the orbits found, in front of them, stay. `LayoutFits` stays a clause, here and below: the
+// workspace that it speaks of is written, and a struct that held it would have each contract say besides that the
+// places and the loan are as they were.
+pub fn clear_kept(ws: &mut [u8], layout: KeptLayout)
+    requires { LayoutFits layout (length ws.old) }
+    ensures within { KeptWritten layout ws.old ws.new }
+    ensures keeps { (n : ℕ) → layout.orbits ≡ 0 → layout.facets ≡ 0
+        → Keeps n layout [] ws.new × Ridges layout [] ws.new }
 {
-    pool::clear(&mut ws[shelf.edges..shelf.labels]);
-    pool::clear(&mut ws[shelf.ridges..shelf.places]);
-    pool::clear(&mut ws[shelf.places..shelf.end]);
+    pool::clear(&mut ws[layout.edges..layout.labels]);
+    pool::clear(&mut ws[layout.ridges..layout.places]);
+    pool::clear(&mut ws[layout.places..layout.end]);
 }
 
 // ---- what an orbit writes
 
 // The label and the owner of facet x.
-pub fn store_facet(ws: &mut [u8], shelf: Shelf, x: usize, label: u32, owner: u16)
-    requires { ShelfFits shelf (length ws.old) × (x < 1024) }
-    ensures { ws.new ≡ put 2 (put 4 ws.old (shelf.labels + 4 * x) label) (shelf.owners + 2 * x) owner }
+pub fn store_facet(ws: &mut [u8], layout: KeptLayout, x: usize, label: u32, owner: u16)
+    requires { LayoutFits layout (length ws.old) × (x < 1024) }
+    ensures { ws.new ≡ put 2 (put 4 ws.old (layout.labels + 4 * x) label) (layout.owners + 2 * x) owner }
 {
-    u32::put(ws, shelf.labels + 4 * x, label);
-    u16::put(ws, shelf.owners + 2 * x, owner);
+    u32::put(ws, layout.labels + 4 * x, label);
+    u16::put(ws, layout.owners + 2 * x, owner);
 }
 
-// The shelf with one orbit more, of so many facets. It holds the counts, and the workspace what they count: a caller lends all memory, as bytes.
-pub fn one_more(shelf: Shelf, facets: usize) -> Shelf
-    requires { (shelf.orbits < 256) × (shelf.facets + facets ≤ 1024) }
-    ensures { result ≡ with_facets shelf facets }
+// The layout with one orbit more, of so many facets. The layout holds the counts, and the workspace what they count:
+// a caller lends all memory, as bytes.
+pub fn one_more(layout: KeptLayout, facets: usize) -> KeptLayout
+    requires { (layout.orbits < 256) × (layout.facets + facets ≤ 1024) }
+    ensures { result ≡ with_facets layout facets }
 {
-    Shelf {
-        orbits: shelf.orbits + 1,
-        facets: shelf.facets + facets,
-        ..shelf
+    KeptLayout {
+        orbits: layout.orbits + 1,
+        facets: layout.facets + facets,
+        ..layout
     }
 }

@@ -1,5 +1,5 @@
--- A table of labels in bytes: for each list a u32 number, 0 for none, else b in its lower half and c in its upper half. As b < c, no pair has the number 0.
--- Leans on Numbers and Words. Assumes nothing.
+-- A table of labels in bytes: for each list a u32 number, 0 for none, else b in its lower half and c in its upper
+-- half. As b < c, no pair has the number 0. Leans on Words and on the walks of the laws. Assumes nothing.
 use Rattle.std.specs.Prelude.{◌≡◌, refl, Bool, false, cond, eqb, length, drop}
 use Rattle.std.proofs.Common.{sym, ap, ◌∙◌, subst, ⊎_elim, arith, eq-eqb, ne_eqb}
 use mathlib.Core.List.{List, [], ◌∷◌, ◌++◌, map, flat_map}
@@ -65,13 +65,16 @@ upper o = elim o [ None ↦ 0 | Some p ↦ p.1 ]
 
 pub halves : (n : ℕ) → n < 4294967296 → Halves (label_of n)
 halves n h p e =
-    let low : lower (label_of n) < 65536 = ⊎_elim (λ k. rw (label_some n k) (omega arith)) (λ k. rw (label_none n k) (omega arith)) (le_or_lt 65536 n) in
-    let high : upper (label_of n) < 65536 = ⊎_elim (λ k. rw (label_some n k) (omega arith)) (λ k. rw (label_none n k) (omega arith)) (le_or_lt 65536 n) in
+    let low : lower (label_of n) < 65536 =
+    ⊎_elim (λ k. rw (label_some n k) (omega arith)) (λ k. rw (label_none n k) (omega arith)) (le_or_lt 65536 n) in
+    let high : upper (label_of n) < 65536 =
+    ⊎_elim (λ k. rw (label_some n k) (omega arith)) (λ k. rw (label_none n k) (omega arith)) (le_or_lt 65536 n) in
     (subst (λ (o : Option Pair). lower o < 65536) e low, subst (λ (o : Option Pair). upper o < 65536) e high)
 
 -- ---- what is written is read
 
-pub label_code_holds : (o : Option Pair) → ((p : Pair) → o ≡ Some p → (p.0 < p.1) × (p.1 < 65536)) → (label_of (label_code o) ≡ o) × (label_code o < 4294967296)
+pub label_code_holds : (o : Option Pair) → ((p : Pair) → o ≡ Some p → (p.0 < p.1) × (p.1 < 65536))
+    → (label_of (label_code o) ≡ o) × (label_code o < 4294967296)
 unfolding label_of label_code
 label_code_holds None f = (refl, omega arith)
 label_code_holds (Some p) f =
@@ -87,25 +90,31 @@ unfolding label_bytes run flat_map
 bytes_run [] = refl
 bytes_run (o ∷ os) = ap (λ (r : List ℕ). bytes_of 4 (label_code o) ++ r) (bytes_run os)
 
-codes_read : (os : List (Option Pair)) → ((o : Option Pair) → Mem o os → label_of (label_code o) ≡ o) → map label_of (map label_code os) ≡ os
+codes_read : (os : List (Option Pair)) → ((o : Option Pair) → Mem o os → label_of (label_code o) ≡ o)
+    → map label_of (map label_code os) ≡ os
 codes_read [] f = refl
 codes_read (o ∷ os) f = rw (f o (here refl), codes_read os (λ q i. f q (there i))) refl
 
 -- c is behind b, and both are places of the lists
-pub label_range : (items : List ℕ) (ls : List (List ℕ)) (b : ℕ) (p : Pair) → label_from compare items ls b ≡ Some p → (p.0 < p.1) × (p.1 < b + length ls)
+pub label_range : (items : List ℕ) (ls : List (List ℕ)) (b : ℕ) (p : Pair) → label_from compare items ls b ≡ Some p
+    → (p.0 < p.1) × (p.1 < b + length ls)
 label_range items ls b p e =
     let l = labelled compare nats items ls b p e in
     (omega (arith, l.behind, l.first_is, l.second_is), omega (arith, l.below, l.second_is))
 
 -- the table that `label_irc` leaves is read as the labels of the lists
-pub labels_read : (s : List ℕ) (at : ℕ) (ls : List (List ℕ)) → at + 4 * length ls ≤ length s → length ls ≤ 65536 → labels_in at (length ls) (sets s at (label_bytes (labels_of compare ls))) ≡ labels_of compare ls
+pub labels_read : (s : List ℕ) (at : ℕ) (ls : List (List ℕ)) → at + 4 * length ls ≤ length s → length ls ≤ 65536
+    → labels_in at (length ls) (sets s at (label_bytes (labels_of compare ls))) ≡ labels_of compare ls
 unfolding labels_in labels_of
 labels_read s at ls h few =
     let n : length (labels_of compare ls) ≡ length ls = labels_many in
-    let m : length (map label_code (labels_of compare ls)) ≡ length (labels_of compare ls) = length-map (labels_of compare ls) label_code in
-    let w : words 4 (drop at (sets s at (label_bytes (labels_of compare ls)))) (length ls) ≡ map label_code (labels_of compare ls) =
+    let m : length (map label_code (labels_of compare ls))
+    ≡ length (labels_of compare ls) = length-map (labels_of compare ls) label_code in
+    let w : words 4 (drop at (sets s at (label_bytes (labels_of compare ls)))) (length ls)
+    ≡ map label_code (labels_of compare ls) =
     ap (λ (r : List ℕ). words 4 (drop at (sets s at r)) (length ls)) (bytes_run (labels_of compare ls))
-    ∙ (ap (words 4 (drop at (sets s at (run 4 (map label_code (labels_of compare ls)))))) (sym (m ∙ n)) ∙ words_sets 4 s at (map label_code (labels_of compare ls)) (omega arith) small) in
+    ∙ (ap (words 4 (drop at (sets s at (run 4 (map label_code (labels_of compare ls)))))) (sym (m ∙ n))
+    ∙ words_sets 4 s at (map label_code (labels_of compare ls)) (omega arith) small) in
     ap (map label_of) w ∙ codes_read (labels_of compare ls) (λ o i. (label_code_holds o (fits o i)).0)
   where
     labels_many : length (labels_of compare ls) ≡ length ls

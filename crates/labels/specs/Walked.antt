@@ -1,5 +1,6 @@
--- How far the walk of b through a comes: the items of b that it finds, one after another. It comes to the end of b where it finds all of them (`found_all`); and of two lists that begin
--- alike beyond the first item that is not found, it finds the same items (`found_alike`). Leans on the walk of the definitions. Assumes nothing.
+-- How far the walk of b through a comes: the items of b that it finds, one after another. It comes to the end of b
+-- where it finds all of them (`found_all`); and of two lists that begin alike beyond the first item that is not
+-- found, it finds the same items (`found_alike`). Leans on the walk of the definitions. Assumes nothing.
 use Rattle.std.specs.Prelude.{◌≡◌, refl, Bool, true, false, List, [], ◌∷◌, eqb, length}
 use Rattle.std.proofs.Common.{sym, ap, ◌∙◌, subst, arith, eq-eqb, ne_eqb, eqb→eq}
 use Rattle.std.specs.Prelude.{Option, Some, None}
@@ -40,7 +41,8 @@ found_few (x ∷ a) [] = omega arith
 found_few (x ∷ a) (y ∷ b) = go (compare x y) (found_few a (y ∷ b)) (found_few a b)
   where
     go : (o : Ordering) → items_found a (y ∷ b) ≤ suc (length b) → items_found a b ≤ length b
-        → (elim o [ Ordering.lt ↦ items_found a (y ∷ b) | Ordering.eq ↦ suc (items_found a b) | Ordering.gt ↦ 0 ]) ≤ suc (length b)
+        → (elim o [ Ordering.lt ↦ items_found a (y ∷ b) | Ordering.eq ↦ suc (items_found a b) | Ordering.gt ↦ 0 ])
+        ≤ suc (length b)
     go Ordering.lt h k = h
     go Ordering.eq h k = omega arith
     go Ordering.gt h k = omega arith
@@ -52,7 +54,8 @@ found_within (x ∷ a) [] = omega arith
 found_within (x ∷ a) (y ∷ b) = go (compare x y) (found_within a (y ∷ b)) (found_within a b)
   where
     go : (o : Ordering) → items_found a (y ∷ b) ≤ length a → items_found a b ≤ length a
-        → (elim o [ Ordering.lt ↦ items_found a (y ∷ b) | Ordering.eq ↦ suc (items_found a b) | Ordering.gt ↦ 0 ]) ≤ suc (length a)
+        → (elim o [ Ordering.lt ↦ items_found a (y ∷ b) | Ordering.eq ↦ suc (items_found a b) | Ordering.gt ↦ 0 ])
+        ≤ suc (length a)
     go Ordering.lt h k = omega arith
     go Ordering.eq h k = omega arith
     go Ordering.gt h k = omega arith
@@ -78,9 +81,16 @@ found_all (x ∷ a) (y ∷ b) = go (compare x y) (found_all a (y ∷ b)) (found_
     passed None = refl
     passed (Some rest) = refl
 
-    go : (o : Ordering) → is_found (walk compare a (y ∷ b)) ≡ eqb (items_found a (y ∷ b)) (suc (length b)) → is_found (walk compare a b) ≡ eqb (items_found a b) (length b)
-        → is_found {A = ℕ} (elim o [ Ordering.lt ↦ cons_in x (walk compare a (y ∷ b)) | Ordering.eq ↦ walk compare a b | Ordering.gt ↦ None ])
-        ≡ eqb (elim o [ Ordering.lt ↦ items_found a (y ∷ b) | Ordering.eq ↦ suc (items_found a b) | Ordering.gt ↦ 0 ]) (suc (length b))
+    go : (o : Ordering) → is_found (walk compare a (y ∷ b)) ≡ eqb (items_found a (y ∷ b)) (suc (length b))
+        → is_found (walk compare a b) ≡ eqb (items_found a b) (length b)
+        → is_found {A = ℕ} (elim o [
+          | Ordering.lt ↦ cons_in x (walk compare a (y ∷ b))
+          | Ordering.eq ↦
+              walk compare a b
+          | Ordering.gt ↦ None
+        ])
+        ≡ eqb (elim o [ Ordering.lt ↦ items_found a (y ∷ b) | Ordering.eq ↦ suc (items_found a b) | Ordering.gt ↦ 0 ])
+        (suc (length b))
     go Ordering.lt h k = passed (walk compare a (y ∷ b)) ∙ h
     go Ordering.eq h k = k ∙ next_alike (items_found a b) (length b)
     go Ordering.gt h k = nothing_found (length b)
@@ -91,7 +101,8 @@ shared_few [] c = omega arith
 shared_few (y ∷ b) [] = omega arith
 shared_few (y ∷ b) (z ∷ c) = go (compare y z) (shared_few b c)
   where
-    go : (o : Ordering) → shared b c ≤ length c → (elim o [ Ordering.lt ↦ 0 | Ordering.eq ↦ suc (shared b c) | Ordering.gt ↦ 0 ]) ≤ suc (length c)
+    go : (o : Ordering) → shared b c ≤ length c
+        → (elim o [ Ordering.lt ↦ 0 | Ordering.eq ↦ suc (shared b c) | Ordering.gt ↦ 0 ]) ≤ suc (length c)
     go Ordering.lt h = omega arith
     go Ordering.eq h = omega arith
     go Ordering.gt h = omega arith
@@ -101,12 +112,16 @@ unfolding items_found shared
 found_alike [] b c h = refl
 found_alike (x ∷ a) [] c h = absurd (omega arith)
 found_alike (x ∷ a) (y ∷ b) [] h = absurd (omega arith)
-found_alike (x ∷ a) (y ∷ b) (z ∷ c) h = go (compare y z) refl h (λ u. found_alike a (y ∷ b) (z ∷ c) u) (found_alike a b c)
+found_alike (x ∷ a) (y ∷ b) (z ∷ c) h =
+    go (compare y z) refl h (λ u. found_alike a (y ∷ b) (z ∷ c) u) (found_alike a b c)
   where
     stays : (o : Ordering) → compare x y ≡ o → suc (shared b c) ≡ shared (y ∷ b) (y ∷ c)
-        → (elim o [ Ordering.lt ↦ items_found a (y ∷ b) | Ordering.eq ↦ suc (items_found a b) | Ordering.gt ↦ 0 ]) < suc (shared b c)
-        → (items_found a (y ∷ b) < shared (y ∷ b) (y ∷ c) → items_found a (y ∷ c) ≡ items_found a (y ∷ b)) → (items_found a b < shared b c → items_found a c ≡ items_found a b)
-        → items_found (x ∷ a) (y ∷ c) ≡ (elim o [ Ordering.lt ↦ items_found a (y ∷ b) | Ordering.eq ↦ suc (items_found a b) | Ordering.gt ↦ 0 ])
+        → (elim o [ Ordering.lt ↦ items_found a (y ∷ b) | Ordering.eq ↦ suc (items_found a b) | Ordering.gt ↦ 0 ])
+        < suc (shared b c)
+        → (items_found a (y ∷ b) < shared (y ∷ b) (y ∷ c) → items_found a (y ∷ c) ≡ items_found a (y ∷ b))
+        → (items_found a b < shared b c → items_found a c ≡ items_found a b)
+        → items_found (x ∷ a) (y ∷ c)
+        ≡ (elim o [ Ordering.lt ↦ items_found a (y ∷ b) | Ordering.eq ↦ suc (items_found a b) | Ordering.gt ↦ 0 ])
     stays Ordering.lt e s u over on = rw (e, items_found) (over (omega arith))
     stays Ordering.eq e s u over on = rw (e, items_found) (ap suc (on (omega arith)))
     stays Ordering.gt e s u over on = rw (e, items_found) refl
@@ -114,11 +129,15 @@ found_alike (x ∷ a) (y ∷ b) (z ∷ c) h = go (compare y z) refl h (λ u. fou
     begins : suc (shared b c) ≡ shared (y ∷ b) (y ∷ c)
     begins = rw (nats.self y, shared) refl
 
-    go : (o : Ordering) → compare y z ≡ o → items_found (x ∷ a) (y ∷ b) < (elim o [ Ordering.lt ↦ 0 | Ordering.eq ↦ suc (shared b c) | Ordering.gt ↦ 0 ])
-        → (items_found a (y ∷ b) < shared (y ∷ b) (z ∷ c) → items_found a (z ∷ c) ≡ items_found a (y ∷ b)) → (items_found a b < shared b c → items_found a c ≡ items_found a b)
+    go : (o : Ordering) → compare y z ≡ o → items_found (x ∷ a) (y ∷ b)
+        < (elim o [ Ordering.lt ↦ 0 | Ordering.eq ↦ suc (shared b c) | Ordering.gt ↦ 0 ])
+        → (items_found a (y ∷ b) < shared (y ∷ b) (z ∷ c) → items_found a (z ∷ c) ≡ items_found a (y ∷ b))
+        → (items_found a b < shared b c → items_found a c ≡ items_found a b)
         → items_found (x ∷ a) (z ∷ c) ≡ items_found (x ∷ a) (y ∷ b)
     go Ordering.lt e u over on = absurd (omega arith)
     go Ordering.gt e u over on = absurd (omega arith)
     go Ordering.eq e u over on =
         let same : y ≡ z = nats.equal y z e in
-        subst (λ (w : ℕ). (items_found a (y ∷ b) < shared (y ∷ b) (w ∷ c) → items_found a (w ∷ c) ≡ items_found a (y ∷ b)) → items_found (x ∷ a) (w ∷ c) ≡ items_found (x ∷ a) (y ∷ b)) same (λ f. stays (compare x y) refl begins u f on) over
+        subst (λ (w : ℕ). (items_found a (y ∷ b) < shared (y ∷ b) (w ∷ c)
+        → items_found a (w ∷ c) ≡ items_found a (y ∷ b)) → items_found (x ∷ a) (w ∷ c)
+        ≡ items_found (x ∷ a) (y ∷ b)) same (λ f. stays (compare x y) refl begins u f on) over

@@ -8,6 +8,7 @@ use Rattle.laws.proofs.Sums.{add_sized}
 
 -- ---- sums, differences and products
 
-pub sub_sized : (f : Format) (k : ℕ) (x y : Float) → suc k ≤ emax f → Sized f k x → Sized f k y → Sized f (suc k) (sub f x y)
+pub sub_sized : (f : Format) (k : ℕ) (x y : Float) → suc k ≤ emax f → Sized f k x → Sized f k y
+    → Sized f (suc k) (sub f x y)
 unfolding sub
 sub_sized f k x y K a b = add_sized f k x (neg y) K a (neg_sized f k y b)

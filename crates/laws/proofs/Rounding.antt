@@ -19,20 +19,24 @@ unfolding odd
 odd_signed j d s zero k l h = h
 odd_signed j d s (suc q) k l h = h
 
-units_signed : (j : ℕ) (f : Format) (s : Bool) (q k : ℕ) → AtMostPower j (units f false q k) → AtMostPower j (units f s q k)
+units_signed : (j : ℕ) (f : Format) (s : Bool) (q k : ℕ) → AtMostPower j (units f false q k)
+    → AtMostPower j (units f s q k)
 unfolding units
 units_signed j f s q k = go (ltb (q * 2 ^ k) (2 ^ (low f + suc (emax f))))
   where
-    go : (b : Bool) → AtMostPower j (cond b (odd (suc (prec f)) false q k (low f)) (inf false)) → AtMostPower j (cond b (odd (suc (prec f)) s q k (low f)) (inf s))
+    go : (b : Bool) → AtMostPower j (cond b (odd (suc (prec f)) false q k (low f)) (inf false))
+        → AtMostPower j (cond b (odd (suc (prec f)) s q k (low f)) (inf s))
     go true h = odd_signed j (suc (prec f)) s q k (low f) h
     go false h = absurd h
 
-round_signed : (j : ℕ) (f : Format) (s : Bool) (a c : ℕ) → AtMostPower j (round f false a c) → AtMostPower j (round f s a c)
+round_signed : (j : ℕ) (f : Format) (s : Bool) (a c : ℕ) → AtMostPower j (round f false a c)
+    → AtMostPower j (round f s a c)
 round_signed j f s a c h =
     let n = a * 2 ^ low f in
     let k = size (n / c) - prec f in
     subst (AtMostPower j) (sym (round_is f s a c))
-    (units_signed j f s (nearest (n / (c * 2 ^ k)) (compare (n % (c * 2 ^ k) * 2) (c * 2 ^ k))) k (subst (AtMostPower j) (round_is f false a c) h))
+    (units_signed j f s (nearest (n / (c * 2 ^ k)) (compare (n % (c * 2 ^ k) * 2) (c * 2 ^ k))) k
+    (subst (AtMostPower j) (round_is f false a c) h))
 
 -- ---- rounding keeps the bounds
 
@@ -52,13 +56,15 @@ le_within k (fin false m e) nan u v t = absurd v
 le_within k (fin false m e) (inf s) u v t = absurd v
 le_within k (fin false m e) (fin true n d) u v t = absurd (true≢false v.0)
 le_within k (fin false m e) (fin false n d) u v t =
-    under_whole (m * up e) (down e) (n * up d) (down d) (2 ^ k) (down_pos d) (not_above (m * up e * down d) (n * up d * down e) t) v.1
+    under_whole (m * up e) (down e) (n * up d) (down d) (2 ^ k) (down_pos d)
+    (not_above (m * up e * down d) (n * up d * down e) t) v.1
 
 -- 2 ^ k rounds to itself, for every k up to the format's largest exponent
 power_exact : (f : Format) (k : ℕ) → k ≤ emax f → HasValue (round f false (2 ^ k) 1) false (2 ^ k) 1
 power_exact f k h =
     round_exact f false (2 ^ k) 1 1 (low f + k) (pow_pos 0) (one_below_power (prec f) (two-le_pos (prec f) (two f)))
-    (subst (λ (z : ℕ). z < 2 ^ (low f + suc (emax f))) (sym (times_one (2 ^ (low f + k)))) (pow-lt (room (low f) k (emax f) h)))
+    (subst (λ (z : ℕ). z < 2 ^ (low f + suc (emax f))) (sym (times_one (2 ^ (low f + k))))
+    (pow-lt (room (low f) k (emax f) h)))
     (let e = pow-add 2 (low f) k in omega arith)
   where
     times_one : (x : ℕ) → 1 * x ≡ x
@@ -72,5 +78,6 @@ round_sized f s a c k C K h = record {
   holds = round-fits f s a c;
   within =
       round_signed k f s a c
-      (le_within k (round f false a c) (round f false (2 ^ k) 1) (round_upright f a c) (power_exact f k K) (round_mono f a c (2 ^ k) 1 C (pow_pos 0) (let g = h in omega arith)));
+      (le_within k (round f false a c) (round f false (2 ^ k) 1) (round_upright f a c) (power_exact f k K)
+      (round_mono f a c (2 ^ k) 1 C (pow_pos 0) (let g = h in omega arith)));
 }

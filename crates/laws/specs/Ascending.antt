@@ -1,5 +1,5 @@
--- Strictly ascending lists, and lists without repeats: sorting them, the first place of an item, the items not yet seen, and what a map does to them.
--- The order is any linear one. Leans on Orders, Pairs and Sorting.
+-- Strictly ascending lists, and lists without repeats: sorting them, the first place of an item, the items not yet
+-- seen, and what a map does to them. The order is any linear one. Leans on Orders, Pairs and Sorting.
 use Rattle.std.specs.Prelude.{◌≡◌, ◌⊎◌, Bool, length}
 use Rattle.std.proofs.Math.Path.{refl, ap, subst}
 use Rattle.std.proofs.Common.{sym, ◌∙◌, inl, inr}
@@ -36,7 +36,9 @@ module _ {A : Type 0} (c : A → A → Ordering) (order : Linear c) where
   -- ---- the test of equality
 
   pub equal_tested : (x y : A) → x ≡ y → T (compare_is_eq (c x y))
-  equal_tested x y e = subst (λ (z : A). T (compare_is_eq (c x z))) e (subst (λ (o : Ordering). T (compare_is_eq o)) (sym (order.self x)) tt)
+  equal_tested x y e =
+      subst (λ (z : A). T (compare_is_eq (c x z))) e
+      (subst (λ (o : Ordering). T (compare_is_eq o)) (sym (order.self x)) tt)
 
   pub tested_equal : (x y : A) → T (compare_is_eq (c x y)) → x ≡ y
   tested_equal x y t = order.equal x y (is_eq (c x y) t)
@@ -83,7 +85,8 @@ module _ {A : Type 0} (c : A → A → Ordering) (order : Linear c) where
       under e z (Memᴰ.head q) = ap (c x) q ∙ e
       under e z (Memᴰ.tail j) = order.less x y z e (h.0 z j)
 
-      go : (o : Ordering) → c x y ≡ o → Ascends c (insert_by c x l) → Ascends c (cond (is_gt o) (y ∷ insert_by c x l) (x ∷ y ∷ l))
+      go : (o : Ordering) → c x y ≡ o → Ascends c (insert_by c x l)
+          → Ascends c (cond (is_gt o) (y ∷ insert_by c x l) (x ∷ y ∷ l))
       go Ordering.lt e ih = (under e, h)
       go Ordering.eq e ih = absurd (d y (here refl) (order.equal x y e))
       go Ordering.gt e ih = (above e, ih)
@@ -143,21 +146,25 @@ module _ {A : Type 0} (c : A → A → Ordering) (order : Linear c) where
   of_fresh seen (y ∷ l) x i = go (seen_among y seen) refl i (λ j. of_fresh seen l x j) (λ j. of_fresh (y ∷ seen) l x j)
     where
       go : (b : Bool) → seen_among y seen ≡ b → Mem x (cond b (fresh c seen l) (y ∷ fresh c (y ∷ seen) l))
-          → (Mem x (fresh c seen l) → Mem x l × (Mem x seen → ⊥)) → (Mem x (fresh c (y ∷ seen) l) → Mem x l × (Mem x (y ∷ seen) → ⊥)) → Mem x (y ∷ l) × (Mem x seen → ⊥)
+          → (Mem x (fresh c seen l) → Mem x l × (Mem x seen → ⊥))
+          → (Mem x (fresh c (y ∷ seen) l) → Mem x l × (Mem x (y ∷ seen) → ⊥)) → Mem x (y ∷ l) × (Mem x seen → ⊥)
       go true e j old new = let r = old j in (there r.0, r.1)
-      go false e (Memᴰ.head q) old new = (here q, λ j. subst T e (member_seen y seen (subst (λ (z : A). Mem z seen) q j)))
+      go false e (Memᴰ.head q) old new =
+          (here q, λ j. subst T e (member_seen y seen (subst (λ (z : A). Mem z seen) q j)))
       go false e (Memᴰ.tail j) old new = let r = new j in (there r.0, λ k. r.1 (there k))
 
   pub in_fresh : (seen l : List A) (x : A) → Mem x l → (Mem x seen → ⊥) → Mem x (fresh c seen l)
   unfolding fresh
   in_fresh seen [] x i n = elim i [ ]
-  in_fresh seen (y ∷ l) x i n = go (seen_among y seen) refl i (λ j. in_fresh seen l x j n) (λ j u. in_fresh (y ∷ seen) l x j u)
+  in_fresh seen (y ∷ l) x i n =
+      go (seen_among y seen) refl i (λ j. in_fresh seen l x j n) (λ j u. in_fresh (y ∷ seen) l x j u)
     where
       unseen : Differ x y → Mem x (y ∷ seen) → ⊥
       unseen d (Memᴰ.head e) = d e
       unseen d (Memᴰ.tail k) = n k
 
-      first : (x ≡ y) ⊎ (Differ x y) → Mem x (y ∷ l) → (Mem x l → (Mem x (y ∷ seen) → ⊥) → Mem x (fresh c (y ∷ seen) l)) → Mem x (y ∷ fresh c (y ∷ seen) l)
+      first : (x ≡ y) ⊎ (Differ x y) → Mem x (y ∷ l)
+          → (Mem x l → (Mem x (y ∷ seen) → ⊥) → Mem x (fresh c (y ∷ seen) l)) → Mem x (y ∷ fresh c (y ∷ seen) l)
       first (inl e) j new = here e
       first (inr d) (Memᴰ.head e) new = here e
       first (inr d) (Memᴰ.tail j) new = there (new j (unseen d))
@@ -171,8 +178,10 @@ module _ {A : Type 0} (c : A → A → Ordering) (order : Linear c) where
           from (inr (inr e)) = inr (λ q. below_differ y x e (sym q))
 
       go : (b : Bool) → seen_among y seen ≡ b → Mem x (y ∷ l) → (Mem x l → Mem x (fresh c seen l))
-          → (Mem x l → (Mem x (y ∷ seen) → ⊥) → Mem x (fresh c (y ∷ seen) l)) → Mem x (cond b (fresh c seen l) (y ∷ fresh c (y ∷ seen) l))
-      go true e (Memᴰ.head q) old new = absurd (n (subst (λ (z : A). Mem z seen) (sym q) (seen_member y seen (true→holds e))))
+          → (Mem x l → (Mem x (y ∷ seen) → ⊥) → Mem x (fresh c (y ∷ seen) l))
+          → Mem x (cond b (fresh c seen l) (y ∷ fresh c (y ∷ seen) l))
+      go true e (Memᴰ.head q) old new =
+          absurd (n (subst (λ (z : A). Mem z seen) (sym q) (seen_member y seen (true→holds e))))
       go true e (Memᴰ.tail j) old new = old j
       go false e j old new = first same_or j new
 
@@ -181,7 +190,8 @@ module _ {A : Type 0} (c : A → A → Ordering) (order : Linear c) where
   fresh_distinct seen [] = tt
   fresh_distinct seen (y ∷ l) = go (seen_among y seen) (fresh_distinct seen l) (fresh_distinct (y ∷ seen) l)
     where
-      go : (b : Bool) → Distinct (fresh c seen l) → Distinct (fresh c (y ∷ seen) l) → Distinct (cond b (fresh c seen l) (y ∷ fresh c (y ∷ seen) l))
+      go : (b : Bool) → Distinct (fresh c seen l) → Distinct (fresh c (y ∷ seen) l)
+          → Distinct (cond b (fresh c seen l) (y ∷ fresh c (y ∷ seen) l))
       go true h k = h
       go false h k = ((λ z i e. (of_fresh (y ∷ seen) l z i).1 (here (sym e))), k)
 

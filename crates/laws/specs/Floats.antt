@@ -1,6 +1,7 @@
--- How large a float is. `Sized f k x`: the format f holds x, and x is finite and at most 2 ^ k in size. Rounding keeps such a bound, since it keeps the order and leaves powers of two alone;
--- so sums, differences, products and quotients have bounds of their own, as long as the power is one that the format holds.
--- Leans on lib.Ieee's laws of `round`: `round_mono`, `round_exact` and the operations' `-fits`.
+-- How large a float is. `Sized f k x`: the format f holds x, and x is finite and at most 2 ^ k in size. Rounding
+-- keeps such a bound, since it keeps the order and leaves powers of two alone; so sums, differences, products and
+-- quotients have bounds of their own, as long as the power is one that the format holds. Leans on lib.Ieee's laws of
+-- `round`: `round_mono`, `round_exact` and the operations' `-fits`.
 use Rattle.std.specs.Prelude.{Bool, true, false, not, ◌&&◌, ◌||◌, cond, T, eqb, ℤ, pos, Float}
 use Rattle.std.proofs.Common.{sym, subst, le_trans, le_of_eq, mul-le-mul_right, arith, leb→le, eqb→eq, pow_mono}
 use Prim.Native.Nat.{ℕ, zero, suc, ◌+◌, ◌-◌, ◌*◌, ◌/◌, ◌%◌, ◌^◌, ◌≤◌, ◌<◌, zero-le, suc-le-suc, compare}
@@ -58,7 +59,8 @@ pub round_upright : (f : Format) (a c : ℕ) → Upright (round f false a c)
 round_upright f a c =
     let n = a * 2 ^ low f in
     let k = size (n / c) - prec f in
-    subst Upright (sym (round_is f false a c)) (units_upright f (nearest (n / (c * 2 ^ k)) (compare (n % (c * 2 ^ k) * 2) (c * 2 ^ k))) k)
+    subst Upright (sym (round_is f false a c))
+    (units_upright f (nearest (n / (c * 2 ^ k)) (compare (n % (c * 2 ^ k) * 2) (c * 2 ^ k))) k)
 
 -- ---- rounding keeps the bounds
 
@@ -94,14 +96,16 @@ module _ (f : Format) (s : Bool) (m : ℕ) (e : ℤ) (h : T (fits f (fin s (suc 
       ltb→lt (suc m) (2 ^ prec f)
       (and_r (eqb (suc m % 2) 1) (ltb (suc m) (2 ^ prec f))
       (and_l (eqb (suc m % 2) 1 && ltb (suc m) (2 ^ prec f)) (leb (down e) (2 ^ low f))
-      (and_l (eqb (suc m % 2) 1 && ltb (suc m) (2 ^ prec f) && leb (down e) (2 ^ low f)) (ltb (suc m * up e) (2 ^ suc (emax f) * down e)) h)))
+      (and_l (eqb (suc m % 2) 1 && ltb (suc m) (2 ^ prec f)
+      && leb (down e) (2 ^ low f)) (ltb (suc m * up e) (2 ^ suc (emax f) * down e)) h)))
 
   -- below the power of two from which on there are infinities
   pub held_below : suc m * up e < 2 ^ suc (emax f) * down e
   unfolding fits
   held_below =
       ltb→lt (suc m * up e) (2 ^ suc (emax f) * down e)
-      (and_r (eqb (suc m % 2) 1 && ltb (suc m) (2 ^ prec f) && leb (down e) (2 ^ low f)) (ltb (suc m * up e) (2 ^ suc (emax f) * down e)) h)
+      (and_r (eqb (suc m % 2) 1 && ltb (suc m) (2 ^ prec f)
+      && leb (down e) (2 ^ low f)) (ltb (suc m * up e) (2 ^ suc (emax f) * down e)) h)
 
 -- the exponent of a value that the format holds
 pub held_exponent : (f : Format) (s : Bool) (m k : ℕ) → T (fits f (fin s (suc m) (pos k))) → k ≤ emax f

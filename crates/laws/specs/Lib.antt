@@ -1,4 +1,5 @@
--- Facts on tests, lists, orders, numbers and floats that the library lacks, one file to a subject, stated once for every crate.
+-- Facts on tests, lists, orders, numbers and floats that the library lacks, one file to a subject, stated once for
+-- every crate.
 pub mod Bools
 pub mod Clauses
 pub mod Lists

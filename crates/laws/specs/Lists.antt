@@ -34,7 +34,8 @@ module _ {A : Type 0} where
   any_witness p [] t = absurd t
   any_witness p (y ∷ ys) t = go (either (p y) (any_of p ys) t) (λ u. any_witness p ys u)
     where
-      go : T (p y) ⊎ T (any_of p ys) → (T (any_of p ys) → (x : A) × Mem x ys × T (p x)) → (x : A) × Mem x (y ∷ ys) × T (p x)
+      go : T (p y) ⊎ T (any_of p ys) → (T (any_of p ys) → (x : A) × Mem x ys × T (p x))
+          → (x : A) × Mem x (y ∷ ys) × T (p x)
       go (inl u) ih = (y, here refl, u)
       go (inr u) ih = let r = ih u in (r.0, there r.1, r.2)
 
@@ -72,7 +73,8 @@ module _ {A : Type 0} where
       later : Mem x ys × T (p x) → Mem x (y ∷ ys) × T (p x)
       later r = (there r.0, r.1)
 
-      go : (b : Bool) → p y ≡ b → Mem x (cond b (y ∷ keep p ys) (keep p ys)) → (Mem x (keep p ys) → Mem x ys × T (p x)) → Mem x (y ∷ ys) × T (p x)
+      go : (b : Bool) → p y ≡ b → Mem x (cond b (y ∷ keep p ys) (keep p ys))
+          → (Mem x (keep p ys) → Mem x ys × T (p x)) → Mem x (y ∷ ys) × T (p x)
       go true e (Memᴰ.head q) ih = (here q, subst (λ (z : A). T (p z)) (sym q) (true→holds e))
       go true e (Memᴰ.tail k) ih = later (ih k)
       go false e k ih = later (ih k)
@@ -91,14 +93,16 @@ module _ {A : Type 0} where
   keep_append p [] m = refl
   keep_append p (x ∷ l) m = go (p x) (keep_append p l m)
     where
-      go : (b : Bool) → keep p (l ++ m) ≡ keep p l ++ keep p m → cond b (x ∷ keep p (l ++ m)) (keep p (l ++ m)) ≡ cond b (x ∷ keep p l) (keep p l) ++ keep p m
+      go : (b : Bool) → keep p (l ++ m) ≡ keep p l ++ keep p m
+          → cond b (x ∷ keep p (l ++ m)) (keep p (l ++ m)) ≡ cond b (x ∷ keep p l) (keep p l) ++ keep p m
       go true e = ap (λ (k : List A). x ∷ k) e
       go false e = e
 
   pub any_append : (p : A → Bool) (l m : List A) → any_of p (l ++ m) ≡ (any_of p l || any_of p m)
   unfolding any_of
   any_append p [] m = refl
-  any_append p (x ∷ l) m = ap (λ (b : Bool). p x || b) (any_append p l m) ∙ sym (or_assoc (p x) (any_of p l) (any_of p m))
+  any_append p (x ∷ l) m =
+      ap (λ (b : Bool). p x || b) (any_append p l m) ∙ sym (or_assoc (p x) (any_of p l) (any_of p m))
 
   pub keep_few : (p : A → Bool) (l : List A) → length (keep p l) ≤ length l
   unfolding keep
@@ -115,24 +119,29 @@ module _ {A : Type 0} where
   keep_fewer p q [] f = omega arith
   keep_fewer p q (y ∷ ys) f = go (p y) (q y) (f y) (keep_fewer p q ys f)
     where
-      go : (a b : Bool) → (T b → T a) → length (keep q ys) ≤ length (keep p ys) → length (cond b (y ∷ keep q ys) (keep q ys)) ≤ length (cond a (y ∷ keep p ys) (keep p ys))
+      go : (a b : Bool) → (T b → T a) → length (keep q ys) ≤ length (keep p ys)
+          → length (cond b (y ∷ keep q ys) (keep q ys)) ≤ length (cond a (y ∷ keep p ys) (keep p ys))
       go true true g ih = omega arith
       go true false g ih = omega arith
       go false true g ih = absurd (g tt)
       go false false g ih = ih
 
-  pub keep_less : (p q : A → Bool) (x : A) (l : List A) → ((y : A) → T (q y) → T (p y)) → Mem x l → T (p x) → T (not (q x)) → length (keep q l) < length (keep p l)
+  pub keep_less : (p q : A → Bool) (x : A) (l : List A) → ((y : A) → T (q y) → T (p y)) → Mem x l → T (p x)
+      → T (not (q x)) → length (keep q l) < length (keep p l)
   unfolding keep
   keep_less p q x [] f x5 t n = elim x5 [ ]
-  keep_less p q x (y ∷ ys) f (Memᴰ.head e) t n = go (p y) (q y) (subst (λ (z : A). T (p z)) e t) (subst (λ (z : A). T (not (q z))) e n) (keep_fewer p q ys f)
+  keep_less p q x (y ∷ ys) f (Memᴰ.head e) t n =
+      go (p y) (q y) (subst (λ (z : A). T (p z)) e t) (subst (λ (z : A). T (not (q z))) e n) (keep_fewer p q ys f)
     where
-      go : (a b : Bool) → T a → T (not b) → length (keep q ys) ≤ length (keep p ys) → length (cond b (y ∷ keep q ys) (keep q ys)) < length (cond a (y ∷ keep p ys) (keep p ys))
+      go : (a b : Bool) → T a → T (not b) → length (keep q ys) ≤ length (keep p ys)
+          → length (cond b (y ∷ keep q ys) (keep q ys)) < length (cond a (y ∷ keep p ys) (keep p ys))
       go true true u v w = absurd v
       go true false u v w = omega arith
       go false b u v w = absurd u
   keep_less p q x (y ∷ ys) f (Memᴰ.tail h) t n = go (p y) (q y) (f y) (keep_less p q x ys f h t n)
     where
-      go : (a b : Bool) → (T b → T a) → length (keep q ys) < length (keep p ys) → length (cond b (y ∷ keep q ys) (keep q ys)) < length (cond a (y ∷ keep p ys) (keep p ys))
+      go : (a b : Bool) → (T b → T a) → length (keep q ys) < length (keep p ys)
+          → length (cond b (y ∷ keep q ys) (keep q ys)) < length (cond a (y ∷ keep p ys) (keep p ys))
       go true true g ih = omega arith
       go true false g ih = omega arith
       go false true g ih = absurd (g tt)
@@ -144,16 +153,20 @@ module _ {A : Type 0} where
   place_hit p d [] h = absurd (omega arith)
   place_hit p d (x ∷ xs) h = go (p x) refl h (λ k. place_hit p d xs k)
     where
-      go : (b : Bool) → p x ≡ b → cond b 0 (suc (place_of p xs)) < suc (length xs) → (place_of p xs < length xs → T (p (get_or xs (place_of p xs) d))) → T (p (get_or (x ∷ xs) (cond b 0 (suc (place_of p xs))) d))
+      go : (b : Bool) → p x ≡ b → cond b 0 (suc (place_of p xs)) < suc (length xs)
+          → (place_of p xs < length xs → T (p (get_or xs (place_of p xs) d)))
+          → T (p (get_or (x ∷ xs) (cond b 0 (suc (place_of p xs))) d))
       go true e k ih = true→holds e
       go false e k ih = ih (omega arith)
 
-  pub place_miss : (p : A → Bool) (d : A) (l : List A) (i : ℕ) → i < place_of p l → i < length l → T (not (p (get_or l i d)))
+  pub place_miss : (p : A → Bool) (d : A) (l : List A) (i : ℕ) → i < place_of p l → i < length l
+      → T (not (p (get_or l i d)))
   unfolding place_of
   place_miss p d [] i h k = absurd (omega arith)
   place_miss p d (x ∷ xs) i h k = go (p x) refl i h k (λ j q z. place_miss p d xs j q z)
     where
-      go : (b : Bool) → p x ≡ b → (i : ℕ) → i < cond b 0 (suc (place_of p xs)) → i < suc (length xs) → ((j : ℕ) → j < place_of p xs → j < length xs → T (not (p (get_or xs j d)))) → T (not (p (get_or (x ∷ xs) i d)))
+      go : (b : Bool) → p x ≡ b → (i : ℕ) → i < cond b 0 (suc (place_of p xs)) → i < suc (length xs) → ((j : ℕ)
+          → j < place_of p xs → j < length xs → T (not (p (get_or xs j d)))) → T (not (p (get_or (x ∷ xs) i d)))
       go true e i h k ih = absurd (omega arith)
       go false e zero h k ih = false→fails e
       go false e (suc i) h k ih = ih i (omega arith) (omega arith)
@@ -239,7 +252,8 @@ module _ {A B : Type 0} where
   of_flat_map f y [] h = elim h [ ]
   of_flat_map f y (z ∷ l) h = go (in_append y (f z) (flat_map f l) h) (λ k. of_flat_map f y l k)
     where
-      go : Mem y (f z) ⊎ Mem y (flat_map f l) → (Mem y (flat_map f l) → (x : A) × Mem x l × Mem y (f x)) → (x : A) × Mem x (z ∷ l) × Mem y (f x)
+      go : Mem y (f z) ⊎ Mem y (flat_map f l) → (Mem y (flat_map f l) → (x : A) × Mem x l × Mem y (f x))
+          → (x : A) × Mem x (z ∷ l) × Mem y (f x)
       go (inl k) ih = (z, here refl, k)
       go (inr k) ih = let r = ih k in (r.0, there r.1, r.2)
 
@@ -248,18 +262,21 @@ module _ {A B : Type 0} where
   flat_map_append f [] ys = refl
   flat_map_append f (x ∷ xs) ys = rw (flat_map_append f xs ys, append_assoc)
 
-  pub flat_map_same : (f g : A → List B) (xs : List A) → ((x : A) → Mem x xs → f x ≡ g x) → flat_map f xs ≡ flat_map g xs
+  pub flat_map_same : (f g : A → List B) (xs : List A) → ((x : A) → Mem x xs → f x ≡ g x)
+      → flat_map f xs ≡ flat_map g xs
   unfolding flat_map
   flat_map_same f g [] h = refl
   flat_map_same f g (x ∷ xs) h = rw (h x (here refl), flat_map_same f g xs (λ y k. h y (there k)))
 
-  pub map_at_holds : (f : A → B) (l : List A) (i : ℕ) (d : B) (e : A) → i < length l → get_or (map f l) i d ≡ f (get_or l i e)
+  pub map_at_holds : (f : A → B) (l : List A) (i : ℕ) (d : B) (e : A) → i < length l
+      → get_or (map f l) i d ≡ f (get_or l i e)
   map_at_holds f [] i d e h = absurd (omega arith)
   map_at_holds f (x ∷ xs) zero d e h = refl
   map_at_holds f (x ∷ xs) (suc i) d e h = map_at_holds f xs i d e (omega arith)
 
   -- an item of a list that is mapped with places
-  pub of_map_at : (f : ℕ → A → B) (d : A) (y : B) (a : ℕ) (l : List A) → Mem y (map_at f a l) → (i : ℕ) × (i < length l) × (y ≡ f (a + i) (get_or l i d))
+  pub of_map_at : (f : ℕ → A → B) (d : A) (y : B) (a : ℕ) (l : List A) → Mem y (map_at f a l)
+      → (i : ℕ) × (i < length l) × (y ≡ f (a + i) (get_or l i d))
   unfolding map_at
   of_map_at f d y a [] x' = elim x' [ ]
   of_map_at f d y a (x ∷ l) (Memᴰ.head e) = (0, omega arith, e ∙ ap (λ (n : ℕ). f n x) (omega arith))
@@ -268,12 +285,14 @@ module _ {A B : Type 0} where
       let k = r.1 in
       (suc r.0, omega arith, r.2 ∙ ap (λ (n : ℕ). f n (get_or l r.0 d)) (omega arith))
 
-  pub in_map_at : (f : ℕ → A → B) (d : A) (a : ℕ) (l : List A) (i : ℕ) → i < length l → Mem (f (a + i) (get_or l i d)) (map_at f a l)
+  pub in_map_at : (f : ℕ → A → B) (d : A) (a : ℕ) (l : List A) (i : ℕ) → i < length l
+      → Mem (f (a + i) (get_or l i d)) (map_at f a l)
   unfolding map_at
   in_map_at f d a [] i h = absurd (omega arith)
   in_map_at f d a (x ∷ l) zero h = here (ap (λ (n : ℕ). f n x) (omega arith))
   in_map_at f d a (x ∷ l) (suc i) h =
-      there (subst (λ (n : ℕ). Mem (f n (get_or l i d)) (map_at f (suc a) l)) (omega arith) (in_map_at f d (suc a) l i (omega arith)))
+      there (subst (λ (n : ℕ). Mem (f n (get_or l i d)) (map_at f (suc a) l)) (omega arith)
+      (in_map_at f d (suc a) l i (omega arith)))
 
 -- ---- a, a + 1, ..
 pub count_at : (a n i d : ℕ) → i < n → get_or (count_from a n) i d ≡ a + i
@@ -294,7 +313,8 @@ count_more a zero = let e : a ≡ a + 0 = omega arith in ap (λ (k : ℕ). k ∷
 count_more a (suc n) =
     let e : suc a + n ≡ a + suc n = omega arith in
     let f : suc n + 1 ≡ suc (n + 1) = omega arith in
-    ap (count_from a) f ∙ ap (λ (l : List ℕ). a ∷ l) (count_more (suc a) n ∙ ap (λ (k : ℕ). count_from (suc a) n ++ (k ∷ [])) e)
+    ap (count_from a) f
+    ∙ ap (λ (l : List ℕ). a ∷ l) (count_more (suc a) n ∙ ap (λ (k : ℕ). count_from (suc a) n ++ (k ∷ [])) e)
 
 pub in_count : (a n x : ℕ) → a ≤ x → x < a + n → Mem x (count_from a n)
 unfolding count_from
@@ -309,7 +329,11 @@ pub of_count : (a n x : ℕ) → Mem x (count_from a n) → (a ≤ x) × (x < a 
 unfolding count_from
 of_count a zero x x3 = elim x3 [ ]
 of_count a (suc n) x (Memᴰ.head e) = (omega arith, omega arith)
-of_count a (suc n) x (Memᴰ.tail h) = let r = of_count (suc a) n x h in let k = r.0 in let m = r.1 in (omega arith, omega arith)
+of_count a (suc n) x (Memᴰ.tail h) =
+    let r = of_count (suc a) n x h in
+    let k = r.0 in
+    let m = r.1 in
+    (omega arith, omega arith)
 
 -- ---- items by their places
 

@@ -1,4 +1,5 @@
--- Linear orders given by a comparison: numbers, pairs, and lists item by item. One lemma on `then_by` serves pairs and lists alike. Leans on Bools.
+-- Linear orders given by a comparison: numbers, pairs, and lists item by item. One lemma on `then_by` serves pairs
+-- and lists alike. Leans on the definitions of lists.
 use Rattle.std.specs.Prelude.{◌≡◌, Bool, true, false, not}
 use Rattle.std.proofs.Math.Path.{refl, ap, subst}
 use Rattle.std.proofs.Common.{sym, ◌∙◌, arith}
@@ -100,7 +101,8 @@ then_turned Ordering.lt b = refl
 then_turned Ordering.eq b = refl
 then_turned Ordering.gt b = refl
 
-module _ {A : Type 0} (c : A → A → Ordering) (order : Linear c) (x y z : A) (s u w : Ordering) (tails : s ≡ Ordering.lt → u ≡ Ordering.lt → w ≡ Ordering.lt) where
+module _ {A : Type 0} (c : A → A → Ordering) (order : Linear c) (x y z : A) (s u w : Ordering)
+    (tails : s ≡ Ordering.lt → u ≡ Ordering.lt → w ≡ Ordering.lt) where
   -- the heads decide, or they are equal and the tails do
   abbrev Less : Type 0
   Less = then_by (c x z) w ≡ Ordering.lt
@@ -113,7 +115,8 @@ module _ {A : Type 0} (c : A → A → Ordering) (order : Linear c) (x y z : A) 
   unfolding then_by
   by_tails e f g = ap (λ (o : Ordering). then_by o w) e ∙ tails f g
 
-  pub then_less : (a b : Ordering) → c x y ≡ a → c y z ≡ b → then_by a s ≡ Ordering.lt → then_by b u ≡ Ordering.lt → Less
+  pub then_less : (a b : Ordering) → c x y ≡ a → c y z ≡ b → then_by a s ≡ Ordering.lt → then_by b u ≡ Ordering.lt
+      → Less
   unfolding then_by
   then_less Ordering.lt Ordering.lt e f p q = by_heads (order.less x y z e f)
   then_less Ordering.lt Ordering.eq e f p q = by_heads (ap (c x) (sym (order.equal y z f)) ∙ e)
@@ -142,7 +145,8 @@ module _ {A B : Type 0} (c : A → A → Ordering) (order : Linear c) (d : B →
         ∙ ap (then_by (turned (c p.0 q.0))) (next.mirror p.1 q.1)
         ∙ then_turned (c p.0 q.0) (d p.1 q.1);
     less = λ p q r e f.
-        then_less c order p.0 q.0 r.0 (d p.1 q.1) (d q.1 r.1) (d p.1 r.1) (next.less p.1 q.1 r.1) (c p.0 q.0) (c q.0 r.0) refl refl e f;
+        then_less c order p.0 q.0 r.0 (d p.1 q.1) (d q.1 r.1) (d p.1 r.1) (next.less p.1 q.1 r.1) (c p.0 q.0)
+        (c q.0 r.0) refl refl e f;
   }
 
 pub pairs : Linear compare_pair
@@ -177,7 +181,8 @@ module _ {A : Type 0} (c : A → A → Ordering) (order : Linear c) where
       ∙ ap (then_by (turned (c x y))) (list_mirror xs ys)
       ∙ then_turned (c x y) (compare_list c xs ys)
 
-  list_less : (xs ys zs : List A) → compare_list c xs ys ≡ Ordering.lt → compare_list c ys zs ≡ Ordering.lt → compare_list c xs zs ≡ Ordering.lt
+  list_less : (xs ys zs : List A) → compare_list c xs ys ≡ Ordering.lt → compare_list c ys zs ≡ Ordering.lt
+      → compare_list c xs zs ≡ Ordering.lt
   unfolding compare_list
   list_less [] [] zs e f = absurd (lt≢eq (sym e))
   list_less [] (y ∷ ys) [] e f = absurd (lt≢gt (sym f))
@@ -185,7 +190,8 @@ module _ {A : Type 0} (c : A → A → Ordering) (order : Linear c) where
   list_less (x ∷ xs) [] zs e f = absurd (lt≢gt (sym e))
   list_less (x ∷ xs) (y ∷ ys) [] e f = absurd (lt≢gt (sym f))
   list_less (x ∷ xs) (y ∷ ys) (z ∷ zs) e f =
-      then_less c order x y z (compare_list c xs ys) (compare_list c ys zs) (compare_list c xs zs) (list_less xs ys zs) (c x y) (c y z) refl refl e f
+      then_less c order x y z (compare_list c xs ys) (compare_list c ys zs) (compare_list c xs zs)
+      (list_less xs ys zs) (c x y) (c y z) refl refl e f
 
   pub lists : Linear (compare_list c)
   lists = record { equal = list_equal; self = list_self; mirror = list_mirror; less = list_less }

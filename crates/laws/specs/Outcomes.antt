@@ -12,12 +12,14 @@ unfolding is_answered
 refusal_is_no_answer {A} number a e = subst (λ (o : Outcome A). T (not (is_answered o))) e tt
 
 -- a step that was answered was answered before
-pub answered_before : {A B : Type 0} (x : Outcome A) (next : A → Outcome B) (b : B) → and_then x next ≡ answered b → (a : A) × (x ≡ answered a) × (next a ≡ answered b)
+pub answered_before : {A B : Type 0} (x : Outcome A) (next : A → Outcome B) (b : B) → and_then x next ≡ answered b
+    → (a : A) × (x ≡ answered a) × (next a ≡ answered b)
 unfolding and_then
 answered_before (refused number) next b e = absurd (refusal_is_no_answer number b e)
 answered_before (answered a) next b e = (a, refl, e)
 
-pub not_refused_if : {A : Type 0} (test : Bool) (number : ℕ) (next : Unit {0} → Outcome A) (a : A) → refuse_if test number next ≡ answered a → (test ≡ false) × (next tt ≡ answered a)
+pub not_refused_if : {A : Type 0} (test : Bool) (number : ℕ) (next : Unit {0} → Outcome A) (a : A)
+    → refuse_if test number next ≡ answered a → (test ≡ false) × (next tt ≡ answered a)
 unfolding refuse_if
 not_refused_if true number next a e = absurd (refusal_is_no_answer number a e)
 not_refused_if false number next a e = (refl, e)

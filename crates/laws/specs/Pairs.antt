@@ -1,4 +1,5 @@
--- A relation between every item of a list and every later one, and how it passes through the words that build lists. Leans on Lists.
+-- A relation between every item of a list and every later one, and how it passes through the words that build lists.
+-- Leans on Lists.
 use Rattle.std.specs.Prelude.{◌≡◌, refl, ◌⊎◌, Bool, cond, ℕ, zero, suc, ◌<◌, take, replicate}
 use Rattle.std.proofs.Common.{sym, subst, inl, inr, arith}
 use Rattle.std.proofs.Math.Logic.{∥∥₁_elim}
@@ -12,7 +13,8 @@ module _ {A : Type 0} (R : A → A → Type 0) where
   Pairs [] = Unit {0}
   Pairs (x ∷ l) = ((y : A) → Mem y l → R x y) × Pairs l
 
-  pub pairs_append : (l m : List A) → Pairs l → Pairs m → ((x : A) → Mem x l → (y : A) → Mem y m → R x y) → Pairs (l ++ m)
+  pub pairs_append : (l m : List A) → Pairs l → Pairs m → ((x : A) → Mem x l → (y : A) → Mem y m → R x y)
+      → Pairs (l ++ m)
   pairs_append [] m h k f = k
   pairs_append (x ∷ l) m h k f = (across, pairs_append l m h.1 k (λ y i. f y (there i)))
     where
@@ -24,7 +26,8 @@ module _ {A : Type 0} (R : A → A → Type 0) where
           go (inr j) = f x (here refl) y j
 
   -- a relation that holds both ways survives reversing
-  pub pairs_reversed : ((x y : A) → R x y → R y x) → (l m : List A) → Pairs l → Pairs m → ((x : A) → Mem x l → (y : A) → Mem y m → R x y) → Pairs (reverse_aux l m)
+  pub pairs_reversed : ((x y : A) → R x y → R y x) → (l m : List A) → Pairs l → Pairs m
+      → ((x : A) → Mem x l → (y : A) → Mem y m → R x y) → Pairs (reverse_aux l m)
   pairs_reversed s [] m h k f = k
   pairs_reversed s (x ∷ l) m h k f = pairs_reversed s l (x ∷ m) h.1 (f x (here refl), k) across
     where
@@ -51,7 +54,8 @@ module _ {A : Type 0} (R : A → A → Type 0) where
       again y i = subst (R x) (sym (in_replicate (suc n) y x i)) (f (omega arith))
 
 module _ {A B : Type 0} (S : A → A → Type 0) (R : B → B → Type 0) where
-  pub pairs_map : (f : A → B) (l : List A) → ((x : A) → Mem x l → (y : A) → Mem y l → S x y → R (f x) (f y)) → Pairs S l → Pairs R (map f l)
+  pub pairs_map : (f : A → B) (l : List A) → ((x : A) → Mem x l → (y : A) → Mem y l → S x y → R (f x) (f y))
+      → Pairs S l → Pairs R (map f l)
   pairs_map f [] g h = tt
   pairs_map f (x ∷ l) g h = (across, pairs_map f l (λ y i z j. g y (there i) z (there j)) h.1)
     where
@@ -59,7 +63,8 @@ module _ {A B : Type 0} (S : A → A → Type 0) (R : B → B → Type 0) where
       across y i = let r = of_map f y l i in subst (R (f x)) (sym r.2) (g x (here refl) r.0 (there r.1) (h.0 r.0 r.1))
 
   pub pairs_flat_map : (f : A → List B) (l : List A) → ((x : A) → Mem x l → Pairs R (f x))
-      → ((x : A) → Mem x l → (y : A) → Mem y l → S x y → (u : B) → Mem u (f x) → (v : B) → Mem v (f y) → R u v) → Pairs S l → Pairs R (flat_map f l)
+      → ((x : A) → Mem x l → (y : A) → Mem y l → S x y → (u : B) → Mem u (f x) → (v : B) → Mem v (f y) → R u v)
+      → Pairs S l → Pairs R (flat_map f l)
   unfolding flat_map
   pairs_flat_map f [] within across h = tt
   pairs_flat_map f (x ∷ l) within across h =

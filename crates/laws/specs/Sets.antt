@@ -1,5 +1,6 @@
--- Sets of vertices as numbers: the sum of 2 ^ v. Ascending lists of numbers below n are the numbers below 2 ^ n, one to one; so equal numbers are equal sets, and a set's image
--- under a permutation has the sum of the images' powers. Leans on Lists, Pairs and Sorting.
+-- Sets of vertices as numbers: the sum of 2 ^ v. Ascending lists of numbers below n are the numbers below 2 ^ n, one
+-- to one; so equal numbers are equal sets, and a set's image under a permutation has the sum of the images' powers.
+-- Leans on Lists, Pairs and Sorting.
 use Rattle.std.specs.Prelude.{◌≡◌, Bool, true, false, cond, not, eqb}
 use Rattle.std.proofs.Math.Path.{refl}
 use Rattle.std.proofs.Common.{sym, ap, subst, ◌∙◌, eq-eqb, ne_eqb, eqb→eq}
@@ -55,7 +56,8 @@ unfolding vertices_from
 vertices_set v zero x = empty
 vertices_set v (suc n) x = go (eqb (x % 2) 1) (vertices_set (suc v) n (x / 2))
   where
-    go : (b : Bool) → SetFrom (suc v) n (vertices_from (suc v) n (x / 2)) → SetFrom v (suc n) (cond b (v ∷ vertices_from (suc v) n (x / 2)) (vertices_from (suc v) n (x / 2)))
+    go : (b : Bool) → SetFrom (suc v) n (vertices_from (suc v) n (x / 2))
+        → SetFrom v (suc n) (cond b (v ∷ vertices_from (suc v) n (x / 2)) (vertices_from (suc v) n (x / 2)))
     go true r = with r
     go false r = without r
 
@@ -122,13 +124,16 @@ unfolding vertices_from set_number
 number_vertices_from v zero x h = let e : x ≡ 0 = omega (arith, rw pow-zero at h) in rw e (omega arith)
 number_vertices_from v (suc n) x h =
     let q : x < 2 ^ n + 2 ^ n = rw two-pow-succ at h in
-    let ih : set_number (vertices_from (suc v) n (x / 2)) ≡ (2 ^ v + 2 ^ v) * (x / 2) = rw two-pow-succ at (number_vertices_from (suc v) n (x / 2) (omega arith)) in
+    let ih : set_number (vertices_from (suc v) n (x / 2))
+    ≡ (2 ^ v + 2 ^ v) * (x / 2) = rw two-pow-succ at (number_vertices_from (suc v) n (x / 2) (omega arith)) in
     go (ℕ_discrete (x % 2) 1) ih
   where
-    go : Dec (x % 2 ≡ 1) → set_number (vertices_from (suc v) n (x / 2)) ≡ (2 ^ v + 2 ^ v) * (x / 2) → set_number (vertices_from v (suc n) x) ≡ 2 ^ v * x
+    go : Dec (x % 2 ≡ 1) → set_number (vertices_from (suc v) n (x / 2)) ≡ (2 ^ v + 2 ^ v) * (x / 2)
+        → set_number (vertices_from v (suc n) x) ≡ 2 ^ v * x
     go (yes e) ih =
         let k : x ≡ 2 * (x / 2) + 1 = omega arith in
-        ap set_number (vertices_odd v n x e) ∙ (ap (λ (j : ℕ). 2 ^ v + j) ih ∙ (omega (arith, ap (λ (j : ℕ). 2 ^ v * j) k)))
+        ap set_number (vertices_odd v n x e)
+        ∙ (ap (λ (j : ℕ). 2 ^ v + j) ih ∙ (omega (arith, ap (λ (j : ℕ). 2 ^ v * j) k)))
     go (no e) ih =
         let k : x ≡ 2 * (x / 2) = omega arith in
         ap set_number (vertices_even v n x e) ∙ (ih ∙ (omega (arith, ap (λ (j : ℕ). 2 ^ v * j) k)))
@@ -153,14 +158,17 @@ set_rises (with s) = ((λ y h. omega (arith, (set_range s y h).0)), set_rises s)
 abbrev Within : ℕ → ℕ → List ℕ → Type 0
 Within v n l = (u : ℕ) → Mem u l → (v ≤ u) × (u < v + n)
 
-rising_more : (v n x : ℕ) (l : List ℕ) → Pairs ◌<◌ (x ∷ l) → Within v (suc n) (x ∷ l) → ((m : List ℕ) → Pairs ◌<◌ m → Within (suc v) n m → SetFrom (suc v) n m) → SetFrom v (suc n) (x ∷ l)
+rising_more : (v n x : ℕ) (l : List ℕ) → Pairs ◌<◌ (x ∷ l) → Within v (suc n) (x ∷ l)
+    → ((m : List ℕ) → Pairs ◌<◌ m → Within (suc v) n m → SetFrom (suc v) n m) → SetFrom v (suc n) (x ∷ l)
 rising_more v n x l p h ih = go (ℕ_discrete x v)
   where
     first : (v ≤ x) × (x < v + suc n)
     first = h x (here refl)
 
     go : Dec (x ≡ v) → SetFrom v (suc n) (x ∷ l)
-    go (yes e) = subst (λ (k : ℕ). SetFrom v (suc n) (k ∷ l)) (sym e) (with (ih l p.1 (λ u m. (omega (arith, p.0 u m), omega (arith, (h u (there m)).1)))))
+    go (yes e) =
+        subst (λ (k : ℕ). SetFrom v (suc n) (k ∷ l)) (sym e)
+        (with (ih l p.1 (λ u m. (omega (arith, p.0 u m), omega (arith, (h u (there m)).1)))))
     go (no e) = without (ih (x ∷ l) p within)
       where
         within : Within (suc v) n (x ∷ l)
@@ -182,7 +190,8 @@ unfolding insert_by set_number
 number_insert x [] = refl
 number_insert x (y ∷ l) = go (is_gt (compare x y)) (number_insert x l)
   where
-    go : (b : Bool) → set_number (insert_by compare x l) ≡ 2 ^ x + set_number l → set_number (cond b (y ∷ insert_by compare x l) (x ∷ y ∷ l)) ≡ 2 ^ x + (2 ^ y + set_number l)
+    go : (b : Bool) → set_number (insert_by compare x l) ≡ 2 ^ x + set_number l
+        → set_number (cond b (y ∷ insert_by compare x l) (x ∷ y ∷ l)) ≡ 2 ^ x + (2 ^ y + set_number l)
     go true e = omega arith
     go false e = refl
 
@@ -213,21 +222,28 @@ module _ (n : ℕ) (l : List ℕ) (distinct : Pairs Apart l) (below : (u : ℕ) 
   unfolding sort_nats
   sorted_set =
       rising_set 0 n (sort_nats l)
-      (rises (sort_nats l) (pairs_perm Apart (λ x y a e. a (sym e)) (Permᴰ.symm (sort_perm compare l)) distinct) (sort_ascends compare nats (λ (k : ℕ). k) l))
+      (rises (sort_nats l) (pairs_perm Apart (λ x y a e. a (sym e)) (Permᴰ.symm (sort_perm compare l)) distinct)
+      (sort_ascends compare nats (λ (k : ℕ). k) l))
       (λ u h. (omega arith, omega (arith, below u (perm_member (sort_perm compare l) u h))))
 
 -- ---- a set's image under a permutation
 
 -- the image of a set of numbers below n is one, where no two have the same image
-pub image_set : (n : ℕ) (f : ℕ → ℕ) (l : List ℕ) → SetFrom 0 n l → ((u : ℕ) → u < n → f u < n) → ((u w : ℕ) → u < n → w < n → f u ≡ f w → u ≡ w) → SetFrom 0 n (sort_nats (map f l))
+pub image_set : (n : ℕ) (f : ℕ → ℕ) (l : List ℕ) → SetFrom 0 n l → ((u : ℕ) → u < n → f u < n)
+    → ((u w : ℕ) → u < n → w < n → f u ≡ f w → u ≡ w) → SetFrom 0 n (sort_nats (map f l))
 image_set n f l s below one =
     sorted_set n (map f l)
-    (pairs_map ◌<◌ Apart f l (λ x i y j h e. let p = one x y (omega (arith, (set_range s x i).1)) (omega (arith, (set_range s y j).1)) e in omega arith) (set_rises s))
-    (λ u h. let r = of_map f u l h in subst (λ (k : ℕ). k < n) (sym r.2) (below r.0 (omega (arith, (set_range s r.0 r.1).1))))
+    (pairs_map ◌<◌ Apart f l (λ x i y j h e. let p =
+    one x y (omega (arith, (set_range s x i).1)) (omega (arith, (set_range s y j).1)) e in omega arith) (set_rises s))
+    (λ u h. let r = of_map f u l h in
+    subst (λ (k : ℕ). k < n) (sym r.2) (below r.0 (omega (arith, (set_range s r.0 r.1).1))))
 
 -- two sets are compared by their numbers
-pub compare_sets : {n : ℕ} {l m : List ℕ} → SetFrom 0 n l → SetFrom 0 n m → compare_is_eq (compare_nats l m) ≡ eqb (set_number l) (set_number m)
+pub compare_sets : {n : ℕ} {l m : List ℕ} → SetFrom 0 n l → SetFrom 0 n m
+    → compare_is_eq (compare_nats l m) ≡ eqb (set_number l) (set_number m)
 compare_sets {n} {l} {m} s t =
     same_test (compare_is_eq (compare_nats l m)) (eqb (set_number l) (set_number m))
-    (λ h. subst (λ (k : List ℕ). T (eqb (set_number l) (set_number k))) (nat_lists.equal l m (is_eq (compare_nats l m) h)) (eqb_refl (set_number l)))
-    (λ h. subst (λ (k : List ℕ). T (compare_is_eq (compare_nats l k))) (same_set s t (eqb→eq (set_number l) (set_number m) h)) (rw (nat_lists.self l) tt))
+    (λ h. subst (λ (k : List ℕ). T (eqb (set_number l) (set_number k)))
+    (nat_lists.equal l m (is_eq (compare_nats l m) h)) (eqb_refl (set_number l)))
+    (λ h. subst (λ (k : List ℕ). T (compare_is_eq (compare_nats l k)))
+    (same_set s t (eqb→eq (set_number l) (set_number m) h)) (rw (nat_lists.self l) tt))

@@ -16,7 +16,8 @@ pub square_le : {x y : ℕ} → x ≤ y → x * x ≤ y * y
 square_le h = mul-le-mul h h
 
 pub root_lt : (x y : ℕ) → x * x < y * y → x < y
-root_lt x y h = le_by (suc x) y (λ (l : y < suc x). let k : y ≤ x = omega arith in let a = mul-le-mul k k in omega arith)
+root_lt x y h =
+    le_by (suc x) y (λ (l : y < suc x). let k : y ≤ x = omega arith in let a = mul-le-mul k k in omega arith)
 
 -- ---- the whole root: r is the largest number whose square is at most n
 pub record WholeRoot (n r : ℕ) : Type 0 where
@@ -74,13 +75,15 @@ step_near n y c z d h k u v = go (leb c y) (leb→le c y) (nleb→lt c y)
     falls : (x : ℕ) → x ≤ d → y ≡ c + x → 4 * (z * z) ≤ 4 * n + d * d
     falls x l e =
         let s = mul-le-mul l l in
-        let t : (y + c) * (y + c) ≡ 4 * (c * y) + x * x = subst (λ (w : ℕ). (w + c) * (w + c) ≡ 4 * (c * w) + x * x) (sym e) (omega arith) in
+        let t : (y + c) * (y + c) ≡ 4 * (c * y) + x * x =
+        subst (λ (w : ℕ). (w + c) * (w + c) ≡ 4 * (c * w) + x * x) (sym e) (omega arith) in
         omega (arith, twice)
 
     rises : (x : ℕ) → x ≤ d → c ≡ y + x → 4 * (z * z) ≤ 4 * n + d * d
     rises x l e =
         let s = mul-le-mul l l in
-        let t : (y + c) * (y + c) ≡ 4 * (c * y) + x * x = subst (λ (w : ℕ). (y + w) * (y + w) ≡ 4 * (w * y) + x * x) (sym e) (omega arith) in
+        let t : (y + c) * (y + c) ≡ 4 * (c * y) + x * x =
+        subst (λ (w : ℕ). (y + w) * (y + w) ≡ 4 * (w * y) + x * x) (sym e) (omega arith) in
         omega (arith, twice)
 
     go : (b : Bool) → (T b → c ≤ y) → (T (not b) → y < c) → 4 * (z * z) ≤ 4 * n + d * d

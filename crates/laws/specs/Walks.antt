@@ -1,7 +1,8 @@
 -- `label_irc` [8.7] [8.8] on lists of any items: what the walk leaves are items of the list; with what was found they
 -- make up the list; a label names two lists so found (`labelled`); and a numbering that keeps the order keeps the
--- walk, what is found inside and the compounds (`labels_numbered`). The definitions speak of pairs and the program of numbers: both are the one text with
--- another comparison. Leans on the definitions and on the laws of orders and lists.
+-- walk, what is found inside and the compounds (`labels_numbered`). The definitions speak of pairs and the program of
+-- numbers: both are the one text with another comparison. Leans on the definitions and on the laws of orders and
+-- lists.
 use Rattle.std.specs.Prelude.{◌≡◌, Bool, ◌&&◌, get_or}
 use Rattle.std.proofs.Math.Path.{refl, sym, ap, subst}
 use Rattle.std.proofs.Common.{◌∙◌, arith, ltb→lt}
@@ -13,7 +14,8 @@ use Prim.Native.Nat.{ℕ, suc, ◌+◌, ◌<◌, Ordering}
 use Rattle.std.proofs.Math.Dec.{ltb, compare_is_eq}
 use Rattle.std.proofs.Math.ListN.{length, length-map}
 use Rattle.definitions.specs.Lists.{Pair, is_gt, then_by, compare_list}
-use Rattle.definitions.specs.Figures.{cons_in, with_second, compounds_from, walk, first_above, found_inside, seek, label_from, labels_of, label_irc}
+use Rattle.definitions.specs.Figures.{cons_in, with_second, compounds_from, walk, first_above, found_inside, seek}
+use Rattle.definitions.specs.Figures.{label_from, labels_of, label_irc}
 use Rattle.laws.specs.Bools.{true→holds, first}
 use Rattle.laws.specs.Options.{some_equal, none_is_not_some}
 use Rattle.laws.specs.Lists.{Mem, here, there}
@@ -23,14 +25,16 @@ use Rattle.laws.specs.Ascending.{tested_equal}
 -- ---- what the walk leaves
 
 module _ {A : Type 0} (c : A → A → Ordering) where
-  cons_some : (x : A) (o : Option (List A)) (rest : List A) → cons_in x o ≡ Some rest → (r : List A) × (o ≡ Some r) × (x ∷ r ≡ rest)
+  cons_some : (x : A) (o : Option (List A)) (rest : List A) → cons_in x o ≡ Some rest
+      → (r : List A) × (o ≡ Some r) × (x ∷ r ≡ rest)
   unfolding cons_in
   cons_some x None rest e = absurd (none_is_not_some rest e)
   cons_some x (Some r) rest e = (r, refl, some_equal (x ∷ r) rest e)
 
   -- one turn of the walk, by how the two items compare
   abbrev turn : A → List A → A → List A → Ordering → Option (List A)
-  turn x xs y ys o = elim o [ Ordering.lt ↦ cons_in x (walk c xs (y ∷ ys)) | Ordering.eq ↦ walk c xs ys | Ordering.gt ↦ None ]
+  turn x xs y ys o =
+      elim o [ Ordering.lt ↦ cons_in x (walk c xs (y ∷ ys)) | Ordering.eq ↦ walk c xs ys | Ordering.gt ↦ None ]
 
   -- the rest are items of the list
   pub walk_members : (a b rest : List A) → walk c a b ≡ Some rest → (x : A) → Mem x rest → Mem x a
@@ -53,7 +57,8 @@ module _ {A : Type 0} (c : A → A → Ordering) where
       go Ordering.eq q over on = there (on rest q x m)
       go Ordering.gt q over on = absurd (none_is_not_some rest q)
 
-  pub inside_walk : (a b rest : List A) → found_inside c a b ≡ Some rest → (length b < length a) × (walk c a b ≡ Some rest)
+  pub inside_walk : (a b rest : List A) → found_inside c a b ≡ Some rest
+      → (length b < length a) × (walk c a b ≡ Some rest)
   unfolding found_inside
   inside_walk a b rest e = go (ltb (length b) (length a) && not (first_above c b a)) refl e
     where
@@ -95,16 +100,24 @@ module _ {A : Type 0} (c : A → A → Ordering) (order : Linear c) where
     pub is : k ≡ from + place
     pub equal : get_or ls place [] ≡ items
 
-  seek_found : (items : List A) (ls : List (List A)) (from k : ℕ) → seek c items ls from ≡ Some k → Sought items ls from k
+  seek_found : (items : List A) (ls : List (List A)) (from k : ℕ) → seek c items ls from ≡ Some k
+      → Sought items ls from k
   unfolding seek
   seek_found items [] from k e = absurd (none_is_not_some k e)
-  seek_found items (l ∷ ls) from k e = go (compare_is_eq (compare_list c items l)) refl e (seek_found items ls (suc from) k)
+  seek_found items (l ∷ ls) from k e =
+      go (compare_is_eq (compare_list c items l)) refl e (seek_found items ls (suc from) k)
     where
-      go : (t : Bool) → compare_is_eq (compare_list c items l) ≡ t → cond t (Some from) (seek c items ls (suc from)) ≡ Some k
+      go : (t : Bool) → compare_is_eq (compare_list c items l) ≡ t
+          → cond t (Some from) (seek c items ls (suc from)) ≡ Some k
           → (seek c items ls (suc from) ≡ Some k → Sought items ls (suc from) k) → Sought items (l ∷ ls) from k
       go true q s ih =
           let here_is = some_equal from k s in
-          record { place = 0; below = omega arith; is = omega arith; equal = sym (tested_equal (compare_list c) (lists c order) items l (true→holds q)) }
+          record {
+            place = 0;
+            below = omega arith;
+            is = omega arith;
+            equal = sym (tested_equal (compare_list c) (lists c order) items l (true→holds q));
+          }
       go false q s ih =
           let r = ih s in
           let b = r.below in
@@ -122,7 +135,8 @@ module _ {A : Type 0} (c : A → A → Ordering) (order : Linear c) where
     pub second_is : label.1 ≡ from + other
     pub found : found_inside c items (get_or ls one []) ≡ Some (get_or ls other [])
 
-  pub labelled : (items : List A) (ls : List (List A)) (from : ℕ) (label : Pair) → label_from c items ls from ≡ Some label → Labelled items ls from label
+  pub labelled : (items : List A) (ls : List (List A)) (from : ℕ) (label : Pair)
+      → label_from c items ls from ≡ Some label → Labelled items ls from label
   unfolding label_from with_second
   labelled items [] from label e = absurd (none_is_not_some label e)
   labelled items (l ∷ ls) from label e = go (found_inside c items l) refl e (labelled items ls (suc from) label)
@@ -143,7 +157,8 @@ module _ {A : Type 0} (c : A → A → Ordering) (order : Linear c) where
             found = r.found;
           }
 
-      made : (rest : List A) → found_inside c items l ≡ Some rest → (o : Option ℕ) → seek c rest ls (suc from) ≡ o → with_second from o ≡ Some label
+      made : (rest : List A) → found_inside c items l ≡ Some rest → (o : Option ℕ) → seek c rest ls (suc from) ≡ o
+          → with_second from o ≡ Some label
           → Labelled items (l ∷ ls) from label
       made rest f None q k = absurd (none_is_not_some label k)
       made rest f (Some second) q k =
@@ -164,8 +179,13 @@ module _ {A : Type 0} (c : A → A → Ordering) (order : Linear c) where
           }
 
       go : (o : Option (List A)) → found_inside c items l ≡ o
-          → elim o [ None ↦ label_from c items ls (suc from) | Some rest ↦ with_second from (seek c rest ls (suc from)) ] ≡ Some label
-          → (label_from c items ls (suc from) ≡ Some label → Labelled items ls (suc from) label) → Labelled items (l ∷ ls) from label
+          → elim o [
+            | None ↦ label_from c items ls (suc from)
+            | Some rest ↦
+                with_second from (seek c rest ls (suc from))
+          ] ≡ Some label
+          → (label_from c items ls (suc from) ≡ Some label → Labelled items ls (suc from) label)
+          → Labelled items (l ∷ ls) from label
       go None q k ih = later (ih k)
       go (Some rest) q k ih = made rest q (seek c rest ls (suc from)) refl k
 
@@ -197,9 +217,11 @@ module _ {A B : Type 0} (c : A → A → Ordering) (d : B → B → Ordering) (t
   walk_numbered (x ∷ a) [] g h = refl
   walk_numbered (x ∷ a) (y ∷ b) g h =
       ap (turn d (to x) (map to a) (to y) (map to b)) (ordered x y (g x (here refl)) (h y (here refl)))
-      ∙ (go (c x y) (walk_numbered a (y ∷ b) (λ z m. g z (there m)) h) (walk_numbered a b (λ z m. g z (there m)) (λ z m. h z (there m))))
+      ∙ (go (c x y) (walk_numbered a (y ∷ b) (λ z m. g z (there m)) h)
+      (walk_numbered a b (λ z m. g z (there m)) (λ z m. h z (there m))))
     where
-      go : (o : Ordering) → walk d (map to a) (to y ∷ map to b) ≡ map_rest (walk c a (y ∷ b)) → walk d (map to a) (map to b) ≡ map_rest (walk c a b)
+      go : (o : Ordering) → walk d (map to a) (to y ∷ map to b) ≡ map_rest (walk c a (y ∷ b))
+          → walk d (map to a) (map to b) ≡ map_rest (walk c a b)
           → turn d (to x) (map to a) (to y) (map to b) o ≡ map_rest (turn c x a y b o)
       go Ordering.lt p q = ap (cons_in (to x)) p ∙ cons_numbered x (walk c a (y ∷ b))
       go Ordering.eq p q = q
@@ -211,7 +233,8 @@ module _ {A B : Type 0} (c : A → A → Ordering) (d : B → B → Ordering) (t
   first_numbered (y ∷ b) [] g h = refl
   first_numbered (y ∷ b) (x ∷ a) g h = ap is_gt (ordered y x (h y (here refl)) (g x (here refl)))
 
-  pub inside_numbered : (a b : List A) → AllGood a → AllGood b → found_inside d (map to a) (map to b) ≡ map_rest (found_inside c a b)
+  pub inside_numbered : (a b : List A) → AllGood a → AllGood b
+      → found_inside d (map to a) (map to b) ≡ map_rest (found_inside c a b)
   unfolding found_inside map_rest
   inside_numbered a b g h =
       rw (length-map a to, length-map b to, first_numbered b a g h, walk_numbered a b g h)
@@ -221,27 +244,34 @@ module _ {A B : Type 0} (c : A → A → Ordering) (d : B → B → Ordering) (t
       go true = refl
       go false = refl
 
-  pub compare_numbered : (a b : List A) → AllGood a → AllGood b → compare_list d (map to a) (map to b) ≡ compare_list c a b
+  pub compare_numbered : (a b : List A) → AllGood a → AllGood b
+      → compare_list d (map to a) (map to b) ≡ compare_list c a b
   unfolding compare_list
   compare_numbered [] [] g h = refl
   compare_numbered [] (y ∷ b) g h = refl
   compare_numbered (x ∷ a) [] g h = refl
   compare_numbered (x ∷ a) (y ∷ b) g h =
-      ap (λ (o : Ordering). then_by o (compare_list d (map to a) (map to b))) (ordered x y (g x (here refl)) (h y (here refl)))
+      ap (λ (o : Ordering). then_by o (compare_list d (map to a) (map to b)))
+      (ordered x y (g x (here refl)) (h y (here refl)))
       ∙ ap (then_by (c x y)) (compare_numbered a b (λ z m. g z (there m)) (λ z m. h z (there m)))
 
-  seek_numbered : (items : List A) (ls : List (List A)) (k : ℕ) → AllGood items → EachGood ls → seek d (map to items) (map (map to) ls) k ≡ seek c items ls k
+  seek_numbered : (items : List A) (ls : List (List A)) (k : ℕ) → AllGood items → EachGood ls
+      → seek d (map to items) (map (map to) ls) k ≡ seek c items ls k
   unfolding seek
   seek_numbered items [] k g h = refl
   seek_numbered items (l ∷ ls) k g h =
-      ap (λ (o : Ordering). cond (compare_is_eq o) (Some k) (seek d (map to items) (map (map to) ls) (suc k))) (compare_numbered items l g (h l (here refl)))
-      ∙ ap (cond (compare_is_eq (compare_list c items l)) (Some k)) (seek_numbered items ls (suc k) g (λ m i. h m (there i)))
+      ap (λ (o : Ordering). cond (compare_is_eq o) (Some k) (seek d (map to items) (map (map to) ls) (suc k)))
+      (compare_numbered items l g (h l (here refl)))
+      ∙ ap (cond (compare_is_eq (compare_list c items l)) (Some k))
+      (seek_numbered items ls (suc k) g (λ m i. h m (there i)))
 
-  label_numbered : (items : List A) (ls : List (List A)) (b : ℕ) → AllGood items → EachGood ls → label_from d (map to items) (map (map to) ls) b ≡ label_from c items ls b
+  label_numbered : (items : List A) (ls : List (List A)) (b : ℕ) → AllGood items → EachGood ls
+      → label_from d (map to items) (map (map to) ls) b ≡ label_from c items ls b
   unfolding label_from map_rest
   label_numbered items [] b g h = refl
   label_numbered items (l ∷ ls) b g h =
-      ap step (inside_numbered items l g (h l (here refl))) ∙ go (found_inside c items l) refl (label_numbered items ls (suc b) g later)
+      ap step (inside_numbered items l g (h l (here refl)))
+      ∙ go (found_inside c items l) refl (label_numbered items ls (suc b) g later)
     where
       later : EachGood ls
       later m i = h m (there i)
@@ -252,15 +282,18 @@ module _ {A B : Type 0} (c : A → A → Ordering) (d : B → B → Ordering) (t
         | Some rest ↦ with_second b (seek d rest (map (map to) ls) (suc b))
       ]
 
-      go : (o : Option (List A)) → found_inside c items l ≡ o → label_from d (map to items) (map (map to) ls) (suc b) ≡ label_from c items ls (suc b)
-          → step (map_rest o) ≡ elim o [ None ↦ label_from c items ls (suc b) | Some rest ↦ with_second b (seek c rest ls (suc b)) ]
+      go : (o : Option (List A)) → found_inside c items l ≡ o
+          → label_from d (map to items) (map (map to) ls) (suc b) ≡ label_from c items ls (suc b)
+          → step (map_rest o)
+          ≡ elim o [ None ↦ label_from c items ls (suc b) | Some rest ↦ with_second b (seek c rest ls (suc b)) ]
       go None e ih = ih
       go (Some rest) e ih =
           let good : AllGood rest = λ x m. g x (walk_members c items l rest (inside_walk c items l rest e).1 x m) in
           ap (with_second b) (seek_numbered rest ls (suc b) good later)
 
   table_numbered : (ls whole : List (List A)) → EachGood ls → EachGood whole
-      → map (λ (items : List B). label_from d items (map (map to) whole) 0) (map (map to) ls) ≡ map (λ (items : List A). label_from c items whole 0) ls
+      → map (λ (items : List B). label_from d items (map (map to) whole) 0) (map (map to) ls)
+      ≡ map (λ (items : List A). label_from c items whole 0) ls
   table_numbered [] whole g h = refl
   table_numbered (l ∷ ls) whole g h =
       rw (label_numbered l whole 0 (g l (here refl)) h, table_numbered ls whole (λ m i. g m (there i)) h) refl

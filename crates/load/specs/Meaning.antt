@@ -1,4 +1,5 @@
--- The fields of a job as the code hands them on, and what they mean: the definition's `Job`, its plane, its points and its rows. Leans on Places and on what the crate of spaces says.
+-- The fields of a job as the code hands them on, and what they mean: the definition's `Job`, its plane, its points
+-- and its rows. Leans on Places and on what the crate of spaces says.
 use Rattle.std.proofs.Props.{props}
 use Rattle.std.specs.Prelude.{◌≡◌, refl, List, map, ℕ, ◌+◌, ◌-◌, ◌*◌, ◌≤◌, length, take, drop, Float}
 use Rattle.definitions.specs.Lists.{count_from}

@@ -1,4 +1,5 @@
--- The header of a job, and where its fields stand: the places that the definition's `read_job` reads at, as the structs of the code hold them. Leans on the definition of a job.
+-- The header of a job, and where its fields stand: the places that the definition's `read_job` reads at, as the
+-- structs of the code hold them. Leans on the definition of a job.
 use Rattle.std.specs.Prelude.{◌≡◌, refl, cond, ◌+◌, ◌-◌, ◌*◌, ◌≤◌, leb, length, get_or}
 use Rattle.definitions.specs.Job.{Bytes, number_at, flag_set, read_job}
 use Rattle.load.specs.declared.Header.{Header}

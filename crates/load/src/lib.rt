@@ -1,18 +1,21 @@
-// A job's fields, read from its bytes: counts, limits, and the places of what is longer; the plane, the points and the rows in the form that the calls want. Each function equals the
-// definition's `read_job`, whatever the numbers are: which jobs are refused is told elsewhere. A `requires` here is that the bytes are there.
-// A place in the bytes and a number of fields go side by side, here and where a job, a package or numbers in the workspace are read: the definitions read bytes so, and a slice would be cut
-// with the same two numbers.
+// A job's fields, read from its bytes: counts, limits, and the places of what is longer; the plane, the points and
+// the rows in the form that the calls want. Each function equals the definition's `read_job`, whatever the numbers
+// are: which jobs are refused is told elsewhere. A `requires` here is that the bytes are there. A place in the bytes
+// and a number of fields go side by side, here and where a job, a package or numbers in the workspace are read: the
+// definitions read bytes so, and a slice would be cut with the same two numbers.
 
 #![tactic(auto)]
 
 ghost use Rattle.std.specs.Prelude.{◌≡◌, cond, ◌+◌, ◌-◌, ◌*◌, ◌≤◌, ◌<◌, leb, length, get_or};
-ghost use Rattle.definitions.specs.Job.{tolerance1, flag_set, present, number_at, float_at, floats_at, read_job, plane_of};
+ghost use Rattle.definitions.specs.Job.{tolerance1, flag_set, present, number_at, float_at, floats_at, read_job};
+ghost use Rattle.definitions.specs.Job.{plane_of};
 ghost use Rattle.vectors.specs.Meaning.{five};
 ghost use Rattle.space.specs.Meaning.{HoldsSubspace, HoldsPoints};
 ghost use Rattle.load.specs.Places.{header_of, places_of, Counted, Exact};
-ghost use Rattle.openers.specs.Rows.{rows_in, written_rows};
+ghost use Rattle.rows.specs.Rows.{rows_in, written_rows};
 ghost use Rattle.load.specs.Meaning.{fields_of, read_once, rows_at};
 
+use rows::ROW_BYTES;
 use space::{Limits, Points, Subspace};
 use words::Word;
 
@@ -115,7 +118,8 @@ pub fn float_at(job: &[u8], at: usize) -> f64
 
 // ---- all fields
 
-// The counts, the limits, the tolerance, the rule and the budget by value; the last four are the places in the job where offset, basis, points and rows begin.
+// The counts, the limits, the tolerance, the rule and the budget by value; the last four are the places in the job
+// where offset, basis, points and rows begin.
 #[derive(Clone, Copy)]
 pub struct Fields {
     pub rank: usize,
@@ -125,8 +129,9 @@ pub struct Fields {
     pub limits: Limits,
     pub entries: Option<u32>,
     pub tolerance: f64,
-    // 1 or 2 in a job that passes. A number and no enum of the two: a job's field holds any byte until it is tested, and the public functions that take a rule (`orbits::find_orbits`) answer for
-    // every number, so that a narrower type would ask more of their callers.
+    // 1 or 2 in a job that passes. A number and no enum of the two: a job's field holds any byte until it is tested,
+    // and the public functions that take a rule (`orbits::find_orbits`) answer for every number, so that a narrower
+    // type would ask more of their callers.
     pub rule: usize,
     pub budget: u32,
     pub offset: usize,
@@ -136,7 +141,8 @@ pub struct Fields {
 }
 
 // A version without a field for the tolerance has 1e-7, one without a field for the rule of crowded lines the rule 1.
-// What the header and the places have is copied field by field: a `Fields` that held both would hand on flags and places that its readers never ask, and each of them would name one field more on the way.
+// What the header and the places have is copied field by field: a `Fields` that held both would hand on flags and
+// places that its readers never ask, and each of them would name one field more on the way.
 pub fn fields_of(job: &[u8]) -> Fields
     requires { Exact job.now }
     ensures { result ≡ fields_of job.now }
@@ -182,18 +188,20 @@ fn vector_at(job: &[u8], at: usize, d: usize) -> [f64; 5]
 // Rows of n bytes that stand one behind the other from a place on, copied to 32 bytes each.
 pub fn copy_rows(bytes: &[u8], at: usize, n: usize, count: usize, region: &mut [u8])
     requires { (n ≤ 32) × (at + n * count ≤ length bytes.now) × (32 * count ≤ length region.old) }
-    ensures rows { (rows_in n count region.new ≡ rows_at bytes.now at n count) × (length region.new ≡ length region.old) }
+    ensures rows { (rows_in n count region.new ≡ rows_at bytes.now at n count)
+        × (length region.new ≡ length region.old) }
     ensures region { region.new ≡ written_rows (rows_at bytes.now at n count) 0 region.old }
 {
     for i in 0..count {
         let from = at + n * i;
         let to = from + n;
-        region[32 * i..32 * i + n].copy_from_slice(&bytes[from..to]);
+        region[ROW_BYTES * i..ROW_BYTES * i + n].copy_from_slice(&bytes[from..to]);
     }
 }
 
-// A job of its exact length, and its fields: what the plane, the points and the rows are read from.
-// Callers hand on the bytes and the fields side by side: that the job passed, which they ask, says more than this struct, and speaks of the length of the workspace too.
+// A job of its exact length, and its fields: what the plane, the points and the rows are read from. Callers hand on
+// the bytes and the fields side by side: that the job passed, which they ask, says more than this struct, and speaks
+// of the length of the workspace too.
 #[derive(Clone, Copy)]
 pub struct Job<'a> {
     pub bytes: &'a [u8],
@@ -204,7 +212,8 @@ pub struct Job<'a> {
 
 impl<'a> Job<'a> {
     pub fn plane(self) -> Subspace
-        ensures { HoldsSubspace result (plane_of (read_job self.entry.bytes.now)) × (result.d ≡ self.entry.fields.d) × (result.rank ≡ self.entry.fields.rank - 1) }
+        ensures { HoldsSubspace result (plane_of (read_job self.entry.bytes.now))
+            × (result.d ≡ self.entry.fields.d) × (result.rank ≡ self.entry.fields.rank - 1) }
     {
         let offset = vector_at(self.bytes, self.fields.offset, self.fields.d);
         let mut plane = Subspace::new(offset, self.fields.d);
@@ -219,7 +228,8 @@ impl<'a> Job<'a> {
     }
 
     pub fn points(self) -> Points
-        ensures { HoldsPoints result self.entry.fields.d (read_job self.entry.bytes.now).points × (result.n ≡ self.entry.fields.n) }
+        ensures { HoldsPoints result self.entry.fields.d (read_job self.entry.bytes.now).points
+            × (result.n ≡ self.entry.fields.n) }
     {
         let mut points = Points::new(self.fields.d);
         for i in 0..self.fields.n {
@@ -232,11 +242,14 @@ impl<'a> Job<'a> {
         points
     }
 
-    // Each row to a place of its own, 32 bytes apart, so that a row's number times a constant finds it. What stands between the rows and behind them stays.
-    // It hands out no `Rows`: of a region that goes into the result no clause can say what it ends as.
+    // Each row to a place of its own, 32 bytes apart, so that a row's number times a constant finds it. What stands
+    // between the rows and behind them stays. It hands out no `Rows`: of a region that goes into the result no clause
+    // can say what it ends as.
     pub fn load_rows(self, region: &mut [u8])
         requires { 32 * self.fields.count ≤ length region.old }
-        ensures rows { (rows_in self.entry.fields.n self.entry.fields.count region.new ≡ (read_job self.entry.bytes.now).rows) × (length region.new ≡ length region.old) }
+        ensures rows { (rows_in self.entry.fields.n self.entry.fields.count region.new
+            ≡ (read_job self.entry.bytes.now).rows)
+            × (length region.new ≡ length region.old) }
         ensures region { region.new ≡ written_rows (read_job self.entry.bytes.now).rows 0 region.old }
     {
         copy_rows(

@@ -1,5 +1,5 @@
-// A job with a package, from their bytes to the answer's [17.10]: the job's own refusals, then 18, then the workspace; the package is loaded, the job called by it, and what the call leaves is
-// written as without a package.
+// A job with a package, from their bytes to the answer's [17.10]: the job's own refusals, then 18, then the
+// workspace; the package is loaded, the job called by it, and what the call leaves is written as without a package.
 
 #![tactic(auto)]
 
@@ -10,9 +10,9 @@ ghost use Rattle.definitions.specs.Outcome.{answered};
 ghost use Rattle.refusals.specs.Refused.{outcome_of};
 ghost use Rattle.answering.specs.Closed.{written_in, buffer_in};
 
-use job_calls::ROWS_ROOM;
 use load::Fields;
 use refusals::Refusal;
+use rows::ROWS_ROOM;
 
 // The bytes of a package's global numbers, as one row.
 const GLOBALS_ROOM: usize = 32;
@@ -31,8 +31,9 @@ fn check_noble(job: &[u8], pack: &[u8], workspace: usize) -> Result<Fields, Refu
     Ok(fields)
 }
 
-// A job and a package that passed, called, and what the call says written into the cleared buffer. That they passed stays a clause: it speaks of the length of the workspace too, which the function writes.
-// That the buffer is cleared stays a clause, here and below: the function writes the buffer that it speaks of.
+// A job and a package that passed, called, and what the call says written into the cleared buffer. That they passed
+// stays a clause: it speaks of the length of the workspace too, which the function writes. That the buffer is cleared
+// stays a clause, here and below: the function writes the buffer that it speaks of.
 fn write_noble(
     job: &[u8],
     pack: &[u8],
@@ -40,7 +41,8 @@ fn write_noble(
     ws: &mut [u8],
     answer: &mut [u8],
 ) -> Result<Option<usize>, Refusal>
-    requires { (answered fields ≡ checked_by (noble_tests job.now pack.now (length ws.old)) job.now) × (answer.old ≡ replicate (length answer.old) 0) }
+    requires { (answered fields ≡ checked_by (noble_tests job.now pack.now (length ws.old)) job.now)
+        × (answer.old ≡ replicate (length answer.old) 0) }
     ensures result { outcome_of result ≡ written_in (length answer.old) (noble_alone job.now pack.now (length ws.old)) }
     ensures buffer { answer.new ≡ buffer_in (length answer.old) (noble_alone job.now pack.now (length ws.old)) }
 {
@@ -60,7 +62,8 @@ pub fn noble_job(
     answer: &mut [u8],
 ) -> Result<Option<usize>, Refusal>
     requires { answer.old ≡ replicate (length answer.old) 0 }
-    ensures result { outcome_of result ≡ written_in (length answer.old) (noble_alone job.now pack.now (length workspace.old)) }
+    ensures result { outcome_of result
+        ≡ written_in (length answer.old) (noble_alone job.now pack.now (length workspace.old)) }
     ensures buffer { answer.new ≡ buffer_in (length answer.old) (noble_alone job.now pack.now (length workspace.old)) }
 {
     let fields = check_noble(job, pack, workspace.len())?;

@@ -1,3 +1,2 @@
 pub mod Numbering
-pub mod Standing
-pub mod NumberMarks
+pub mod RidgesMatch

@@ -1,5 +1,2 @@
--- Rows in bytes, marks in arrays, how vertices and pairs are walked, and codes of pairs.
-pub mod Rows
-pub mod Marks
+-- How vertices and pairs are walked.
 pub mod Meaning
-pub mod Codes

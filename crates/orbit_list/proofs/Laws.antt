@@ -19,7 +19,7 @@ use Rattle.load.specs.Meaning.{fields_of, Loadable}
 use Rattle.load.proofs.Meaning.{loadable}
 use Rattle.job.specs.Refusal.{checked_of}
 use Rattle.job.specs.Passed.{passed_means, passed_exact, passed_rows}
-use Rattle.openers.specs.Rows.{rows_in, written_rows}
+use Rattle.rows.specs.Rows.{rows_in, written_rows}
 use Rattle.stabilizers.specs.Permutations.{Permutations, permutations_of}
 use Rattle.stabilizers.specs.Inner.{inner_permute}
 use Rattle.std.specs.Prelude.{Ok}
@@ -39,12 +39,14 @@ module _ (bytes : Bytes) (f : Fields) (passed : answered f ≡ checked_of bytes 
   pub counts : Loadable bytes f
   counts = loadable bytes f exact own_fields
 
-  rows_permute : (region : Bytes) → 32 * f.count ≤ length region → rows_in f.n f.count region ≡ (read_job bytes).rows → Permutations f.n f.count region
+  rows_permute : (region : Bytes) → 32 * f.count ≤ length region → rows_in f.n f.count region ≡ (read_job bytes).rows
+      → Permutations f.n f.count region
   rows_permute region room held =
       let good = passed_rows bytes 4194304 (passed_means bytes 4194304 f passed).0 in
       permutations_of f.n f.count region counts.n_most room (rw (held, counts.n_is) good)
 
-  pub call_fits : (points flat : Points) → points.n ≡ f.n → flat.n ≡ points.n → (region : Bytes) → 32 * f.count ≤ length region
+  pub call_fits : (points flat : Points) → points.n ≡ f.n → flat.n ≡ points.n → (region : Bytes)
+      → 32 * f.count ≤ length region
       → rows_in f.n f.count region ≡ (read_job bytes).rows → CallFits points flat f.count region
   call_fits points flat e g region room held = record {
     same_n = sym g;
@@ -55,18 +57,22 @@ module _ (bytes : Bytes) (f : Fields) (passed : answered f ≡ checked_of bytes 
 -- ---- what is listed
 
 -- no more orbits than the bound allows
-pub orbits_few : (n count bound : ℕ) (ws : List ℕ) (orbits : List Orbit) → answer_in n (Ok count) ws ≡ orbits_or_refusal bound orbits → count ≤ bound
+pub orbits_few : (n count bound : ℕ) (ws : List ℕ) (orbits : List Orbit)
+    → answer_in n (Ok count) ws ≡ orbits_or_refusal bound orbits → count ≤ bound
 unfolding answer_in orbits_or_refusal refuse_if
 orbits_few n count bound ws orbits e =
     go (ltb bound (length orbits)) (λ q. ltb-false bound (length orbits) q) e
   where
-    go : (b : Bool) → (b ≡ false → length orbits ≤ bound) → answered (map (orbit_of n) (orbits_in ws count)) ≡ refuse_if b 13 (λ u. answered orbits) → count ≤ bound
+    go : (b : Bool) → (b ≡ false → length orbits ≤ bound)
+        → answered (map (orbit_of n) (orbits_in ws count)) ≡ refuse_if b 13 (λ u. answered orbits) → count ≤ bound
     go true h q = let z : ◌≡◌ {A = ℕ} 0 1 = cc in absurd (omega arith)
     go false h q =
         let same : map (orbit_of n) (orbits_in ws count) ≡ orbits = cc in
         omega (arith, h refl, ap length same, length-map (orbits_in ws count) (orbit_of n), orbits_length ws count)
 
 -- the rows that were written stand where they are read
-pub written_few : (n m : ℕ) (s : List ℕ) → Permutations n m s → (x : ℕ) (out : List ℕ) → 32 * m ≤ length out → (count : ℕ) (after : List ℕ)
-    → count ≡ length (rows_within (vertices_of n x) (rows_in n m s)) → after ≡ written_rows (rows_within (vertices_of n x) (rows_in n m s)) 0 out → 32 * count ≤ length after
+pub written_few : (n m : ℕ) (s : List ℕ) → Permutations n m s → (x : ℕ) (out : List ℕ) → 32 * m ≤ length out
+    → (count : ℕ) (after : List ℕ)
+    → count ≡ length (rows_within (vertices_of n x) (rows_in n m s))
+    → after ≡ written_rows (rows_within (vertices_of n x) (rows_in n m s)) 0 out → 32 * count ≤ length after
 written_few n m s fits x out room count after e w = rw (e, w) (inner_permute n m s fits x out room).long

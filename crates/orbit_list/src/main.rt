@@ -1,6 +1,8 @@
-// Lists the hyperplane orbits of jobs, so that they can be held beside those that the Rust finds. Standard input holds jobs, each behind its length, a u16. Each job has a line with its
-// number and how many orbits it has, or its refusal; then a line for each orbit, its count and the vertices of its first set; then, orbit by orbit, the rows of the inner call or the
-// refusal of the refit, which ends the list. No contract can say what is written: that is held to the file stdout, which the Rust wrote.
+// Lists the hyperplane orbits of jobs, so that they can be held beside those that the Rust finds. Standard input
+// holds jobs, each behind its length, a u16. Each job has a line with its number and how many orbits it has, or its
+// refusal; then a line for each orbit, its count and the vertices of its first set; then, orbit by orbit, the rows of
+// the inner call or the refusal of the refit, which ends the list. No contract can say what is written: that is held
+// to the file stdout, which the Rust wrote.
 #![tactic(auto)]
 
 ghost use Rattle.std.specs.Prelude.{◌≡◌, ◌+◌, ◌*◌, ◌^◌, ◌≤◌, ◌<◌, length};
@@ -9,9 +11,10 @@ ghost use Rattle.definitions.specs.Outcome.{answered};
 ghost use Rattle.orbits.specs.Workspace.{orbits_room};
 
 use load::{Fields, Job};
-use openers::{PairSearch, Rows};
+use openers::PairSearch;
 use orbits::Search;
 use refusals::Refusal;
+use rows::Rows;
 use stabilizers::Symmetries;
 use std::io;
 use words::Word;
@@ -74,7 +77,7 @@ fn list_orbits(rt: &impl Print, ws: &[u8], count: usize, n: usize) -> io::Result
 fn list_rows(rt: &impl Print, full: Symmetries, set: u32, size: usize) -> io::Result<()>
     requires { (full.rows.count ≤ 120) × (set < 2 ^ full.n) × (size ≤ 20) }
 {
-    let mut inner = [0; 3840];
+    let mut inner = [0; rows::ROWS_ROOM];
     let count = full.rows_within(set, &mut inner);
     let within = Rows {
         bytes: &inner,
@@ -139,15 +142,16 @@ fn list_found(
     list_inners(rt, search, rank, ws, count)
 }
 
-// A job of rank 3 or 4 that passes the refusals before the call. That it passes stays a clause: this function alone asks it, of the one that checked it. So does the length of the workspace, here and
-// below: the function writes the workspace that it speaks of.
+// A job of rank 3 or 4 that passes the refusals before the call. That it passes stays a clause: this function alone
+// asks it, of the one that checked it. So does the length of the workspace, here and below: the function writes the
+// workspace that it speaks of.
 fn list_call(rt: &impl Print, job: &[u8], fields: Fields, ws: &mut [u8]) -> io::Result<()>
     requires { (answered fields ≡ checked_of job.now 4194304) × (3 ≤ fields.rank) × (orbits_room ≤ length ws.old) }
 {
     let job = Job { bytes: job, fields };
     let points = job.points();
     let flat = points.flatten_all(&job.plane());
-    let mut loaded = [0; 3840];
+    let mut loaded = [0; rows::ROWS_ROOM];
     job.load_rows(&mut loaded);
     let rows = Rows {
         bytes: &loaded,
@@ -160,7 +164,7 @@ fn list_call(rt: &impl Print, job: &[u8], fields: Fields, ws: &mut [u8]) -> io::
         tolerance: fields.tolerance,
     };
     let search = Search { pairs, flat: &flat };
-    match orbits::find_orbits(search, fields.rank - 3, fields.rule, 256, ws) {
+    match orbits::find_orbits(search, fields.rank - 3, fields.rule, pool::MOST_ORBITS, ws) {
         Err(e) => println!(rt; " refused {e}"),
         Ok(count) => list_found(rt, search, fields.rank, ws, count),
     }
@@ -170,7 +174,7 @@ fn list_call(rt: &impl Print, job: &[u8], fields: Fields, ws: &mut [u8]) -> io::
 fn list_job(rt: &impl Print, job: &[u8], ws: &mut [u8]) -> io::Result<()>
     requires { orbits_room ≤ length ws.old }
 {
-    match job::check(job, 4194304) {
+    match job::check(job, job::WORKSPACE_4) {
         Err(e) => println!(rt; " refused {e}"),
         Ok(fields) => {
             if fields.rank == 2 {

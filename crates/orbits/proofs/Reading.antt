@@ -12,5 +12,6 @@ shifted n h =
     let e : 1 * 2 ^ n ≡ 2 ^ n = omega arith in
     ap (λ (k : ℕ). k % 4294967296) e ∙ mod-eq_of_lt (omega arith)
 
-pub rest_small : (x y n : ℕ) → n ≤ 20 → x ≡ y → (x % ((1 * 2 ^ n) % 4294967296) ≡ y % 2 ^ n) × (x % ((1 * 2 ^ n) % 4294967296) < 2 ^ n)
+pub rest_small : (x y n : ℕ) → n ≤ 20 → x ≡ y
+    → (x % ((1 * 2 ^ n) % 4294967296) ≡ y % 2 ^ n) × (x % ((1 * 2 ^ n) % 4294967296) < 2 ^ n)
 rest_small x y n h e = rw (shifted n h) (ap (λ (k : ℕ). k % 2 ^ n) e, mod-lt x (pow_pos n))

@@ -1,5 +1,7 @@
--- The workspace of the orbits: what it holds, what every step asks of it, and how far a step has come. Leans on Numbers and on numbers in bytes.
-use Rattle.std.specs.Prelude.{◌≡◌, refl, List, [], ◌∷◌, ◌++◌, ℕ, zero, suc, ◌+◌, ◌*◌, ◌-◌, ◌≤◌, ◌<◌, length, take, drop, Result, Ok, Err}
+-- The workspace of the orbits: what it holds, what every step asks of it, and how far a step has come. Leans on
+-- numbers in bytes and on ascending ones.
+use Rattle.std.specs.Prelude.{◌≡◌, refl, List, [], ◌∷◌, ◌++◌, ℕ, zero, suc, ◌+◌, ◌*◌, ◌-◌, ◌≤◌, ◌<◌, length, take, drop}
+use Rattle.std.specs.Prelude.{Result, Ok, Err}
 use Rattle.std.proofs.Common.{◌∙◌, arith, length-append}
 use Rattle.definitions.specs.Lists.{Pair}
 use Rattle.definitions.specs.Job.{number_at}
@@ -19,7 +21,8 @@ unfoldable pub orbits_in : List ℕ → ℕ → List Pair
 orbits_in ws zero = []
 orbits_in ws (suc count) = orbits_in ws count ++ ((number_at ws (8 * count) 4, number_at ws (8 * count + 4) 4) ∷ [])
 
--- how many bytes the orbits of a call take: eight for each of 256, and behind them four for each of the sets seen, 120 for an orbit
+-- how many bytes the orbits of a call take: eight for each of 256, and behind them four for each of the sets seen,
+-- 120 for an orbit
 abbrev pub orbits_room : ℕ
 orbits_room = 8 * 256 + 4 * (120 * 256)
 
@@ -47,9 +50,11 @@ KeepsRoom bound (Ok p) ws = OrbitsRoom bound p.known p.count ws
 KeepsRoom bound (Err e) ws = Unit {0}
 
 -- what was opened: one orbit more, and its sets among those seen
-pub record Opened (bound known count : ℕ) (ws : List ℕ) (set : ℕ) (images : List ℕ) (r : Result Progress Refusal) (after : List ℕ) : Type 0 where
+pub record Opened (bound known count : ℕ) (ws : List ℕ) (set : ℕ) (images : List ℕ) (r : Result Progress Refusal)
+    (after : List ℕ) : Type 0 where
   pub room : KeepsRoom bound r after
-  pub reached : (seen : List ℕ) (orbits : List Pair) → HoldsOrbits known count ws seen orbits → Reached bound r after (added seen images) (orbits ++ ((set, length (added seen images) - length seen) ∷ []))
+  pub reached : (seen : List ℕ) (orbits : List Pair) → HoldsOrbits known count ws seen orbits
+      → Reached bound r after (added seen images) (orbits ++ ((set, length (added seen images) - length seen) ∷ []))
 
 -- ---- laws
 
@@ -62,4 +67,9 @@ orbits_length ws (suc count) = length-append (orbits_in ws count) _ ∙ (omega (
 pub orbits_front : (ws : List ℕ) (k count : ℕ) → 8 * count ≤ k → orbits_in (take k ws) count ≡ orbits_in ws count
 unfolding orbits_in
 orbits_front ws k zero h = refl
-orbits_front ws k (suc count) h = rw (orbits_front ws k count (omega arith), number_at_take ws k (8 * count) 4 (omega arith), number_at_take ws k (8 * count + 4) 4 (omega arith)) refl
+orbits_front ws k (suc count) h =
+    rw (
+      orbits_front ws k count (omega arith),
+      number_at_take ws k (8 * count) 4 (omega arith),
+      number_at_take ws k (8 * count + 4) 4 (omega arith),
+    ) refl

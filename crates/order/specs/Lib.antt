@@ -3,4 +3,3 @@ pub mod Areas
 pub mod Comparing
 pub mod Numbers
 pub mod Sorted
-pub mod Items

@@ -1,5 +1,5 @@
--- What the tests of a package's bytes decide [17.3], one after the other, and what is loaded of a package that passes: one that can be counted by, and the definition's. Leans on Once and on the
--- package in bytes.
+-- What the tests of a package's bytes decide [17.3], one after the other, and what is loaded of a package that
+-- passes: one that can be counted by, and the definition's. Leans on Once and on the package in bytes.
 use Rattle.std.specs.Prelude.{◌≡◌, Bool, ◌&&◌, leb, length, drop}
 use Rattle.std.proofs.Math.Path.{refl, sym, ap, subst}
 use Rattle.std.proofs.Common.{◌∙◌, ne_eqb, ltb→lt, length-drop, length-take-le}
@@ -12,11 +12,12 @@ use Rattle.std.proofs.Math.ListN.{get_or, take}
 use Rattle.definitions.specs.Lists.{all_of, count_from}
 use Rattle.definitions.specs.Orbits.{Row, image}
 use Rattle.definitions.specs.Job.{Bytes, number_at, between, same_nats, is_permutation}
-use Rattle.definitions.specs.Noble.{package_end, read_package, distinct, package_counts, globals_good, full_rows_good, package_good}
+use Rattle.definitions.specs.Noble.{package_end, read_package, distinct, package_counts, globals_good, full_rows_good}
+use Rattle.definitions.specs.Noble.{package_good}
 use Rattle.laws.specs.Bools.{true→holds, first, second}
 use Rattle.laws.specs.Lists.{all_of_holds, member_at}
 use Rattle.laws.specs.Parts.{get_d_rows}
-use Rattle.openers.specs.Rows.{rows_in, row_at, image_at_holds}
+use Rattle.rows.specs.Rows.{rows_in, row_at, image_at_holds}
 use Rattle.stabilizers.specs.Permutations.{Permutations, permutations_of}
 use Rattle.load.specs.Meaning.{rows_at}
 use Rattle.tallies.specs.declared.Package.{Package}
@@ -67,7 +68,9 @@ module _ (n : ℕ) (bytes : Bytes) where
 
   pub counts_short : length bytes < 5 → false ≡ package_counts n bytes
   unfolding package_counts read_package package_end
-  counts_short h = sym (rw (ne_eqb (length bytes) (5 + n + size_of * rows_of) (λ e. omega arith)) (never (between 1 120 rows_of && between 2 20 size_of && between 1 65535 count_of)))
+  counts_short h =
+      sym (rw (ne_eqb (length bytes) (5 + n + size_of * rows_of) (λ e. omega arith))
+      (never (between 1 120 rows_of && between 2 20 size_of && between 1 65535 count_of)))
     where
       never : (b : Bool) → (b && false) ≡ false
       never true = refl
@@ -81,11 +84,13 @@ module _ (n : ℕ) (bytes : Bytes) where
   unfolding package_counts read_package
   counts_size e f = sym (rw (e, f) refl)
 
-  pub counts_count : between 1 120 rows_of ≡ true → between 2 20 size_of ≡ true → between 1 65535 count_of ≡ false → false ≡ package_counts n bytes
+  pub counts_count : between 1 120 rows_of ≡ true → between 2 20 size_of ≡ true → between 1 65535 count_of ≡ false
+      → false ≡ package_counts n bytes
   unfolding package_counts read_package
   counts_count e f g = sym (rw (e, f, g) refl)
 
-  pub counts_length : between 1 120 rows_of ≡ true → between 2 20 size_of ≡ true → between 1 65535 count_of ≡ true → eqb (length bytes) (5 + n + size_of * rows_of) ≡ package_counts n bytes
+  pub counts_length : between 1 120 rows_of ≡ true → between 2 20 size_of ≡ true → between 1 65535 count_of ≡ true
+      → eqb (length bytes) (5 + n + size_of * rows_of) ≡ package_counts n bytes
   unfolding package_counts read_package package_end
   counts_length e f g = sym (rw (e, f, g) refl)
 
@@ -95,7 +100,8 @@ module _ (n : ℕ) (bytes : Bytes) where
   unfolding package_good
   good_counts e = sym (rw e refl)
 
-  pub good_globals : package_counts n bytes ≡ true → once_below size_of (take n (drop 5 bytes)) ≡ false → false ≡ package_good n bytes
+  pub good_globals : package_counts n bytes ≡ true → once_below size_of (take n (drop 5 bytes)) ≡ false
+      → false ≡ package_good n bytes
   unfolding package_good globals_good read_package once_below
   good_globals e f = sym (rw (e, f) refl)
 
@@ -103,7 +109,9 @@ module _ (n : ℕ) (bytes : Bytes) where
   unfolding read_package count_from
   first_row h = go rows_of h
     where
-      go : (k : ℕ) → 1 ≤ k → get_or (map (λ (i : ℕ). take size_of (drop (5 + n + size_of * i) bytes)) (count_from 0 k)) 0 [] ≡ take size_of (drop (5 + n) bytes)
+      go : (k : ℕ) → 1 ≤ k
+          → get_or (map (λ (i : ℕ). take size_of (drop (5 + n + size_of * i) bytes)) (count_from 0 k)) 0 []
+          ≡ take size_of (drop (5 + n) bytes)
       go zero h = absurd (omega arith)
       go (suc k) h = let e : 5 + n + size_of * 0 ≡ 5 + n = omega arith in ap (λ (m : ℕ). take size_of (drop m bytes)) e
 
@@ -113,15 +121,20 @@ module _ (n : ℕ) (bytes : Bytes) where
     unfolding package_good globals_good read_package once_below
     left = rw (counts, once) refl
 
-    rows_left : package_good n bytes ≡ (same_nats (take size_of (drop (5 + n) bytes)) (count_from 0 size_of) && all_of (is_permutation size_of) (rows_at bytes (5 + n) size_of rows_of))
+    rows_left : package_good n bytes ≡ (same_nats (take size_of (drop (5 + n) bytes)) (count_from 0 size_of)
+        && all_of (is_permutation size_of) (rows_at bytes (5 + n) size_of rows_of))
     unfolding full_rows_good read_package rows_at
     rows_left =
-        left ∙ ap (λ (row : Row). same_nats row (count_from 0 size_of) && all_of (is_permutation size_of) (rows_at bytes (5 + n) size_of rows_of)) (first_row (numbers (true→holds counts)).rows_least)
+        left ∙ ap (λ (row : Row). same_nats row (count_from 0 size_of)
+        && all_of (is_permutation size_of) (rows_at bytes (5 + n) size_of rows_of))
+        (first_row (numbers (true→holds counts)).rows_least)
 
-    pub good_identity : same_nats (take size_of (drop (5 + n) bytes)) (count_from 0 size_of) ≡ false → false ≡ package_good n bytes
+    pub good_identity : same_nats (take size_of (drop (5 + n) bytes)) (count_from 0 size_of) ≡ false
+        → false ≡ package_good n bytes
     good_identity e = sym (rows_left ∙ (rw e refl))
 
-    pub good_rows : same_nats (take size_of (drop (5 + n) bytes)) (count_from 0 size_of) ≡ true → all_of (is_permutation size_of) (rows_at bytes (5 + n) size_of rows_of) ≡ package_good n bytes
+    pub good_rows : same_nats (take size_of (drop (5 + n) bytes)) (count_from 0 size_of) ≡ true
+        → all_of (is_permutation size_of) (rows_at bytes (5 + n) size_of rows_of) ≡ package_good n bytes
     good_rows e = sym (rows_left ∙ (rw e refl))
 
   -- ---- a package that passes, loaded
@@ -129,7 +142,9 @@ module _ (n : ℕ) (bytes : Bytes) where
   module _ (small : n ≤ 20) (good : T (package_good n bytes)) where
     both : T (package_counts n bytes && globals_good (read_package n bytes))
     unfolding package_good
-    both = first (package_counts n bytes && globals_good (read_package n bytes)) (full_rows_good (read_package n bytes)) good
+    both =
+        first (package_counts n bytes && globals_good (read_package n bytes))
+        (full_rows_good (read_package n bytes)) good
 
     pub loaded_numbers : Numbers
     loaded_numbers = numbers (first (package_counts n bytes) (globals_good (read_package n bytes)) both)
@@ -144,18 +159,25 @@ module _ (n : ℕ) (bytes : Bytes) where
     rows_pass : T (all_of (is_permutation size_of) (rows_at bytes (5 + n) size_of rows_of))
     unfolding package_good full_rows_good read_package rows_at
     rows_pass =
-        second (same_nats (get_or (read_package n bytes).rows 0 []) (count_from 0 size_of)) (all_of (is_permutation size_of) (read_package n bytes).rows)
-        (second (package_counts n bytes && globals_good (read_package n bytes)) (full_rows_good (read_package n bytes)) good)
+        second (same_nats (get_or (read_package n bytes).rows 0 []) (count_from 0 size_of))
+        (all_of (is_permutation size_of) (read_package n bytes).rows)
+        (second (package_counts n bytes && globals_good (read_package n bytes))
+        (full_rows_good (read_package n bytes)) good)
 
     numbers_long : length global_numbers ≡ n
     numbers_long = let k = loaded_numbers.long in length-take-le n (drop 5 bytes) (rw length-drop (omega arith))
 
     -- the full rows permute the points of the full set
-    pub full_permute : (full : List ℕ) → rows_in size_of rows_of full ≡ rows_at bytes (5 + n) size_of rows_of → length full ≡ 3840 → Permutations size_of rows_of full
-    full_permute full are long = permutations_of size_of rows_of full loaded_numbers.size_most (omega (arith, loaded_numbers.rows_most)) (rw are rows_pass)
+    pub full_permute : (full : List ℕ) → rows_in size_of rows_of full ≡ rows_at bytes (5 + n) size_of rows_of
+        → length full ≡ 3840 → Permutations size_of rows_of full
+    full_permute full are long =
+        permutations_of size_of rows_of full loaded_numbers.size_most (omega (arith, loaded_numbers.rows_most))
+        (rw are rows_pass)
 
-    module _ (whole : Package) (size_is : whole.full.n ≡ size_of) (rows_is : whole.full.rows.count ≡ rows_of) (count_is : whole.count ≡ count_of)
-        (globals-are : rows_in n 1 whole.globals.now ≡ rows_at bytes 5 n 1) (globals-long : length whole.globals.now ≡ 32)
+    module _ (whole : Package) (size_is : whole.full.n ≡ size_of) (rows_is : whole.full.rows.count ≡ rows_of)
+        (count_is : whole.count ≡ count_of)
+        (globals-are : rows_in n 1 whole.globals.now ≡ rows_at bytes 5 n 1)
+        (globals-long : length whole.globals.now ≡ 32)
         (full-are : rows_in size_of rows_of whole.full.rows.bytes.now ≡ rows_at bytes (5 + n) size_of rows_of) where
       abbrev globals : List ℕ
       globals = whole.globals.now
@@ -164,11 +186,15 @@ module _ (n : ℕ) (bytes : Bytes) where
       unfolding rows_in row_at rows_at count_from
       row_is =
           let e : 5 + n * 0 ≡ 5 = omega arith in
-          sym (get_d_rows 32 n 1 globals 0 (omega arith)) ∙ (ap (λ (l : List Row). get_or l 0 []) globals-are ∙ ap (λ (m : ℕ). take n (drop m bytes)) e)
+          sym (get_d_rows 32 n 1 globals 0 (omega arith))
+          ∙ (ap (λ (l : List Row). get_or l 0 []) globals-are ∙ ap (λ (m : ℕ). take n (drop m bytes)) e)
 
       at : (v : ℕ) → v < n → get_or globals v 0 ≡ get_or global_numbers v 0
       unfolding row_at image
-      at v h = let z : 32 * 0 + v ≡ v = omega arith in sym (image_at_holds n 0 globals v h ∙ ap (λ (k : ℕ). get_or globals k 0) z) ∙ ap (λ (l : List ℕ). get_or l v 0) row_is
+      at v h =
+          let z : 32 * 0 + v ≡ v = omega arith in
+          sym (image_at_holds n 0 globals v h ∙ ap (λ (k : ℕ). get_or globals k 0) z)
+          ∙ ap (λ (l : List ℕ). get_or l v 0) row_is
 
       globals_fit : GlobalsFit n size_of globals
       unfolding once_below
@@ -178,9 +204,14 @@ module _ (n : ℕ) (bytes : Bytes) where
         long = omega arith;
         below = λ v h. subst (λ (x : ℕ). x < size_of) (sym (at v h))
             (ltb→lt (get_or global_numbers v 0) size_of
-            (all_of_holds (λ (x : ℕ). ltb x size_of) global_numbers (first (all_of (λ (x : ℕ). ltb x size_of) global_numbers) (distinct global_numbers) once) (get_or global_numbers v 0) (member_at global_numbers v 0 (omega (arith, numbers_long)))));
+            (all_of_holds (λ (x : ℕ). ltb x size_of) global_numbers
+            (first (all_of (λ (x : ℕ). ltb x size_of) global_numbers) (distinct global_numbers) once)
+            (get_or global_numbers v 0)
+            (member_at global_numbers v 0 (omega (arith, numbers_long)))));
         one = λ u w h k e.
-            distinct_places global_numbers (second (all_of (λ (x : ℕ). ltb x size_of) global_numbers) (distinct global_numbers) once) u w (omega (arith, numbers_long)) (omega (arith, numbers_long)) (sym (at u h) ∙ (e ∙ at w k));
+            distinct_places global_numbers
+            (second (all_of (λ (x : ℕ). ltb x size_of) global_numbers) (distinct global_numbers) once) u w
+            (omega (arith, numbers_long)) (omega (arith, numbers_long)) (sym (at u h) ∙ (e ∙ at w k));
       }
 
       pub package_fits : PackageFits n whole

@@ -1,4 +1,5 @@
-// A package's bytes [17.2]: whether they pass [17.3], and the full set that they tell of, loaded so that orbits can be tallied by it. Rows are tested as a job's are.
+// A package's bytes [17.2]: whether they pass [17.3], and the full set that they tell of, loaded so that orbits can
+// be tallied by it. Rows are tested as a job's are.
 
 #![tactic(auto)]
 
@@ -8,7 +9,7 @@ ghost use Rattle.definitions.specs.Noble.{read_package, package_counts, package_
 ghost use Rattle.tallies.specs.Meaning.{PackageFits, package_in};
 ghost use Rattle.packages.specs.Once.{once_below};
 
-use openers::Rows;
+use rows::Rows;
 use stabilizers::Symmetries;
 use tallies::Package;
 use words::Word;

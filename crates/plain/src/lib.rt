@@ -1,5 +1,5 @@
-// The plain entries of a job [18.3]: it is checked, loaded and called, and the numbers of the entries in which `filter_irc` finds no other are written, how many of them first. No figure is
-// worked out.
+// The plain entries of a job [18.3]: it is checked, loaded and called, and the numbers of the entries in which
+// `filter_irc` finds no other are written, how many of them first. No figure is worked out.
 
 #![tactic(auto)]
 
@@ -8,7 +8,7 @@ ghost use Rattle.definitions.specs.Orbits.{Row};
 ghost use Rattle.definitions.specs.Plain.{plain_alone};
 ghost use Rattle.words.specs.Words.{words};
 ghost use Rattle.shapes.specs.Kept.{Kept};
-ghost use Rattle.shelf.specs.Leaves.{Leaves, answer_left};
+ghost use Rattle.layout.specs.Leaves.{Leaves, answer_left};
 ghost use Rattle.job.specs.Refusal.{checked_of};
 ghost use Rattle.definitions.specs.Outcome.{answered};
 ghost use Rattle.refusals.specs.Refused.{outcome_of};
@@ -17,9 +17,9 @@ ghost use Rattle.answering.specs.Closed.{written_in, buffer_in};
 ghost use Rattle.plain.specs.Numbers.{number_words, plain_words};
 
 use calls::Called;
+use layout::{Level, ORDER_BYTES};
 use load::Fields;
 use refusals::Refusal;
-use shelf::Level;
 use words::{Word, Writer};
 
 // So many numbers that stand from a place on: their count, and each.
@@ -41,18 +41,21 @@ fn write_one(w: &mut Writer)
     w.push(0);
 }
 
-// The plain entries of what a call above rank 2 left. Their numbers are put where its labels stand, which are not needed here.
+// The plain entries of what a call above rank 2 left. Their numbers are put where its labels stand, which are not
+// needed here.
 fn write_plain(w: &mut Writer, ws: &mut [u8], level: Level)
     requires { (more n : ℕ) × (rows : List Row) × (kept : List Kept) × Leaves more n rows kept level ws.old }
-    ensures { (more n rest : ℕ) (rows : List Row) (kept : List Kept) → Leaves more n rows kept level ws.old → Writes w.old w.new (plain_words (answer_left more n rows kept level ws.old rest)) }
+    ensures { (more n rest : ℕ) (rows : List Row) (kept : List Kept) → Leaves more n rows kept level ws.old
+        → Writes w.old w.new (plain_words (answer_left more n rows kept level ws.old rest)) }
 {
-    let labels = level.bytes + 2048;
+    let labels = level.bytes + ORDER_BYTES;
     let many = filter::filter_irc(&mut ws[level.lists..], level.area(), labels);
     write_numbers(w, ws, level.lists + labels, many);
 }
 
-// A job that passed the refusals before the call, called, and its plain entries written into the cleared buffer. That the job passed stays a clause: it speaks of the length of the workspace too, which the function writes.
-// That the buffer is cleared stays a clause, here and below: the function writes the buffer that it speaks of.
+// A job that passed the refusals before the call, called, and its plain entries written into the cleared buffer. That
+// the job passed stays a clause: it speaks of the length of the workspace too, which the function writes. That the
+// buffer is cleared stays a clause, here and below: the function writes the buffer that it speaks of.
 fn plain_passed(
     job: &[u8],
     fields: Fields,
@@ -63,7 +66,7 @@ fn plain_passed(
     ensures result { outcome_of result ≡ written_in (length answer.old) (plain_alone job.now (length ws.old)) }
     ensures buffer { answer.new ≡ buffer_in (length answer.old) (plain_alone job.now (length ws.old)) }
 {
-    let mut rows = [0; job_calls::ROWS_ROOM];
+    let mut rows = [0; rows::ROWS_ROOM];
     let called = job_calls::call_job(job, fields, ws, &mut rows)?;
     match called {
         Called::Ends(_, _) => {

@@ -1,4 +1,5 @@
-// The answer's words from what a call of rank 4 leaves in the workspace, and from the images of its facets in order. Leans on what is written at every rank.
+// The answer's words from what a call of rank 4 leaves in the workspace, and from the images of its facets in order.
+// Leans on what is written at every rank.
 
 #![tactic(auto)]
 
@@ -6,25 +7,38 @@ ghost use Rattle.std.specs.Prelude.{◌≡◌, ◌≤◌, ◌<◌, false, get_or
 ghost use mathlib.Core.List.{[]};
 ghost use Rattle.words.specs.Words.{words};
 ghost use Rattle.pool.specs.Pool.{count};
-ghost use Rattle.openers.specs.Marks.{marked};
+ghost use Rattle.rows.specs.Marks.{marked};
 ghost use Rattle.words.specs.Wrote.{Writes};
-ghost use Rattle.shelf.specs.Leaves.{lists_left};
+ghost use Rattle.layout.specs.Leaves.{lists_left};
 ghost use Rattle.facet_images.specs.Images.{IdsBelow};
-ghost use Rattle.polyhedra.specs.Solids.{polyhedron_from, ImagesStand, solid_from, solid_summary_from};
+ghost use Rattle.polyhedra.specs.Solids.{polyhedron_from, ImagesHeld, solid_from, solid_summary_from};
 ghost use Rattle.polyhedra.specs.SolidWritten.{WroteSolidAnswer};
 
 use edge_marks::Facets;
 use facet_images::{Ids, NumberedFacets, Wanted};
+use pool::MOST_FACETS;
 use possible_facets::Polygons;
+use rows::EDGE_CODES;
 use words::Writer;
 use writing::{Budget, Carried, EntryFigure, Left};
 
 // ---- rank 4
 
-// The polyhedron over n points with the marked edges and the chosen images. `IdsBelow` stays a clause: it speaks of the numbers and of the facets, two parameters.
-fn write_polyhedron(w: &mut Writer, n: usize, marks: &[bool; 400], wanted: Wanted, facets: Facets)
-    requires { (n < 4294967296) × (wanted.ids.count < 4294967296) × IdsBelow (count facets.edges.bytes.now) facets.rows.count (words 4 wanted.ids.bytes.now wanted.ids.count) }
-    ensures { Writes w.old w.new (polyhedron_from n marks.now wanted.entry.inside.now (words 4 wanted.entry.ids.bytes.now wanted.entry.ids.count) facets.entry.edges.bytes.now facets.entry.rows.bytes.now) }
+// The polyhedron over n points with the marked edges and the chosen images. `IdsBelow` stays a clause: it speaks of
+// the numbers and of the facets, two parameters.
+fn write_polyhedron(
+    w: &mut Writer,
+    n: usize,
+    marks: &[bool; EDGE_CODES],
+    wanted: Wanted,
+    facets: Facets,
+)
+    requires { (n < 4294967296)
+        × (wanted.ids.count < 4294967296)
+        × IdsBelow (count facets.edges.bytes.now) facets.rows.count (words 4 wanted.ids.bytes.now wanted.ids.count) }
+    ensures { Writes w.old w.new (polyhedron_from n marks.now wanted.entry.inside.now
+        (words 4 wanted.entry.ids.bytes.now wanted.entry.ids.count) facets.entry.edges.bytes.now
+        facets.entry.rows.bytes.now) }
 {
     let numbers = facet_images::edge_numbers(marks);
     let many = wanted.count_chosen();
@@ -41,7 +55,7 @@ fn write_polyhedron(w: &mut Writer, n: usize, marks: &[bool; 400], wanted: Wante
 }
 
 // The facets of entry k.
-pub fn entry_facets(left: Left, k: usize) -> [bool; 1024]
+pub fn entry_facets(left: Left, k: usize) -> [bool; MOST_FACETS]
     requires { k < left.level.count }
     ensures { result ≡ marked (replicate 1024 false) (get_or (lists_left left.entry.level left.entry.ws.now) k []) }
 {
@@ -53,14 +67,18 @@ pub fn entry_facets(left: Left, k: usize) -> [bool; 1024]
 pub struct Imaged<'a> {
     pub carried: Carried<'a>,
     pub ids: Ids<'a>,
-    pub ghost images: { ImagesStand carried.rows.count carried.left.level carried.left.ws.now ids.bytes.now ids.count },
+    pub ghost images: { ImagesHeld carried.rows.count carried.left.level carried.left.ws.now ids.bytes.now ids.count },
 }
 
 impl<'a> Imaged<'a> {
     // Both together. A function and no literal, as `Carried::new` is one.
     pub fn new(carried: Carried<'a>, ids: Ids<'a>) -> Self
-        requires { ImagesStand carried.rows.count carried.left.level carried.left.ws.now ids.bytes.now ids.count }
-        ensures { (result.carried.left.level ≡ carried.entry.left.level) × (result.carried.left.ws.now ≡ carried.entry.left.ws.now) × (result.carried.rows.count ≡ carried.entry.rows.count) × (result.carried.rows.bytes.now ≡ carried.entry.rows.bytes.now) × (result.ids.bytes.now ≡ ids.entry.bytes.now) × (result.ids.count ≡ ids.entry.count) }
+        requires { ImagesHeld carried.rows.count carried.left.level carried.left.ws.now ids.bytes.now ids.count }
+        ensures { (result.carried.left.level ≡ carried.entry.left.level)
+            × (result.carried.left.ws.now ≡ carried.entry.left.ws.now)
+            × (result.carried.rows.count ≡ carried.entry.rows.count)
+            × (result.carried.rows.bytes.now ≡ carried.entry.rows.bytes.now)
+            × (result.ids.bytes.now ≡ ids.entry.bytes.now) × (result.ids.count ≡ ids.entry.count) }
     {
         Imaged { carried, ids }
     }
@@ -79,9 +97,13 @@ impl<'a> EntryFigure for Solids<'a> {
 
     ghost ws = { λ it. it.imaged.carried.left.ws.now };
 
-    ghost figure = { λ it. solid_from it.n it.imaged.carried.rows.count it.imaged.carried.rows.bytes.now it.imaged.carried.left.level it.imaged.carried.left.ws.now (words 4 it.imaged.ids.bytes.now it.imaged.ids.count) };
+    ghost figure = { λ it.
+        solid_from it.n it.imaged.carried.rows.count it.imaged.carried.rows.bytes.now it.imaged.carried.left.level
+        it.imaged.carried.left.ws.now (words 4 it.imaged.ids.bytes.now it.imaged.ids.count) };
 
-    ghost summary = { λ it. solid_summary_from it.n it.imaged.carried.rows.count it.imaged.carried.rows.bytes.now it.imaged.carried.left.level it.imaged.carried.left.ws.now (words 4 it.imaged.ids.bytes.now it.imaged.ids.count) };
+    ghost summary = { λ it. solid_summary_from it.n it.imaged.carried.rows.count it.imaged.carried.rows.bytes.now
+        it.imaged.carried.left.level it.imaged.carried.left.ws.now
+        (words 4 it.imaged.ids.bytes.now it.imaged.ids.count) };
 
     fn left(&self) -> Left<'_> {
         self.imaged.carried.left
@@ -112,11 +134,13 @@ impl<'a> EntryFigure for Solids<'a> {
     }
 }
 
-// The answer of a call of rank 4 from what it leaves and from its facets' images in order. `standing` (specs/Written) and `images_stand` (specs/SolidWritten) say that these are what `Imaged` asks
-// for.
+// The answer of a call of rank 4 from what it leaves and from its facets' images in order. `standing` (specs/Written)
+// and `images_held` (specs/SolidWritten) say that these are what `Imaged` asks for.
 pub fn write_solid_answer(w: &mut Writer, imaged: Imaged, n: usize, budget: Budget)
     requires { n ≤ 20 }
-    ensures { WroteSolidAnswer n imaged.entry.carried.rows.count imaged.entry.carried.rows.bytes.now imaged.entry.carried.left.level imaged.entry.carried.left.ws.now (words 4 imaged.entry.ids.bytes.now imaged.entry.ids.count) budget.whole budget.rest w.old w.new }
+    ensures { WroteSolidAnswer n imaged.entry.carried.rows.count imaged.entry.carried.rows.bytes.now
+        imaged.entry.carried.left.level imaged.entry.carried.left.ws.now
+        (words 4 imaged.entry.ids.bytes.now imaged.entry.ids.count) budget.whole budget.rest w.old w.new }
 {
     let facets = Polygons {
         ws: imaged.carried.left.ws,

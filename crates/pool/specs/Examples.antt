@@ -8,12 +8,14 @@ two_lists : List ℕ
 two_lists = ended (pushed 2 2 (ended (pushed 2 2 (pushed 2 2 (emptied (replicate 28 255)) 5) 7)) 257)
 
 -- the number of lists, of items, the starts, the items, and a byte that was not touched
-bytes : two_lists ≡ 2 ∷ 0 ∷ 0 ∷ 0 ∷ 3 ∷ 0 ∷ 0 ∷ 0 ∷ 0 ∷ 0 ∷ 0 ∷ 0 ∷ 2 ∷ 0 ∷ 0 ∷ 0 ∷ 3 ∷ 0 ∷ 0 ∷ 0 ∷ 5 ∷ 0 ∷ 7 ∷ 0 ∷ 1 ∷ 1 ∷ 255 ∷ 255 ∷ []
+bytes : two_lists ≡ 2 ∷ 0 ∷ 0 ∷ 0 ∷ 3 ∷ 0 ∷ 0 ∷ 0 ∷ 0 ∷ 0 ∷ 0 ∷ 0 ∷ 2 ∷ 0 ∷ 0 ∷ 0 ∷ 3 ∷ 0 ∷ 0 ∷ 0 ∷ 5 ∷ 0 ∷ 7 ∷ 0 ∷ 1
+    ∷ 1 ∷ 255 ∷ 255 ∷ []
 unfolding two_lists emptied pushed ended put bytes_of count used number_at little
 bytes = refl
 
 holds : closed_lists 2 2 two_lists ≡ (5 ∷ 7 ∷ []) ∷ (257 ∷ []) ∷ []
-unfolding two_lists emptied pushed ended put bytes_of count used start items ends cuts closed_lists words number_at little
+unfolding two_lists emptied pushed ended put bytes_of count used start items ends cuts closed_lists words number_at
+    little
 holds = refl
 
 nothing_open : opened 2 2 two_lists ≡ []

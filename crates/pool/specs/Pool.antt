@@ -1,6 +1,8 @@
--- Lists of any length in one region of bytes. The region has the number of closedLists lists (u32 at 0), the number of items in all (u32 at 4), the starts of the lists
--- (u32 at 8, 12, ..: list k begins at start k and ends at start k + 1), room for `most` lists; then the items, w bytes each. Behind the closedLists lists one is open:
--- it takes items until it is closedLists. What a region holds is `closed_lists` and `opened`, functions of its own bytes. Leans on Words. Assumes nothing.
+-- Lists of any length in one region of bytes. The region has the number of closed lists (u32 at 0), the number of
+-- items in all (u32 at 4), the starts of the lists (u32 at 8, 12, ..: list k begins at start k and ends at start k +
+-- 1), room for `most` lists; then the items, w bytes each. Behind the closed lists one is open: it takes items until
+-- it is closed. What a region holds is `closed_lists` and `opened`, functions of its own bytes. Leans on Words.
+-- Assumes nothing.
 use Rattle.std.specs.Prelude.{◌≡◌, ◌⊎◌, ℕ, zero, suc, ◌+◌, ◌-◌, ◌*◌, ◌^◌, ◌≤◌, ◌<◌, take}
 use Rattle.std.proofs.Math.Path.{refl, ap}
 use Rattle.std.proofs.Common.{sym, ◌∙◌, ⊎_elim, mul-zero, add-one, get_or-take, get_or-drop, ext_get_or}
@@ -12,7 +14,8 @@ use Rattle.std.proofs.Math.Seq.{take_all, length-take-le, drop-length}
 use Rattle.std.proofs.lemmas.List.{take-append-le, drop-append-le}
 use Rattle.definitions.specs.Job.{number_at}
 use Rattle.laws.specs.Segments.{cons_same, le_or_lt}
-use Rattle.words.specs.Words.{put, words, put_length, number_at_put, number_at_put_off, number_at_drop, drop_put, drop_put_add, words_length, words_push, get_d_words}
+use Rattle.words.specs.Words.{put, words, put_length, number_at_put, number_at_put_off, number_at_drop, drop_put}
+use Rattle.words.specs.Words.{drop_put_add, words_length, words_push, get_d_words}
 
 -- ---- the region's fields
 
@@ -32,7 +35,7 @@ base most = 12 + 4 * most
 unfoldable pub items : ℕ → ℕ → List ℕ → List ℕ
 items w most s = words w (drop (base most) s) (used s)
 
--- where each closedLists list ends
+-- where each closed list ends
 unfoldable pub ends : List ℕ → List ℕ
 ends s = words 4 (drop 12 s) (count s)
 
@@ -59,7 +62,7 @@ emptied s = put 4 (put 4 (put 4 s 0 0) 4 0) 8 0
 unfoldable pub pushed : ℕ → ℕ → List ℕ → ℕ → List ℕ
 pushed w most s v = put 4 (put w s (base most + w * used s) v) 4 (used s + 1)
 
--- the open list is closedLists, and an empty one is open behind it
+-- the open list is closed, and an empty one is open behind it
 unfoldable pub ended : List ℕ → List ℕ
 ended s = put 4 (put 4 s (12 + 4 * count s) (used s)) 0 (count s + 1)
 
@@ -86,12 +89,14 @@ cuts_length a [] l = refl
 cuts_length a (b ∷ bs) l = ap suc (cuts_length b bs l)
 
 -- items behind the last cut change none of the lists
-one_cut : (a b : ℕ) (l more : List ℕ) → a ≤ length l → b ≤ length l → take (b - a) (drop a (l ++ more)) ≡ take (b - a) (drop a l)
+one_cut : (a b : ℕ) (l more : List ℕ) → a ≤ length l → b ≤ length l
+    → take (b - a) (drop a (l ++ more)) ≡ take (b - a) (drop a l)
 one_cut a b l more h k =
     let d = length-drop a l in
     ap (take (b - a)) (drop-append-le a l more h) ∙ take-append-le (b - a) (drop a l) more (omega arith)
 
-pub cuts_more : (a : ℕ) (bs l more : List ℕ) → a ≤ length l → ((k : ℕ) → k < length bs → get_or bs k 0 ≤ length l) → cuts a bs (l ++ more) ≡ cuts a bs l
+pub cuts_more : (a : ℕ) (bs l more : List ℕ) → a ≤ length l → ((k : ℕ) → k < length bs → get_or bs k 0 ≤ length l)
+    → cuts a bs (l ++ more) ≡ cuts a bs l
 unfolding cuts
 cuts_more a [] l more h k = refl
 cuts_more a (b ∷ bs) l more h k =
@@ -99,13 +104,15 @@ cuts_more a (b ∷ bs) l more h k =
     cons_same (one_cut a b l more h first) (cuts_more b bs l more first (λ i j. k (suc i) (omega arith)))
 
 -- one cut more
-pub cuts_end : (a : ℕ) (bs : List ℕ) (b : ℕ) (l : List ℕ) → cuts a (bs ++ (b ∷ [])) l ≡ cuts a bs l ++ (take (b - get_or (a ∷ bs) (length bs) 0) (drop (get_or (a ∷ bs) (length bs) 0) l) ∷ [])
+pub cuts_end : (a : ℕ) (bs : List ℕ) (b : ℕ) (l : List ℕ) → cuts a (bs ++ (b ∷ [])) l
+    ≡ cuts a bs l ++ (take (b - get_or (a ∷ bs) (length bs) 0) (drop (get_or (a ∷ bs) (length bs) 0) l) ∷ [])
 unfolding cuts
 cuts_end a [] b l = refl
 cuts_end a (x ∷ bs) b l = cons_same refl (cuts_end x bs b l)
 
 -- list k
-pub get_d_cuts : (a : ℕ) (bs l : List ℕ) (k : ℕ) → k < length bs → get_or (cuts a bs l) k [] ≡ take (get_or bs k 0 - get_or (a ∷ bs) k 0) (drop (get_or (a ∷ bs) k 0) l)
+pub get_d_cuts : (a : ℕ) (bs l : List ℕ) (k : ℕ) → k < length bs
+    → get_or (cuts a bs l) k [] ≡ take (get_or bs k 0 - get_or (a ∷ bs) k 0) (drop (get_or (a ∷ bs) k 0) l)
 unfolding cuts
 get_d_cuts a [] l k h = absurd (omega arith)
 get_d_cuts a (b ∷ bs) l zero h = refl
@@ -157,7 +164,8 @@ module _ (w most : ℕ) (s : List ℕ) (ok : Sound w most s) (k : ℕ) (h : k < 
   unfolding length_at
   item_inside i l = let b = ok.below (k + 1) (omega arith) in omega arith
 
-  pub list_item : (i : ℕ) → i < length_at s k → get_or (get_or (closed_lists w most s) k []) i 0 ≡ number_at s (place_at w most s k i) w
+  pub list_item : (i : ℕ) → i < length_at s k
+      → get_or (get_or (closed_lists w most s) k []) i 0 ≡ number_at s (place_at w most s k i) w
   unfolding place_at items
   list_item i l =
       ap (λ (r : List ℕ). get_or r i 0) list_is
@@ -177,7 +185,8 @@ module _ (w most : ℕ) (s : List ℕ) (fits : base most ≤ length s) where
   unfolding count emptied
   empty_count =
       number_at_put_off 4 (put 4 (put 4 s 0 0) 4 0) 8 0 0 4 (inl (omega arith))
-      ∙ (number_at_put_off 4 (put 4 s 0 0) 4 0 0 4 (inl (omega arith)) ∙ number_at_put 4 s 0 0 (omega arith) (omega arith))
+      ∙ (number_at_put_off 4 (put 4 s 0 0) 4 0 0 4 (inl (omega arith))
+      ∙ number_at_put 4 s 0 0 (omega arith) (omega arith))
 
   pub emptied_used : used (emptied s) ≡ 0
   unfolding used emptied
@@ -212,7 +221,8 @@ module _ (w most : ℕ) (s : List ℕ) (fits : base most ≤ length s) where
 
 -- ---- one item more
 
-module _ (w most : ℕ) (s : List ℕ) (v : ℕ) (ok : Sound w most s) (room : base most + w * (used s + 1) ≤ length s) (few : used s + 1 < 4294967296) (small : v < 256 ^ w) where
+module _ (w most : ℕ) (s : List ℕ) (v : ℕ) (ok : Sound w most s) (room : base most + w * (used s + 1) ≤ length s)
+    (few : used s + 1 < 4294967296) (small : v < 256 ^ w) where
   -- the place of the item, and the region before the number of items is counted up
   at : ℕ
   at = base most + w * used s
@@ -220,9 +230,6 @@ module _ (w most : ℕ) (s : List ℕ) (v : ℕ) (ok : Sound w most s) (room : b
   at_is : at ≡ base most + w * used s
   unfolding at
   at_is = refl
-
-  room_at : at + w ≤ length s
-  room_at = let e : w * (used s + 1) ≡ w * used s + w = omega arith in omega (arith, at_is)
 
   pushed_is : pushed w most s v ≡ put 4 (put w s at v) 4 (used s + 1)
   unfolding pushed at
@@ -232,10 +239,12 @@ module _ (w most : ℕ) (s : List ℕ) (v : ℕ) (ok : Sound w most s) (room : b
   unfolding pushed
   pushed_length = simp put_length
 
-  pushed_before : (j : ℕ) → j + 4 ≤ base most → (j + 4 ≤ 4) ⊎ (8 ≤ j) → number_at (pushed w most s v) j 4 ≡ number_at s j 4
+  pushed_before : (j : ℕ) → j + 4 ≤ base most → (j + 4 ≤ 4) ⊎ (8 ≤ j)
+      → number_at (pushed w most s v) j 4 ≡ number_at s j 4
   pushed_before j h o =
       ap (λ (r : List ℕ). number_at r j 4) pushed_is
-      ∙ (number_at_put_off 4 (put w s at v) 4 (used s + 1) j 4 o ∙ number_at_put_off w s at v j 4 (inl (omega (arith, at_is))))
+      ∙ (number_at_put_off 4 (put w s at v) 4 (used s + 1) j 4 o
+      ∙ number_at_put_off w s at v j 4 (inl (omega (arith, at_is))))
 
   pub pushed_count : count (pushed w most s v) ≡ count s
   unfolding count
@@ -256,8 +265,16 @@ module _ (w most : ℕ) (s : List ℕ) (v : ℕ) (ok : Sound w most s) (room : b
     few = omega (arith, pushed_count, ok.few);
     small = omega (arith, pushed_used);
     fits = rw (pushed_used, pushed_length) room;
-    below = λ k h. omega (arith, pushed_used, pushed_start k (omega (arith, pushed_count)), ok.below k (omega (arith, pushed_count)));
-    ascend = λ k h. omega (arith, pushed_start k (omega (arith, pushed_count)), pushed_start (k + 1) (omega (arith, pushed_count)), ok.ascend k (omega (arith, pushed_count)));
+    below =
+        λ k h. omega
+        (arith, pushed_used, pushed_start k (omega (arith, pushed_count)), ok.below k (omega (arith, pushed_count)));
+    ascend =
+        λ k h. omega (
+          arith,
+          pushed_start k (omega (arith, pushed_count)),
+          pushed_start (k + 1) (omega (arith, pushed_count)),
+          ok.ascend k (omega (arith, pushed_count)),
+        );
   }
 
   pushed_items : items w most (pushed w most s v) ≡ items w most s ++ (v ∷ [])
@@ -305,7 +322,8 @@ count_put s n h f = number_at_put 4 s 0 n h f
 ended_drop : (s : List ℕ) (n : ℕ) → 16 + 4 * count s ≤ n → drop n (ended s) ≡ drop n s
 unfolding ended
 ended_drop s n h =
-    drop_put 4 (put 4 s (12 + 4 * count s) (used s)) 0 (count s + 1) n (omega arith) ∙ drop_put 4 s (12 + 4 * count s) (used s) n (omega arith)
+    drop_put 4 (put 4 s (12 + 4 * count s) (used s)) 0 (count s + 1) n (omega arith)
+    ∙ drop_put 4 s (12 + 4 * count s) (used s) n (omega arith)
 
 module _ (w most : ℕ) (s : List ℕ) (ok : Sound w most s) (more : count s < most) (few : most < 4294967296) where
   long : base most ≤ length s
@@ -322,7 +340,8 @@ module _ (w most : ℕ) (s : List ℕ) (ok : Sound w most s) (more : count s < m
       let m = long in
       count_put (put 4 s (12 + 4 * count s) (used s)) (count s + 1) (omega arith) (omega arith)
 
-  ended_behind : (j : ℕ) → 4 ≤ j → (j + 4 ≤ 12 + 4 * count s) ⊎ (16 + 4 * count s ≤ j) → number_at (ended s) j 4 ≡ number_at s j 4
+  ended_behind : (j : ℕ) → 4 ≤ j → (j + 4 ≤ 12 + 4 * count s) ⊎ (16 + 4 * count s ≤ j)
+      → number_at (ended s) j 4 ≡ number_at s j 4
   unfolding ended
   ended_behind j h o =
       number_at_put_off 4 (put 4 s (12 + 4 * count s) (used s)) 0 (count s + 1) j 4 (inr (omega arith))
@@ -342,7 +361,8 @@ module _ (w most : ℕ) (s : List ℕ) (ok : Sound w most s) (more : count s < m
       let e : 8 + 4 * (count s + 1) ≡ 12 + 4 * count s = omega arith in
       let m = long in
       ap (λ (i : ℕ). number_at (put 4 (put 4 s (12 + 4 * count s) (used s)) 0 (count s + 1)) i 4) e
-      ∙ (number_at_put_off 4 (put 4 s (12 + 4 * count s) (used s)) 0 (count s + 1) (12 + 4 * count s) 4 (inr (omega arith))
+      ∙ (number_at_put_off 4 (put 4 s (12 + 4 * count s) (used s)) 0 (count s + 1) (12 + 4 * count s) 4
+      (inr (omega arith))
       ∙ number_at_put 4 s (12 + 4 * count s) (used s) (omega arith) ok.small)
 
   ended_below : (k : ℕ) → k ≤ count s + 1 → start (ended s) k ≤ used s
@@ -356,7 +376,8 @@ module _ (w most : ℕ) (s : List ℕ) (ok : Sound w most s) (more : count s < m
   ended_ascend k h =
       ⊎_elim
       (λ l. omega (arith, ended_start k (omega arith), ended_start (k + 1) l, ok.ascend k (omega arith)))
-      (λ l. let e : k + 1 ≡ count s + 1 = omega arith in omega (arith, ap (start (ended s)) e, ended_last, ended_below k (omega arith)))
+      (λ l. let e : k + 1 ≡ count s + 1 = omega arith in
+      omega (arith, ap (start (ended s)) e, ended_last, ended_below k (omega arith)))
       (le_or_lt (k + 1) (count s))
 
   pub ended_sound : Sound w most (ended s)
@@ -378,7 +399,8 @@ module _ (w most : ℕ) (s : List ℕ) (ok : Sound w most s) (more : count s < m
   ended_tail : drop 12 (ended s) ≡ put 4 (drop 12 s) (4 * count s) (used s)
   unfolding ended
   ended_tail =
-      drop_put 4 (put 4 s (12 + 4 * count s) (used s)) 0 (count s + 1) 12 (omega arith) ∙ drop_put_add 4 s 12 (4 * count s) (used s)
+      drop_put 4 (put 4 s (12 + 4 * count s) (used s)) 0 (count s + 1) 12 (omega arith)
+      ∙ drop_put_add 4 s 12 (4 * count s) (used s)
 
   ended_ends : ends (ended s) ≡ ends s ++ (used s ∷ [])
   unfolding ends

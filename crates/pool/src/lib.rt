@@ -1,6 +1,7 @@
-// Lists of any length in one region: closed lists one behind another, and one that is open at the end. `most` is how many lists the region has room for.
-// A `k` beside a region is the number of a list in it, and no length; what a region counts stands in its first bytes, since a caller lends all memory, as bytes.
-// Items are u16 or u32 numbers. A `requires` here is a bound on an index and nothing else; what a region holds follows by the laws of specs/Pool.
+// Lists of any length in one region: closed lists one behind another, and one that is open at the end. `most` is how
+// many lists the region has room for. A `k` beside a region is the number of a list in it, and no length; what a
+// region counts stands in its first bytes, since a caller lends all memory, as bytes. Items are u16 or u32 numbers. A
+// `requires` here is a bound on an index and nothing else; what a region holds follows by the laws of specs/Pool.
 
 #![tactic(auto)]
 
@@ -9,6 +10,18 @@ ghost use Rattle.definitions.specs.Job.{number_at};
 ghost use Rattle.pool.specs.Pool.{count, used, start, base, emptied, pushed, ended, length_at, place_at};
 
 use words::Word;
+
+// ---- bounds
+
+// As many orbits, possible facets and entries as a call may have. A pool of a call's orbits or facets has a list for
+// each; the lists that the search emits are as many as entries.
+pub const MOST_ORBITS: usize = 256;
+
+pub const MOST_FACETS: usize = 1024;
+
+pub const MOST_LISTS: usize = 1024;
+
+// ---- lists
 
 // No list, and an empty one open.
 pub fn clear(s: &mut [u8])

@@ -1,4 +1,5 @@
--- The turns of the loop over orbits that writes the possible facets: what is written and what is left are the whole. Leans on Answers.
+-- The turns of the loop over orbits that writes the possible facets: what is written and what is left are the whole.
+-- Leans on Answers.
 use mathlib.Core.Path.{◌≡◌, refl, sym, ap, ◌∙◌}
 use mathlib.Core.List.{List, [], ◌∷◌, ◌++◌, flat_map, append_assoc, append-nil}
 use Prim.Native.Nat.{ℕ, suc, ◌+◌, ◌-◌, ◌≤◌, ◌<◌}
@@ -16,10 +17,12 @@ module _ (figure : ℕ → List ℕ → List ℕ) (orbits : ℕ) (owners : List 
   pub record SoFar (orbit x : ℕ) (before after : Writer) : Type 0 where
     pub words : List ℕ
     pub wrote : Writes before after words
-    pub rest : words ++ possible_from figure (orbits - orbit) orbit (drop x owners) (drop x edges) ≡ possible_from figure orbits 0 owners edges
+    pub rest : words ++ possible_from figure (orbits - orbit) orbit (drop x owners) (drop x edges)
+        ≡ possible_from figure orbits 0 owners edges
 
   module _ {orbit x : ℕ} {s t : Writer} (f : SoFar orbit x s t) where
-    pub possible_more : {u v : Writer} (end : ℕ) → orbit < orbits → end ≡ x + leading orbit (drop x owners) → Writes t u ((end - x) ∷ []) → Writes u v (flat_map (figure orbit) (take (end - x) (drop x edges)))
+    pub possible_more : {u v : Writer} (end : ℕ) → orbit < orbits → end ≡ x + leading orbit (drop x owners)
+        → Writes t u ((end - x) ∷ []) → Writes u v (flat_map (figure orbit) (take (end - x) (drop x edges)))
         → SoFar (orbit + 1) end s v
     unfolding possible_from
     possible_more end h e a b =
@@ -28,8 +31,10 @@ module _ (figure : ℕ → List ℕ → List ℕ) (orbits : ℕ) (owners : List 
         let k : orbits - orbit ≡ suc (orbits - (orbit + 1)) = omega arith in
         let one = (end - x) ∷ flat_map (figure orbit) (take (end - x) (drop x edges)) in
         let left = possible_from figure (orbits - (orbit + 1)) (orbit + 1) (drop end owners) (drop end edges) in
-        let owners-left : drop many (drop x owners) ≡ drop end owners = drop-drop many x owners ∙ ap (λ (j : ℕ). drop j owners) (sym e) in
-        let edges_left : drop many (drop x edges) ≡ drop end edges = drop-drop many x edges ∙ ap (λ (j : ℕ). drop j edges) (sym e) in
+        let owners-left : drop many (drop x owners) ≡ drop end owners = drop-drop many x owners
+        ∙ ap (λ (j : ℕ). drop j owners) (sym e) in
+        let edges_left : drop many (drop x edges) ≡ drop end edges = drop-drop many x edges
+        ∙ ap (λ (j : ℕ). drop j edges) (sym e) in
         let next : possible_from figure (orbits - orbit) orbit (drop x owners) (drop x edges) ≡ one ++ left =
         ap (λ (j : ℕ). possible_from figure j orbit (drop x owners) (drop x edges)) k
         ∙ (rw (owners-left, edges_left, m, add-one orbit) refl) in
@@ -43,5 +48,6 @@ module _ (figure : ℕ → List ℕ → List ℕ) (orbits : ℕ) (owners : List 
     unfolding possible_from
     possible_all h =
         let k : orbits - orbit ≡ 0 = omega arith in
-        let none : possible_from figure (orbits - orbit) orbit (drop x owners) (drop x edges) ≡ [] = ap (λ (j : ℕ). possible_from figure j orbit (drop x owners) (drop x edges)) k in
+        let none : possible_from figure (orbits - orbit) orbit (drop x owners) (drop x edges)
+        ≡ [] = ap (λ (j : ℕ). possible_from figure j orbit (drop x owners) (drop x edges)) k in
         writes_as f.wrote (sym (append-nil f.words) ∙ (ap (λ (l : List ℕ). f.words ++ l) (sym none) ∙ f.rest))

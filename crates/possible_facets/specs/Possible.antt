@@ -1,9 +1,10 @@
--- The words of the possible facets from what stands in the workspace: for each orbit how many facets it has, and their figures. Leans on Facets.
+-- The words of the possible facets from what stands in the workspace: for each orbit how many facets it has, and
+-- their figures. Leans on Facets.
 use mathlib.Core.List.{List, [], ◌∷◌, ◌++◌, map, flat_map}
 use Rattle.std.specs.Prelude.{◌*◌, ℕ, zero, suc, length, get_or, take, drop}
 use Rattle.definitions.specs.Job.{number_at, figure_words}
 use Rattle.laws.specs.Sets.{vertices_of}
-use Rattle.openers.specs.Meaning.{pair_of}
+use Rattle.rows.specs.Codes.{pair_of}
 use Rattle.shapes.specs.Edges.{edge_figure}
 use Rattle.shapes.specs.EdgeSets.{polygon}
 use Rattle.possible_facets.specs.Facets.{leading}
@@ -25,4 +26,5 @@ unfoldable pub possible_from : (ℕ → List ℕ → List ℕ) → ℕ → ℕ �
 possible_from figure zero orbit owners edges = []
 possible_from figure (suc more) orbit owners edges =
     let many = leading orbit owners in
-    many ∷ flat_map (figure orbit) (take many edges) ++ possible_from figure more (suc orbit) (drop many owners) (drop many edges)
+    many ∷ flat_map (figure orbit) (take many edges)
+    ++ possible_from figure more (suc orbit) (drop many owners) (drop many edges)

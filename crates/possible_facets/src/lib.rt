@@ -1,4 +1,5 @@
-// The words of the possible facets of a call, orbit by orbit: how many there are, and the figure of each, an edge or a polygon (`FacetFigure`). Leans on the words of figures.
+// The words of the possible facets of a call, orbit by orbit: how many there are, and the figure of each, an edge or
+// a polygon (`FacetFigure`). Leans on the words of figures.
 
 #![tactic(auto)]
 
@@ -93,10 +94,11 @@ impl FacetFigure for Polygons<'_> {
 
 // ---- orbits of facets
 
-// The orbit of each facet, a number of two bytes. The bytes are an area of a workspace, up to where the next one begins, and a shelf tells how many facets it has: of a slice cut to their length
-// the number of facets would be half the bytes, which each clause would have to say.
-// `facet_images::Ids` is alike, with numbers of four bytes. No type for every `Word` serves both: a `Word` has its number as a ghost alone, so that each user would turn a word into a place by itself.
-// And `end_of`, and the bound that `orbit` promises, are of `Owners` alone.
+// The orbit of each facet, a number of two bytes. The bytes are an area of a workspace, up to where the next one
+// begins, and a layout tells how many facets it has: of a slice cut to their length the number of facets would be
+// half the bytes, which each clause would have to say. `facet_images::Ids` is alike, with numbers of four bytes. No
+// type for every `Word` serves both: a `Word` has its number as a ghost alone, so that each user would turn a word
+// into a place by itself. And `end_of`, and the bound that `orbit` promises, are of `Owners` alone.
 #[derive(Clone, Copy)]
 pub struct Owners<'a> {
     pub bytes: &'a [u8],
@@ -116,7 +118,8 @@ impl<'a> Owners<'a> {
     // The first facet from x on that is not of an orbit, or the number of facets.
     fn end_of(self, x: usize, orbit: usize) -> usize
         requires { x ≤ self.facets }
-        ensures { (result ≡ x + leading orbit (drop x (words 2 self.entry.bytes.now self.entry.facets))) × (result ≤ self.entry.facets) }
+        ensures { (result ≡ x + leading orbit (drop x (words 2 self.entry.bytes.now self.entry.facets)))
+            × (result ≤ self.entry.facets) }
     {
         (x..self.facets)
             .find(|i| self.orbit(*i) != orbit)
@@ -136,7 +139,8 @@ fn write_facets<T: FacetFigure>(
     to: usize,
 )
     requires { (points < 4294967296) × (from ≤ to) × (to ≤ count edges.bytes.now) }
-    ensures { Writes w.old w.new (flat_map (T.words points) (part from (to - from) (closed_lists 2 edges.entry.most edges.entry.bytes.now))) }
+    ensures { Writes w.old w.new (flat_map (T.words points)
+        (part from (to - from) (closed_lists 2 edges.entry.most edges.entry.bytes.now))) }
 {
     for x in from..to {
         figures.write(w, points, edges, x);
@@ -151,8 +155,11 @@ pub fn write_possible<T: FacetFigure>(
     orbits: usize,
     edges: Pool,
 )
-    requires { ((orbit : ℕ) → orbit < orbits → T.knows figures.now orbit) × (owners.facets < 4294967296) × (owners.facets ≤ count edges.bytes.now) }
-    ensures { Writes w.old w.new (possible_from (λ (orbit : ℕ). T.words (T.size figures.now orbit)) orbits 0 (words 2 owners.entry.bytes.now owners.entry.facets) (closed_lists 2 edges.entry.most edges.entry.bytes.now)) }
+    requires { ((orbit : ℕ) → orbit < orbits → T.knows figures.now orbit)
+        × (owners.facets < 4294967296) × (owners.facets ≤ count edges.bytes.now) }
+    ensures { Writes w.old w.new (possible_from (λ (orbit : ℕ). T.words (T.size figures.now orbit)) orbits 0
+        (words 2 owners.entry.bytes.now owners.entry.facets)
+        (closed_lists 2 edges.entry.most edges.entry.bytes.now)) }
 {
     let mut x = 0;
     for orbit in 0..orbits {

@@ -1,11 +1,15 @@
--- The number that docs/SPECIFICATION.md gives each refusal, and what a result says as an outcome of chapter 2. Leans on the definition of an outcome.
+-- The number that docs/SPECIFICATION.md gives each refusal, and what a result says as an outcome of chapter 2. Leans
+-- on the definition of an outcome.
 use Rattle.std.specs.Prelude.{ℕ, ◌≡◌, Result, Ok, Err}
 use Rattle.std.proofs.Common.{refl, ap, ◌∙◌, arith}
 use Rattle.std.proofs.lemmas.Result.{err_from_is_err_and}
 use Rattle.std.specs.Result.{IsErrAnd}
 use Rattle.definitions.specs.Outcome.{Outcome, refused, answered}
 use Rattle.refusals.specs.declared.Refusal.{Refusal}
-use Rattle.refusals.specs.declared.Refusal.TheVariants.{Mark, Version, Rank, Dimension, Points, Rows, Flags, Length, Number, FirstRow, Row, Workspace, Orbits, Plane, Bound, Budget, Room, Package, Tariff, NotOfRank4, Entry, Tolerance, Rule, Cut, Records}
+use Rattle.refusals.specs.declared.Refusal.TheVariants.{Mark, Version, Rank, Dimension, Points, Rows, Flags, Length}
+use Rattle.refusals.specs.declared.Refusal.TheVariants.{Number, FirstRow, Row, Workspace, Orbits, Plane, Bound, Budget}
+use Rattle.refusals.specs.declared.Refusal.TheVariants.{Room, Package, Tariff, NotOfRank4, Entry, Tolerance, Rule, Cut}
+use Rattle.refusals.specs.declared.Refusal.TheVariants.{Records}
 
 -- [11.1] [11.4] [11.5] [15.1] [15.2] [16.4] [17.3]
 abbrev pub number_of : Refusal → ℕ
@@ -44,7 +48,8 @@ outcome_of (Err e) = refused (number_of e)
 pub handed_on : {A : Type 0} (r : Result A Refusal) (e : Refusal) → IsErrAnd r (λ x. x ≡ e) → r ≡ Err e
 handed_on r e is = let p = err_from_is_err_and r is in p.1 ∙ ap Err p.2
 
-pub refused_on : {A : Type 0} (r : Result A Refusal) (e : Refusal) → IsErrAnd r (λ x. x ≡ e) → outcome_of r ≡ refused (number_of e)
+pub refused_on : {A : Type 0} (r : Result A Refusal) (e : Refusal) → IsErrAnd r (λ x. x ≡ e)
+    → outcome_of r ≡ refused (number_of e)
 refused_on r e is = ap outcome_of (handed_on r e is)
 
 -- 17 is the number of one refusal

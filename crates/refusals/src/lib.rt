@@ -1,4 +1,5 @@
-// What a job, a row, a package or a quote can be refused for: each refusal of chapters 11, 15, 16 and 17, with its number.
+// What a job, a row, a package or a quote can be refused for: each refusal of chapters 11, 15, 16 and 17, with its
+// number.
 
 #![tactic(auto)]
 
@@ -7,7 +8,8 @@ ghost use Rattle.refusals.specs.Refused.{number_of};
 
 use std::fmt;
 
-// In the order of the numbers. A variant is named after what is refused. Its number stands beside it, and is not its place among the variants: the page counts with gaps.
+// In the order of the numbers. A variant is named after what is refused. Its number stands beside it, and is not its
+// place among the variants: the page counts with gaps.
 #[derive(Clone, Copy, Debug, PartialEq, Eq)]
 pub enum Refusal {
     // [11.1]

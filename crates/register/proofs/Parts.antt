@@ -1,4 +1,5 @@
--- A goal of several clauses asks a record by their names; a lemma that proves them together, each before all that follow it, ends in pairs within pairs. These take the pairs apart.
+-- A goal of several clauses asks a record by their names; a lemma that proves them together, each before all that
+-- follow it, ends in pairs within pairs. These take the pairs apart.
 
 pub in_three : {A B C R : Type 0} → (A → B → C → R) → A × (B × C) → R
 in_three f h = f h.0 h.1.0 h.1.1

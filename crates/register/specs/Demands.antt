@@ -1,12 +1,15 @@
--- The three demands [13.1], [13.2], [13.8] and the promised symmetry [13.12], of the exported function's return code and answer buffer. They follow from its two equations: demands 1 and 2 for
--- every job, demand 3 and the symmetry of the entries read back from the buffer, for every job that is answered at rank 3 or 4. Leans on Reading and on what is proved of the definitions.
+-- The three demands [13.1], [13.2], [13.8] and the promised symmetry [13.12], of the exported function's return code
+-- and answer buffer. They follow from its two equations: demands 1 and 2 for every job, demand 3 and the symmetry of
+-- the entries read back from the buffer, for every job that is answered at rank 3 or 4. Leans on Reading and on what
+-- is proved of the definitions.
 use Rattle.std.specs.Prelude.{◌≡◌, ◌++◌, ℕ, ◌-◌, T, ltb, ℤ}
 use Rattle.std.proofs.Math.Path.{sym, ap}
 use Rattle.std.proofs.Common.{◌∙◌, subst, arith}
 use Rattle.std.proofs.Math.ListN.{length, replicate}
 use Rattle.definitions.specs.Outcome.{Outcome, answered, and_then}
 use Rattle.definitions.specs.Recursion.{Answer}
-use Rattle.definitions.specs.Job.{Bytes, read_job, job_tests, workspace_tests, tests, between, bounds1, call_of, answer_bytes, answer_words, fitting, outcome_within, outcome, code_of, buffer_of}
+use Rattle.definitions.specs.Job.{Bytes, read_job, job_tests, workspace_tests, tests, between, bounds1, call_of}
+use Rattle.definitions.specs.Job.{answer_bytes, answer_words, fitting, outcome_within, outcome, code_of, buffer_of}
 use Rattle.definitions.specs.Demands.{Demand1, Demand2, Demand3, CallComplete}
 use Rattle.definitions.specs.Symmetry.{Symmetric}
 use Rattle.laws.specs.Outcomes.{answered_before, not_refused_if}
@@ -30,7 +33,8 @@ pub record Called (bytes : Bytes) (answer : Bytes) : Type 0 where
   pub passed : RowsPassed (read_job bytes)
   pub ranked : T (between 2 4 (read_job bytes).rank)
 
-pub called : (bytes : Bytes) (workspace room : ℕ) (answer : Bytes) → outcome bytes workspace room ≡ answered answer → Called bytes answer
+pub called : (bytes : Bytes) (workspace room : ℕ) (answer : Bytes) → outcome bytes workspace room ≡ answered answer
+    → Called bytes answer
 unfolding outcome outcome_within fitting tests
 called bytes workspace room answer e =
     let job = read_job bytes in
@@ -51,22 +55,32 @@ called bytes workspace room answer e =
 -- ---- the answer read back
 
 -- every word of an answered job's bytes is one of its answer
-pub answer_decoded : (bytes : Bytes) (workspace room : ℕ) (answer : Bytes) → AreBytes bytes → outcome bytes workspace room ≡ answered answer
-    → (a : Answer) × (call_of bounds1 (read_job bytes) ≡ answered a) × (words_read answer ≡ answer_words (read_job bytes).budget a)
+pub answer_decoded : (bytes : Bytes) (workspace room : ℕ) (answer : Bytes) → AreBytes bytes
+    → outcome bytes workspace room ≡ answered answer
+    → (a : Answer) × (call_of bounds1 (read_job bytes) ≡ answered a)
+    × (words_read answer ≡ answer_words (read_job bytes).budget a)
 answer_decoded bytes workspace room answer are e =
     let c = called bytes workspace room answer e in
-    let budget = (read_job bytes).budget in
-    (c.given, c.is_given, ap words_read c.bytes_are ∙ answer_back budget c.given (job_words bytes c.passed c.ranked c.given c.is_given budget (budget_below bytes are)))
+    let budget = (read_job bytes).budget in (
+      c.given,
+      c.is_given,
+      ap words_read c.bytes_are ∙ answer_back budget c.given
+          (job_words bytes c.passed c.ranked c.given c.is_given budget (budget_below bytes are)),
+    )
 
 -- and its entries are those that its call gives
-pub entries_in_holds : (bytes : Bytes) (answer tail : Bytes) (c : Called bytes answer) → entries_read (answer ++ tail) ≡ c.given.entries
+pub entries_in_holds : (bytes : Bytes) (answer tail : Bytes) (c : Called bytes answer)
+    → entries_read (answer ++ tail) ≡ c.given.entries
 entries_in_holds bytes answer tail c =
     ap (λ (l : Bytes). entries_read (l ++ tail)) c.bytes_are
-    ∙ entries_read_holds (read_job bytes).budget c.given tail (job_words bytes c.passed c.ranked c.given c.is_given 0 (omega arith))
+    ∙ entries_read_holds (read_job bytes).budget c.given tail
+    (job_words bytes c.passed c.ranked c.given c.is_given 0 (omega arith))
 
 -- ---- the three demands, and the symmetry
 
-module _ (bytes : Bytes) (workspace room : ℕ) {code : ℤ} {buffer : Bytes} (code_is : code ≡ code_of (outcome bytes workspace room)) (buffer_is : buffer ≡ buffer_of room (outcome bytes workspace room)) where
+module _ (bytes : Bytes) (workspace room : ℕ) {code : ℤ} {buffer : Bytes}
+    (code_is : code ≡ code_of (outcome bytes workspace room))
+    (buffer_is : buffer ≡ buffer_of room (outcome bytes workspace room)) where
   pub meets_1 : Demand1 bytes workspace room code buffer
   meets_1 = rw (code_is, buffer_is) (demand_1 bytes workspace room)
 
@@ -78,7 +92,8 @@ module _ (bytes : Bytes) (workspace room : ℕ) {code : ℤ} {buffer : Bytes} (c
   meets_2 = rw (code_is, buffer_is) (demand_2 bytes workspace room)
 
   -- the entries that stand in the buffer after an answer are its call's
-  entries_are : (answer : Bytes) (e : outcome bytes workspace room ≡ answered answer) → (called bytes workspace room answer e).given.entries ≡ entries_read buffer
+  entries_are : (answer : Bytes) (e : outcome bytes workspace room ≡ answered answer)
+      → (called bytes workspace room answer e).given.entries ≡ entries_read buffer
   unfolding buffer_of
   entries_are answer e =
       let tail : Bytes = replicate (room - length answer) 0 in
@@ -88,9 +103,13 @@ module _ (bytes : Bytes) (workspace room : ℕ) {code : ℤ} {buffer : Bytes} (c
   pub meets_3 : (answer : Bytes) → outcome bytes workspace room ≡ answered answer → Demand3 bytes (entries_read buffer)
   meets_3 answer e =
       let c = called bytes workspace room answer e in
-      record { holds = λ accepted rank. subst (CallComplete (read_job bytes)) (entries_are answer e) ((demand_3 bytes c.given c.is_given).holds accepted rank) }
+      record {
+        holds = λ accepted rank. subst (CallComplete (read_job bytes)) (entries_are answer e)
+            ((demand_3 bytes c.given c.is_given).holds accepted rank);
+      }
 
-  pub meets_symmetry : (answer : Bytes) → outcome bytes workspace room ≡ answered answer → Symmetric bytes (entries_read buffer)
+  pub meets_symmetry : (answer : Bytes) → outcome bytes workspace room ≡ answered answer
+      → Symmetric bytes (entries_read buffer)
   meets_symmetry answer e =
       let c = called bytes workspace room answer e in
       subst (Symmetric bytes) (entries_are answer e) (job_symmetric bounds1 bytes c.passed c.given c.is_given)

@@ -1,5 +1,6 @@
--- The clauses of the exported call with a package [17.11], from its two equations: demands 1 and 2 of its code and buffer, and of the entries read back from the buffer after an answer that they are those
--- of the closed choices with none inside, and the promised symmetry. Leans on Reading and on what is proved of the definitions.
+-- The clauses of the exported call with a package [17.11], from its two equations: demands 1 and 2 of its code and
+-- buffer, and of the entries read back from the buffer after an answer that they are those of the closed choices with
+-- none inside, and the promised symmetry. Leans on Reading and on what is proved of the definitions.
 use Rattle.std.specs.Prelude.{◌≡◌, refl, ◌++◌, ℕ, ◌-◌, T, ltb, ℤ}
 use Rattle.std.proofs.Math.Path.{sym, ap}
 use Rattle.std.proofs.Common.{◌∙◌, subst, arith}
@@ -7,10 +8,12 @@ use Rattle.std.specs.Prelude.{Option, Some, None}
 use Rattle.std.proofs.Math.ListN.{length, replicate}
 use Rattle.definitions.specs.Outcome.{Outcome, refused, answered, and_then}
 use Rattle.definitions.specs.Recursion.{Answer}
-use Rattle.definitions.specs.Job.{Bytes, read_job, job_tests, workspace_tests, between, bounds1, answer_bytes, fitting, code_of, buffer_of}
+use Rattle.definitions.specs.Job.{Bytes, read_job, job_tests, workspace_tests, between, bounds1, answer_bytes, fitting}
+use Rattle.definitions.specs.Job.{code_of, buffer_of}
 use Rattle.definitions.specs.Symmetry.{Symmetric}
 use Rattle.definitions.specs.Noble.{Package, read_package}
-use Rattle.definitions.specs.NobleCalls.{noble_call_of, package_tests, noble_tests, noble_alone, noble_outcome, FirstDemand, SecondDemand, NobleComplete}
+use Rattle.definitions.specs.NobleCalls.{noble_call_of, package_tests, noble_tests, noble_alone, noble_outcome}
+use Rattle.definitions.specs.NobleCalls.{FirstDemand, SecondDemand, NobleComplete}
 use Rattle.laws.specs.Outcomes.{answered_before, not_refused_if}
 use Rattle.laws.specs.Refusals.{answered_passed, front_passed, first_refused, refused_or, pass_all_holds}
 use Rattle.completeness.specs.Jobs.{noble_first, noble_second, noble_third}
@@ -25,7 +28,8 @@ use Rattle.register.specs.Reading.{entries_read, entries_read_holds}
 
 -- ---- room last
 
-room_last : (o : Option ℕ) (budget room : ℕ) (call : Outcome Answer) → refused_or o (λ u. and_then call (λ (a : Answer). fitting room (answer_bytes budget a)))
+room_last : (o : Option ℕ) (budget room : ℕ) (call : Outcome Answer)
+    → refused_or o (λ u. and_then call (λ (a : Answer). fitting room (answer_bytes budget a)))
     ≡ and_then (refused_or o (λ u. and_then call (λ (a : Answer). answered (answer_bytes budget a)))) (fitting room)
 unfolding refused_or and_then
 room_last None budget room (refused number) = refl
@@ -47,7 +51,9 @@ module _ (job pack : Bytes) (workspace room : ℕ) where
   unfolding noble_outcome noble_alone
   outcome_alone =
       let ts = noble_tests job pack workspace in
-      pass_all_holds ts _ ∙ (room_last (first_refused ts) (read_job job).budget room (noble_call_of bounds1 (read_job job) full) ∙ ap (λ (o : Outcome Bytes). and_then o (fitting room)) (sym (pass_all_holds ts _)))
+      pass_all_holds ts _
+      ∙ (room_last (first_refused ts) (read_job job).budget room (noble_call_of bounds1 (read_job job) full)
+      ∙ ap (λ (o : Outcome Bytes). and_then o (fitting room)) (sym (pass_all_holds ts _)))
 
   pub code_is : {w : Outcome (Option ℕ)} → w ≡ written_in room alone → code_written w ≡ code_of outcome
   code_is e = written_code room alone e ∙ sym (ap code_of outcome_alone)
@@ -70,7 +76,8 @@ module _ (job pack : Bytes) (workspace room : ℕ) where
   called answer e =
       let own-job = read_job job in
       let next : Answer → Outcome Bytes = λ x. fitting room (answer_bytes own-job.budget x) in
-      let a = answered_passed (noble_tests job pack workspace) (λ u. and_then (noble_call_of bounds1 own-job full) next) answer e in
+      let a = answered_passed (noble_tests job pack workspace)
+      (λ u. and_then (noble_call_of bounds1 own-job full) next) answer e in
       let own = front_passed (job_tests job) (package_tests job pack ++ workspace_tests job workspace) a.0 in
       let b = answered_before (noble_call_of bounds1 own-job full) next answer a.1 in
       let written = answer_bytes own-job.budget b.0 in
@@ -83,9 +90,11 @@ module _ (job pack : Bytes) (workspace room : ℕ) where
         ranked = rank_passed job own;
       }
 
-  module _ {code : ℤ} {buffer : Bytes} (code-so : code ≡ code_of outcome) (buffer-so : buffer ≡ buffer_of room outcome) where
+  module _ {code : ℤ} {buffer : Bytes} (code-so : code ≡ code_of outcome)
+      (buffer-so : buffer ≡ buffer_of room outcome) where
     -- the entries that stand in the buffer after an answer are its call's
-    entries_are : (answer : Bytes) (e : outcome ≡ answered answer) → (called answer e).given.entries ≡ entries_read buffer
+    entries_are : (answer : Bytes) (e : outcome ≡ answered answer)
+        → (called answer e).given.entries ≡ entries_read buffer
     unfolding buffer_of
     entries_are answer e =
         let tail : Bytes = replicate (room - length answer) 0 in
@@ -93,7 +102,8 @@ module _ (job pack : Bytes) (workspace room : ℕ) where
         let whole : buffer ≡ answer ++ tail = buffer-so ∙ ap (buffer_of room) e in
         sym (ap entries_read whole
         ∙ (ap (λ (l : Bytes). entries_read (l ++ tail)) c.bytes_are
-        ∙ entries_read_holds (read_job job).budget c.given tail (noble_words job full c.passed c.ranked c.given c.is_given 0 (omega arith))))
+        ∙ entries_read_holds (read_job job).budget c.given tail
+        (noble_words job full c.passed c.ranked c.given c.is_given 0 (omega arith))))
 
     pub meets_all : (code ≡ code_of outcome)
         × ((buffer ≡ buffer_of room outcome)
@@ -110,8 +120,10 @@ module _ (job pack : Bytes) (workspace room : ℕ) where
           (
             rw (code-so, buffer-so) (noble_second job pack workspace room),
             (
-              (λ answer e. let c = called answer e in subst (NobleComplete job pack) (entries_are answer e) (noble_third job pack c.given c.is_given)),
-              (λ answer e. let c = called answer e in subst (Symmetric job) (entries_are answer e) (noble_symmetric bounds1 job full c.passed c.given c.is_given)),
+              (λ answer e. let c = called answer e in
+                  subst (NobleComplete job pack) (entries_are answer e) (noble_third job pack c.given c.is_given)),
+              (λ answer e. let c = called answer e in subst (Symmetric job) (entries_are answer e)
+                  (noble_symmetric bounds1 job full c.passed c.given c.is_given)),
             ),
           ),
         ),

@@ -1,6 +1,8 @@
-// Replays recorded results of the Rust. Standard input holds them, every number a u32: how many there are; then for each the length of the job, the job, the lengths of workspace and answer
-// buffer, the refusal number or 0, the answer's length or 0, and a hash of the whole buffer at exit. They were made by `facetings-host record --seed 3`. The buffers stay as the call before left them. No contract can say what the Rust answered:
-// that every result is the same is held to the file stdout.
+// Replays recorded results of the Rust. Standard input holds them, every number a u32: how many there are; then for
+// each the length of the job, the job, the lengths of workspace and answer buffer, the refusal number or 0, the
+// answer's length or 0, and a hash of the whole buffer at exit. They were made by `facetings-host record --seed 3`.
+// The buffers stay as the call before left them. No contract can say what the Rust answered: that every result is the
+// same is held to the file stdout.
 #![tactic(auto)]
 
 ghost use Rattle.std.specs.Prelude.{◌≤◌, IfOk};
@@ -16,7 +18,8 @@ fn next_number(input: &mut impl Read) -> io::Result<u32> {
     Ok(u32::get(&bytes, 0))
 }
 
-// From 0, each byte takes the hash to (hash × 16,777,619 + byte + 1) modulo the largest prime below 2^32, so that no step passes 2^57.
+// From 0, each byte takes the hash to (hash × 16,777,619 + byte + 1) modulo the largest prime below 2^32, so that no
+// step passes 2^57.
 fn hash(bytes: &[u8]) -> u64 {
     let mut sum: u64 = 0;
     for b in bytes {
@@ -25,7 +28,8 @@ fn hash(bytes: &[u8]) -> u64 {
     sum
 }
 
-// The return code of a refusal, or of an answer of so many bytes. Two numbers and no `Result`: so the file has them, with 0 for no refusal.
+// The return code of a refusal, or of an answer of so many bytes. Two numbers and no `Result`: so the file has them,
+// with 0 for no refusal.
 fn code_of(refused: u32, length: u32) -> i64 {
     if refused == 0 {
         length as i64
@@ -81,7 +85,8 @@ fn tell(rt: &impl Print, same: bool, record: u32) -> io::Result<u32>
     Ok(0)
 }
 
-// How many of so many records are the same. The count is how many the input says that it has, and no length of a buffer.
+// How many of so many records are the same. The count is how many the input says that it has, and no length of a
+// buffer.
 fn replay_all(
     rt: &impl Print,
     input: &mut impl Read,

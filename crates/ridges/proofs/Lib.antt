@@ -1,5 +1,5 @@
 -- The laws that the proofs of this crate share.
 pub mod Tables
-pub mod Desks
+pub mod TableLayouts
 pub mod Laid
 pub mod Codes

@@ -1,6 +1,8 @@
--- Shares as codes of ridge orbit + 65,536 × share, and what a search reads of them: what a facet adds to each ridge orbit, cut off at 3, and its shares of 1. Over any lists of codes.
--- Leans on the definition of the search and on the layout of its tables.
-use Rattle.std.specs.Prelude.{◌≡◌, refl, Bool, true, false, ◌&&◌, ℕ, zero, suc, ◌+◌, ◌*◌, ◌/◌, ◌%◌, ◌≤◌, ◌<◌, min, leb, ltb, get_or, replicate}
+-- Shares as codes of ridge orbit + 65,536 × share, and what a search reads of them: what a facet adds to each ridge
+-- orbit, cut off at 3, and its shares of 1. Over any lists of codes. Leans on the definition of the search and on the
+-- layout of its tables.
+use Rattle.std.specs.Prelude.{◌≡◌, refl, Bool, true, false, ◌&&◌, ℕ, zero, suc, ◌+◌, ◌*◌, ◌/◌, ◌%◌, ◌≤◌, ◌<◌, min, leb}
+use Rattle.std.specs.Prelude.{ltb, get_or, replicate}
 use Rattle.std.proofs.Common.{sym, ◌∙◌, ⊎_elim, arith, add-one, eq-eqb, ne_eqb}
 use Rattle.std.proofs.Math.Path.{ap}
 use Rattle.std.proofs.Math.Bool.{cond}
@@ -57,19 +59,28 @@ last_more before (x ∷ l) s = last_more x.1 l s
 
 -- one code more, of this ridge orbit or of another
 module _ (ridge : ℕ) (l : List ℕ) (c : ℕ) where
-  here_more : shares_here ridge (l ++ (c ∷ [])) ≡ shares_here ridge l ++ cond (eqb ridge (c % 65536)) (share_of c ∷ []) []
+  here_more : shares_here ridge (l ++ (c ∷ []))
+      ≡ shares_here ridge l ++ cond (eqb ridge (c % 65536)) (share_of c ∷ []) []
   unfolding shares_here shares_at share_of keep
-  here_more = ap (keep (λ (s : Share). eqb ridge s.0)) (map-append share_of l (c ∷ [])) ∙ keep_append (λ (s : Share). eqb ridge s.0) (map share_of l) (share_of c ∷ [])
+  here_more =
+      ap (keep (λ (s : Share). eqb ridge s.0)) (map-append share_of l (c ∷ []))
+      ∙ keep_append (λ (s : Share). eqb ridge s.0) (map share_of l) (share_of c ∷ [])
 
-  pub here_joins : c % 65536 ≡ ridge → (length (shares_here ridge (l ++ (c ∷ []))) ≡ length (shares_here ridge l) + 1) × (last_share 0 (shares_here ridge (l ++ (c ∷ []))) ≡ c / 65536)
+  pub here_joins : c % 65536 ≡ ridge → (length (shares_here ridge (l ++ (c ∷ []))) ≡ length (shares_here ridge l) + 1)
+      × (last_share 0 (shares_here ridge (l ++ (c ∷ []))) ≡ c / 65536)
   unfolding share_of
   here_joins e =
-      let m : shares_here ridge (l ++ (c ∷ [])) ≡ shares_here ridge l ++ (share_of c ∷ []) = here_more ∙ ap (λ (b : Bool). shares_here ridge l ++ cond b (share_of c ∷ []) []) (eq-eqb ridge (c % 65536) (sym e)) in
-      (ap length m ∙ length-append (shares_here ridge l) (share_of c ∷ []), ap (last_share 0) m ∙ last_more 0 (shares_here ridge l) (share_of c))
+      let m : shares_here ridge (l ++ (c ∷ [])) ≡ shares_here ridge l ++ (share_of c ∷ []) = here_more
+      ∙ ap (λ (b : Bool). shares_here ridge l ++ cond b (share_of c ∷ []) []) (eq-eqb ridge (c % 65536) (sym e)) in (
+        ap length m ∙ length-append (shares_here ridge l) (share_of c ∷ []),
+        ap (last_share 0) m
+            ∙ last_more 0 (shares_here ridge l) (share_of c),
+      )
 
   pub here_stays : (c % 65536 ≡ ridge → ⊥) → shares_here ridge (l ++ (c ∷ [])) ≡ shares_here ridge l
   here_stays n =
-      here_more ∙ (ap (λ (b : Bool). shares_here ridge l ++ cond b (share_of c ∷ []) []) (ne_eqb ridge (c % 65536) (λ e. n (sym e))) ∙ append-nil (shares_here ridge l))
+      here_more ∙ (ap (λ (b : Bool). shares_here ridge l ++ cond b (share_of c ∷ []) [])
+      (ne_eqb ridge (c % 65536) (λ e. n (sym e))) ∙ append-nil (shares_here ridge l))
 
 pub here_none : (ridge : ℕ) → shares_here ridge [] ≡ []
 unfolding shares_here shares_at keep
@@ -89,7 +100,8 @@ touched_to (suc ridge) codes = touched_to ridge codes ++ touched_code ridge (amo
 abbrev pub touched_of : ℕ → List (List ℕ) → ℕ → List ℕ
 touched_of ridges lists x = touched_to ridges (get_or lists x [])
 
-pub touched_more : (ridge : ℕ) (codes : List ℕ) → touched_to (ridge + 1) codes ≡ touched_to ridge codes ++ touched_code ridge (amount_of ridge codes)
+pub touched_more : (ridge : ℕ) (codes : List ℕ)
+    → touched_to (ridge + 1) codes ≡ touched_to ridge codes ++ touched_code ridge (amount_of ridge codes)
 unfolding touched_to
 touched_more ridge codes = ap (λ (r : ℕ). touched_to r codes) (add-one ridge)
 
@@ -124,7 +136,8 @@ unfolding amount_in
 amount_append ridge [] k = omega arith
 amount_append ridge (c ∷ l) k = let h = amount_append ridge l k in omega arith
 
-amount_one : (ridge at amount : ℕ) → amount ≤ 3 → amount_in ridge (touched_code at amount) ≡ cond (eqb ridge at) amount 0
+amount_one : (ridge at amount : ℕ) → amount ≤ 3
+    → amount_in ridge (touched_code at amount) ≡ cond (eqb ridge at) amount 0
 unfolding amount_in touched_code
 amount_one ridge at zero h = none_here (eqb ridge at)
   where
@@ -146,18 +159,21 @@ amounts_behind (suc at) ridge codes h =
     let c : cond (eqb ridge at) (amount_of at codes) 0 ≡ 0 = rw (ne_eqb ridge at (λ e. omega arith)) refl in
     omega (arith, amounts_behind at ridge codes (omega arith))
 
-pub amounts_are : (ridges ridge : ℕ) (codes : List ℕ) → ridge < ridges → amount_in ridge (touched_to ridges codes) ≡ amount_of ridge codes
+pub amounts_are : (ridges ridge : ℕ) (codes : List ℕ) → ridge < ridges
+    → amount_in ridge (touched_to ridges codes) ≡ amount_of ridge codes
 unfolding touched_to
 amounts_are zero ridge codes h = absurd (omega arith)
 amounts_are (suc at) ridge codes h = go (ℕ_discrete ridge at) (amounts_are at ridge codes)
   where
-    a : amount_in ridge (touched_to at codes ++ touched_code at (amount_of at codes)) ≡ amount_in ridge (touched_to at codes) + amount_in ridge (touched_code at (amount_of at codes))
+    a : amount_in ridge (touched_to at codes ++ touched_code at (amount_of at codes))
+        ≡ amount_in ridge (touched_to at codes) + amount_in ridge (touched_code at (amount_of at codes))
     a = amount_append ridge (touched_to at codes) (touched_code at (amount_of at codes))
 
     b : amount_in ridge (touched_code at (amount_of at codes)) ≡ cond (eqb ridge at) (amount_of at codes) 0
     b = amount_one ridge at (amount_of at codes) (amount_small at codes)
 
-    go : Dec (ridge ≡ at) → (ridge < at → amount_in ridge (touched_to at codes) ≡ amount_of ridge codes) → amount_in ridge (touched_to at codes ++ touched_code at (amount_of at codes)) ≡ amount_of ridge codes
+    go : Dec (ridge ≡ at) → (ridge < at → amount_in ridge (touched_to at codes) ≡ amount_of ridge codes)
+        → amount_in ridge (touched_to at codes ++ touched_code at (amount_of at codes)) ≡ amount_of ridge codes
     go (yes e) ih =
         let c : cond (eqb ridge at) (amount_of at codes) 0 ≡ amount_of ridge codes = rw (eq-eqb ridge at e, e) refl in
         omega (arith, a, b, amounts_behind at ridge codes (omega arith))
@@ -165,7 +181,8 @@ amounts_are (suc at) ridge codes h = go (ℕ_discrete ridge at) (amounts_are at 
         let c : cond (eqb ridge at) (amount_of at codes) 0 ≡ 0 = rw (ne_eqb ridge at n) refl in
         omega (arith, a, b, ih (omega (arith, n)))
 
-within_more : (ridge amount : ℕ) (l : List ℕ) (i : ℕ) → amount ≤ 3 → (i < length l → get_or l i 0 / 4 < ridge) → i < length (l ++ touched_code ridge amount) → get_or (l ++ touched_code ridge amount) i 0 / 4 < suc ridge
+within_more : (ridge amount : ℕ) (l : List ℕ) (i : ℕ) → amount ≤ 3 → (i < length l → get_or l i 0 / 4 < ridge)
+    → i < length (l ++ touched_code ridge amount) → get_or (l ++ touched_code ridge amount) i 0 / 4 < suc ridge
 unfolding touched_code
 within_more ridge zero l i s f h = rw append-nil (omega (arith, f (rw append-nil at h)))
 within_more ridge (suc amount) l i s f h =
@@ -173,15 +190,19 @@ within_more ridge (suc amount) l i s f h =
     ⊎_elim
     (λ k.
     let e : i ≡ length l = omega arith in
-    let g : get_or (l ++ ((4 * ridge + suc amount) ∷ [])) i 0 ≡ 4 * ridge + suc amount = ap (λ (j : ℕ). get_or (l ++ ((4 * ridge + suc amount) ∷ [])) j 0) e ∙ last_at l (4 * ridge + suc amount) 0 in
+    let g : get_or (l ++ ((4 * ridge + suc amount) ∷ [])) i 0 ≡ 4 * ridge + suc amount =
+    ap (λ (j : ℕ). get_or (l ++ ((4 * ridge + suc amount) ∷ [])) j 0) e ∙ last_at l (4 * ridge + suc amount) 0 in
     omega arith)
     (λ k. rw (get_or-append l ((4 * ridge + suc amount) ∷ []) 0 i k) (omega (arith, f k)))
     (le_or_lt (length l) i)
 
-pub touched_within : (ridges : ℕ) (codes : List ℕ) (i : ℕ) → i < length (touched_to ridges codes) → get_or (touched_to ridges codes) i 0 / 4 < ridges
+pub touched_within : (ridges : ℕ) (codes : List ℕ) (i : ℕ) → i < length (touched_to ridges codes)
+    → get_or (touched_to ridges codes) i 0 / 4 < ridges
 unfolding touched_to
 touched_within zero codes i h = absurd (omega arith)
-touched_within (suc ridge) codes i h = within_more ridge (amount_of ridge codes) (touched_to ridge codes) i (amount_small ridge codes) (touched_within ridge codes i) h
+touched_within (suc ridge) codes i h =
+    within_more ridge (amount_of ridge codes) (touched_to ridge codes) i (amount_small ridge codes)
+    (touched_within ridge codes i) h
 
 -- ---- shares of 1
 
@@ -196,7 +217,8 @@ ones_append ridge x [] k = refl
 ones_append ridge x (c ∷ l) k = go (eqb (65536 + ridge) c) (ones_append ridge x l k)
   where
     go : (b : Bool) → ones_in ridge x (l ++ k) ≡ ones_in ridge x l ++ ones_in ridge x k
-        → cond b (x ∷ ones_in ridge x (l ++ k)) (ones_in ridge x (l ++ k)) ≡ cond b (x ∷ ones_in ridge x l) (ones_in ridge x l) ++ ones_in ridge x k
+        → cond b (x ∷ ones_in ridge x (l ++ k)) (ones_in ridge x (l ++ k))
+        ≡ cond b (x ∷ ones_in ridge x l) (ones_in ridge x l) ++ ones_in ridge x k
     go true e = ap (λ (r : List ℕ). x ∷ r) e
     go false e = e
 
@@ -209,27 +231,36 @@ unfolding ones_in
 one_stays ridge x c n = rw (ne_eqb (65536 + ridge) c n) refl
 
 -- those are the shares that the search counts
-pub ones_counted : (ridge x : ℕ) (codes : List ℕ) → ridge < 65536 → ones_in ridge x codes ≡ replicate (length (keep (λ (s : Share). eqb 1 s.1) (shares_here ridge codes))) x
+pub ones_counted : (ridge x : ℕ) (codes : List ℕ) → ridge < 65536
+    → ones_in ridge x codes ≡ replicate (length (keep (λ (s : Share). eqb 1 s.1) (shares_here ridge codes))) x
 unfolding ones_in shares_here shares_at keep share_of
 ones_counted ridge x [] h = refl
 ones_counted ridge x (c ∷ cs) h =
-    go (eqb (65536 + ridge) c) (eqb ridge (c % 65536)) (eqb 1 (c / 65536)) (same (ℕ_discrete ridge (c % 65536)) (ℕ_discrete 1 (c / 65536))) (ones_counted ridge x cs h)
+    go (eqb (65536 + ridge) c) (eqb ridge (c % 65536)) (eqb 1 (c / 65536))
+    (same (ℕ_discrete ridge (c % 65536)) (ℕ_discrete 1 (c / 65536))) (ones_counted ridge x cs h)
     ∙ ap (λ (l : List Share). replicate (length l) x) (sym (under (eqb ridge (c % 65536))))
   where
     ones : List Share → List Share
     ones = keep (λ (s : Share). eqb 1 s.1)
 
-    same : Dec (ridge ≡ c % 65536) → Dec (1 ≡ c / 65536) → eqb (65536 + ridge) c ≡ cond (eqb ridge (c % 65536)) (eqb 1 (c / 65536)) false
-    same (yes a) (yes b) = rw (eq-eqb ridge (c % 65536) a, eq-eqb 1 (c / 65536) b) (eq-eqb (65536 + ridge) c (omega arith))
-    same (yes a) (no b) = rw (eq-eqb ridge (c % 65536) a, ne_eqb 1 (c / 65536) b) (ne_eqb (65536 + ridge) c (λ e. b (omega arith)))
+    same : Dec (ridge ≡ c % 65536) → Dec (1 ≡ c / 65536)
+        → eqb (65536 + ridge) c ≡ cond (eqb ridge (c % 65536)) (eqb 1 (c / 65536)) false
+    same (yes a) (yes b) =
+        rw (eq-eqb ridge (c % 65536) a, eq-eqb 1 (c / 65536) b) (eq-eqb (65536 + ridge) c (omega arith))
+    same (yes a) (no b) =
+        rw (eq-eqb ridge (c % 65536) a, ne_eqb 1 (c / 65536) b) (ne_eqb (65536 + ridge) c (λ e. b (omega arith)))
     same (no a) b = rw (ne_eqb ridge (c % 65536) a) (ne_eqb (65536 + ridge) c (λ e. a (omega arith)))
 
-    under : (b : Bool) → ones (cond b (share_of c ∷ shares_here ridge cs) (shares_here ridge cs)) ≡ cond b (cond (eqb 1 (c / 65536)) (share_of c ∷ ones (shares_here ridge cs)) (ones (shares_here ridge cs))) (ones (shares_here ridge cs))
+    under : (b : Bool) → ones (cond b (share_of c ∷ shares_here ridge cs) (shares_here ridge cs))
+        ≡ cond b (cond (eqb 1 (c / 65536)) (share_of c ∷ ones (shares_here ridge cs)) (ones (shares_here ridge cs)))
+        (ones (shares_here ridge cs))
     under true = refl
     under false = refl
 
     go : (a b d : Bool) → a ≡ cond b d false → ones_in ridge x cs ≡ replicate (length (ones (shares_here ridge cs))) x
-        → cond a (x ∷ ones_in ridge x cs) (ones_in ridge x cs) ≡ replicate (length (cond b (cond d (share_of c ∷ ones (shares_here ridge cs)) (ones (shares_here ridge cs))) (ones (shares_here ridge cs)))) x
+        → cond a (x ∷ ones_in ridge x cs) (ones_in ridge x cs)
+        ≡ replicate (length (cond b (cond d (share_of c ∷ ones (shares_here ridge cs)) (ones (shares_here ridge cs)))
+        (ones (shares_here ridge cs)))) x
     go a true true e f = rw e (ap (λ (l : List ℕ). x ∷ l) f)
     go a true false e f = rw e f
     go a false d e f = rw e f
@@ -239,7 +270,8 @@ unfoldable pub ones_to : ℕ → List (List ℕ) → ℕ → List ℕ
 ones_to ridge lists zero = []
 ones_to ridge lists (suc x) = ones_to ridge lists x ++ ones_in ridge x (get_or lists x [])
 
-pub ones_more : (ridge : ℕ) (lists : List (List ℕ)) (x : ℕ) → ones_to ridge lists (x + 1) ≡ ones_to ridge lists x ++ ones_in ridge x (get_or lists x [])
+pub ones_more : (ridge : ℕ) (lists : List (List ℕ)) (x : ℕ)
+    → ones_to ridge lists (x + 1) ≡ ones_to ridge lists x ++ ones_in ridge x (get_or lists x [])
 unfolding ones_to
 ones_more ridge lists x = ap (ones_to ridge lists) (add-one x)
 
@@ -263,15 +295,23 @@ all_hits ridges lists zero = 0
 all_hits ridges lists (suc x) = all_hits ridges lists x + hits ridges (get_or lists x [])
 
 -- the first facets have no more than all
-pub ones_to_few : (ridge : ℕ) (lists : List (List ℕ)) (x facets : ℕ) → x < facets → length (ones_to ridge lists x) + length (ones_in ridge x (get_or lists x [])) ≤ length (ones_to ridge lists facets)
+pub ones_to_few : (ridge : ℕ) (lists : List (List ℕ)) (x facets : ℕ) → x < facets → length (ones_to ridge lists x)
+    + length (ones_in ridge x (get_or lists x [])) ≤ length (ones_to ridge lists facets)
 ones_to_few ridge lists x zero h = absurd (omega arith)
-ones_to_few ridge lists x (suc y) h = ⊎_elim (λ k. later (ones_to_few ridge lists x y k)) (λ k. now_is (omega arith)) (le_or_lt (suc x) y)
+ones_to_few ridge lists x (suc y) h =
+    ⊎_elim (λ k. later (ones_to_few ridge lists x y k)) (λ k. now_is (omega arith)) (le_or_lt (suc x) y)
   where
-    split : length (ones_to ridge lists (suc y)) ≡ length (ones_to ridge lists y) + length (ones_in ridge y (get_or lists y []))
-    split = ap (λ (j : ℕ). length (ones_to ridge lists j)) (sym (add-one y)) ∙ (ap length (ones_more ridge lists y) ∙ length-append (ones_to ridge lists y) (ones_in ridge y (get_or lists y [])))
+    split : length (ones_to ridge lists (suc y))
+        ≡ length (ones_to ridge lists y) + length (ones_in ridge y (get_or lists y []))
+    split =
+        ap (λ (j : ℕ). length (ones_to ridge lists j)) (sym (add-one y)) ∙ (ap length (ones_more ridge lists y)
+        ∙ length-append (ones_to ridge lists y) (ones_in ridge y (get_or lists y [])))
 
-    later : length (ones_to ridge lists x) + length (ones_in ridge x (get_or lists x [])) ≤ length (ones_to ridge lists y) → length (ones_to ridge lists x) + length (ones_in ridge x (get_or lists x [])) ≤ length (ones_to ridge lists (suc y))
+    later : length (ones_to ridge lists x) + length (ones_in ridge x (get_or lists x []))
+        ≤ length (ones_to ridge lists y) → length (ones_to ridge lists x)
+        + length (ones_in ridge x (get_or lists x [])) ≤ length (ones_to ridge lists (suc y))
     later k = omega (arith, split)
 
-    now_is : x ≡ y → length (ones_to ridge lists x) + length (ones_in ridge x (get_or lists x [])) ≤ length (ones_to ridge lists (suc y))
+    now_is : x ≡ y → length (ones_to ridge lists x) + length (ones_in ridge x (get_or lists x []))
+        ≤ length (ones_to ridge lists (suc y))
     now_is e = rw e (omega (arith, split))

@@ -5,5 +5,5 @@ pub mod Facets
 pub mod Small
 pub mod Below
 pub mod Shared
-pub mod Desks
+pub mod TableLayouts
 pub mod Ranks

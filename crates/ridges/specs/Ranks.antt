@@ -1,13 +1,14 @@
--- The workspaces of rank 3 and rank 4 have room for the tables. Leans on Desks.
+-- Where the tables lie at rank 4 and at rank 3: the workspaces of these ranks have room for them. Leans on
+-- TableLayouts.
 use Rattle.std.specs.Prelude.{ℕ, ◌≤◌}
 use Rattle.std.proofs.Common.{arith}
-use Rattle.shelf.specs.declared.Shelf.{Shelf}
-use Rattle.shares.specs.declared.Desk.{Desk}
-use Rattle.ridges.specs.Desks.{DeskFits}
+use Rattle.layout.specs.declared.KeptLayout.{KeptLayout}
+use Rattle.shares.specs.declared.TableLayout.{TableLayout}
+use Rattle.ridges.specs.TableLayouts.{TableLayoutFits}
 
 -- rank 4: 190 ridges of an orbit, places of a facet and ridge orbits
-unfoldable pub desk4 : Desk
-desk4 = record {
+unfoldable pub table_layout_4 : TableLayout
+table_layout_4 = record {
   numbers = 990244;
   shares = 1088560;
   touched = 1870908;
@@ -18,9 +19,10 @@ desk4 = record {
   end = 3186982;
 }
 
-pub rank4_fits : (shelf : Shelf) (size : ℕ) → shelf.end ≤ 990244 → shelf.orbits ≤ 256 → 4194304 ≤ size → DeskFits shelf desk4 190 190 size
-unfolding desk4
-rank4_fits shelf size e o s = record {
+pub rank4_fits : (layout : KeptLayout) (size : ℕ) → layout.end ≤ 990244 → layout.orbits ≤ 256 → 4194304 ≤ size
+    → TableLayoutFits layout table_layout_4 190 190 size
+unfolding table_layout_4
+rank4_fits layout size e o s = record {
   few_places_holds = omega arith;
   few_ridges_holds = omega arith;
   before = e;
@@ -35,8 +37,8 @@ rank4_fits shelf size e o s = record {
 }
 
 -- rank 3: two ridges of an orbit, two places of a facet, 20 ridge orbits
-unfoldable pub desk3 : Desk
-desk3 = record {
+unfoldable pub table_layout_3 : TableLayout
+table_layout_3 = record {
   numbers = 20236;
   shares = 22296;
   touched = 34596;
@@ -47,9 +49,10 @@ desk3 = record {
   end = 482318;
 }
 
-pub rank3_fits : (shelf : Shelf) (size : ℕ) → shelf.end ≤ 20236 → shelf.orbits ≤ 190 → 524288 ≤ size → DeskFits shelf desk3 2 20 size
-unfolding desk3
-rank3_fits shelf size e o s = record {
+pub rank3_fits : (layout : KeptLayout) (size : ℕ) → layout.end ≤ 20236 → layout.orbits ≤ 190 → 524288 ≤ size
+    → TableLayoutFits layout table_layout_3 2 20 size
+unfolding table_layout_3
+rank3_fits layout size e o s = record {
   few_places_holds = omega arith;
   few_ridges_holds = omega arith;
   before = e;

@@ -1,7 +1,10 @@
--- Rounding within a cell. A cell is what lies between r and r + 1 times a power of two, where r has one binary digit more than the format keeps: all of it rounds to the half of r,
--- rounded up. At its lower end that holds where r is even, since then the end itself is a value of the format. Assumes nothing.
+-- Rounding within a cell. A cell is what lies between r and r + 1 times a power of two, where r has one binary digit
+-- more than the format keeps: all of it rounds to the half of r, rounded up. At its lower end that holds where r is
+-- even, since then the end itself is a value of the format. Assumes nothing.
 use Rattle.std.specs.Prelude.{◌≡◌, refl, Bool, not, T, eqb}
-use Rattle.std.proofs.Common.{sym, ap, ◌∙◌, subst, le-div_iff_mul-le, div-lt_iff_lt-mul, mul-le-mul_right, mul_assoc, mul_comm, lt_of_not-le, not-le_of_lt, lt_of_lt_of_le, arith, leb→le, eqb→eq, pow-add, pow_mono}
+use Rattle.std.proofs.Common.{sym, ap, ◌∙◌, subst, le-div_iff_mul-le, div-lt_iff_lt-mul, mul-le-mul_right, mul_assoc}
+use Rattle.std.proofs.Common.{mul_comm, lt_of_not-le, not-le_of_lt, lt_of_lt_of_le, arith, leb→le, eqb→eq, pow-add}
+use Rattle.std.proofs.Common.{pow_mono}
 use Prim.Native.Nat.{ℕ, zero, suc, ◌+◌, ◌-◌, ◌*◌, ◌/◌, ◌%◌, ◌^◌, ◌≤◌, ◌<◌, compare, Ordering}
 use Rattle.std.proofs.Math.Nat.{pow-succ'}
 use Rattle.std.proofs.Math.Dec.{is_le, compare_is_eq, nleb→lt, eqb_refl}
@@ -12,15 +15,18 @@ use Rattle.std.specs.Float.Ieee.Digits.{size-lt, size-le}
 use Rattle.std.specs.Float.Ieee.Fits.{core, round_is}
 
 -- ---- what `compare` answers
-abbrev Says : Ordering → ℕ → ℕ → Type 0
-Says Ordering.lt a b = a < b
-Says Ordering.eq a b = a ≡ b
-Says Ordering.gt a b = b < a
+abbrev Compares : Ordering → ℕ → ℕ → Type 0
+Compares Ordering.lt a b = a < b
+Compares Ordering.eq a b = a ≡ b
+Compares Ordering.gt a b = b < a
 
-says : (a b : ℕ) → Says (compare a b) a b
-says a b = go (compare a b) (leb→le a b) (nleb→lt a b) (eqb→eq a b) (λ (e : a ≡ b). subst (λ (x : ℕ). T (eqb a x)) e (eqb_refl a))
+says : (a b : ℕ) → Compares (compare a b) a b
+says a b =
+    go (compare a b) (leb→le a b) (nleb→lt a b) (eqb→eq a b)
+    (λ (e : a ≡ b). subst (λ (x : ℕ). T (eqb a x)) e (eqb_refl a))
   where
-    go : (o : Ordering) → (T (is_le o) → a ≤ b) → (T (not (is_le o)) → b < a) → (T (compare_is_eq o) → a ≡ b) → (a ≡ b → T (compare_is_eq o)) → Says o a b
+    go : (o : Ordering) → (T (is_le o) → a ≤ b) → (T (not (is_le o)) → b < a) → (T (compare_is_eq o) → a ≡ b)
+        → (a ≡ b → T (compare_is_eq o)) → Compares o a b
     go Ordering.lt h k e n = lt_of_le-ne (h tt) n
     go Ordering.eq h k e n = e tt
     go Ordering.gt h k e n = k tt
@@ -28,7 +34,7 @@ says a b = go (compare a b) (leb→le a b) (nleb→lt a b) (eqb→eq a b) (λ (e
 pub compare_lt : (a b : ℕ) → a < b → compare a b ≡ Ordering.lt
 compare_lt a b h = go (compare a b) (says a b)
   where
-    go : (o : Ordering) → Says o a b → o ≡ Ordering.lt
+    go : (o : Ordering) → Compares o a b → o ≡ Ordering.lt
     go Ordering.lt c = refl
     go Ordering.eq c = absurd (omega arith)
     go Ordering.gt c = absurd (omega arith)
@@ -36,7 +42,7 @@ compare_lt a b h = go (compare a b) (says a b)
 pub compare_gt : (a b : ℕ) → b < a → compare a b ≡ Ordering.gt
 compare_gt a b h = go (compare a b) (says a b)
   where
-    go : (o : Ordering) → Says o a b → o ≡ Ordering.gt
+    go : (o : Ordering) → Compares o a b → o ≡ Ordering.gt
     go Ordering.lt c = absurd (omega arith)
     go Ordering.eq c = absurd (omega arith)
     go Ordering.gt c = refl
@@ -80,8 +86,10 @@ size_is n p lo hi =
     omega arith
 
 -- ---- the cell
-module _ (f : Format) (s : Bool) (r t num den : ℕ) (dpos : 0 < den) (least : 2 ^ prec f ≤ r) (most : r < 2 ^ suc (prec f)) where
-  places : r * (den * 2 ^ t) ≤ num * 2 ^ low f → num * 2 ^ low f < suc r * (den * 2 ^ t) → size (num * 2 ^ low f / den) - prec f ≡ suc t
+module _ (f : Format) (s : Bool) (r t num den : ℕ) (dpos : 0 < den) (least : 2 ^ prec f ≤ r)
+    (most : r < 2 ^ suc (prec f)) where
+  places : r * (den * 2 ^ t) ≤ num * 2 ^ low f → num * 2 ^ low f < suc r * (den * 2 ^ t)
+      → size (num * 2 ^ low f / den) - prec f ≡ suc t
   places lo hi =
       let w = num * 2 ^ low f in
       let a : r * 2 ^ t ≤ w / den = (le-div_iff_mul-le dpos).1 (omega arith) in
@@ -95,10 +103,12 @@ module _ (f : Format) (s : Bool) (r t num den : ℕ) (dpos : 0 < den) (least : 2
       let k = size_is (w / den) (prec f + t) (omega arith) (omega arith) in
       omega arith
 
-  pub cell : r * (den * 2 ^ t) ≤ num * 2 ^ low f → num * 2 ^ low f < suc r * (den * 2 ^ t) → (r % 2 ≡ 1 → r * (den * 2 ^ t) < num * 2 ^ low f) → round f s num den ≡ units f s (suc r / 2) (suc t)
+  pub cell : r * (den * 2 ^ t) ≤ num * 2 ^ low f → num * 2 ^ low f < suc r * (den * 2 ^ t)
+      → (r % 2 ≡ 1 → r * (den * 2 ^ t) < num * 2 ^ low f) → round f s num den ≡ units f s (suc r / 2) (suc t)
   cell lo hi strict =
       let w = num * 2 ^ low f in
-      let u : den * 2 ^ suc t ≡ den * 2 ^ t * 2 = ap (λ (x : ℕ). den * x) (pow-succ' 2 t ∙ mul_comm 2 (2 ^ t)) ∙ sym (mul_assoc den (2 ^ t) 2) in
+      let u : den * 2 ^ suc t ≡ den * 2 ^ t * 2 = ap (λ (x : ℕ). den * x) (pow-succ' 2 t ∙ mul_comm 2 (2 ^ t))
+      ∙ sym (mul_assoc den (2 ^ t) 2) in
       round_is f s num den
       ∙ ap (core f s w den) (places lo hi)
       ∙ ap (λ (x : ℕ). units f s (nearest (w / x) (compare (w % x * 2) x)) (suc t)) u

@@ -1,9 +1,14 @@
--- The square root [3.2] is IEEE 754's [3.3]: `root_is_ieee`. For every finite double not below zero it gives the nearest double to the root, with the sign of its argument; at a tie, of which there
--- is none but between zeros, the even one; and everything else is refused. The root's value is s 2^k units, where 2 s is the whole root of a number N or next to it, and 4 x is N 4^k squared units:
--- so N lies between the squares of 2 s − 1 and 2 s + 1, and other doubles lie at least 2^k units away. Assumes nothing.
-use Rattle.std.specs.Prelude.{◌≡◌, refl, Bool, true, false, not, ℕ, zero, suc, ◌+◌, ◌-◌, ◌*◌, ◌/◌, ◌%◌, ◌^◌, ◌≤◌, ◌<◌, T, leb, ℤ, Float}
+-- The square root [3.2] is IEEE 754's [3.3]: `root_is_ieee`. For every finite double not below zero it gives the
+-- nearest double to the root, with the sign of its argument; at a tie, of which there is none but between zeros, the
+-- even one; and everything else is refused. The root's value is s 2^k units, where 2 s is the whole root of a number
+-- N or next to it, and 4 x is N 4^k squared units: so N lies between the squares of 2 s − 1 and 2 s + 1, and other
+-- doubles lie at least 2^k units away. Assumes nothing.
+use Rattle.std.specs.Prelude.{◌≡◌, refl, Bool, true, false, not, ℕ, zero, suc, ◌+◌, ◌-◌, ◌*◌, ◌/◌, ◌%◌, ◌^◌, ◌≤◌, ◌<◌}
+use Rattle.std.specs.Prelude.{T, leb, ℤ, Float}
 use Rattle.std.proofs.Math.Path.{sym, ap}
-use Rattle.std.proofs.Common.{◌∙◌, subst, mul-pos, mul-le-mul, mul-le-mul_right, mul-lt-mul_of_pos_right, lt_of_lt_of_le, le_of_lt, lt_of_mul-lt-mul_right, leb→le, lit≤, pow-add, pow_pos, shl_lt, pow_mono}
+use Rattle.std.proofs.Common.{◌∙◌, subst, mul-pos, mul-le-mul, mul-le-mul_right, mul-lt-mul_of_pos_right}
+use Rattle.std.proofs.Common.{lt_of_lt_of_le, le_of_lt, lt_of_mul-lt-mul_right, leb→le, lit≤, pow-add, pow_pos, shl_lt}
+use Rattle.std.proofs.Common.{pow_mono}
 use Rattle.std.specs.Prelude.{Some, None}
 use native.Mathlib.Omega.{arith}
 use Rattle.std.proofs.Math.Dec.{nleb→lt}
@@ -11,7 +16,8 @@ use Rattle.std.specs.Float.Ieee.{nan, fits, units}
 use Rattle.std.specs.Float.{inf, fin, binary64}
 use Rattle.std.specs.Float.Ieee.Bits.{of_bits-fits}
 use Rattle.std.specs.Float.Ieee.Exact.{HasValue, units_val}
-use Rattle.definitions.specs.Vectors.{square_root, units_in, four_times, sum_squared, is_double, sign_of, has_root, NearestRoot, RootIsIeee, whole_root}
+use Rattle.definitions.specs.Vectors.{square_root, units_in, four_times, sum_squared, is_double, sign_of, has_root}
+use Rattle.definitions.specs.Vectors.{NearestRoot, RootIsIeee, whole_root}
 use Rattle.laws.specs.Squares.{WholeRoot, square_le}
 use Rattle.root.specs.Powers.{across_lt, join, balance, two_choices}
 use Rattle.root.specs.Pattern.{of_units}
@@ -92,7 +98,11 @@ module _ (N r : ℕ) (root : WholeRoot N r) (even : N % 2 ≡ 0) (least : 2 ^ 53
                 let k : w.0 < s = lt_of_mul-lt-mul_right P {m = w.0} {n = s} (subst (λ (x : ℕ). x < s * P) w.1 h) in
                 let i : w.0 ≤ t = omega arith in
                 subst (λ (x : ℕ). x ≤ t * P) (sym w.1) (mul-le-mul_right P i)
-            by false f g = let i : 2 ^ 52 ≤ t = omega arith in let a = mul-le-mul_right P i in let k = g tt in omega arith
+            by false f g =
+                let i : 2 ^ 52 ≤ t = omega arith in
+                let a = mul-le-mul_right P i in
+                let k = g tt in
+                omega arith
 
         others : 2 ^ 52 < s → (s * P + u) * (s * P + u) < N * (P * P)
         others l =
@@ -110,7 +120,8 @@ module _ (N r : ℕ) (root : WholeRoot N r) (even : N % 2 ≡ 0) (least : 2 ^ 53
         go false f g = others (g tt)
 
 -- ---- a double above zero
-module _ (x : Float) (q w : ℕ) (holds : T (fits binary64 x)) (by : ScaledBy x q w) (in_all : units_in x * 2 ^ 52 ≡ q * 2 ^ w) where
+module _ (x : Float) (q w : ℕ) (holds : T (fits binary64 x)) (by : ScaledBy x q w)
+    (in_all : units_in x * 2 ^ 52 ≡ q * 2 ^ w) where
   abbrev N' : ℕ
   N' = q * (1 + w % 2) * 2 ^ 54
 
@@ -121,7 +132,9 @@ module _ (x : Float) (q w : ℕ) (holds : T (fits binary64 x)) (by : ScaledBy x 
   k' = w / 2 + 485
 
   is_root : WholeRoot N' r'
-  is_root = whole_root_holds 84 N' (lt_of_lt_of_le (mul-lt-mul_of_pos_right {n = 2 ^ 54} (let h = radicand_high q w by.low by.high in omega arith) (pow_pos 54)) (lit≤ tt))
+  is_root =
+      whole_root_holds 84 N' (lt_of_lt_of_le (mul-lt-mul_of_pos_right {n = 2 ^ 54} (let h =
+      radicand_high q w by.low by.high in omega arith) (pow_pos 54)) (lit≤ tt))
 
   range : (2 ^ 53 ≤ r') × (r' + 2 ≤ 2 ^ 54)
   range = root_range q w by.low by.high r' is_root
@@ -153,13 +166,16 @@ module _ (x : Float) (q w : ℕ) (holds : T (fits binary64 x)) (by : ScaledBy x 
   root_units = units_of root' false (s' * 2 ^ k') root_value
 
   root_fits : T (fits binary64 root')
-  root_fits = subst (λ (v : Float). T (fits binary64 v)) (of_units s' k' half_range.0 half_range.1 exponent_range) (of_bits-fits binary64 (s' + k' * 2 ^ 52))
+  root_fits =
+      subst (λ (v : Float). T (fits binary64 v)) (of_units s' k' half_range.0 half_range.1 exponent_range)
+      (of_bits-fits binary64 (s' + k' * 2 ^ 52))
 
   -- 4 x in squared units
   four : four_times x ≡ N' * (2 ^ k' * 2 ^ k')
   unfolding four_times
   four =
-      let a : units_in x * 2 ^ 1076 ≡ q * 2 ^ (w % 2 + 54 + (k' + k')) = balance (units_in x) q 52 w 1076 (w % 2 + 54 + (k' + k')) in_all (omega arith) in
+      let a : units_in x * 2 ^ 1076 ≡ q * 2 ^ (w % 2 + 54 + (k' + k')) =
+      balance (units_in x) q 52 w 1076 (w % 2 + 54 + (k' + k')) in_all (omega arith) in
       let b : N' * (2 ^ k' * 2 ^ k') ≡ q * 2 ^ (w % 2 + 54 + (k' + k')) =
       ap (λ (y : ℕ). q * y * 2 ^ 54 * (2 ^ k' * 2 ^ k')) (two_choices w)
       ∙ ap (λ (y : ℕ). y * (2 ^ k' * 2 ^ k')) (join q (w % 2) 54)
@@ -180,17 +196,21 @@ module _ (x : Float) (q w : ℕ) (holds : T (fits binary64 x)) (by : ScaledBy x 
 
     above : units_in root' < units_in y → four_times x < sum_squared root' y
     above h =
-        let a = nearer_than_above N' r' is_root is_even range.0 (2 ^ k') (pow_pos k') (units_in y) lies (subst (λ (z : ℕ). z < units_in y) root_units h) in
+        let a = nearer_than_above N' r' is_root is_even range.0 (2 ^ k') (pow_pos k') (units_in y) lies
+        (subst (λ (z : ℕ). z < units_in y) root_units h) in
         across_lt four sum_is a
 
     below : units_in y < units_in root' → sum_squared root' y < four_times x
     below h =
-        let a = nearer_than_below N' r' is_root is_even range.0 (2 ^ k') (pow_pos k') (units_in y) lies (subst (λ (z : ℕ). units_in y < z) root_units h) in
+        let a = nearer_than_below N' r' is_root is_even range.0 (2 ^ k') (pow_pos k') (units_in y) lies
+        (subst (λ (z : ℕ). units_in y < z) root_units h) in
         across_lt sum_is four a
 
     -- no double lies as far from the root as its value does
     no_tie : (units_in y ≡ units_in root' → ⊥) → sum_squared root' y ≡ four_times x → ⊥
-    no_tie n e = go (leb (units_in root') (units_in y)) (leb→le (units_in root') (units_in y)) (nleb→lt (units_in root') (units_in y))
+    no_tie n e =
+        go (leb (units_in root') (units_in y)) (leb→le (units_in root') (units_in y))
+        (nleb→lt (units_in root') (units_in y))
       where
         go : (b : Bool) → (T b → units_in root' ≤ units_in y) → (T (not b) → units_in y < units_in root') → ⊥
         go true f g = let l = f tt in let h = above (omega arith) in omega arith
@@ -212,7 +232,9 @@ module _ (x : Float) (q w : ℕ) (holds : T (fits binary64 x)) (by : ScaledBy x 
   nearest : NearestRoot x root'
   nearest = record {
     double = double_of root' (s' * 2 ^ k') (2 ^ 1074) root_value root_fits;
-    sign = sign_of_holds root' (s' * 2 ^ k') (2 ^ 1074) root_value ∙ sym (sign_of_holds x (q * 2 ^ w) (2 ^ 1126) by.value);
+    sign =
+        sign_of_holds root' (s' * 2 ^ k') (2 ^ 1074) root_value
+        ∙ sym (sign_of_holds x (q * 2 ^ w) (2 ^ 1126) by.value);
     none_above = λ y d p h. le_of_lt (above y d h);
     none_below = λ y d p h. le_of_lt (below y d h);
     even_at_tie = λ y d p n e. absurd (no_tie y d n e);

@@ -1,4 +1,5 @@
--- What the square root's contracts cite, the laws that its proofs cite, and the theorem that the square root [3.2] is IEEE 754's.
+-- What the square root's contracts cite, the laws that its proofs cite, and the theorem that the square root [3.2] is
+-- IEEE 754's.
 pub mod Scaled
 pub mod Powers
 pub mod Start

@@ -1,34 +1,38 @@
 -- The steps from a start to the whole root, on plain numbers. Leans on Start. Assumes nothing.
 use Rattle.std.specs.Prelude.{◌≡◌, ℕ, suc, ◌+◌, ◌-◌, ◌*◌, ◌/◌, ◌%◌, ◌^◌, ◌≤◌, ◌<◌}
-use Rattle.std.proofs.Common.{sym, subst, mul-le-mul, mul-le-mul_right, div-add-mod', mod-lt, div-mul-le_self, div-lt_iff_lt-mul, arith}
+use Rattle.std.proofs.Common.{sym, subst, mul-le-mul, mul-le-mul_right, div-add-mod', mod-lt, div-mul-le_self}
+use Rattle.std.proofs.Common.{div-lt_iff_lt-mul, arith}
 use Rattle.laws.specs.Squares.{WholeRoot, le_by, root_lt, step_above, step_near}
 use Rattle.root.specs.Start.{Start}
 
--- y is the whole root of m or above it, and its square passes m by little: of an m from 2^60 on, y has 17 binary digits of the root
+-- y is the whole root of m or above it, and its square passes m by little: of an m from 2^60 on, y has 17 binary
+-- digits of the root
 pub record Close (m y : ℕ) : Type 0 where
   pub above : m < suc y * suc y
   pub near : y * y ≤ m + 2 ^ 44
 
--- ---- the first step, from a start s of i to z, where i stands for the leading digits of n: s × 2^15 and the quotient c are at most 2^23 apart
-module _ (n i s c z : ℕ) (lo : i * 2 ^ 44 ≤ n) (hi : n < suc i * 2 ^ 44) (rule : Start i s) (under : c * s * 128 ≤ n) (over : n < suc c * s * 128) (half : 2 * z ≤ s * 2 ^ 15 + c) (half' : s * 2 ^ 15 + c ≤ 2 * z + 1) where
+-- ---- the first step, from a start s of i to z, where i stands for the leading digits of n: s × 2^15 and the
+-- quotient c are at most 2^23 apart
+module _ (n i s c z : ℕ) (lo : i * 2 ^ 44 ≤ n) (hi : n < suc i * 2 ^ 44) (rule : Start i s) (under : c * s * 128 ≤ n)
+    (over : n < suc c * s * 128) (half : 2 * z ≤ s * 2 ^ 15 + c) (half' : s * 2 ^ 15 + c ≤ 2 * z + 1) where
   start_high : s * 2 ^ 15 ≤ c + 2 ^ 23
   start_high =
       le_by (s * 2 ^ 15) (c + 2 ^ 23)
       (λ (l : c + 2 ^ 23 < s * 2 ^ 15).
-      let a = mul-le-mul_right s l in
-      omega (arith, rule.low))
+      let a = mul-le-mul_right s l in omega (arith, rule.low))
 
   start_low : c ≤ s * 2 ^ 15 + 2 ^ 23
   start_low =
       le_by c (s * 2 ^ 15 + 2 ^ 23)
       (λ (l : s * 2 ^ 15 + 2 ^ 23 < c).
-      let a = mul-le-mul_right s l in
-      omega (arith, rule.high))
+      let a = mul-le-mul_right s l in omega (arith, rule.high))
 
   pub first_close : Close (n * 2 ^ 8) z
   first_close = record {
     above = step_above (n * 2 ^ 8) (s * 2 ^ 15) c z (omega arith) half';
-    near = let a = step_near (n * 2 ^ 8) (s * 2 ^ 15) c z (2 ^ 23) (omega arith) half start_high start_low in omega arith;
+    near =
+        let a = step_near (n * 2 ^ 8) (s * 2 ^ 15) c z (2 ^ 23) (omega arith) half start_high start_low in
+        omega arith;
   }
 
 -- as the program has it
@@ -36,7 +40,8 @@ module _ (n s : ℕ) (large : 2 ^ 52 ≤ n) (small : n < 2 ^ 54) (rule : Start (
   pub start_range : (2 ^ 14 ≤ s) × (s < 2 ^ 17)
   start_range = (
     le_by (2 ^ 14) s (λ (l : s < 2 ^ 14). let a = mul-le-mul l l in omega (arith, rule.high)),
-    le_by (suc s) (2 ^ 17) (λ (l : 2 ^ 17 < suc s). let k : 2 ^ 17 ≤ s = omega arith in let a = mul-le-mul_right s k in omega (arith, rule.low)),
+    le_by (suc s) (2 ^ 17) (λ (l : 2 ^ 17 < suc s). let k : 2 ^ 17 ≤ s = omega arith in
+        let a = mul-le-mul_right s k in omega (arith, rule.low)),
   )
 
   pub quotient_small : n / 128 / s < 2 ^ 33
@@ -51,10 +56,12 @@ module _ (n s : ℕ) (large : 2 ^ 52 ≤ n) (small : n < 2 ^ 54) (rule : Start (
       let d = div-add-mod' (n / 128) s in
       let p : 0 < s = omega arith in
       let l = mod-lt (n / 128) p in
-      first_close n (n / 17592186044416) s (n / 128 / s) z (omega arith) (omega arith) rule (omega arith) (omega arith) half half'
+      first_close n (n / 17592186044416) s (n / 128 / s) z (omega arith) (omega arith) rule (omega arith)
+      (omega arith) half half'
 
 -- ---- the second step
-module _ (m y c z : ℕ) (large : 2 ^ 60 ≤ m) (close : Close m y) (under : c * y ≤ m) (over : m < suc c * y) (half : 2 * z ≤ y + c) (half' : y + c ≤ 2 * z + 1) where
+module _ (m y c z : ℕ) (large : 2 ^ 60 ≤ m) (close : Close m y) (under : c * y ≤ m) (over : m < suc c * y)
+    (half : 2 * z ≤ y + c) (half' : y + c ≤ 2 * z + 1) where
   y_large : 2 ^ 30 ≤ y
   y_large = let a = root_lt (2 ^ 30) (suc y) (omega (arith, close.above)) in omega arith
 
@@ -63,16 +70,14 @@ module _ (m y c z : ℕ) (large : 2 ^ 60 ≤ m) (close : Close m y) (under : c *
       le_by c (y + 2 ^ 15)
       (λ (l : y + 2 ^ 15 < c).
       let a = mul-le-mul_right y l in
-      let b = y_large in
-      omega (arith, close.above))
+      let b = y_large in omega (arith, close.above))
 
   c_high : y ≤ c + 2 ^ 15
   c_high =
       le_by y (c + 2 ^ 15)
       (λ (l : c + 2 ^ 15 < y).
       let a = mul-le-mul_right y l in
-      let b = y_large in
-      omega (arith, close.near))
+      let b = y_large in omega (arith, close.near))
 
   pub second_above : m < suc z * suc z
   second_above = step_above m y c z over half'
@@ -126,10 +131,13 @@ module _ (m y : ℕ) (large : 2 ^ 60 ≤ m) (small : m < 2 ^ 62) (close : Close 
   next_kept = kept m y (m / y) next large close under over (omega arith) (omega arith)
 
   pub next_lowered : m < next * next → (v : ℕ) → v ≡ next - 1 → WholeRoot m v
-  next_lowered h v e = subst (WholeRoot m) (sym e) (lowered m y (m / y) next large close under over (omega arith) (omega arith) h)
+  next_lowered h v e =
+      subst (WholeRoot m) (sym e) (lowered m y (m / y) next large close under over (omega arith) (omega arith) h)
 
--- ---- the lower half: m is y² and a rest, and the root of m × 2^46 is y × 2^23 and what the rest, times 2^22, gives when y divides it
-module _ (m y d p : ℕ) (large : 2 ^ 60 ≤ m) (half : WholeRoot m y) (split : (m - y * y) * 2 ^ 22 ≡ d * y + p) (part : p < y) where
+-- ---- the lower half: m is y² and a rest, and the root of m × 2^46 is y × 2^23 and what the rest, times 2^22, gives
+-- when y divides it
+module _ (m y d p : ℕ) (large : 2 ^ 60 ≤ m) (half : WholeRoot m y) (split : (m - y * y) * 2 ^ 22 ≡ d * y + p)
+    (part : p < y) where
   y_big : 2 ^ 30 ≤ y
   y_big = let a = root_lt (2 ^ 30) (suc y) (omega (arith, half.high)) in omega arith
 
@@ -142,8 +150,7 @@ module _ (m y d p : ℕ) (large : 2 ^ 60 ≤ m) (half : WholeRoot m y) (split : 
       (λ (l : 2 ^ 23 < d).
       let a = mul-le-mul_right y l in
       let b = y_big in
-      let w = whole in
-      omega (arith, half.high))
+      let w = whole in omega (arith, half.high))
 
   pub exact : d * d ≤ p * 2 ^ 24 → WholeRoot (m * 2 ^ 46) (y * 2 ^ 23 + d)
   exact h = record { low = let w = whole in omega arith; high = let w = whole in omega arith }
@@ -191,5 +198,7 @@ module _ (m y : ℕ) (large : 2 ^ 60 ≤ m) (small : m < 2 ^ 62) (half : WholeRo
   pub halves_kept : rest / y * (rest / y) ≤ rest % y * 16777216 → WholeRoot (m * 2 ^ 46) (y * 8388608 + rest / y)
   halves_kept = exact m y (rest / y) (rest % y) large half splits part_small
 
-  pub halves_lowered : rest % y * 16777216 < rest / y * (rest / y) → (v : ℕ) → v ≡ y * 8388608 + rest / y - 1 → WholeRoot (m * 2 ^ 46) v
-  halves_lowered h v e = subst (WholeRoot (m * 2 ^ 46)) (sym e) (one_less m y (rest / y) (rest % y) large half splits part_small h)
+  pub halves_lowered : rest % y * 16777216 < rest / y * (rest / y) → (v : ℕ) → v ≡ y * 8388608 + rest / y - 1
+      → WholeRoot (m * 2 ^ 46) v
+  halves_lowered h v e =
+      subst (WholeRoot (m * 2 ^ 46)) (sym e) (one_less m y (rest / y) (rest % y) large half splits part_small h)

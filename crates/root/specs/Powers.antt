@@ -1,6 +1,7 @@
 -- Powers of two: their order, and products with them; orders across equations. Assumes nothing.
 use Rattle.std.specs.Prelude.{◌≡◌, refl, ℕ, zero, suc, ◌+◌, ◌-◌, ◌*◌, ◌%◌, ◌^◌, ◌≤◌, ◌<◌}
-use Rattle.std.proofs.Common.{sym, ap, ◌∙◌, mul_assoc, mul-pos, lt_of_not-le, not-le_of_lt, lt_of_le_of_lt, le_refl, mul-le-mul_right, mul-lt-mul_of_pos_right, arith, pow-add, pow_pos, pow_mono}
+use Rattle.std.proofs.Common.{sym, ap, ◌∙◌, mul_assoc, mul-pos, lt_of_not-le, not-le_of_lt, lt_of_le_of_lt, le_refl}
+use Rattle.std.proofs.Common.{mul-le-mul_right, mul-lt-mul_of_pos_right, arith, pow-add, pow_pos, pow_mono}
 use Rattle.std.proofs.Math.Nat.{eq_of_mul-eq-mul_right, pow-succ'}
 use Rattle.std.proofs.Math.Pow.{pow-lt}
 
@@ -24,7 +25,8 @@ pub balance : (m q a b c d : ℕ) → m * 2 ^ a ≡ q * 2 ^ b → a + d ≡ b + 
 balance m q a b c d h e =
     let p : 2 ^ a * 2 ^ d ≡ 2 ^ b * 2 ^ c = sym (pow-add 2 a d) ∙ ap (λ (x : ℕ). 2 ^ x) e ∙ pow-add 2 b c in
     eq_of_mul-eq-mul_right (2 ^ a * 2 ^ d) (mul-pos (pow_pos a) (pow_pos d)) (m * 2 ^ c) (q * 2 ^ d)
-    (left m (2 ^ a) (2 ^ c) (2 ^ d) ∙ ap (λ (x : ℕ). x * (2 ^ c * 2 ^ d)) h ∙ right q (2 ^ b) (2 ^ c) (2 ^ d) ∙ ap (λ (x : ℕ). q * 2 ^ d * x) (sym p))
+    (left m (2 ^ a) (2 ^ c) (2 ^ d) ∙ ap (λ (x : ℕ). x * (2 ^ c * 2 ^ d)) h ∙ right q (2 ^ b) (2 ^ c) (2 ^ d)
+    ∙ ap (λ (x : ℕ). q * 2 ^ d * x) (sym p))
   where
     left : (x y z v : ℕ) → x * z * (y * v) ≡ x * y * (z * v)
     left x y z v = omega arith

@@ -1,8 +1,11 @@
--- The definition's root [3.2], from any whole root that has one binary digit more than a double: its value is half of that root, rounded up, times a power of two. The definition takes 56 digits behind
--- the point of whatever significand it is handed, a program takes 54 in all; the two numbers whose roots they take differ by an even power of two, so one root lies in the other's cell.
--- Assumes nothing.
+-- The definition's root [3.2], from any whole root that has one binary digit more than a double: its value is half of
+-- that root, rounded up, times a power of two. The definition takes 56 digits behind the point of whatever
+-- significand it is handed, a program takes 54 in all; the two numbers whose roots they take differ by an even power
+-- of two, so one root lies in the other's cell. Assumes nothing.
 use Rattle.std.specs.Prelude.{◌≡◌, refl, Bool, not, T, leb, eqb, ℤ, pos, negsuc, Float}
-use Rattle.std.proofs.Common.{sym, ap, ◌∙◌, subst, pow-suc, mul-pos, mul-le-mul_right, le_of_mul-le-mul_right, lt_of_mul-lt-mul_right, lt_of_lt_of_le, mul-one, zero-mul, add_assoc, leb→le, eqb→eq, lit≤, lit<, pow-add, pow_pos}
+use Rattle.std.proofs.Common.{sym, ap, ◌∙◌, subst, pow-suc, mul-pos, mul-le-mul_right, le_of_mul-le-mul_right}
+use Rattle.std.proofs.Common.{lt_of_mul-lt-mul_right, lt_of_lt_of_le, mul-one, zero-mul, add_assoc, leb→le, eqb→eq}
+use Rattle.std.proofs.Common.{lit≤, lit<, pow-add, pow_pos}
 use Rattle.std.proofs.Math.Bool.{true, false, cond}
 use Rattle.std.specs.Prelude.{Some}
 use Prim.Native.Nat.{ℕ, zero, suc, ◌+◌, ◌-◌, ◌*◌, ◌/◌, ◌%◌, ◌^◌, ◌≤◌, ◌<◌}
@@ -22,7 +25,8 @@ use Rattle.root.specs.Scaled.{ScaledBy}
 use Rattle.root.specs.Pattern.{of_units}
 
 -- ---- the definition's whole root is one
-one_more : (n r : ℕ) (b : Bool) → leb (suc (2 * r) * suc (2 * r)) n ≡ b → WholeRoot (n / 4) r → WholeRoot n (cond b (suc (2 * r)) (2 * r))
+one_more : (n r : ℕ) (b : Bool) → leb (suc (2 * r) * suc (2 * r)) n ≡ b → WholeRoot (n / 4) r
+    → WholeRoot n (cond b (suc (2 * r)) (2 * r))
 one_more n r true e h =
     let l = leb→le (suc (2 * r) * suc (2 * r)) n (subst T (sym e) tt) in
     record { low = l; high = omega (arith, h.high) }
@@ -33,10 +37,12 @@ one_more n r false e h =
 pub whole_root_holds : (digits n : ℕ) → n < 4 ^ digits → WholeRoot n (whole_root digits n)
 unfolding whole_root
 whole_root_holds zero n h = record { low = omega arith; high = omega arith }
-whole_root_holds (suc digits) n h = one_more n (whole_root digits (n / 4)) _ refl (whole_root_holds digits (n / 4) (omega (arith, pow-suc 4 digits)))
+whole_root_holds (suc digits) n h =
+    one_more n (whole_root digits (n / 4)) _ refl (whole_root_holds digits (n / 4) (omega (arith, pow-suc 4 digits)))
 
 -- ---- twice the root, as the definition has it, lies in the cell of r: n is N g², and r the whole root of N
-module _ (N g n r : ℕ) (gpos : 0 < g) (is : n ≡ N * (g * g)) (even : N % 2 ≡ 0) (root : WholeRoot N r) (R : ℕ) (fine : WholeRoot n R) where
+module _ (N g n r : ℕ) (gpos : 0 < g) (is : n ≡ N * (g * g)) (even : N % 2 ≡ 0) (root : WholeRoot N r) (R : ℕ)
+    (fine : WholeRoot n R) where
   fine' : WholeRoot (N * (g * g)) R
   fine' = subst (λ (x : ℕ). WholeRoot x R) is fine
 
@@ -58,7 +64,11 @@ module _ (N g n r : ℕ) (gpos : 0 < g) (is : n ≡ N * (g * g)) (even : N % 2 �
 
   -- N is even, so the square of an odd r is below it
   odd_below : r % 2 ≡ 1 → r * r < N
-  odd_below o = let a = root.low in let e : r ≡ 2 * (r / 2) + 1 = omega arith in let s : r * r ≡ (2 * (r / 2) + 1) * (2 * (r / 2) + 1) = ap (λ (x : ℕ). x * x) e in omega arith
+  odd_below o =
+      let a = root.low in
+      let e : r ≡ 2 * (r / 2) + 1 = omega arith in
+      let s : r * r ≡ (2 * (r / 2) + 1) * (2 * (r / 2) + 1) = ap (λ (x : ℕ). x * x) e in
+      omega arith
 
   twice_strict : r % 2 ≡ 1 → 2 * r * g < twice_root n R
   unfolding twice_root
@@ -72,8 +82,10 @@ module _ (N g n r : ℕ) (gpos : 0 < g) (is : n ≡ N * (g * g)) (even : N % 2 �
           omega arith
       go false h = let a = scaled_low N g r R root fine' in omega arith
 
--- ---- so the definition's rounding is that of the cell. a / b is the power of two beside the root, and the cell is 2^t units wide
-module _ (N g m r : ℕ) (gpos : 0 < g) (is : m * 2 ^ 112 ≡ N * (g * g)) (even : N % 2 ≡ 0) (root : WholeRoot N r) (least : 2 ^ 53 ≤ r) (most : r < 2 ^ 54) (small : m < 2 ^ 54)
+-- ---- so the definition's rounding is that of the cell. a / b is the power of two beside the root, and the cell is
+-- 2^t units wide
+module _ (N g m r : ℕ) (gpos : 0 < g) (is : m * 2 ^ 112 ≡ N * (g * g)) (even : N % 2 ≡ 0) (root : WholeRoot N r)
+    (least : 2 ^ 53 ≤ r) (most : r < 2 ^ 54) (small : m < 2 ^ 54)
     (a b t : ℕ) (bpos : 0 < b) (unit : a * 2 ^ 1074 * g ≡ 2 ^ t * b * 2 ^ 56) where
   abbrev n : ℕ
   n = m * 2 ^ 112
@@ -141,7 +153,8 @@ module _ (q w : ℕ) (lo : 2 ^ 52 ≤ q) (hi : q < 2 ^ 53) where
       (omega arith, omega arith)
 
 -- ---- the two ways that the definition goes. q 2^w is the argument in units of 2^-1126, and r the whole root of N
-module _ (m q w r : ℕ) (mpos : 0 < m) (small : m < 2 ^ 53) (lo : 2 ^ 52 ≤ q) (hi : q < 2 ^ 53) (root : WholeRoot (q * (1 + w % 2) * 2 ^ 54) r) where
+module _ (m q w r : ℕ) (mpos : 0 < m) (small : m < 2 ^ 53) (lo : 2 ^ 52 ≤ q) (hi : q < 2 ^ 53)
+    (root : WholeRoot (q * (1 + w % 2) * 2 ^ 54) r) where
   abbrev N : ℕ
   N = q * (1 + w % 2) * 2 ^ 54
 
@@ -163,8 +176,7 @@ module _ (m q w r : ℕ) (mpos : 0 < m) (small : m < 2 ^ 53) (lo : 2 ^ 52 ≤ q)
       (let a = mul-lt-mul_of_pos_right hi (pow_pos z) in
       let b = pow-add 2 53 z in
       let c = mul-le-mul_right (2 ^ y) mpos in
-      let d = mul_one' (2 ^ y) in
-      omega arith)
+      let d = mul_one' (2 ^ y) in omega arith)
     where
       mul_one' : (x : ℕ) → 1 * x ≡ x
       mul_one' x = omega arith
@@ -178,36 +190,46 @@ module _ (m q w r : ℕ) (mpos : 0 < m) (small : m < 2 ^ 53) (lo : 2 ^ 52 ≤ q)
       go (suc (suc y)) h = absurd (omega arith)
 
   -- m 2^k
-  pub up_case : (k : ℕ) → m * 2 ^ (k + 1126) ≡ q * 2 ^ w → root_times (m * 2 ^ (k % 2)) (2 ^ (k / 2)) 1 ≡ units binary64 false (suc r / 2) (w / 2 + 485)
+  pub up_case : (k : ℕ) → m * 2 ^ (k + 1126) ≡ q * 2 ^ w
+      → root_times (m * 2 ^ (k % 2)) (2 ^ (k / 2)) 1 ≡ units binary64 false (suc r / 2) (w / 2 + 485)
   up_case k h =
       let near = apart (k + 1126) w h in
       let x = w / 2 - k / 2 - 534 in
       let t = w / 2 + 484 in
       let b = root_range q w lo hi r root in
-      let is : m * 2 ^ (k % 2) * 2 ^ 112 ≡ N * (2 ^ x * 2 ^ x) = join m (k % 2) 112 ∙ balance m q (k + 1126) w (k % 2 + 112) (w % 2 + 54 + (x + x)) h (omega arith) ∙ sym (filled x) in
+      let is : m * 2 ^ (k % 2) * 2 ^ 112 ≡ N * (2 ^ x * 2 ^ x) = join m (k % 2) 112
+      ∙ balance m q (k + 1126) w (k % 2 + 112) (w % 2 + 54 + (x + x)) h (omega arith) ∙ sym (filled x) in
       let e : k / 2 + 1074 + x ≡ t + 56 = omega arith in
       let unit : 2 ^ (k / 2) * 2 ^ 1074 * 2 ^ x ≡ 2 ^ t * 1 * 2 ^ 56 =
-      join (2 ^ (k / 2)) 1074 x ∙ sym (pow-add 2 (k / 2) (1074 + x)) ∙ ap (λ (y : ℕ). 2 ^ y) (sym (add_assoc (k / 2) 1074 x) ∙ e) ∙ pow-add 2 t 56 ∙ ap (λ (y : ℕ). y * 2 ^ 56) (sym (mul-one (2 ^ t))) in
-      root_times_holds N (2 ^ x) (m * 2 ^ (k % 2)) r (pow_pos x) is even root b.0 (omega arith) (choice_small k) (2 ^ (k / 2)) 1 t (omega arith) unit
+      join (2 ^ (k / 2)) 1074 x ∙ sym (pow-add 2 (k / 2) (1074 + x))
+      ∙ ap (λ (y : ℕ). 2 ^ y) (sym (add_assoc (k / 2) 1074 x) ∙ e) ∙ pow-add 2 t 56
+      ∙ ap (λ (y : ℕ). y * 2 ^ 56) (sym (mul-one (2 ^ t))) in
+      root_times_holds N (2 ^ x) (m * 2 ^ (k % 2)) r (pow_pos x) is even root b.0 (omega arith) (choice_small k)
+      (2 ^ (k / 2)) 1 t (omega arith) unit
       ∙ ap (λ (y : ℕ). units binary64 false (suc r / 2) y) (omega arith)
 
   -- m / 2^k
-  pub down_case : (k : ℕ) → m * 2 ^ 1126 ≡ q * 2 ^ (w + k) → root_times (m * 2 ^ (k % 2)) 1 (2 ^ (suc k / 2)) ≡ units binary64 false (suc r / 2) (w / 2 + 485)
+  pub down_case : (k : ℕ) → m * 2 ^ 1126 ≡ q * 2 ^ (w + k)
+      → root_times (m * 2 ^ (k % 2)) 1 (2 ^ (suc k / 2)) ≡ units binary64 false (suc r / 2) (w / 2 + 485)
   down_case k h =
       let near = apart 1126 (w + k) h in
       let j = suc k / 2 in
       let x = w / 2 + j - 534 in
       let t = w / 2 + 484 in
       let b = root_range q w lo hi r root in
-      let is : m * 2 ^ (k % 2) * 2 ^ 112 ≡ N * (2 ^ x * 2 ^ x) = join m (k % 2) 112 ∙ balance m q 1126 (w + k) (k % 2 + 112) (w % 2 + 54 + (x + x)) h (omega arith) ∙ sym (filled x) in
+      let is : m * 2 ^ (k % 2) * 2 ^ 112 ≡ N * (2 ^ x * 2 ^ x) = join m (k % 2) 112
+      ∙ balance m q 1126 (w + k) (k % 2 + 112) (w % 2 + 54 + (x + x)) h (omega arith) ∙ sym (filled x) in
       let e : 1074 + x ≡ t + j + 56 = omega arith in
       let unit : 1 * 2 ^ 1074 * 2 ^ x ≡ 2 ^ t * 2 ^ j * 2 ^ 56 =
-      sym (pow-add 2 1074 x) ∙ ap (λ (y : ℕ). 2 ^ y) e ∙ pow-add 2 (t + j) 56 ∙ ap (λ (y : ℕ). y * 2 ^ 56) (pow-add 2 t j) in
-      root_times_holds N (2 ^ x) (m * 2 ^ (k % 2)) r (pow_pos x) is even root b.0 (omega arith) (choice_small k) 1 (2 ^ j) t (pow_pos j) unit
+      sym (pow-add 2 1074 x) ∙ ap (λ (y : ℕ). 2 ^ y) e ∙ pow-add 2 (t + j) 56
+      ∙ ap (λ (y : ℕ). y * 2 ^ 56) (pow-add 2 t j) in
+      root_times_holds N (2 ^ x) (m * 2 ^ (k % 2)) r (pow_pos x) is even root b.0 (omega arith) (choice_small k) 1
+      (2 ^ j) t (pow_pos j) unit
       ∙ ap (λ (y : ℕ). units binary64 false (suc r / 2) y) (omega arith)
 
 -- ---- the definition's root of q 2^w / 2^1126
-pub root_of_scaled : (x : Float) (q w r : ℕ) → T (fits binary64 x) → ScaledBy x q w → WholeRoot (q * (1 + w % 2) * 2 ^ 54) r → square_root x ≡ Some (units binary64 false (suc r / 2) (w / 2 + 485))
+pub root_of_scaled : (x : Float) (q w r : ℕ) → T (fits binary64 x) → ScaledBy x q w
+    → WholeRoot (q * (1 + w % 2) * 2 ^ 54) r → square_root x ≡ Some (units binary64 false (suc r / 2) (w / 2 + 485))
 unfolding square_root
 root_of_scaled nan q w r f s root = absurd s.value
 root_of_scaled (inf t) q w r f s root = absurd s.value
@@ -218,7 +240,9 @@ root_of_scaled (fin t zero e) q w r f s root = absurd (nothing q w e s.low s.val
         let p = mul-pos (mul-pos (lt_of_lt_of_le (lit< {m = 0} {n = 2 ^ 52} tt) l) (pow_pos w')) (down_pos d) in
         let z : 0 * up d * 2 ^ 1126 ≡ 0 = ap (λ (x : ℕ). x * 2 ^ 1126) (zero-mul (up d)) in
         omega (arith, sym z ∙ h)
-root_of_scaled (fin true (suc m) e) q w r f s root = let z : ◌≡◌ {A = Bool} true false = s.value.0 in absurd (true_false z)
+root_of_scaled (fin true (suc m) e) q w r f s root =
+    let z : ◌≡◌ {A = Bool} true false = s.value.0 in
+    absurd (true_false z)
   where
     true_false : true ≡ false → ⊥
     true_false z = subst T z tt
@@ -232,14 +256,16 @@ root_of_scaled (fin false (suc m) (negsuc k)) q w r f s root =
     (ap (λ (x : ℕ). x * 2 ^ 1126) (sym (mul-one (suc m))) ∙ s.value.1 ∙ join q w (suc k)))
 
 -- ---- in bits, as the program has it: b is the pattern of half of r, rounded up, and of the exponent
-module _ (bits q w r : ℕ) (s : ScaledBy (of_bits binary64 bits) q w) (root : WholeRoot (q * (1 + w % 2) * 2 ^ 54) r) where
+module _ (bits q w r : ℕ) (s : ScaledBy (of_bits binary64 bits) q w)
+    (root : WholeRoot (q * (1 + w % 2) * 2 ^ 54) r) where
   half_range : (2 ^ 52 ≤ suc r / 2) × (suc r / 2 < 2 ^ 53)
   half_range = let b = root_range q w s.low s.high r root in (omega arith, omega arith)
 
   pub root_bits_small : suc r / 2 + (w / 2 + 485) * 2 ^ 52 < 2047 * 2 ^ 52
   root_bits_small = let b = half_range in omega (arith, s.reach)
 
-  pub root_of_bits : (b : ℕ) → b ≡ suc r / 2 + (w / 2 + 485) * 2 ^ 52 → square_root (of_bits binary64 bits) ≡ Some (of_bits binary64 b)
+  pub root_of_bits : (b : ℕ) → b ≡ suc r / 2 + (w / 2 + 485) * 2 ^ 52
+      → square_root (of_bits binary64 bits) ≡ Some (of_bits binary64 b)
   root_of_bits b e =
       let h = half_range in
       root_of_scaled (of_bits binary64 bits) q w r (of_bits-fits binary64 bits) s root

@@ -2,7 +2,8 @@
 use Rattle.std.specs.Prelude.{ℕ, ◌*◌, ◌^◌, ◌≤◌, ◌<◌, false, Float}
 use Rattle.std.specs.Float.Ieee.Exact.{HasValue}
 
--- x is q × 2^w / 2^1126, and q has all the digits that a double has: 2^1126 lifts the smallest double, 2^-1074, to them
+-- x is q × 2^w / 2^1126, and q has all the digits that a double has: 2^1126 lifts the smallest double, 2^-1074, to
+-- them
 pub record ScaledBy (x : Float) (q w : ℕ) : Type 0 where
   pub low : 2 ^ 52 ≤ q
   pub high : q < 2 ^ 53

@@ -1,11 +1,13 @@
--- The start of the square root: how near it is to lie to the root, and one test that tells it of all 768 arguments of a polynomial. Assumes nothing.
+-- The start of the square root: how near it is to lie to the root, and one test that tells it of all 768 arguments of
+-- a polynomial. Assumes nothing.
 use Rattle.std.specs.Prelude.{Bool, ◌&&◌, ℕ, suc, ◌+◌, ◌-◌, ◌*◌, ◌/◌, ◌^◌, ◌≤◌, ◌<◌, T, leb, ltb}
 use Rattle.std.proofs.Common.{mul-le-mul, le_trans, lt_of_le_of_lt, arith, leb→le, ltb→lt}
 use Rattle.std.specs.Float.Ieee.Fits.{and_l, and_r}
 use Rattle.definitions.specs.Lists.{all_of, count_from}
 use Rattle.laws.specs.Lists.{all_of_holds, in_count}
 
--- s lies near the root of every number from i × 2^22 to (i + 1) × 2^22: s and such a number divided by s are at most 256 apart
+-- s lies near the root of every number from i × 2^22 to (i + 1) × 2^22: s and such a number divided by s are at most
+-- 256 apart
 pub record Start (i s : ℕ) : Type 0 where
   pub low : s * s ≤ i * 2 ^ 22 + 256 * s
   pub high : suc i * 2 ^ 22 ≤ s * s + 256 * s
@@ -23,7 +25,10 @@ unfolding is_start
 is_start_holds i s t =
     let low = leb (s * s) (i * 2 ^ 22 + 256 * s) in
     let high = leb (suc i * 2 ^ 22) (s * s + 256 * s) in
-    record { low = leb→le (s * s) (i * 2 ^ 22 + 256 * s) (and_l low high t); high = leb→le (suc i * 2 ^ 22) (s * s + 256 * s) (and_r low high t) }
+    record {
+      low = leb→le (s * s) (i * 2 ^ 22 + 256 * s) (and_l low high t);
+      high = leb→le (suc i * 2 ^ 22) (s * s + 256 * s) (and_r low high t);
+    }
 
 -- the one test: the arguments are a list of the checker's, and no data of the program's
 unfoldable pub gives_starts : (ℕ → ℕ) → Bool
@@ -31,9 +36,12 @@ gives_starts f = all_of (λ (i : ℕ). is_start i (f i)) (count_from 256 768)
 
 pub start_rule : (f : ℕ → ℕ) (i : ℕ) → 256 ≤ i → i < 1024 → T (gives_starts f) → Start i (f i)
 unfolding gives_starts
-start_rule f i h l t = is_start_holds i (f i) (all_of_holds (λ (i : ℕ). is_start i (f i)) (count_from 256 768) t i (in_count 256 768 i h (omega arith)))
+start_rule f i h l t =
+    is_start_holds i (f i)
+    (all_of_holds (λ (i : ℕ). is_start i (f i)) (count_from 256 768) t i (in_count 256 768 i h (omega arith)))
 
--- ---- a polynomial's products and sums, with a bound that the checker computes: no difference is cut off at zero, and nothing passes 64 bits
+-- ---- a polynomial's products and sums, with a bound that the checker computes: no difference is cut off at zero,
+-- and nothing passes 64 bits
 module _ (i x y z : ℕ) (small : i < 1024) where
   product_most : i * (x - y) ≤ 1023 * x
   product_most =

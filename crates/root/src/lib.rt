@@ -1,6 +1,7 @@
-// The square root [3.2]: of every finite double not below zero, the nearest double to its root, ties to even.
-// The argument is q × 2^w / 2^1126 with 2^52 ≤ q < 2^53. Its root is that of a whole number of 107 or 108 binary digits, times a power of two, and the whole root of that number decides the rounding:
-// from the value of a polynomial, two of Newton's steps lead to its upper half, and one more division to all of it. Only whole numbers below 2^64 occur.
+// The square root [3.2]: of every finite double not below zero, the nearest double to its root, ties to even. The
+// argument is q × 2^w / 2^1126 with 2^52 ≤ q < 2^53. Its root is that of a whole number of 107 or 108 binary digits,
+// times a power of two, and the whole root of that number decides the rounding: from the value of a polynomial, two
+// of Newton's steps lead to its upper half, and one more division to all of it. Only whole numbers below 2^64 occur.
 
 #![tactic(auto)]
 
@@ -14,14 +15,16 @@ ghost use Rattle.root.specs.Scaled.{ScaledBy};
 ghost use Rattle.root.specs.Start.{Start};
 ghost use Rattle.root.specs.Newton.{Close};
 
-// In a bit pattern: what the exponent's field counts, 2^52; the sign, 2^63; and the infinity, from which on no pattern has a root. A constant calls `to_bits` by its path: no method call may stand in its value.
+// In a bit pattern: what the exponent's field counts, 2^52; the sign, 2^63; and the infinity, from which on no
+// pattern has a root. A constant calls `to_bits` by its path: no method call may stand in its value.
 const FIELD: u64 = 0x0010_0000_0000_0000;
 
 const SIGN: u64 = 0x8000_0000_0000_0000;
 
 const INFINITY: u64 = f64::to_bits(f64::INFINITY);
 
-// 2^-30 and 2^-62. What is below the second has a root of at most 2^-31, the half of the first; and the first is below every tolerance from 0.000000001 on.
+// 2^-30 and 2^-62. What is below the second has a root of at most 2^-31, the half of the first; and the first is
+// below every tolerance from 0.000000001 on.
 const LEAST: f64 = 0.000000000931322574615478515625;
 
 const TINY: f64 = 0.00000000000000000021684043449710088680149056017398834228515625;
@@ -33,7 +36,8 @@ struct Scaled {
     w: u64,
 }
 
-// The fields of a double above zero. A subnormal one is moved up until its leading digit stands where that of the others does.
+// The fields of a double above zero. A subnormal one is moved up until its leading digit stands where that of the
+// others does.
 fn scale(bits: u64) -> Scaled
     requires { (0 < bits) × (bits < 2047 * 2 ^ 52) }
     ensures { ScaledBy (of_bits binary64 bits) result.q result.w }
@@ -54,7 +58,8 @@ fn scale(bits: u64) -> Scaled
     }
 }
 
-// The start of i, a whole number near the root of i × 2^22. A polynomial of the second degree does not come near enough; this one, of the third, begins with the coefficient 1, and so takes two multiplications.
+// The start of i, a whole number near the root of i × 2^22. A polynomial of the second degree does not come near
+// enough; this one, of the third, begins with the coefficient 1, and so takes two multiplications.
 fn start(i: u64) -> u64
     requires { (256 ≤ i) × (i < 1024) }
     ensures { Start i result }
@@ -104,7 +109,8 @@ fn whole_root(n: u64) -> u64
     both_halves(m, upper_half(m, first_step(n)))
 }
 
-// The bits of the root of a double above zero. Its significand is half the whole root, rounded up: an odd whole root lies below √, never on it.
+// The bits of the root of a double above zero. Its significand is half the whole root, rounded up: an odd whole root
+// lies below √, never on it.
 fn root_bits(bits: u64) -> u64
     requires { (0 < bits) × (bits < 2047 * 2 ^ 52) }
     ensures { (square_root (of_bits binary64 bits) ≡ Some (of_bits binary64 result)) × (result < 2047 * 2 ^ 52) }
@@ -131,15 +137,17 @@ pub fn root(x: f64) -> Option<f64>
     Some(f64::from_bits(root_bits(bits)))
 }
 
-// The same for callers with no place for a refusal: the value, or a NaN where there is none. The crate `root_c` exports it to C.
+// The same for callers with no place for a refusal: the value, or a NaN where there is none. The crate `root_c`
+// exports it to C.
 pub fn root_or_nan(x: f64) -> f64
     ensures { result ≡ value_of (square_root x) }
 {
     root(x).unwrap_or(f64::NAN)
 }
 
-// Whether the root lies below a tolerance. Mostly the square alone tells, and no root is worked out: the root of what exceeds a tolerance of at most 1 does not lie below it,
-// and that of what is below 2^-62 lies below every tolerance from 2^-30 on.
+// Whether the root lies below a tolerance. Mostly the square alone tells, and no root is worked out: the root of what
+// exceeds a tolerance of at most 1 does not lie below it, and that of what is below 2^-62 lies below every tolerance
+// from 2^-30 on.
 pub fn root_below(x: f64, tolerance: f64) -> bool
     ensures { result ≡ lt (value_of (square_root x)) tolerance }
 {

@@ -1,4 +1,5 @@
-// The square root for callers in C: the exported function is that of its name in the crate `root`, and states its clause again.
+// The square root for callers in C: the exported function is that of its name in the crate `root`, and states its
+// clause again.
 #![tactic(auto)]
 
 ghost use Rattle.std.specs.Prelude.{◌≡◌};

@@ -1,3 +1,3 @@
 -- The search in a workspace.
 pub mod Outcomes
-pub mod Turns
+pub mod SearchSteps

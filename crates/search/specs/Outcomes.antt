@@ -1,4 +1,4 @@
--- The limit on entries and the searchOutcome of a search, in the definition's words. Leans on the emitted lists.
+-- The limit on entries and the outcome of a search, in the definition's words. Leans on the emitted lists.
 use Rattle.std.specs.Prelude.{◌≡◌, List, ℕ, length, Result, Ok, Err}
 use Rattle.definitions.specs.Search as def
 use Rattle.definitions.specs.Outcome as result
@@ -14,9 +14,10 @@ use Rattle.frames.specs.Paths.{Emitted, emitted_in}
 unfoldable pub entry_limits_of : Areas → Course → def.EntryLimits
 entry_limits_of a course = record { limit = course.limit; bound = a.bound; extended = course.extended }
 
--- the searchOutcome with the lists that the workspace holds
+-- the outcome with the lists that the workspace holds
 unfoldable pub search_outcome : Table → Areas → Result Listed Refusal → List ℕ → result.Outcome def.Found
-search_outcome t a (Ok found) s = result.answered (record { lists = emitted_in t a (lists_part a s); left = found.left })
+search_outcome t a (Ok found) s =
+    result.answered (record { lists = emitted_in t a (lists_part a s); left = found.left })
 search_outcome t a (Err e) s = result.refused (number_of e)
 
 -- what is found lies sound in its area, so many lists, every item a facet's number

@@ -1,14 +1,15 @@
-// The search, chapter 7, in a workspace: from the facets of a call, what each adds to each ridge orbit and where it has shares of 1, to the emitted lists and the budget that
-// is left. The lists are examined in the order of the definition's stack, by a path with a place for each depth.
+// The search, chapter 7, in a workspace: from the facets of a call, what each adds to each ridge orbit and where it
+// has shares of 1, to the emitted lists and the budget that is left. The lists are examined in the order of the
+// definition's stack, by a path with a place for each depth.
 
 #![tactic(auto)]
 
 ghost use Rattle.std.specs.Prelude.{◌≡◌, ◌+◌, ◌-◌, ◌<◌, length, take};
 ghost use Rattle.definitions.specs.Search.{Table, closed, limit_reached, search as searchOf};
 ghost use Rattle.facets.specs.Layout.{AreasFit, Inputs, verdict, lists_part};
-ghost use Rattle.frames.specs.Paths.{PathStands};
+ghost use Rattle.frames.specs.Paths.{PathHeld};
 ghost use Rattle.search.specs.Outcomes.{entry_limits_of, search_outcome, counted_lists};
-ghost use Rattle.search.specs.Turns.{Judged, Followed};
+ghost use Rattle.search.specs.SearchSteps.{Judged, Followed};
 ghost use Rattle.pool.specs.Pool.{count};
 ghost use Rattle.frames.specs.Steps.{Withdrawn};
 
@@ -16,8 +17,9 @@ use facets::{Areas, Verdict};
 use refusals::Refusal;
 use visits::State;
 
-// How the search goes: its limit on entries, and whether a closed list is extended.
-// `extended` is a flag that picks a step: it is what the call's way says of closed lists. A closure for the step would be picked by the same flag, where the course is made.
+// How the search goes: its limit on entries, and whether a closed list is extended. `extended` is a flag that picks a
+// step: it is what the call's way says of closed lists. A closure for the step would be picked by the same flag,
+// where the course is made.
 #[derive(Clone, Copy)]
 pub struct Course {
     pub limit: Option<u32>,
@@ -39,9 +41,11 @@ fn reached(limit: Option<u32>, emitted: u32) -> bool
     limit.is_some_and(|m| m <= emitted)
 }
 
-// A closed list is emitted, unless the entry is past the bound. The limit is tested behind the emission. Then the list is extended by every facet above the mark, or, where closed lists are not extended, withdrawn.
-// Some: the search goes on with so many frames. None: the limit ends it. That the list is judged is a clause, here and below, and so is what the path and the workspace hold: each speaks of some table,
-// and a ghost field cannot say which; and the workspace is written.
+// A closed list is emitted, unless the entry is past the bound. The limit is tested behind the emission. Then the
+// list is extended by every facet above the mark, or, where closed lists are not extended, withdrawn. Some: the
+// search goes on with so many frames. None: the limit ends it. That the list is judged is a clause, here and below,
+// and so is what the path and the workspace hold: each speaks of some table, and a ghost field cannot say which; and
+// the workspace is written.
 fn close(ws: &mut [u8], a: Areas, course: Course, depth: usize) -> Result<Option<usize>, Refusal>
     requires { (t : Table) × Judged t a ws.old depth closed }
     ensures { (t : Table) → Judged t a ws.old depth closed → Followed t a course ws.old ws.new depth result }
@@ -62,10 +66,12 @@ fn close(ws: &mut [u8], a: Areas, course: Course, depth: usize) -> Result<Option
     Ok(Some(depth))
 }
 
-// What the verdict says is done: a list that is over is dropped, one that is open is extended where it is open, a closed one is emitted. Some and None as of `close`.
+// What the verdict says is done: a list that is over is dropped, one that is open is extended where it is open, a
+// closed one is emitted. Some and None as of `close`.
 fn follow(ws: &mut [u8], a: Areas, course: Course, s: State) -> Result<Option<usize>, Refusal>
     requires { (t : Table) × Judged t a ws.old s.depth (verdict s.verdict) }
-    ensures { (t : Table) → Judged t a ws.old s.depth (verdict s.verdict) → Followed t a course ws.old ws.new s.depth result }
+    ensures { (t : Table) → Judged t a ws.old s.depth (verdict s.verdict)
+        → Followed t a course ws.old ws.new s.depth result }
 {
     match s.verdict {
         Verdict::Over => {
@@ -82,8 +88,10 @@ fn follow(ws: &mut [u8], a: Areas, course: Course, s: State) -> Result<Option<us
 
 // The deepest frame has no candidate left and goes; the facet that led to it leaves the list.
 fn back(ws: &mut [u8], a: Areas, s: State) -> State
-    requires { (t : Table) × PathStands t a ws.old s.depth (s.depth - 1) × (0 < s.depth) }
-    ensures { (result.depth ≡ s.depth - 1) × (result.left ≡ s.left) × ((t : Table) → PathStands t a ws.old s.depth (s.depth - 1) → Withdrawn t a ws.old ws.new (s.depth - 1)) }
+    requires { (t : Table) × PathHeld t a ws.old s.depth (s.depth - 1) × (0 < s.depth) }
+    ensures { (result.depth ≡ s.depth - 1)
+        × (result.left ≡ s.left)
+        × ((t : Table) → PathHeld t a ws.old s.depth (s.depth - 1) → Withdrawn t a ws.old ws.new (s.depth - 1)) }
 {
     let depth = s.depth - 1;
     if 0 < depth {
@@ -99,8 +107,8 @@ fn at_depth(s: State, depth: usize) -> State
     State { depth, ..s }
 }
 
-// What is found with the lists that were emitted.
-// The workspace and the areas are two parameters, and that the areas fit a clause: a struct that lends the workspace would be made for this call alone.
+// What is found with the lists that were emitted. The workspace and the areas are two parameters, and that the areas
+// fit a clause: a struct that lends the workspace would be made for this call alone.
 fn found(ws: &[u8], a: Areas, left: u32) -> Listed
     requires { AreasFit a (length ws.now) }
     ensures { result ≡ record { lists = count (lists_part a ws.now); left = left } }
@@ -111,10 +119,12 @@ fn found(ws: &[u8], a: Areas, left: u32) -> Listed
     }
 }
 
-// The search [7.8]: the lists emitted, in order, and what is left of the budget. No `for`: the number of frames goes up and down.
+// The search [7.8]: the lists emitted, in order, and what is left of the budget. No `for`: the number of frames goes
+// up and down.
 pub fn search(ws: &mut [u8], a: Areas, course: Course, budget: u32) -> Result<Listed, Refusal>
     requires { (t : Table) × Inputs t a ws.old }
-    ensures found { (t : Table) → Inputs t a ws.old → search_outcome t a result ws.new ≡ searchOf t (entry_limits_of a course) budget }
+    ensures found { (t : Table) → Inputs t a ws.old
+        → search_outcome t a result ws.new ≡ searchOf t (entry_limits_of a course) budget }
     ensures many { (t : Table) → counted_lists t a result ws.new }
     ensures kept { take a.frames ws.new ≡ take a.frames ws.old }
 {

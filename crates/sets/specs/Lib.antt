@@ -2,4 +2,3 @@
 pub mod Steps
 pub mod Vertices
 pub mod Refitting
-pub mod Sums

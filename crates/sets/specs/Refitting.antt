@@ -1,4 +1,5 @@
--- What a refit answers [6.4]: refusal 14 where the plane of a set's points has another number of basis vectors than is wanted. Leans on what the structs mean.
+-- What a refit answers [6.4]: refusal 14 where the plane of a set's points has another number of basis vectors than
+-- is wanted. Leans on what the structs mean.
 use Rattle.std.specs.Prelude.{◌≡◌, cond, ℕ, ◌<◌, eqb, length}
 use Rattle.std.specs.Prelude.{Result, Ok, Err}
 use Rattle.definitions.specs.Outcome.{Outcome, refused, answered}
@@ -17,8 +18,10 @@ unfoldable pub plane_in : Result StoredSubspace StoredSubspace → StoredSubspac
 plane_in (Ok plane) = plane
 plane_in (Err plane) = plane
 
--- refusal 14: exactly where the number of basis vectors is not the one wanted. What is handed back holds the plane either way, with the d of the points.
-pub record Refitted (r : Result StoredSubspace StoredSubspace) (points : Points) (plane : Subspace) (wanted : ℕ) : Type 0 where
+-- refusal 14: exactly where the number of basis vectors is not the one wanted. What is handed back holds the plane
+-- either way, with the d of the points.
+pub record Refitted (r : Result StoredSubspace StoredSubspace) (points : Points) (plane : Subspace)
+    (wanted : ℕ) : Type 0 where
   pub answer : refitted_plane r ≡ cond (eqb (length plane.basis) wanted) (answered plane) (refused 14)
   pub holds : HoldsSubspace (plane_in r) plane
   pub same_d : 0 < points.n → (plane_in r).d ≡ points.d

@@ -1,4 +1,5 @@
--- One vertex more of a set, as the loops take it, and of the points near a plane; a power of two for a vertex is small. Leans on the sets of the crate of laws.
+-- One vertex more of a set, as the loops take it, and of the points near a plane; a power of two for a vertex is
+-- small. Leans on the sets of the crate of laws.
 use Rattle.std.specs.Prelude.{◌≡◌, Bool, ℕ, suc, ◌+◌, ◌/◌, ◌%◌, ◌^◌, ◌≤◌, ◌<◌, eqb, length, get_or, drop, Float}
 use Rattle.std.proofs.Math.Path.{refl}
 use Rattle.std.proofs.Common.{drop-cons}
@@ -19,7 +20,8 @@ pub vertices_step : (v n x : ℕ) → vertices_from v (suc n) x ≡ vertices_fro
 unfolding vertices_from
 vertices_step v n x = go (eqb (x % 2) 1)
   where
-    go : (b : Bool) → cond b (v ∷ vertices_from (suc v) n (x / 2)) (vertices_from (suc v) n (x / 2)) ≡ cond b (v ∷ []) [] ++ vertices_from (suc v) n (x / 2)
+    go : (b : Bool) → cond b (v ∷ vertices_from (suc v) n (x / 2)) (vertices_from (suc v) n (x / 2))
+        ≡ cond b (v ∷ []) [] ++ vertices_from (suc v) n (x / 2)
     go true = refl
     go false = refl
 
@@ -35,19 +37,24 @@ module _ (tolerance : Float) (s : Subspace) where
   near_set [] v = empty
   near_set (p ∷ ps) v = go (lt (distance s p) tolerance) (near_set ps (suc v))
     where
-      go : (b : Bool) → SetFrom (suc v) (length ps) (points_near tolerance s ps (suc v)) → SetFrom v (suc (length ps)) (cond b (v ∷ points_near tolerance s ps (suc v)) (points_near tolerance s ps (suc v)))
+      go : (b : Bool) → SetFrom (suc v) (length ps) (points_near tolerance s ps (suc v)) → SetFrom v (suc (length ps))
+          (cond b (v ∷ points_near tolerance s ps (suc v)) (points_near tolerance s ps (suc v)))
       go true r = with r
       go false r = without r
 
-  near_first : (p : Vec) (ps : List Vec) (v : ℕ) → set_number (points_near tolerance s (p ∷ ps) v) ≡ cond (lt (distance s p) tolerance) (2 ^ v) 0 + set_number (points_near tolerance s ps (suc v))
+  near_first : (p : Vec) (ps : List Vec) (v : ℕ) → set_number (points_near tolerance s (p ∷ ps) v)
+      ≡ cond (lt (distance s p) tolerance) (2 ^ v) 0 + set_number (points_near tolerance s ps (suc v))
   unfolding points_near set_number
   near_first p ps v = go (lt (distance s p) tolerance)
     where
-      go : (b : Bool) → set_number (cond b (v ∷ points_near tolerance s ps (suc v)) (points_near tolerance s ps (suc v))) ≡ cond b (2 ^ v) 0 + set_number (points_near tolerance s ps (suc v))
+      go : (b : Bool)
+          → set_number (cond b (v ∷ points_near tolerance s ps (suc v)) (points_near tolerance s ps (suc v)))
+          ≡ cond b (2 ^ v) 0 + set_number (points_near tolerance s ps (suc v))
       go true = refl
       go false = omega arith
 
   pub near_step : (ps : List Vec) (v : ℕ) → v < length ps
-      → set_number (points_near tolerance s (drop v ps) v) ≡ cond (lt (distance s (point_at ps v)) tolerance) (2 ^ v) 0 + set_number (points_near tolerance s (drop (suc v) ps) (suc v))
+      → set_number (points_near tolerance s (drop v ps) v) ≡ cond (lt (distance s (point_at ps v)) tolerance)
+      (2 ^ v) 0 + set_number (points_near tolerance s (drop (suc v) ps) (suc v))
   unfolding point_at
   near_step ps v h = rw (drop-cons ps v [] h) (near_first (get_or ps v []) (drop (suc v) ps) v)

@@ -1,5 +1,7 @@
--- A set's vertices, one after another: how many they are; they are below the number of vertices, and ascend; a row sends them to vertices. Leans on the steps of the loops.
-use Rattle.std.specs.Prelude.{◌≡◌, refl, List, [], ◌∷◌, ◌++◌, ℕ, zero, suc, ◌+◌, ◌*◌, ◌-◌, ◌/◌, ◌%◌, ◌≤◌, ◌<◌, length, get_or}
+-- A set's vertices, one after another: how many they are; they are below the number of vertices, and ascend; a row
+-- sends them to vertices. Leans on the steps of the loops.
+use Rattle.std.specs.Prelude.{◌≡◌, refl, List, [], ◌∷◌, ◌++◌, ℕ, zero, suc, ◌+◌, ◌*◌, ◌-◌, ◌/◌, ◌%◌, ◌≤◌, ◌<◌, length}
+use Rattle.std.specs.Prelude.{get_or}
 use Rattle.std.proofs.Common.{ap, ◌∙◌, arith, eq-eqb, ne_eqb}
 use Rattle.std.proofs.Math.Decide.{ℕ_discrete}
 use Rattle.laws.specs.Lists.{member_at}
@@ -27,7 +29,8 @@ unfolding to_come
 come_turn n v rest h =
     let e : n - v ≡ suc (n - (v + 1)) = omega arith in
     let s : suc v ≡ v + 1 = omega arith in
-    ap (λ (k : ℕ). vertices_from v k rest) e ∙ (vertices_step v (n - (v + 1)) rest ∙ ap (λ (u : ℕ). vertices_from v 1 rest ++ vertices_from u (n - (v + 1)) (rest / 2)) s)
+    ap (λ (k : ℕ). vertices_from v k rest) e ∙ (vertices_step v (n - (v + 1)) rest
+    ∙ ap (λ (u : ℕ). vertices_from v 1 rest ++ vertices_from u (n - (v + 1)) (rest / 2)) s)
 
 pub come_end : (n v rest : ℕ) → n ≤ v → to_come n v rest ≡ []
 unfolding to_come vertices_from
@@ -65,7 +68,10 @@ vertices_few v (suc n) x = omega (arith, bit_length v n x, vertices_few (suc v) 
 -- a vertex is below n, and a later one is larger
 pub vertex_below : (n set p : ℕ) → p < length (vertices_of n set) → get_or (vertices_of n set) p 0 < n
 unfolding vertices_of
-vertex_below n set p h = let r = (set_range (vertices_set 0 n set) (get_or (vertices_from 0 n set) p 0) (member_at (vertices_from 0 n set) p 0 h)).1 in omega arith
+vertex_below n set p h =
+    let r = (set_range (vertices_set 0 n set) (get_or (vertices_from 0 n set) p 0)
+    (member_at (vertices_from 0 n set) p 0 h)).1 in
+    omega arith
 
 rising_at : (l : List ℕ) → Pairs ◌<◌ l → (i j : ℕ) → i < j → j < length l → get_or l i 0 < get_or l j 0
 rising_at [] p i j h k = absurd (omega arith)
@@ -73,12 +79,14 @@ rising_at (x ∷ l) p i zero h k = absurd (omega arith)
 rising_at (x ∷ l) p zero (suc j) h k = p.0 (get_or l j 0) (member_at l j 0 (omega arith))
 rising_at (x ∷ l) p (suc i) (suc j) h k = rising_at l p.1 i j (omega arith) (omega arith)
 
-pub vertex_rises : (n set i j : ℕ) → i < j → j < length (vertices_of n set) → get_or (vertices_of n set) i 0 < get_or (vertices_of n set) j 0
+pub vertex_rises : (n set i j : ℕ) → i < j → j < length (vertices_of n set)
+    → get_or (vertices_of n set) i 0 < get_or (vertices_of n set) j 0
 unfolding vertices_of
 vertex_rises n set i j h k = rising_at (vertices_from 0 n set) (set_rises (vertices_set 0 n set)) i j h k
 
 -- a row of n vertices sends those of a set to vertices
-pub row_sends : (i n set : ℕ) (rows : List ℕ) → 32 * i + n ≤ length rows → ((v : ℕ) → v < n → get_or rows (32 * i + v) 0 < 20) → RowSends i rows (vertices_of n set)
+pub row_sends : (i n set : ℕ) (rows : List ℕ) → 32 * i + n ≤ length rows
+    → ((v : ℕ) → v < n → get_or rows (32 * i + v) 0 < 20) → RowSends i rows (vertices_of n set)
 row_sends i n set rows room images = record {
   told = λ k h. omega (arith, vertex_below n set k h);
   sent = λ k h. images (get_or (vertices_of n set) k 0) (vertex_below n set k h);

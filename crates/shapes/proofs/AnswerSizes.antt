@@ -21,7 +21,8 @@ use Rattle.shapes.specs.AnswerSizes.{AnswerCounted, two_counted, two_counts}
 
 -- ---- orbits
 
-module _ (more : ℕ) (rules : Rules) (plane : Subspace) (points : List Vec) (rows : List Row) (p : Prepared) (made : Preparation more rules (faceting more rules) plane points rows p) where
+module _ (more : ℕ) (rules : Rules) (plane : Subspace) (points : List Vec) (rows : List Row) (p : Prepared)
+    (made : Preparation more rules (faceting more rules) plane points rows p) where
   -- every orbit of a call has a set, and no more than rows
   pub call_counted : Given points rows → (i : Inner) → Mem i p.inner → Counted rows i.orbit.count
   call_counted given i m =
@@ -29,19 +30,23 @@ module _ (more : ℕ) (rules : Rules) (plane : Subspace) (points : List Vec) (ro
 
 -- ---- every rank
 
-pub answer_counted : (more : ℕ) (rules : Rules) (plane : Subspace) (points : List Vec) (rows : List Row) (budget : ℕ) (a : Answer) → Given points rows
+pub answer_counted : (more : ℕ) (rules : Rules) (plane : Subspace) (points : List Vec) (rows : List Row) (budget : ℕ)
+    (a : Answer) → Given points rows
     → faceting more rules plane points rows budget ≡ answered a → AnswerCounted rows a
 unfolding finish
 answer_counted zero rules plane points rows budget a given e =
     let r = rank_two rules plane points rows budget a e in
     record {
-      possible_many = ap length r.possible ∙ length-map {B = List Figure} (count_from 0 r.ends) (λ (v : ℕ). vertex_ridge v ∷ []) ∙ count_length 0 r.ends ∙ sym (two_counts budget a r);
+      possible_many =
+          ap length r.possible ∙ length-map {B = List Figure} (count_from 0 r.ends) (λ (v : ℕ). vertex_ridge v ∷ [])
+          ∙ count_length 0 r.ends ∙ sym (two_counts budget a r);
       counted = two_counted rules plane points rows budget a given e;
     }
 answer_counted (suc more) rules plane points rows budget a given e =
     let c = answered_call more rules plane points rows budget a e in
     let inner = c.before.inner in
-    let counts : length a.counts ≡ length inner = ap (λ (x : Answer). length x.counts) c.is ∙ length-map inner (λ (i : Inner). i.orbit.count) in
+    let counts : length a.counts ≡ length inner = ap (λ (x : Answer). length x.counts) c.is
+    ∙ length-map inner (λ (i : Inner). i.orbit.count) in
     record {
       possible_many = ap (λ (x : Answer). length x.possible) c.is ∙ length-map inner possible_facets ∙ sym counts;
       counted = λ n m.

@@ -22,7 +22,11 @@ polygon_stack n k l h = (
     elements = λ d m. let r = of_map ends d l m in subst (Element n) (sym r.2) (ends_element n r.0 (h.proper r.0 r.1));
     distinct =
         ascends_distinct compare_nats nat_lists (map ends l)
-        (ascends_map compare_pair pairs compare_nats nat_lists ends (λ e. Unit {0}) (λ d e u v q. compare_ends d e ∙ q) l (λ e m. tt) h.ascends);
+        (ascends_map compare_pair pairs compare_nats nat_lists ends (λ e. Unit {0})
+        (λ d e u v q. compare_ends d e ∙ q) l (λ e m. tt) h.ascends);
   },
-  (subst (λ (many : ℕ). Rank many (count_from 0 (length l) ∷ [])) (sym (length-map l ends)) (body_element (length l)), tt),
+  (
+    subst (λ (many : ℕ). Rank many (count_from 0 (length l) ∷ [])) (sym (length-map l ends)) (body_element (length l)),
+    tt,
+  ),
 )

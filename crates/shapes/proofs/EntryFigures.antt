@@ -25,7 +25,8 @@ use Rattle.shapes.specs.EdgeSets.{Proper, EdgeSet, edges_in_order, polygons_in_o
 use Rattle.shapes.specs.Polygons.{edge_via, edge_pairs, polygon_edges}
 use Rattle.shapes.specs.Nested.{NestedSet, move_nested}
 use Rattle.shapes.specs.NestedFigures.{nested_figure}
-use Rattle.shapes.specs.NestedCalls.{entry_points, facet_figure, facet_element, facet_points, nested_images, nested_facets}
+use Rattle.shapes.specs.NestedCalls.{entry_points, facet_figure, facet_element, facet_points, nested_images}
+use Rattle.shapes.specs.NestedCalls.{nested_facets}
 use Rattle.shapes.proofs.NestedCalls.{facet_nested, list_nested, possible_nested, answered_nested, found_split_in_call}
 use Rattle.shapes.specs.EntryFigures.{polygon_images, polygon_nested, polygons_of_list, polyhedron_nested}
 
@@ -35,7 +36,8 @@ edge_set : (n : ℕ) (l : List Pair) → NestedSet n (suc zero) l → EdgeSet n 
 edge_set n l h = record { ascends = h.0; proper = h.1 }
 
 -- the edge between the first two vertices of a set
-pub edge_proper : (more : ℕ) (rules : Rules) (plane : Subspace) (points : List Vec) (rows : List Row) (p : Prepared) → Given points rows → Preparation more rules (faceting more rules) plane points rows p
+pub edge_proper : (more : ℕ) (rules : Rules) (plane : Subspace) (points : List Vec) (rows : List Row) (p : Prepared)
+    → Given points rows → Preparation more rules (faceting more rules) plane points rows p
     → (i : Inner) → Mem i p.inner → Proper p.points (edge_of i.orbit)
 unfolding edge_of
 edge_proper more rules plane points rows p given made i m =
@@ -43,15 +45,19 @@ edge_proper more rules plane points rows p given made i m =
     let k = inner_enough more rules (faceting more rules) plane points rows p made i m in
     let s = call_set more rules plane points rows p given made i m in
     record {
-      rises = compare_lt (get_or vertices 0 0) (get_or vertices 1 0) (ascending_at _ nats 0 vertices s.ascends 0 1 (omega arith) (omega arith));
+      rises =
+          compare_lt (get_or vertices 0 0) (get_or vertices 1 0)
+          (ascending_at _ nats 0 vertices s.ascends 0 1 (omega arith) (omega arith));
       below = s.below (get_or vertices 1 0) (member_at vertices 1 0 (omega arith));
     }
 
 -- ---- rank 3
 
 -- every entry of a call of rank 3 is a polygon
-pub entry_polygon : (rules : Rules) (plane : Subspace) (points : List Vec) (rows : List Row) (a : Answer) → Given points rows → AnsweredCall 0 rules plane points rows a
-    → (e : Entry) → Mem e a.entries → (edges : List Pair) × (e.figure ≡ polygon (length points) edges) × EdgeSet (length points) edges
+pub entry_polygon : (rules : Rules) (plane : Subspace) (points : List Vec) (rows : List Row) (a : Answer)
+    → Given points rows → AnsweredCall 0 rules plane points rows a
+    → (e : Entry) → Mem e a.entries
+    → (edges : List Pair) × (e.figure ≡ polygon (length points) edges) × EdgeSet (length points) edges
 unfolding entry_points
 entry_polygon rules plane points rows a given c e m =
     let r = (answered_nested zero rules plane points rows a given c).entries e m in
@@ -59,9 +65,11 @@ entry_polygon rules plane points rows a given c e m =
 
 -- ---- rank 4
 
-module _ (rules : Rules) (plane : Subspace) (points : List Vec) (rows : List Row) (q : Prepared) (given : Given points rows) (made : Preparation 1 rules (faceting 1 rules) plane points rows q) where
+module _ (rules : Rules) (plane : Subspace) (points : List Vec) (rows : List Row) (q : Prepared)
+    (given : Given points rows) (made : Preparation 1 rules (faceting 1 rules) plane points rows q) where
   -- every possible facet is a polygon in this call's vertices, over as many points as its set has
-  pub possible_polygon : (i : Inner) → Mem i q.inner → (f : Figure) → Mem f (possible_facets i) → (edges : List Pair) × (f ≡ polygon (length i.orbit.vertices) edges) × EdgeSet q.points edges
+  pub possible_polygon : (i : Inner) → Mem i q.inner → (f : Figure) → Mem f (possible_facets i)
+      → (edges : List Pair) × (f ≡ polygon (length i.orbit.vertices) edges) × EdgeSet q.points edges
   unfolding entry_points
   possible_polygon i m f k =
       let r = possible_nested 1 rules plane points rows q given made i m f k in
@@ -72,21 +80,36 @@ module _ (rules : Rules) (plane : Subspace) (points : List Vec) (rows : List Row
   facet_edges_holds f inside =
       let many = facet_points 1 q f in
       let x = facet_element 1 q f in
-      ap edge_pairs ((facet_nested 1 rules plane points rows q given made f inside).0 ∙ polygon_nested many x) ∙ polygon_edges many x
+      ap edge_pairs ((facet_nested 1 rules plane points rows q given made f inside).0 ∙ polygon_nested many x)
+      ∙ polygon_edges many x
 
   images_polygons : (f : Facet) → InCall q f → nested_images 1 q f ≡ polygon_images q f
   unfolding nested_images polygon_images move_nested pair_image edge_via
-  images_polygons f inside = ap (λ (edges : List Pair). map (λ (row : Row). edges_in_order (map (λ (e : Pair). edge_via (image row) e) edges)) q.rows) (sym (facet_edges_holds f inside))
+  images_polygons f inside =
+      ap (λ (edges : List Pair).
+      map (λ (row : Row). edges_in_order (map (λ (e : Pair). edge_via (image row) e) edges)) q.rows)
+      (sym (facet_edges_holds f inside))
 
-  -- the figure of a list found: its edges are all row images of its split facets' edges, its polygons all row images of their edge sets, in order
-  pub rank_four_figure : (found : Found) → search_from rules q ≡ answered found → (l : List Facet) → Mem l found.lists → (entry_of q l).figure ≡ polyhedron q.points (edges_in_order (flat_map (λ (s : List Pair). s) (polygons_of_list q l))) (polygons_in_order (polygons_of_list q l))
+  -- the figure of a list found: its edges are all row images of its split facets' edges, its polygons all row images
+  -- of their edge sets, in order
+  pub rank_four_figure : (found : Found) → search_from rules q ≡ answered found → (l : List Facet) → Mem l found.lists
+      → (entry_of q l).figure
+      ≡ polyhedron q.points (edges_in_order (flat_map (λ (s : List Pair). s) (polygons_of_list q l)))
+      (polygons_in_order (polygons_of_list q l))
   unfolding polygons_of_list nested_facets compare_pairs
   rank_four_figure found is_found_holds l m =
       let inside = found_split_in_call 1 rules plane points rows q given made found is_found_holds l m in
       let polygons = flat_map (polygon_images q) (split q l) in
-      let once : SameItems (polygons_in_order polygons) polygons = record { into = λ s i. of_in_order compare_pairs pair_lists s polygons i; back = λ s i. in_in_order compare_pairs pair_lists s polygons i } in
+      let once : SameItems (polygons_in_order polygons) polygons =
+      record {
+        into = λ s i. of_in_order compare_pairs pair_lists s polygons i;
+        back = λ s i. in_in_order compare_pairs pair_lists s polygons i;
+      } in
       (list_nested 1 rules plane points rows q given made found is_found_holds l m).0
-      ∙ ap (λ (ps : List (List Pair)). nested_figure q.points 2 (polygons_in_order ps)) (flat_map_same (nested_images 1 q) (polygon_images q) (split q l) (λ f i. images_polygons f (inside f i)))
+      ∙ ap (λ (ps : List (List Pair)). nested_figure q.points 2 (polygons_in_order ps))
+      (flat_map_same (nested_images 1 q) (polygon_images q) (split q l) (λ f i. images_polygons f (inside f i)))
       ∙ polyhedron_nested q.points (polygons_in_order polygons)
       ∙ ap (λ (edges : List Pair). polyhedron q.points edges (polygons_in_order polygons))
-      (in_order_same compare_pair pairs (flat_map (λ (s : List Pair). s) (polygons_in_order polygons)) (flat_map (λ (s : List Pair). s) polygons) (same_flat_map (λ (s : List Pair). s) (polygons_in_order polygons) polygons once))
+      (in_order_same compare_pair pairs (flat_map (λ (s : List Pair). s) (polygons_in_order polygons))
+      (flat_map (λ (s : List Pair). s) polygons)
+      (same_flat_map (λ (s : List Pair). s) (polygons_in_order polygons) polygons once))

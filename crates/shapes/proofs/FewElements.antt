@@ -32,27 +32,34 @@ use Rattle.shapes.specs.FewElements.{Few, entry_few, inner_points_holds, most_el
 -- ---- the entries of a call, from its possible facets
 
 -- one rank more: rows × possible facets × as many as the inner calls' entries have
-pub step_few : (more r f v : ℕ) (rules : Rules) (plane : Subspace) (points : List Vec) (rows : List Row) (a : Answer) → Given points rows → rules.bounds.facets ≤ f → length rows ≤ r
-    → (c : AnsweredCall more rules plane points rows a) → ((i : Inner) → Mem i c.before.inner → (e : Entry) → Mem e i.answer.entries → Few v e.figure)
+pub step_few : (more r f v : ℕ) (rules : Rules) (plane : Subspace) (points : List Vec) (rows : List Row) (a : Answer)
+    → Given points rows → rules.bounds.facets ≤ f → length rows ≤ r
+    → (c : AnsweredCall more rules plane points rows a)
+    → ((i : Inner) → Mem i c.before.inner → (e : Entry) → Mem e i.answer.entries → Few v e.figure)
     → (x : Entry) → Mem x a.entries → Few (max 1 (r * f * v)) x.figure
 unfolding finish
 step_few more r f v rules plane points rows a given few_facets_holds h c inner_few x i =
     let p = c.before in
     let q = entry_of_list rules p c.found c.is_found_holds x (subst (λ (y : Answer). Mem x y.entries) c.is i) in
-    let parts = split_length rules p c.found c.is_found_holds (call_split more rules plane points rows p given c.prepared) q.0 q.1 in
+    let parts = split_length rules p c.found c.is_found_holds
+    (call_split more rules plane points rows p given c.prepared) q.0 q.1 in
     let same : length p.rows ≡ length rows = ap length c.prepared.rows_are in
     let wide : length p.rows ≤ r = omega arith in
     let short : length (split p q.0) ≤ f = omega (arith, c.prepared.few_facets_holds) in
-    let product : length p.rows * length (split p q.0) * v ≤ r * f * v = mul-le-mul (mul-le-mul wide short) (omega arith) in
-    subst (λ (y : Entry). Few (max 1 (r * f * v)) y.figure) (sym q.2) (entry_few p v inner_few (max 1 (r * f * v)) q.0 (omega arith) (omega arith))
+    let product : length p.rows * length (split p q.0) * v
+    ≤ r * f * v = mul-le-mul (mul-le-mul wide short) (omega arith) in
+    subst (λ (y : Entry). Few (max 1 (r * f * v)) y.figure) (sym q.2)
+    (entry_few p v inner_few (max 1 (r * f * v)) q.0 (omega arith) (omega arith))
 
 -- ---- every rank
 
 module _ (rules : Rules) (n r f : ℕ) (few_facets_holds : rules.bounds.facets ≤ f) where
   -- the edge of rank 2
-  two_few : (plane : Subspace) (points : List Vec) (rows : List Row) (budget : ℕ) (a : Answer) → faceting 0 rules plane points rows budget ≡ answered a → (x : Entry) → Mem x a.entries → Few 1 x.figure
+  two_few : (plane : Subspace) (points : List Vec) (rows : List Row) (budget : ℕ) (a : Answer)
+      → faceting 0 rules plane points rows budget ≡ answered a → (x : Entry) → Mem x a.entries → Few 1 x.figure
   unfolding dyad sizes
-  two_few plane points rows budget a e x i = only (subst (λ (l : List Entry). Mem x l) (rank_two rules plane points rows budget a e).entries i)
+  two_few plane points rows budget a e x i =
+      only (subst (λ (l : List Entry). Mem x l) (rank_two rules plane points rows budget a e).entries i)
     where
       one : Few 1 dyad
       one k (Memᴰ.head q) = omega arith
@@ -63,22 +70,30 @@ module _ (rules : Rules) (n r f : ℕ) (few_facets_holds : rules.bounds.facets �
       only (Memᴰ.tail m) = elim m [ ]
 
   -- a polygon's edges are no more than the pairs of its points
-  polygon_few : (points : ℕ) (edges : List Pair) (g : Figure) → points ≤ n → g ≡ polygon points edges → 2 * length edges + points ≤ points * points → Few (max 1 (n * n)) g
+  polygon_few : (points : ℕ) (edges : List Pair) (g : Figure) → points ≤ n → g ≡ polygon points edges
+      → 2 * length edges + points ≤ points * points → Few (max 1 (n * n)) g
   unfolding polygon sizes
   polygon_few points edges g h is few = subst (Few (max 1 (n * n))) (sym is) go
     where
       go : Few (max 1 (n * n)) (polygon points edges)
-      go k (Memᴰ.head q) = let a = length-map edges ends in let b : points * points ≤ n * n = mul-le-mul h h in omega arith
+      go k (Memᴰ.head q) =
+          let a = length-map edges ends in
+          let b : points * points ≤ n * n = mul-le-mul h h in
+          omega arith
       go k (Memᴰ.tail (Memᴰ.head q)) = omega arith
       go k (Memᴰ.tail (Memᴰ.tail m)) = elim m [ ]
 
   -- what is known of all calls of a rank
   abbrev FewAt : ℕ → Type 0
-  FewAt more = (plane : Subspace) (points : List Vec) (rows : List Row) (budget : ℕ) (a : Answer) → Given points rows → length points ≤ n → length rows ≤ r
-      → faceting more rules plane points rows budget ≡ answered a → (x : Entry) → Mem x a.entries → Few (most_elements n r f more) x.figure
+  FewAt more =
+      (plane : Subspace) (points : List Vec) (rows : List Row) (budget : ℕ) (a : Answer) → Given points rows
+      → length points ≤ n → length rows ≤ r
+      → faceting more rules plane points rows budget ≡ answered a → (x : Entry) → Mem x a.entries
+      → Few (most_elements n r f more) x.figure
 
   -- an answered call whose inner calls have few
-  few_from : (more : ℕ) (plane : Subspace) (points : List Vec) (rows : List Row) (a : Answer) → Given points rows → length points ≤ n → length rows ≤ r → AnsweredCall more rules plane points rows a → FewAt more
+  few_from : (more : ℕ) (plane : Subspace) (points : List Vec) (rows : List Row) (a : Answer) → Given points rows
+      → length points ≤ n → length rows ≤ r → AnsweredCall more rules plane points rows a → FewAt more
       → (x : Entry) → Mem x a.entries → Few (most_elements n r f (suc more)) x.figure
   unfolding most_elements
   few_from zero plane points rows a given h k c below x i =
@@ -92,15 +107,19 @@ module _ (rules : Rules) (n r f : ℕ) (few_facets_holds : rules.bounds.facets �
       let its = inner_points_holds (suc more) rules plane points rows p c.prepared j m in
       let own = within_few j.orbit.vertices rows in
       below _ (inner_points plane points j) (rows_within j.orbit.vertices rows) inner.budget j.answer
-      (inner_given (suc more) rules (faceting (suc more) rules) plane points rows p c.prepared given.rows_good j m) (omega arith) (omega arith) inner.is)
+      (inner_given (suc more) rules (faceting (suc more) rules) plane points rows p c.prepared given.rows_good j m)
+      (omega arith) (omega arith) inner.is)
       x i
 
   pub few_elements : (more : ℕ) → FewAt more
   unfolding most_elements
   few_elements zero plane points rows budget a given h k e x i = two_few plane points rows budget a e x i
-  few_elements (suc more) plane points rows budget a given h k e x i = few_from more plane points rows a given h k (answered_call more rules plane points rows budget a e) (few_elements more) x i
+  few_elements (suc more) plane points rows budget a given h k e x i =
+      few_from more plane points rows a given h k (answered_call more rules plane points rows budget a e)
+      (few_elements more) x i
 
   -- every answered call above rank 2, with a package or without
-  pub answered_few : (more : ℕ) (plane : Subspace) (points : List Vec) (rows : List Row) (a : Answer) → Given points rows → length points ≤ n → length rows ≤ r → AnsweredCall more rules plane points rows a
+  pub answered_few : (more : ℕ) (plane : Subspace) (points : List Vec) (rows : List Row) (a : Answer)
+      → Given points rows → length points ≤ n → length rows ≤ r → AnsweredCall more rules plane points rows a
       → (x : Entry) → Mem x a.entries → Few (most_elements n r f (suc more)) x.figure
   answered_few more plane points rows a given h k c = few_from more plane points rows a given h k c (few_elements more)

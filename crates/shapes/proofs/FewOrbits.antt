@@ -22,13 +22,18 @@ pairs_tuples n = ones (all_pairs n)
 
     ones : (ps : List Pair) → length (flat_map (λ (p : Pair). choose (above n p.1) 0) ps) ≤ length ps
     ones [] = omega arith
-    ones (p ∷ ps) = let e = length-append (choose (above n p.1) 0) (flat_map (λ (q : Pair). choose (above n q.1) 0) ps) in let a = one (above n p.1) in let b = ones ps in omega arith
+    ones (p ∷ ps) =
+        let e = length-append (choose (above n p.1) 0) (flat_map (λ (q : Pair). choose (above n q.1) 0) ps) in
+        let a = one (above n p.1) in
+        let b = ones ps in
+        omega arith
 
 -- ---- orbits
 
 -- at rank 3 no more than n (n − 1) / 2
 pub orbits_few : (tolerance : Float) (limits : Limits) (rule : ℕ) (points flat : List Vec) (rows : List Row)
-    → 2 * length (hyperplane_orbits tolerance limits rule 0 points flat rows) + length points ≤ length points * length points
+    → 2 * length (hyperplane_orbits tolerance limits rule 0 points flat rows) + length points
+    ≤ length points * length points
 orbits_few tolerance limits rule points flat rows =
     let n = length points in
     let a = orbits_tuples tolerance limits rule 0 points flat rows in

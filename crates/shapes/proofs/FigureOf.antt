@@ -3,7 +3,8 @@ use Rattle.std.specs.Prelude.{◌≡◌, refl, ℕ, zero, suc, ◌+◌, length, 
 use Rattle.std.proofs.Common.{sym, ap, ◌∙◌, subst, arith}
 use mathlib.Core.List.{List, [], ◌∷◌, map}
 use Rattle.definitions.specs.Lists.{sort_by, sort_nats, compare_nats, count_from}
-use Rattle.definitions.specs.Figures.{Elements, Figure, sort_ranks, sort_strong, lowest_ranks, without_lowest, assemble, figure_of}
+use Rattle.definitions.specs.Figures.{Elements, Figure, sort_ranks, sort_strong, lowest_ranks, without_lowest, assemble}
+use Rattle.definitions.specs.Figures.{figure_of}
 use Rattle.laws.specs.Lists.{of_map}
 use Rattle.laws.specs.Orders.{nat_lists}
 use Rattle.laws.specs.Sorting.{in_sorted}
@@ -26,14 +27,18 @@ stacked_facets n facets h r m = let q = of_map (drop 2) r facets m in subst (Sta
 sort_ends : (b : ℕ) (es : Elements) → Rank b es → map sort_nats es ≡ es
 sort_ends b es h = map_self sort_nats es (λ e m. element_sorted b e (h.elements e m))
 
-sort_assembled : (n more : ℕ) (empty points : Elements) (facets : List (List Elements)) → Facets n facets → sort_strong (empty ∷ points ∷ assemble more facets) ≡ empty ∷ points ∷ sort_all (assemble more facets)
+sort_assembled : (n more : ℕ) (empty points : Elements) (facets : List (List Elements)) → Facets n facets
+    → sort_strong (empty ∷ points ∷ assemble more facets) ≡ empty ∷ points ∷ sort_all (assemble more facets)
 unfolding sort_strong assemble sort_all
 sort_assembled n zero empty points facets h = let all = lowest_ranks facets in
-    ap (λ (es : Elements). empty ∷ points ∷ sort_ranks es ((count_from 0 (length all) ∷ []) ∷ [])) (sort_ends n all (lowest_rank n facets h))
+    ap (λ (es : Elements). empty ∷ points ∷ sort_ranks es ((count_from 0 (length all) ∷ []) ∷ []))
+    (sort_ends n all (lowest_rank n facets h))
 sort_assembled n (suc more) empty points facets h = let all = lowest_ranks facets in
-    ap (λ (es : Elements). empty ∷ points ∷ sort_ranks es (assemble more (map (without_lowest all) facets))) (sort_ends n all (lowest_rank n facets h))
+    ap (λ (es : Elements). empty ∷ points ∷ sort_ranks es (assemble more (map (without_lowest all) facets)))
+    (sort_ends n all (lowest_rank n facets h))
 
-pub figure_of_holds : (n more : ℕ) (facets : List Figure) → Stacked n facets → figure_of more n facets ≡ ([] ∷ []) ∷ replicate n (0 ∷ []) ∷ gathered more (map (drop 2) facets)
+pub figure_of_holds : (n more : ℕ) (facets : List Figure) → Stacked n facets
+    → figure_of more n facets ≡ ([] ∷ []) ∷ replicate n (0 ∷ []) ∷ gathered more (map (drop 2) facets)
 unfolding figure_of
 figure_of_holds n more facets h =
     let stacks = map (drop 2) facets in
@@ -55,21 +60,26 @@ gathered_tower b zero facets h =
     let es = sort_by compare_nats (lowest_ranks facets) in
     record {
       stack = (rank_sorted b (lowest_ranks facets) rank, (body_element (length es), tt));
-      sorted = (sorted_ascends compare_nats nat_lists (lowest_ranks facets) rank.distinct, (((λ y i. elim i [ ]), tt), tt));
+      sorted = (
+        sorted_ascends compare_nats nat_lists (lowest_ranks facets) rank.distinct,
+        (((λ y i. elim i [ ]), tt), tt),
+      );
       crowned = refl;
     }
 gathered_tower b (suc more) facets h =
     let rank = lowest_rank b facets h in
     let es = sort_by compare_nats (lowest_ranks facets) in
     let upper = map (without_lowest es) facets in
-    let rest = gathered_tower (length es) more upper (without_facets b es facets (λ r m e i. in_sorted compare_nats e (lowest_ranks facets) (in_lowest facets r m e i)) h) in
+    let rest = gathered_tower (length es) more upper (without_facets b es facets (λ r m e i.
+    in_sorted compare_nats e (lowest_ranks facets) (in_lowest facets r m e i)) h) in
     record {
       stack = (rank_sorted b (lowest_ranks facets) rank, rest.stack);
       sorted = (sorted_ascends compare_nats nat_lists (lowest_ranks facets) rank.distinct, rest.sorted);
       crowned = crowned_above es (gathered more upper) rest.crowned;
     }
 
-pub figure_shaped : (n more : ℕ) (facets : List Figure) → Stacked n facets → Shaped n (3 + more) (figure_of more n facets)
+pub figure_shaped : (n more : ℕ) (facets : List Figure) → Stacked n facets
+    → Shaped n (3 + more) (figure_of more n facets)
 figure_shaped n more facets h =
     let stacks = map (drop 2) facets in
     let e = gathered_length more stacks in
@@ -87,16 +97,21 @@ figure_shaped n more facets h =
 gathered_same : (more : ℕ) (l m : List (List Elements)) → SameItems l m → gathered more l ≡ gathered more m
 unfolding gathered elements_of lowest_ranks
 gathered_same zero l m s =
-    ap (λ (es : Elements). es ∷ (count_from 0 (length es) ∷ []) ∷ []) (in_order_same compare_nats nat_lists (lowest_all l) (lowest_all m) (same_flat_map lowest_of l m s))
+    ap (λ (es : Elements). es ∷ (count_from 0 (length es) ∷ []) ∷ [])
+    (in_order_same compare_nats nat_lists (lowest_all l) (lowest_all m) (same_flat_map lowest_of l m s))
 gathered_same (suc more) l m s =
     let es = elements_of l in
-    let same : elements_of l ≡ elements_of m = in_order_same compare_nats nat_lists (lowest_all l) (lowest_all m) (same_flat_map lowest_of l m s) in
-    ap (λ (rest : List Elements). es ∷ rest) (gathered_same more (map (without_lowest es) l) (map (without_lowest es) m) (same_map (without_lowest es) l m s))
+    let same : elements_of l ≡ elements_of m =
+    in_order_same compare_nats nat_lists (lowest_all l) (lowest_all m) (same_flat_map lowest_of l m s) in
+    ap (λ (rest : List Elements). es ∷ rest) (gathered_same more (map (without_lowest es) l)
+    (map (without_lowest es) m) (same_map (without_lowest es) l m s))
     ∙ ap (λ (x : Elements). x ∷ gathered more (map (without_lowest x) m)) same
 
 -- facets in another order, or repeated, give the same figure
-pub figure_same : (n more : ℕ) (l m : List Figure) → Stacked n l → SameItems l m → figure_of more n l ≡ figure_of more n m
+pub figure_same : (n more : ℕ) (l m : List Figure) → Stacked n l → SameItems l m
+    → figure_of more n l ≡ figure_of more n m
 figure_same n more l m h s =
     figure_of_holds n more l h
-    ∙ ap (λ (ranks : List Elements). ([] ∷ []) ∷ replicate n (0 ∷ []) ∷ ranks) (gathered_same more (map (drop 2) l) (map (drop 2) m) (same_map (drop 2) l m s))
+    ∙ ap (λ (ranks : List Elements). ([] ∷ []) ∷ replicate n (0 ∷ []) ∷ ranks)
+    (gathered_same more (map (drop 2) l) (map (drop 2) m) (same_map (drop 2) l m s))
     ∙ sym (figure_of_holds n more m (λ f i. h f (s.back f i)))

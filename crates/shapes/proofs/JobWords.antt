@@ -29,7 +29,8 @@ fewest (suc (suc (suc k))) h = absurd (omega arith)
 -- ---- a job's answer
 
 -- whatever number below 2^32 the examined lists are counted from
-pub job_words : (bytes : Bytes) → RowsPassed (read_job bytes) → T (between 2 4 (read_job bytes).rank) → (a : Answer) → call_of bounds1 (read_job bytes) ≡ answered a → (spent : ℕ) → spent < u32s
+pub job_words : (bytes : Bytes) → RowsPassed (read_job bytes) → T (between 2 4 (read_job bytes).rank) → (a : Answer)
+    → call_of bounds1 (read_job bytes) ≡ answered a → (spent : ℕ) → spent < u32s
     → WordsBelow u32s (answer_words spent a)
 unfolding between call_of bounds1 rules_of
 job_words bytes passed ranked a e =
@@ -39,12 +40,22 @@ job_words bytes passed ranked a e =
     let few = leb→le job.n 20 (second (leb 2 job.n) (leb job.n 20) passed.enough) in
     let fewer = leb→le job.row_count 120 (second (leb 1 job.row_count) (leb job.row_count 120) passed.some_row) in
     let rank = leb→le job.rank 4 (second (leb 2 job.rank) (leb job.rank 4) ranked) in
-    words_below u32s 20 120 1024 (rules_of bounds1 job) (omega arith) (job.rank - 2) (plane_of job) job.points job.rows job.budget a (job_given bytes passed) (omega arith) (omega arith) e
-    (record { ranks = omega arith; few_points = omega arith; few_rows = omega arith; orbits = omega arith; facets = omega arith; entries = omega arith })
+    words_below u32s 20 120 1024 (rules_of bounds1 job) (omega arith) (job.rank - 2)
+    (plane_of job) job.points job.rows job.budget a (job_given bytes passed) (omega arith) (omega arith) e
+    (record {
+      ranks = omega arith;
+      few_points = omega arith;
+      few_rows = omega arith;
+      orbits = omega arith;
+      facets = omega arith;
+      entries = omega arith;
+    })
     (λ k h. fewest k (omega arith))
 
 -- with a package too
-pub noble_words : (bytes : Bytes) (pack : Package) → RowsPassed (read_job bytes) → T (between 2 4 (read_job bytes).rank) → (a : Answer) → noble_call_of bounds1 (read_job bytes) pack ≡ answered a → (spent : ℕ) → spent < u32s
+pub noble_words : (bytes : Bytes) (pack : Package) → RowsPassed (read_job bytes)
+    → T (between 2 4 (read_job bytes).rank) → (a : Answer) → noble_call_of bounds1 (read_job bytes) pack ≡ answered a
+    → (spent : ℕ) → spent < u32s
     → WordsBelow u32s (answer_words spent a)
 unfolding between noble_call_of bounds1 rules_of
 noble_words bytes pack passed ranked a e =
@@ -54,10 +65,22 @@ noble_words bytes pack passed ranked a e =
     let few = leb→le job.n 20 (second (leb 2 job.n) (leb job.n 20) passed.enough) in
     let fewer = leb→le job.row_count 120 (second (leb 1 job.row_count) (leb job.row_count 120) passed.some_row) in
     let rank = leb→le job.rank 4 (second (leb 2 job.rank) (leb job.rank 4) ranked) in
-    words_below_with u32s 20 120 1024 (rules_of bounds1 job) (omega arith) (noble_way pack) (noble_takes pack) (job.rank - 2) (plane_of job) job.points job.rows job.budget a (job_given bytes passed) (omega arith) (omega arith) e
-    (record { ranks = omega arith; few_points = omega arith; few_rows = omega arith; orbits = omega arith; facets = omega arith; entries = omega arith })
+    words_below_with u32s 20 120 1024 (rules_of bounds1 job) (omega arith) (noble_way pack) (noble_takes pack)
+    (job.rank - 2) (plane_of job) job.points job.rows job.budget a (job_given bytes passed) (omega arith)
+    (omega arith) e
+    (record {
+      ranks = omega arith;
+      few_points = omega arith;
+      few_rows = omega arith;
+      orbits = omega arith;
+      facets = omega arith;
+      entries = omega arith;
+    })
     (λ k h. fewest k (omega arith))
 
 -- of every accepted job
-pub accepted_words : (bytes : Bytes) → AreBytes bytes → Accepted bytes → (a : Answer) → call_of bounds1 (read_job bytes) ≡ answered a → WordsBelow u32s (answer_words (read_job bytes).budget a)
-accepted_words bytes are accepted a e = job_words bytes (accepted_rows bytes accepted) (rank_passed bytes (accepted_passed bytes accepted)) a e (read_job bytes).budget (budget_below bytes are)
+pub accepted_words : (bytes : Bytes) → AreBytes bytes → Accepted bytes → (a : Answer)
+    → call_of bounds1 (read_job bytes) ≡ answered a → WordsBelow u32s (answer_words (read_job bytes).budget a)
+accepted_words bytes are accepted a e =
+    job_words bytes (accepted_rows bytes accepted) (rank_passed bytes (accepted_passed bytes accepted)) a e
+    (read_job bytes).budget (budget_below bytes are)

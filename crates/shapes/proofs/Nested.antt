@@ -11,7 +11,8 @@ use Rattle.shapes.specs.EdgeSets.{Proper, ends, compare_ends, ends_element}
 use Rattle.shapes.specs.Polygons.{edge_via, ends_via}
 use Rattle.shapes.specs.LevelFigures.{Written}
 use Rattle.shapes.specs.LevelMoves.{Keeping}
-use Rattle.shapes.specs.Nested.{Nested, NestedSet, compare_nested, move_nested, nested, nested_in_order, nested_order, nested_sets, raise_nested, raised_compare, set_in_order}
+use Rattle.shapes.specs.Nested.{Nested, NestedSet, compare_nested, move_nested, nested, nested_in_order, nested_order}
+use Rattle.shapes.specs.Nested.{nested_sets, raise_nested, raised_compare, set_in_order}
 
 -- ---- nested sets
 
@@ -26,7 +27,8 @@ module _ (n m : ℕ) (to : ℕ → ℕ) (up : Rising n m to) where
   unfolding raise_nested ends_via
   raised_set zero e p = record { rises = up.rises e.0 e.1 p.rises p.below; below = up.below e.1 p.below }
   raised_set (suc k) l p = (
-    ascends_map (compare_nested k) (nested_order k) (compare_nested k) (nested_order k) (raise_nested to k) (NestedSet n k) (λ x y i j e. raised_compare n m to up k x y i j ∙ e) l p.1 p.0,
+    ascends_map (compare_nested k) (nested_order k) (compare_nested k) (nested_order k) (raise_nested to k)
+        (NestedSet n k) (λ x y i j e. raised_compare n m to up k x y i j ∙ e) l p.1 p.0,
     λ y i. let r = of_map (raise_nested to k) y l i in subst (NestedSet m k) (sym r.2) (raised_set k r.0 (p.1 r.0 r.1)),
   )
 
@@ -43,4 +45,5 @@ module _ (n m : ℕ) (to : ℕ → ℕ) (up : Rising n m to) where
       let high : max (to e.0) (to e.1) ≡ to e.1 = omega arith in
       λ t. (low t, high t)
   raised_moved (suc k) l p =
-      ap (nested_in_order k) (map_same (move_nested to k) (raise_nested to k) l (λ x i. raised_moved k x (p.1 x i))) ∙ set_in_order m k (map (raise_nested to k) l) (raised_set (suc k) l p)
+      ap (nested_in_order k) (map_same (move_nested to k) (raise_nested to k) l (λ x i. raised_moved k x (p.1 x i)))
+      ∙ set_in_order m k (map (raise_nested to k) l) (raised_set (suc k) l p)

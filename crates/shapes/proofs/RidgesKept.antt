@@ -35,7 +35,8 @@ keys_pairs more n = edges_few n (all_pairs n) (record { ascends = all_pairs_asce
 
 -- ---- the numbers of a call
 
-module _ (more : ℕ) (rules : Rules) (plane : Subspace) (points : List Vec) (rows : List Row) (p : Prepared) (few : more ≤ 1) (given : Given points rows)
+module _ (more : ℕ) (rules : Rules) (plane : Subspace) (points : List Vec) (rows : List Row) (p : Prepared)
+    (few : more ≤ 1) (given : Given points rows)
     (made : Preparation more rules (faceting more rules) plane points rows p) where
   pub ridges_kept : RidgesKept more (length points) rows (map kept_of p.inner)
   unfolding ridge_numbers
@@ -45,21 +46,28 @@ module _ (more : ℕ) (rules : Rules) (plane : Subspace) (points : List Vec) (ro
       let numbers = kept_ridges more rules plane points rows p few made in
       let counts = kept_counts more rules plane points rows p few made in
       let all = call_ridges more rules plane points rows p given made in
-      let few_keys = ridges_few more n rows kept given.rows_good (λ k m. (kept_sized more rules plane points rows p few given made k m).ends_keys) in
+      let few_keys = ridges_few more n rows kept given.rows_good
+      (λ k m. (kept_sized more rules plane points rows p few given made k m).ends_keys) in
       record {
         below = λ l m number j.
             let own = subst (λ (rs : List Row). Mem l (numbers_kept rs kept).0) (sym made.rows_are) m in
-            let r = of_map together l (ridge_numbers p.rows p.inner).0 (subst (λ (ls : List (List ℕ)). Mem l ls) numbers own) in
+            let r = of_map together l (ridge_numbers p.rows p.inner).0
+            (subst (λ (ls : List (List ℕ)). Mem l ls) numbers own) in
             let q = of_together number r.0 (subst (λ (x : List ℕ). Mem number x) r.2 j) in
             subst (λ (rs : List Row). number < length (numbers_kept rs kept).1.counts) made.rows_are
             (subst (λ (cs : List ℕ). number < length cs) (sym counts) (all.numbers r.0 r.1 q.0 q.1 number q.2));
         counted = λ c m.
             subst (λ (rs : List Row). Counted rs c) made.rows_are
-            (all.counts c (subst (λ (cs : List ℕ). Mem c cs) counts (subst (λ (rs : List Row). Mem c (numbers_kept rs kept).1.counts) (sym made.rows_are) m)));
+            (all.counts c (subst (λ (cs : List ℕ). Mem c cs) counts
+            (subst (λ (rs : List Row). Mem c (numbers_kept rs kept).1.counts) (sym made.rows_are) m)));
         few_keys = few_keys;
         few = λ small. at_rank more few (length (numbers_kept rows kept).1.counts) few_keys small;
       }
     where
-      at_rank : (more : ℕ) → more ≤ 1 → (many : ℕ) → many ≤ length (ridge_keys more (length points)) → length points ≤ 20 → many ≤ 190
+      at_rank : (more : ℕ) → more ≤ 1 → (many : ℕ) → many ≤ length (ridge_keys more (length points))
+          → length points ≤ 20 → many ≤ 190
       at_rank zero few many h small = let e = keys_vertices (length points) in omega arith
-      at_rank (suc more) few many h small = let k = pairs_few (length points) (length (ridge_keys (suc more) (length points))) small (keys_pairs more (length points)) in omega arith
+      at_rank (suc more) few many h small =
+          let k = pairs_few (length points) (length (ridge_keys (suc more) (length points))) small
+          (keys_pairs more (length points)) in
+          omega arith

@@ -1,5 +1,6 @@
--- Sets and edge sets read off by a test for each vertex or pair, in ascending order: what code does that keeps sets as bits. A set is the vertices that pass, in order; the edges of a figure
--- are the pairs that pass, in order; the polygons of a figure are those that pass of any ascending list that has them. Leans on EdgeSets and Sets.
+-- Sets and edge sets read off by a test for each vertex or pair, in ascending order: what code does that keeps sets
+-- as bits. A set is the vertices that pass, in order; the edges of a figure are the pairs that pass, in order; the
+-- polygons of a figure are those that pass of any ascending list that has them. Leans on EdgeSets and Sets.
 use Rattle.std.specs.Prelude.{◌≡◌}
 use Rattle.std.proofs.Common.{ap, ◌∙◌, arith}
 use mathlib.Core.List.{List, map}
@@ -17,8 +18,11 @@ use Rattle.shapes.specs.Sets.{VertexSet}
 -- ---- sets
 
 -- a set, read off vertex by vertex
-pub set_read : (n : ℕ) (vertices : List ℕ) → VertexSet n vertices → keep (λ (v : ℕ). seen_among compare nats v vertices) (count_from 0 n) ≡ vertices
-set_read n vertices h = ascending_kept compare nats vertices (count_from 0 n) h.ascends (count_ascending 0 n) (λ v m. let b = h.below v m in in_count 0 n v (omega arith) (omega arith))
+pub set_read : (n : ℕ) (vertices : List ℕ) → VertexSet n vertices
+    → keep (λ (v : ℕ). seen_among compare nats v vertices) (count_from 0 n) ≡ vertices
+set_read n vertices h =
+    ascending_kept compare nats vertices (count_from 0 n) h.ascends (count_ascending 0 n) (λ v m. let b =
+    h.below v m in in_count 0 n v (omega arith) (omega arith))
 
 -- ---- pairs
 
@@ -31,7 +35,8 @@ unfolding all_pairs pairs_from above
 in_all_pairs n e h =
     let r = h.rises in
     let b = h.below in
-    in_flat_map (λ (v : ℕ). map (λ (w : ℕ). (v, w)) (above n v)) e e.0 (count_from 0 n) (in_count 0 n e.0 (omega arith) (omega arith))
+    in_flat_map (λ (v : ℕ). map (λ (w : ℕ). (v, w)) (above n v)) e e.0 (count_from 0 n)
+    (in_count 0 n e.0 (omega arith) (omega arith))
     (in_map (λ (w : ℕ). (e.0, w)) e.1 (above n e.0) (in_count (suc e.0) (n - suc e.0) e.1 (omega arith) (omega arith)))
 
 pub of_all_pairs : (n : ℕ) (e : Pair) → Mem e (all_pairs n) → Proper n e
@@ -50,8 +55,11 @@ of_all_pairs n e m =
 pub all_pairs_ascend : (n : ℕ) → Ascends compare_pair (all_pairs n)
 unfolding all_pairs pairs_from above compare_pair then_by
 all_pairs_ascend n =
-    pairs_flat_map (λ (v w : ℕ). v < w) (λ d e. compare_pair d e ≡ Ordering.lt) (λ (v : ℕ). map (λ (w : ℕ). (v, w)) (above n v)) (count_from 0 n)
-    (λ v m. pairs_map (λ (x y : ℕ). x < y) (λ d e. compare_pair d e ≡ Ordering.lt) (λ (w : ℕ). (v, w)) (above n v) (λ x i y j k. ap (λ (o : Ordering). then_by o (compare x y)) (nats.self v) ∙ lt_compare x y k) (count_ascends (suc v) (n - suc v)))
+    pairs_flat_map (λ (v w : ℕ). v < w) (λ d e. compare_pair d e ≡ Ordering.lt)
+    (λ (v : ℕ). map (λ (w : ℕ). (v, w)) (above n v)) (count_from 0 n)
+    (λ v m. pairs_map (λ (x y : ℕ). x < y) (λ d e. compare_pair d e ≡ Ordering.lt) (λ (w : ℕ). (v, w)) (above n v)
+    (λ x i y j k. ap (λ (o : Ordering). then_by o (compare x y)) (nats.self v) ∙ lt_compare x y k)
+    (count_ascends (suc v) (n - suc v)))
     (λ v i w j k d a e b.
     let p = of_map (λ (x : ℕ). (v, x)) d (above n v) a in
     let q = of_map (λ (x : ℕ). (w, x)) e (above n w) b in
@@ -61,6 +69,8 @@ all_pairs_ascend n =
 
 -- ---- edges and polygons
 
--- polygons in order: those among them, of an ascending list that has them all (say, of all images of all possible facets of the call)
-pub polygons_read : (l all : List (List Pair)) → Ascends compare_pairs all → ((s : List Pair) → Mem s l → Mem s all) → polygons_in_order l ≡ keep (λ (s : List Pair). seen_among compare_pairs pair_lists s l) all
+-- polygons in order: those among them, of an ascending list that has them all (say, of all images of all possible
+-- facets of the call)
+pub polygons_read : (l all : List (List Pair)) → Ascends compare_pairs all → ((s : List Pair) → Mem s l → Mem s all)
+    → polygons_in_order l ≡ keep (λ (s : List Pair). seen_among compare_pairs pair_lists s l) all
 polygons_read l all = in_order_kept compare_pairs pair_lists l all

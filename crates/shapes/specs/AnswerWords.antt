@@ -1,6 +1,8 @@
--- Every number of an answer lies below a bound, at every rank: examined, the orbits' counts, the entries with their lists and figures, the possible facets, the compounds, the summaries. The premises are
--- the call's own: its budget, its points and rows, the bounds of its rules, and how many elements its figures have in a rank; that number is computed for every rank (`words_below`), and where a call
--- refuses to store larger figures, its own bound takes the place of the computed one (`words_from_inner`). Leans on FigureNumbers and FewElements.
+-- Every number of an answer lies below a bound, at every rank: examined, the orbits' counts, the entries with their
+-- lists and figures, the possible facets, the compounds, the summaries. The premises are the call's own: its budget,
+-- its points and rows, the bounds of its rules, and how many elements its figures have in a rank; that number is
+-- computed for every rank (`words_below`), and where a call refuses to store larger figures, its own bound takes the
+-- place of the computed one (`words_from_inner`). Leans on FigureNumbers and FewElements.
 use Rattle.std.specs.Prelude.{◌≡◌}
 use Rattle.std.proofs.Math.Path.{sym, subst}
 use Rattle.std.proofs.Common.{arith}
@@ -62,7 +64,8 @@ pub record Measured (n w : ℕ) (a : Answer) : Type 0 where
 -- ---- the figures of a call
 
 -- the one entry of rank 2, and its ridges
-two_entry : (P : Figure → Type 0) (budget : ℕ) (a : Answer) → RankTwo budget a → P dyad → (x : Entry) → Mem x a.entries → P x.figure
+two_entry : (P : Figure → Type 0) (budget : ℕ) (a : Answer) → RankTwo budget a → P dyad → (x : Entry)
+    → Mem x a.entries → P x.figure
 two_entry P budget a r h x i = only (subst (λ (l : List Entry). Mem x l) r.entries i)
   where
     only : {list : List Pair} → Mem x (record { list = list; before = list; figure = dyad } ∷ []) → P x.figure
@@ -70,7 +73,8 @@ two_entry P budget a r h x i = only (subst (λ (l : List Entry). Mem x l) r.entr
     only (Memᴰ.tail m) = elim m [ ]
 
 -- entries stand on their call's points, in an answered call above rank 2 and at every rank
-pub call_ground : (more : ℕ) (rules : Rules) (plane : Subspace) (points : List Vec) (rows : List Row) (a : Answer) → Given points rows → AnsweredCall more rules plane points rows a
+pub call_ground : (more : ℕ) (rules : Rules) (plane : Subspace) (points : List Vec) (rows : List Row) (a : Answer)
+    → Given points rows → AnsweredCall more rules plane points rows a
     → (x : Entry) → Mem x a.entries → OnGround (length points) x.figure
 unfolding finish entry_of
 call_ground more rules plane points rows a given c x i =
@@ -79,10 +83,15 @@ call_ground more rules plane points rows a given c x i =
     let n = c.prepared.points_are in
     let two = given.two in
     subst (λ (y : Entry). OnGround (length points) y.figure) (sym r.2)
-    (subst (λ (k : ℕ). OnGround k (entry_of p r.0).figure) n (figure_ground p.more p.points (flat_map (facet_images p) (split p r.0)) (omega arith)))
+    (subst (λ (k : ℕ). OnGround k (entry_of p r.0).figure) n
+    (figure_ground p.more p.points (flat_map (facet_images p) (split p r.0)) (omega arith)))
 
-pub entries_ground : (more : ℕ) (rules : Rules) (plane : Subspace) (points : List Vec) (rows : List Row) (budget : ℕ) (a : Answer) → Given points rows
-    → faceting more rules plane points rows budget ≡ answered a → (x : Entry) → Mem x a.entries → OnGround (length points) x.figure
+pub entries_ground : (more : ℕ) (rules : Rules) (plane : Subspace) (points : List Vec) (rows : List Row) (budget : ℕ)
+    (a : Answer) → Given points rows
+    → faceting more rules plane points rows budget ≡ answered a → (x : Entry) → Mem x a.entries
+    → OnGround (length points) x.figure
 entries_ground zero rules plane points rows budget a given e x i =
-    two_entry (OnGround (length points)) budget a (rank_two rules plane points rows budget a e) (dyad_ground (length points) given.two) x i
-entries_ground (suc more) rules plane points rows budget a given e x i = call_ground more rules plane points rows a given (answered_call more rules plane points rows budget a e) x i
+    two_entry (OnGround (length points)) budget a (rank_two rules plane points rows budget a e)
+    (dyad_ground (length points) given.two) x i
+entries_ground (suc more) rules plane points rows budget a given e x i =
+    call_ground more rules plane points rows a given (answered_call more rules plane points rows budget a e) x i

@@ -1,5 +1,6 @@
--- The figure of a list of facets. `figure_of` numbers each rank as its elements come and sorts at the end; here the same figure with each rank put in order at once (`gathered`), which shows
--- that it depends on the set of its facets alone, and that it has its shape. For every rank from 3. Leans on Move.
+-- The figure of a list of facets. `figure_of` numbers each rank as its elements come and sorts at the end; here the
+-- same figure with each rank put in order at once (`gathered`), which shows that it depends on the set of its facets
+-- alone, and that it has its shape. For every rank from 3. Leans on Move.
 use Rattle.std.specs.Prelude.{get_or}
 use mathlib.Core.List.{List, [], ◌∷◌, flat_map}
 use Prim.Native.Nat.{ℕ}
@@ -32,7 +33,8 @@ pub lowest_element : (b : ℕ) (r : List Elements) → Stack b r → (e : List �
 lowest_element b [] s e m = elim m [ ]
 lowest_element b (x ∷ more) s e m = s.0.elements e m
 
-pub all_elements : (b : ℕ) (facets : List (List Elements)) → Facets b facets → (e : List ℕ) → Mem e (lowest_all facets) → Element b e
+pub all_elements : (b : ℕ) (facets : List (List Elements)) → Facets b facets → (e : List ℕ)
+    → Mem e (lowest_all facets) → Element b e
 all_elements b facets h e m = let r = of_flat_map lowest_of e facets m in lowest_element b r.0 (h r.0 r.1) e r.2
 
 pub lowest_rank : (b : ℕ) (facets : List (List Elements)) → Facets b facets → Rank b (lowest_ranks facets)
@@ -42,6 +44,8 @@ lowest_rank b facets h = record {
   distinct = fresh_distinct compare_nats nat_lists [] (lowest_all facets);
 }
 
-pub in_lowest : (facets : List (List Elements)) (r : List Elements) → Mem r facets → (e : List ℕ) → Mem e (lowest_of r) → Mem e (lowest_ranks facets)
+pub in_lowest : (facets : List (List Elements)) (r : List Elements) → Mem r facets → (e : List ℕ)
+    → Mem e (lowest_of r) → Mem e (lowest_ranks facets)
 unfolding lowest_ranks
-in_lowest facets r m e i = in_fresh compare_nats nat_lists [] (lowest_all facets) e (in_flat_map lowest_of e r facets m i) (λ k. elim k [ ])
+in_lowest facets r m e i =
+    in_fresh compare_nats nat_lists [] (lowest_all facets) e (in_flat_map lowest_of e r facets m i) (λ k. elim k [ ])

@@ -1,5 +1,7 @@
--- Edges as pairs of vertices, the smaller first, and figures of rank 3 and 4 written from edge sets alone: a rank 3 figure is its edges in the order of the pairs, a rank 4 figure its edges and
--- its polygons, each the list of its edges' numbers, in the order of their lists of edges. EntryFigures shows that nested sets have these figures. Leans on FigureOf.
+-- Edges as pairs of vertices, the smaller first, and figures of rank 3 and 4 written from edge sets alone: a rank 3
+-- figure is its edges in the order of the pairs, a rank 4 figure its edges and its polygons, each the list of its
+-- edges' numbers, in the order of their lists of edges. EntryFigures shows that nested sets have these figures. Leans
+-- on FigureOf.
 use Rattle.std.specs.Prelude.{◌≡◌, length, replicate}
 use Rattle.std.proofs.Common.{ap, arith}
 use mathlib.Core.List.{List, [], ◌∷◌, map, Memᴰ}
@@ -68,4 +70,6 @@ polygons_in_order = in_order compare_pairs pair_lists
 
 -- the figure of rank 4 with so many points, these edges, and these polygons given by their edges
 unfoldable pub polyhedron : ℕ → List Pair → List (List Pair) → Figure
-polyhedron n edges polygons = ([] ∷ []) ∷ replicate n (0 ∷ []) ∷ map ends edges ∷ map (map (edge_number edges)) polygons ∷ (count_from 0 (length polygons) ∷ []) ∷ []
+polyhedron n edges polygons =
+    ([] ∷ []) ∷ replicate n (0 ∷ []) ∷ map ends edges ∷ map (map (edge_number edges)) polygons
+    ∷ (count_from 0 (length polygons) ∷ []) ∷ []

@@ -1,4 +1,5 @@
--- The figures of ranks 1 and 2: a vertex as a ridge, an edge with its ends. How they move, and that two are equal exactly when their vertices are. Leans on the definitions and laws.
+-- The figures of ranks 1 and 2: a vertex as a ridge, an edge with its ends. How they move, and that two are equal
+-- exactly when their vertices are. Leans on the definitions and laws.
 use Rattle.std.specs.Prelude.{◌≡◌, refl, cond, List, [], ◌∷◌}
 use Rattle.std.proofs.Common.{ap, ◌∙◌, arith}
 use Prim.Native.Nat.{ℕ, min, max, compare, Ordering}
@@ -25,7 +26,9 @@ sort_two a b = go (compare a b) refl
     go : (o : Ordering) → compare a b ≡ o → cond (is_gt o) (b ∷ a ∷ []) (a ∷ b ∷ []) ≡ min a b ∷ max a b ∷ []
     go Ordering.lt e = let k = compare_lt a b e in pair a b (min a b) (max a b) (omega arith) (omega arith)
     go Ordering.eq e = let k = nats.equal a b e in pair a b (min a b) (max a b) (omega arith) (omega arith)
-    go Ordering.gt e = let k = compare_lt b a (nats.mirror a b ∙ ap turned e) in pair b a (min a b) (max a b) (omega arith) (omega arith)
+    go Ordering.gt e =
+        let k = compare_lt b a (nats.mirror a b ∙ ap turned e) in
+        pair b a (min a b) (max a b) (omega arith) (omega arith)
 
 -- ---- a vertex
 
@@ -40,6 +43,8 @@ unfoldable pub edge_figure : Pair → Figure
 edge_figure e = ([] ∷ []) ∷ ((0 ∷ []) ∷ (0 ∷ []) ∷ []) ∷ ((e.0 ∷ e.1 ∷ []) ∷ []) ∷ []
 
 -- moved and sorted, the smaller end first
-pub edge_moved : (to : ℕ → ℕ) (e : Pair) → move_sorted to (edge_figure e) ≡ edge_figure (min (to e.0) (to e.1), max (to e.0) (to e.1))
+pub edge_moved : (to : ℕ → ℕ) (e : Pair)
+    → move_sorted to (edge_figure e) ≡ edge_figure (min (to e.0) (to e.1), max (to e.0) (to e.1))
 unfolding move_sorted sort_strong move_ends edge_figure sort_ranks
-edge_moved to e = ap (λ (ends : List ℕ). ([] ∷ []) ∷ ((0 ∷ []) ∷ (0 ∷ []) ∷ []) ∷ (ends ∷ []) ∷ []) (sort_two (to e.0) (to e.1))
+edge_moved to e =
+    ap (λ (ends : List ℕ). ([] ∷ []) ∷ ((0 ∷ []) ∷ (0 ∷ []) ∷ []) ∷ (ends ∷ []) ∷ []) (sort_two (to e.0) (to e.1))

@@ -1,5 +1,5 @@
--- The figures of entries of rank 3 and 4 by edges and polygons, read off NestedCalls: a rank 3 entry is a polygon, a rank 4 entry's polygons are all row images of its split facets' edge sets.
--- Leans on NestedCalls.
+-- The figures of entries of rank 3 and 4 by edges and polygons, read off NestedCalls: a rank 3 entry is a polygon, a
+-- rank 4 entry's polygons are all row images of its split facets' edge sets. Leans on NestedCalls.
 use Rattle.std.specs.Prelude.{◌≡◌, refl, ℕ, zero, suc}
 use mathlib.Core.List.{List, map, flat_map}
 use Rattle.definitions.specs.Lists.{Pair}
@@ -24,7 +24,8 @@ pub polygon_nested : (n : ℕ) (edges : List Pair) → nested_figure n (suc zero
 unfolding nested_figure ranks_of ranks_on upper_ranks lowest body_of polygon
 polygon_nested n edges = refl
 
-pub polyhedron_nested : (n : ℕ) (polygons : List (List Pair)) → nested_figure n (suc (suc zero)) polygons ≡ polyhedron n (edges_in_order (flat_map (λ (s : List Pair). s) polygons)) polygons
+pub polyhedron_nested : (n : ℕ) (polygons : List (List Pair)) → nested_figure n (suc (suc zero)) polygons
+    ≡ polyhedron n (edges_in_order (flat_map (λ (s : List Pair). s) polygons)) polygons
 unfolding nested_figure ranks_of ranks_on upper_ranks lowest under body_of polyhedron
 polyhedron_nested n polygons = refl
 
@@ -32,7 +33,8 @@ polyhedron_nested n polygons = refl
 
 -- all row images of a facet's edge set, at rank 4
 unfoldable pub polygon_images : Prepared → Facet → List (List Pair)
-polygon_images p f = map (λ (row : Row). edges_in_order (map (λ (e : Pair). pair_image e row) (edge_pairs (facet_figure p f)))) p.rows
+polygon_images p f =
+    map (λ (row : Row). edges_in_order (map (λ (e : Pair). pair_image e row) (edge_pairs (facet_figure p f)))) p.rows
 
 -- the polygons of a list's figure, at rank 4
 unfoldable pub polygons_of_list : Prepared → List Facet → List (List Pair)

@@ -1,5 +1,6 @@
--- Every number with which a figure is written in an answer lies below a bound: how many ranks, elements and subs it has, and the subs. It does where the figure has its shape, few elements in each rank
--- from the edges up, and below these an empty element and points that are written [0]. Leans on Shape, FigureWords and FewElements.
+-- Every number with which a figure is written in an answer lies below a bound: how many ranks, elements and subs it
+-- has, and the subs. It does where the figure has its shape, few elements in each rank from the edges up, and below
+-- these an empty element and points that are written [0]. Leans on Shape, FigureWords and FewElements.
 use Rattle.std.specs.Prelude.{◌≡◌, refl, ◌⊎◌, take, replicate}
 use Rattle.std.proofs.Common.{sym, inl, inr}
 use Rattle.std.proofs.Math.Path.{ap, subst}
@@ -35,14 +36,18 @@ module _ {most : ℕ} where
 
   pub joined_below : (a : List ℕ) {b : List ℕ} → WordsBelow most a → WordsBelow most b → WordsBelow most (a ++ b)
   joined_below [] s t = t
-  joined_below (x ∷ a) s t = more_below (s.word x (here refl)) (joined_below a (record { word = λ w i. s.word w (there i) }) t)
+  joined_below (x ∷ a) s t =
+      more_below (s.word x (here refl)) (joined_below a (record { word = λ w i. s.word w (there i) }) t)
 
-  pub each_below : {A : Type 0} (words : A → List ℕ) (items : List A) → ((a : A) → Mem a items → WordsBelow most (words a)) → WordsBelow most (flat_map words items)
+  pub each_below : {A : Type 0} (words : A → List ℕ) (items : List A)
+      → ((a : A) → Mem a items → WordsBelow most (words a)) → WordsBelow most (flat_map words items)
   unfolding flat_map
   each_below words [] h = none_below
-  each_below words (a ∷ items) h = joined_below (words a) (h a (here refl)) (each_below words items (λ b i. h b (there i)))
+  each_below words (a ∷ items) h =
+      joined_below (words a) (h a (here refl)) (each_below words items (λ b i. h b (there i)))
 
-  pub counted_below : {A : Type 0} (words : A → List ℕ) (items : List A) → length items < most → ((a : A) → Mem a items → WordsBelow most (words a)) → WordsBelow most (counted words items)
+  pub counted_below : {A : Type 0} (words : A → List ℕ) (items : List A) → length items < most
+      → ((a : A) → Mem a items → WordsBelow most (words a)) → WordsBelow most (counted words items)
   unfolding counted
   counted_below words items few h = more_below few (each_below words items h)
 
@@ -58,7 +63,11 @@ abbrev pub OnGround : ℕ → Figure → Type 0
 OnGround n f = Ground n (take 2 f)
 
 pub ground_wider : (m n : ℕ) (ranks : List Elements) → m ≤ n → Ground m ranks → Ground n ranks
-ground_wider m n ranks h g = record { few = λ es i. let k = g.few es i in omega arith; short = g.short; zeros = g.zeros }
+ground_wider m n ranks h g = record {
+  few = λ es i. let k = g.few es i in omega arith;
+  short = g.short;
+  zeros = g.zeros;
+}
 
 lowest_moved : (to : ℕ → ℕ) (f : Figure) → take 2 (move_ends to f) ≡ take 2 f
 unfolding move_ends
@@ -78,15 +87,20 @@ pub ground_moved : (n : ℕ) (to : ℕ → ℕ) (f : Figure) → OnGround n f �
 ground_moved n to f g = subst (Ground n) (sym (lowest_moved to f)) g
 
 -- some empty elements and so many points
-on_points : (n k : ℕ) (empty : Elements) → k ≤ n → length empty ≤ n → ((e : List ℕ) → Mem e empty → e ≡ []) → Ground n (empty ∷ replicate k (0 ∷ []) ∷ [])
+on_points : (n k : ℕ) (empty : Elements) → k ≤ n → length empty ≤ n → ((e : List ℕ) → Mem e empty → e ≡ [])
+    → Ground n (empty ∷ replicate k (0 ∷ []) ∷ [])
 on_points n k empty h few-empty none_in = record { few = few; short = short; zeros = zeros }
   where
     few : (es : Elements) → Mem es (empty ∷ replicate k (0 ∷ []) ∷ []) → length es ≤ n
     few es (Memᴰ.head q) = let a = ap length q in omega arith
-    few es (Memᴰ.tail (Memᴰ.head q)) = let a = ap length q in let b = length-replicate {A = List ℕ} k (0 ∷ []) in omega arith
+    few es (Memᴰ.tail (Memᴰ.head q)) =
+        let a = ap length q in
+        let b = length-replicate {A = List ℕ} k (0 ∷ []) in
+        omega arith
     few es (Memᴰ.tail (Memᴰ.tail m)) = elim m [ ]
 
-    is : (es : Elements) → Mem es (empty ∷ replicate k (0 ∷ []) ∷ []) → (e : List ℕ) → Mem e es → (e ≡ []) ⊎ (e ≡ 0 ∷ [])
+    is : (es : Elements) → Mem es (empty ∷ replicate k (0 ∷ []) ∷ []) → (e : List ℕ) → Mem e es
+        → (e ≡ []) ⊎ (e ≡ 0 ∷ [])
     is es (Memᴰ.head q) e i = inl (none_in e (subst (λ (l : Elements). Mem e l) q i))
     is es (Memᴰ.tail (Memᴰ.head q)) e i = inr (in_replicate k e (0 ∷ []) (subst (λ (l : Elements). Mem e l) q i))
     is es (Memᴰ.tail (Memᴰ.tail m)) e i = elim m [ ]
@@ -98,7 +112,8 @@ on_points n k empty h few-empty none_in = record { few = few; short = short; zer
         by (inl q) = let a = ap length q in omega arith
         by (inr q) = let a = ap length q in omega arith
 
-    zeros : (es : Elements) → Mem es (empty ∷ replicate k (0 ∷ []) ∷ []) → (e : List ℕ) → Mem e es → (x : ℕ) → Mem x e → x ≡ 0
+    zeros : (es : Elements) → Mem es (empty ∷ replicate k (0 ∷ []) ∷ []) → (e : List ℕ) → Mem e es → (x : ℕ) → Mem x e
+        → x ≡ 0
     zeros es m e i x j = by (is es m e i)
       where
         in_none : Mem x [] → x ≡ 0
@@ -119,7 +134,8 @@ one_empty e (Memᴰ.tail m) = elim m [ ]
 pub figure_ground : (more n : ℕ) (facets : List Figure) → 1 ≤ n → OnGround n (figure_of more n facets)
 unfolding figure_of
 figure_ground more n facets h =
-    subst (Ground n) (sym (lowest_sorted (([] ∷ []) ∷ replicate n (0 ∷ []) ∷ assemble more (map (drop 2) facets)))) (on_points n n ([] ∷ []) (omega arith) h one_empty)
+    subst (Ground n) (sym (lowest_sorted (([] ∷ []) ∷ replicate n (0 ∷ []) ∷ assemble more (map (drop 2) facets))))
+    (on_points n n ([] ∷ []) (omega arith) h one_empty)
 
 pub dyad_ground : (n : ℕ) → 2 ≤ n → OnGround n dyad
 unfolding dyad
@@ -132,7 +148,8 @@ ridge_ground n v h = on_points n 1 [] h (omega arith) (λ e m. elim m [ ])
 -- ---- one figure
 
 -- a figure with its shape, on so many points, with at most so many elements in each rank from the edges up
-module _ (most n w rank : ℕ) (f : Figure) (shaped : Shaped n rank f) (ground : OnGround n f) (few : Few w f) (two : 1 < most) (points : n < most) (elements : w < most) where
+module _ (most n w rank : ℕ) (f : Figure) (shaped : Shaped n rank f) (ground : OnGround n f) (few : Few w f)
+    (two : 1 < most) (points : n < most) (elements : w < most) where
   pub low_few : (es : Elements) → Mem es (take 2 f) → length es < most
   low_few es i = let k = ground.few es i in omega arith
 
@@ -140,7 +157,8 @@ module _ (most n w rank : ℕ) (f : Figure) (shaped : Shaped n rank f) (ground :
   unfolding sizes
   ranks_few es i =
       let above : drop 2 (sizes f) ≡ sizes shaped.ranks = ap (λ (g : Figure). drop 2 (sizes g)) shaped.is in
-      let k = few (length es) (subst (λ (l : List ℕ). Mem (length es) l) (sym above) (in_map (λ (e : Elements). length e) es shaped.ranks i)) in
+      let k = few (length es) (subst (λ (l : List ℕ). Mem (length es) l) (sym above)
+      (in_map (λ (e : Elements). length e) es shaped.ranks i)) in
       omega arith
 
   pub lowest : take 2 f ≡ shaped.empty ∷ shaped.vertices ∷ []
@@ -149,15 +167,20 @@ module _ (most n w rank : ℕ) (f : Figure) (shaped : Shaped n rank f) (ground :
   -- any rank of it, and where it has none
   rank_few : (k : ℕ) → length (rank_of k f) < most
   unfolding rank_of
-  rank_few k = at_or (λ (es : Elements). length es < most) f k [] (omega arith) (λ es i. of_all es (subst (λ (g : Figure). Mem es g) shaped.is i))
+  rank_few k =
+      at_or (λ (es : Elements). length es < most) f k [] (omega arith)
+      (λ es i. of_all es (subst (λ (g : Figure). Mem es g) shaped.is i))
     where
       of_all : (es : Elements) → Mem es (shaped.empty ∷ shaped.vertices ∷ shaped.ranks) → length es < most
       of_all es (Memᴰ.head q) = low_few es (subst (λ (l : List Elements). Mem es l) (sym lowest) (here q))
-      of_all es (Memᴰ.tail (Memᴰ.head q)) = low_few es (subst (λ (l : List Elements). Mem es l) (sym lowest) (there (here q)))
+      of_all es (Memᴰ.tail (Memᴰ.head q)) =
+          low_few es (subst (λ (l : List Elements). Mem es l) (sym lowest) (there (here q)))
       of_all es (Memᴰ.tail (Memᴰ.tail m)) = ranks_few es m
 
   pub summary_below : (e : Entry) → e.figure ≡ f → WordsBelow most (summary_words e)
   unfolding summary_words
   summary_below e is =
-      subst (λ (g : Figure). WordsBelow most (length (used_points g) ∷ length (rank_of 2 g) ∷ length (rank_of (length g - 2) g) ∷ [])) (sym is)
-      (more_below (let u = used_few f in let r = rank_few 1 in omega arith) (more_below (rank_few 2) (more_below (rank_few (length f - 2)) none_below)))
+      subst (λ (g : Figure). WordsBelow most (length (used_points g) ∷ length (rank_of 2 g)
+      ∷ length (rank_of (length g - 2) g) ∷ [])) (sym is)
+      (more_below (let u = used_few f in let r = rank_few 1 in
+      omega arith) (more_below (rank_few 2) (more_below (rank_few (length f - 2)) none_below)))

@@ -1,4 +1,5 @@
--- `figure_of` at every rank from 3: an equation with each rank in order; the shape of what it gives; and that it depends on the set of its facets alone. Leans on Gathered.
+-- `figure_of` at every rank from 3: an equation with each rank in order; the shape of what it gives; and that it
+-- depends on the set of its facets alone. Leans on Gathered.
 use Rattle.std.specs.Prelude.{ℕ, drop}
 use Rattle.std.proofs.Common.{sym, subst, arith}
 use mathlib.Core.List.{List, [], ◌∷◌, Memᴰ}
@@ -8,7 +9,8 @@ use Rattle.laws.specs.Lists.{Mem, of_count}
 use Rattle.laws.specs.Ranges.{count_ascending}
 use Rattle.shapes.specs.Shape.{Element, Rank, Stack}
 
--- figures whose ranks from the edges up stand one upon the other, over so many points; a figure without such ranks adds nothing
+-- figures whose ranks from the edges up stand one upon the other, over so many points; a figure without such ranks
+-- adds nothing
 abbrev pub Stacked : ℕ → List Figure → Type 0
 Stacked n facets = (f : Figure) → Mem f facets → Stack n (drop 2 f)
 
@@ -21,5 +23,9 @@ body_element n = record {
 }
   where
     only : (e : List ℕ) → Mem e (count_from 0 n ∷ []) → Element n e
-    only e (Memᴰ.head q) = subst (Element n) (sym q) (record { ascends = count_ascending 0 n; below = λ x m. let r = (of_count 0 n x m).1 in omega arith })
+    only e (Memᴰ.head q) =
+        subst (Element n) (sym q) (record {
+          ascends = count_ascending 0 n;
+          below = λ x m. let r = (of_count 0 n x m).1 in omega arith;
+        })
     only e (Memᴰ.tail m) = elim m [ ]

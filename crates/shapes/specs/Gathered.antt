@@ -1,4 +1,5 @@
--- The figure of a list of facets with each rank put in order at once: it equals `figure_of`, it has its shape, and facets in another order or repeated give the same. Leans on Assemble.
+-- The figure of a list of facets with each rank put in order at once: it equals `figure_of`, it has its shape, and
+-- facets in another order or repeated give the same. Leans on Assemble.
 use mathlib.Core.List.{List, [], ◌∷◌, map}
 use Prim.Native.Nat.{ℕ, zero, suc}
 use Rattle.std.proofs.Math.ListN.{length}
@@ -12,7 +13,9 @@ elements_of facets = sort_by compare_nats (lowest_ranks facets)
 -- `assemble`, each rank in order
 unfoldable pub gathered : ℕ → List (List Elements) → List Elements
 gathered zero facets = let elements = elements_of facets in elements ∷ (count_from 0 (length elements) ∷ []) ∷ []
-gathered (suc more) facets = let elements = elements_of facets in elements ∷ gathered more (map (without_lowest elements) facets)
+gathered (suc more) facets =
+    let elements = elements_of facets in
+    elements ∷ gathered more (map (without_lowest elements) facets)
 
 -- ---- assembled and then sorted is gathered
 

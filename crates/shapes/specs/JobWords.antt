@@ -1,5 +1,7 @@
--- Every number of an accepted job's answer is a u32, so its bytes lose nothing of it. What a job guarantees (2 to 20 points, 1 to 120 rows, a budget of four bytes) and the bounds of its rules keep every
--- number of the answer below 2^32, at every rank whose figures are few enough: `fewest` is where a further rank joins. Leans on AnswerWords and Jobs.
+-- Every number of an accepted job's answer is a u32, so its bytes lose nothing of it. What a job guarantees (2 to 20
+-- points, 1 to 120 rows, a budget of four bytes) and the bounds of its rules keep every number of the answer below
+-- 2^32, at every rank whose figures are few enough: `fewest` is where a further rank joins. Leans on AnswerWords and
+-- Jobs.
 use Rattle.std.specs.Prelude.{refl, List, [], ◌∷◌, ℕ, zero, suc, ◌≤◌, ◌<◌, T, length, take, drop}
 use Rattle.std.proofs.Common.{arith, length-take}
 use Rattle.definitions.specs.Job.{Bytes, little, number_at, read_job, between, header_tests, value_tests, job_tests}
@@ -27,7 +29,11 @@ unfolding little
 four_bytes [] h k = omega arith
 four_bytes (a ∷ []) h k = let x = h a (here refl) in omega arith
 four_bytes (a ∷ b ∷ []) h k = let x = h a (here refl) in let y = h b (there (here refl)) in omega arith
-four_bytes (a ∷ b ∷ c ∷ []) h k = let x = h a (here refl) in let y = h b (there (here refl)) in let z = h c (there (there (here refl))) in omega arith
+four_bytes (a ∷ b ∷ c ∷ []) h k =
+    let x = h a (here refl) in
+    let y = h b (there (here refl)) in
+    let z = h c (there (there (here refl))) in
+    omega arith
 four_bytes (a ∷ b ∷ c ∷ d ∷ []) h k =
     let x = h a (here refl) in
     let y = h b (there (here refl)) in
@@ -40,7 +46,8 @@ number_below : (bytes : Bytes) → AreBytes bytes → (at : ℕ) → number_at b
 unfolding number_at
 number_below bytes are at =
     let k = length-take 4 (drop at bytes) in
-    four_bytes (take 4 (drop at bytes)) (λ b m. are.byte b (of_dropped at b bytes (in_take 4 b (drop at bytes) m))) (omega arith)
+    four_bytes (take 4 (drop at bytes)) (λ b m. are.byte b (of_dropped at b bytes (in_take 4 b (drop at bytes) m)))
+    (omega arith)
 
 pub budget_below : (bytes : Bytes) → AreBytes bytes → (read_job bytes).budget < u32s
 unfolding read_job

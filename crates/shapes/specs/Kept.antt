@@ -1,5 +1,6 @@
--- What a call of rank 3 or 4 keeps of its orbits and their inner calls, and what it makes of that: the table that it searches, and its answer. Edges stand for figures: a ridge is its two
--- ends (at rank 3 one vertex twice), a possible facet its edges. KeptTable and KeptAnswer show that nothing else is needed. Leans on Ridges, EdgeSets and Polygons.
+-- What a call of rank 3 or 4 keeps of its orbits and their inner calls, and what it makes of that: the table that it
+-- searches, and its answer. Edges stand for figures: a ridge is its two ends (at rank 3 one vertex twice), a possible
+-- facet its edges. KeptTable and KeptAnswer show that nothing else is needed. Leans on Ridges, EdgeSets and Polygons.
 use mathlib.Core.List.{List, [], map, flat_map, zip_with}
 use Rattle.std.specs.Prelude.{ℕ, zero, suc, ◌*◌, ◌/◌, length, get_or}
 use Rattle.definitions.specs.Lists.{Pair, compare_pair, map_with, sort_by}
@@ -13,8 +14,9 @@ use Rattle.shapes.specs.EdgeSets.{polygon, polyhedron, edges_in_order, polygons_
 use Rattle.shapes.specs.Polygons.{edge_via, edge_pairs}
 use Rattle.shapes.specs.Ridges.{KnownKeys, no_keys, key_held_by, number_or_open_key}
 
--- One orbit: for each orbit of its inner call the ends of its ridge, in this call's vertices, and its count; for each possible facet the inner orbits of its places in order, and its edges
--- in this call's vertices, ascending; and the compounds among them.
+-- One orbit: for each orbit of its inner call the ends of its ridge, in this call's vertices, and its count; for each
+-- possible facet the inner orbits of its places in order, and its edges in this call's vertices, ascending; and the
+-- compounds among them.
 pub record Kept : Type 0 where
   pub orbit : Orbit
   pub ends : List Pair
@@ -31,7 +33,9 @@ ends_of f = let e = get_or (rank_of 2 f) 0 [] in (get_or e 0 0, get_or e 1 (get_
 unfoldable pub kept_of : Inner → Kept
 kept_of i = record {
   orbit = i.orbit;
-  ends = map (λ (ridges : List Figure). edge_via (λ (v : ℕ). get_or i.orbit.vertices v 0) (ends_of (get_or ridges 0 []))) i.answer.possible;
+  ends =
+      map (λ (ridges : List Figure).
+      edge_via (λ (v : ℕ). get_or i.orbit.vertices v 0) (ends_of (get_or ridges 0 []))) i.answer.possible;
   counts = i.answer.counts;
   places = map (λ (e : Entry). map (λ (place : Pair). place.0) e.list) i.answer.entries;
   edges = map edge_pairs (possible_facets i);
@@ -42,7 +46,8 @@ kept_of i = record {
 
 -- a ridge's number: that of the ridge orbit holding it, or it opens one
 unfoldable pub number_ends : List Row → KnownKeys Pair → Pair → ℕ × KnownKeys Pair
-number_ends rows known ends = number_or_open_key compare_pair edge_via rows known ends (key_held_by compare_pair edge_via ends known.held)
+number_ends rows known ends =
+    number_or_open_key compare_pair edge_via rows known ends (key_held_by compare_pair edge_via ends known.held)
 
 -- for each orbit, for each of its inner orbits, the number of its ridge; and the ridge orbits' counts
 unfoldable pub numbers_kept : List Row → List Kept → List (List ℕ) × KnownKeys Pair
@@ -85,13 +90,16 @@ unfoldable pub kept_edge_images : List Row → List Kept → Facet → List Pair
 kept_edge_images rows kept f = flat_map (λ (e : Pair). map (pair_image e) rows) (kept_at (λ (k : Kept). k.edges) kept f)
 
 unfoldable pub kept_polygons : List Row → List Kept → Facet → List (List Pair)
-kept_polygons rows kept f = map (λ (row : Row). edges_in_order (map (λ (e : Pair). pair_image e row) (kept_at (λ (k : Kept). k.edges) kept f))) rows
+kept_polygons rows kept f =
+    map (λ (row : Row).
+    edges_in_order (map (λ (e : Pair). pair_image e row) (kept_at (λ (k : Kept). k.edges) kept f))) rows
 
 -- the figure of a split list in a call of so many points: its edges, and at rank 4 its polygons
 unfoldable pub kept_figure : ℕ → ℕ → List Row → List Kept → List Facet → Figure
 kept_figure zero n rows kept parts = polygon n (edges_in_order (flat_map (kept_edge_images rows kept) parts))
 kept_figure (suc more) n rows kept parts =
-    polyhedron n (edges_in_order (flat_map (kept_edge_images rows kept) parts)) (polygons_in_order (flat_map (kept_polygons rows kept) parts))
+    polyhedron n (edges_in_order (flat_map (kept_edge_images rows kept) parts))
+    (polygons_in_order (flat_map (kept_polygons rows kept) parts))
 
 unfoldable pub kept_entry : ℕ → ℕ → List Row → List Kept → List Facet → Entry
 kept_entry more n rows kept list =

@@ -1,4 +1,5 @@
--- The answer of a call of rank 3 or 4 is made of what it keeps of its inner calls and of the lists that its search found. Leans on EntryFigures and KeptSizes.
+-- The answer of a call of rank 3 or 4 is made of what it keeps of its inner calls and of the lists that its search
+-- found. Leans on EntryFigures and KeptSizes.
 use Rattle.std.specs.Prelude.{◌≡◌, refl, length, get_or}
 use Rattle.std.proofs.Math.Path.{sym}
 use Rattle.std.proofs.Common.{ap, ◌∙◌}
@@ -20,19 +21,25 @@ use Rattle.shapes.specs.Kept.{Kept, kept_of, kept_at}
 -- ---- what is kept of a facet
 
 -- what is kept of an orbit that there is
-pub kept_of_orbit : {A : Type 0} (says : Kept → List A) (inner : List Inner) (orbit : ℕ) → orbit < length inner → get_or (map says (map kept_of inner)) orbit [] ≡ says (kept_of (inner_at inner orbit))
+pub kept_of_orbit : {A : Type 0} (says : Kept → List A) (inner : List Inner) (orbit : ℕ) → orbit < length inner
+    → get_or (map says (map kept_of inner)) orbit [] ≡ says (kept_of (inner_at inner orbit))
 unfolding at_orbit
-kept_of_orbit {A} says inner orbit h = ap (λ (l : List (List A)). get_or l orbit []) (map-map says kept_of inner) ∙ at_orbit_holds (λ (i : Inner). says (kept_of i)) inner orbit h
+kept_of_orbit {A} says inner orbit h =
+    ap (λ (l : List (List A)). get_or l orbit []) (map-map says kept_of inner)
+    ∙ at_orbit_holds (λ (i : Inner). says (kept_of i)) inner orbit h
 
-pub kept_at_holds : {A : Type 0} (says : Kept → List (List A)) (inner : List Inner) (f : Facet) → f.0 < length inner → kept_at says (map kept_of inner) f ≡ get_or (says (kept_of (inner_at inner f.0))) f.1 []
+pub kept_at_holds : {A : Type 0} (says : Kept → List (List A)) (inner : List Inner) (f : Facet) → f.0 < length inner
+    → kept_at says (map kept_of inner) f ≡ get_or (says (kept_of (inner_at inner f.0))) f.1 []
 unfolding kept_at
 kept_at_holds {A} says inner f h = ap (λ (l : List (List A)). get_or l f.1 []) (kept_of_orbit says inner f.0 h)
 
 -- a facet's edges, read off its figure: none where there is no such facet
-pub kept_edges : (p : Prepared) (f : Facet) → kept_at (λ (k : Kept). k.edges) (map kept_of p.inner) f ≡ edge_pairs (facet_figure p f)
+pub kept_edges : (p : Prepared) (f : Facet)
+    → kept_at (λ (k : Kept). k.edges) (map kept_of p.inner) f ≡ edge_pairs (facet_figure p f)
 unfolding kept_at facet_figure at_orbit kept_of edge_pairs rank_of
 kept_edges p f =
-    ap (λ (l : List (List (List Pair))). get_or (get_or l f.0 []) f.1 []) (map-map (λ (k : Kept). k.edges) kept_of p.inner ∙ sym (map-map (map edge_pairs) possible_facets p.inner))
+    ap (λ (l : List (List (List Pair))). get_or (get_or l f.0 []) f.1 [])
+    (map-map (λ (k : Kept). k.edges) kept_of p.inner ∙ sym (map-map (map edge_pairs) possible_facets p.inner))
     ∙ ap (λ (l : List (List Pair)). get_or l f.1 []) (map_get (map edge_pairs) [] (map possible_facets p.inner) f.0)
     ∙ map_get edge_pairs [] (get_or (map possible_facets p.inner) f.0 []) f.1
   where
@@ -44,5 +51,7 @@ kept_edges p f =
 -- ---- split lists
 
 -- such are the lists that a search found
-pub found_in_orbits : (rules : Rules) (p : Prepared) (found : Found) → search_from rules p ≡ answered found → (list : List Facet) → Mem list found.lists → (f : Facet) → Mem f list → f.0 < length p.inner
-found_in_orbits rules p found is_found_holds list m f i = (facet_orbit p.inner f (found_facet rules p found is_found_holds list m f i)).0
+pub found_in_orbits : (rules : Rules) (p : Prepared) (found : Found) → search_from rules p ≡ answered found
+    → (list : List Facet) → Mem list found.lists → (f : Facet) → Mem f list → f.0 < length p.inner
+found_in_orbits rules p found is_found_holds list m f i =
+    (facet_orbit p.inner f (found_facet rules p found is_found_holds list m f i)).0

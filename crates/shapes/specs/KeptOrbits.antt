@@ -1,6 +1,7 @@
--- What a call keeps of its orbits and their inner calls, at every rank from 3, over any keys of ridges and any facets: ridges and places by the number of the inner facet, counted over the
--- inner orbits. What the call makes of that: the table that it searches, and its answer. KeptOrbitTable and KeptOrbitAnswer show that they are the definition's.
--- Leans on Ridges and Nested.
+-- What a call keeps of its orbits and their inner calls, at every rank from 3, over any keys of ridges and any
+-- facets: ridges and places by the number of the inner facet, counted over the inner orbits. What the call makes of
+-- that: the table that it searches, and its answer. KeptOrbitTable and KeptOrbitAnswer show that they are the
+-- definition's. Leans on Ridges and Nested.
 use mathlib.Core.List.{List, [], ◌∷◌, ◌++◌, map, flat_map, zip_with}
 use Prim.Native.Nat.{ℕ, zero, suc, ◌+◌, ◌*◌, ◌/◌, Ordering}
 use Rattle.std.specs.Prelude.{length, get_or, replicate}
@@ -16,8 +17,9 @@ use Rattle.shapes.specs.NestedFigures.{nested_figure, no_element, read_nested}
 use Rattle.shapes.specs.NestedCalls.{Ridge, entry_points}
 use Rattle.shapes.specs.RidgeKeys.{send_ridge, ridges_read}
 
--- One orbit: the ridges of its inner call, in this call's vertices, each with its inner orbit's count; for each possible facet the numbers of its inner facets in order, and the facet itself in
--- this call's vertices; and the compounds among them.
+-- One orbit: the ridges of its inner call, in this call's vertices, each with its inner orbit's count; for each
+-- possible facet the numbers of its inner facets in order, and the facet itself in this call's vertices; and the
+-- compounds among them.
 pub record KeptOrbit (K F : Type 0) : Type 0 where
   pub orbit : Orbit
   pub ridges : List K
@@ -52,14 +54,17 @@ module _ {K F : Type 0} (send : (ℕ → ℕ) → K → K) (keys : Inner → Lis
     orbit = i.orbit;
     ridges = map (send (λ (v : ℕ). get_or i.orbit.vertices v 0)) (together (keys i));
     counts = counts_over i.answer.counts (map length (keys i));
-    places = map (λ (e : Entry). map (λ (place : Pair). number_over (map length (keys i)) place.0 place.1) e.list) i.answer.entries;
+    places =
+        map (λ (e : Entry).
+        map (λ (place : Pair). number_over (map length (keys i)) place.0 place.1) e.list) i.answer.entries;
     facets = facets i;
     compounds = i.answer.compounds;
   }
 
 -- by a call of rank 3 + more
 unfoldable pub keep_orbit : (more : ℕ) → Inner → KeptOrbit (Ridge more) (Nested more)
-keep_orbit more = keep_by (send_ridge more) (ridges_read more) (λ (i : Inner). map (read_nested more) (possible_facets i))
+keep_orbit more =
+    keep_by (send_ridge more) (ridges_read more) (λ (i : Inner). map (read_nested more) (possible_facets i))
 
 -- ---- the table
 
@@ -70,7 +75,8 @@ module _ {K : Type 0} (c : K → K → Ordering) (send : (ℕ → ℕ) → K →
 
   -- for each orbit, for each of its ridges, the number; and the ridge orbits' counts
   unfoldable pub orbit_numbers : {F : Type 0} → List Row → List (KeptOrbit K F) → List (List ℕ) × KnownKeys K
-  orbit_numbers {F} rows kept = map_with (map_with (number_ridge_key rows)) (no_keys K) (map (λ (k : KeptOrbit K F). k.ridges) kept)
+  orbit_numbers {F} rows kept =
+      map_with (map_with (number_ridge_key rows)) (no_keys K) (map (λ (k : KeptOrbit K F). k.ridges) kept)
 
 module _ {K F : Type 0} where
   -- "floor(facet orbit count × inner count / ridge orbit count)"
@@ -82,7 +88,8 @@ module _ {K F : Type 0} where
   unfoldable pub orbit_shares : List ℕ → KeptOrbit K F → List ℕ → List (List Share)
   orbit_shares ridgeCounts k numbers = map (map (orbit_share ridgeCounts k numbers)) k.places
 
-unfoldable pub orbit_table : {K F : Type 0} → (K → K → Ordering) → ((ℕ → ℕ) → K → K) → List Row → List (KeptOrbit K F) → Table
+unfoldable pub orbit_table : {K F : Type 0} → (K → K → Ordering) → ((ℕ → ℕ) → K → K) → List Row → List (KeptOrbit K F)
+    → Table
 orbit_table c send rows kept =
     let numbered = orbit_numbers c send rows kept in
     let ridgeCounts = numbered.1.counts in
@@ -101,7 +108,8 @@ orbit_parts {K} {F} kept f =
 module _ {K : Type 0} (more : ℕ) where
   -- a facet's element, and all row images of it
   unfoldable pub orbit_facet : List (KeptOrbit K (Nested more)) → Facet → Nested more
-  orbit_facet kept f = get_or (get_or (map (λ (k : KeptOrbit K (Nested more)). k.facets) kept) f.0 []) f.1 (no_element more)
+  orbit_facet kept f =
+      get_or (get_or (map (λ (k : KeptOrbit K (Nested more)). k.facets) kept) f.0 []) f.1 (no_element more)
 
   unfoldable pub orbit_images : List Row → List (KeptOrbit K (Nested more)) → Facet → List (Nested more)
   orbit_images rows kept f = map (λ (row : Row). move_nested (image row) more (orbit_facet kept f)) rows

@@ -1,5 +1,6 @@
--- The ridge orbits that a call of rank 3 or 4 numbers: each number is one of a ridge orbit, each count is from 1 to the number of rows, and there are no more ridge orbits than keys. From what
--- the call has before its search alone. Leans on KeptSizes, KeyMarks and RidgeCounts.
+-- The ridge orbits that a call of rank 3 or 4 numbers: each number is one of a ridge orbit, each count is from 1 to
+-- the number of rows, and there are no more ridge orbits than keys. From what the call has before its search alone.
+-- Leans on KeptSizes, KeyCounts and AllPairs.
 use Rattle.std.specs.Prelude.{◌≡◌}
 use Rattle.std.proofs.Common.{◌∙◌}
 use mathlib.Core.List.{List}
@@ -26,11 +27,13 @@ keys_vertices n = length-map (count_from 0 n) twice ∙ count_length 0 n
 
 -- of a call of rank 3 + more on n points
 pub record RidgesKept (more n : ℕ) (rows : List Row) (kept : List Kept) : Type 0 where
-  pub below : (l : List ℕ) → Mem l (numbers_kept rows kept).0 → (number : ℕ) → Mem number l → number < length (numbers_kept rows kept).1.counts
+  pub below : (l : List ℕ) → Mem l (numbers_kept rows kept).0 → (number : ℕ) → Mem number l
+      → number < length (numbers_kept rows kept).1.counts
   pub counted : (c : ℕ) → Mem c (numbers_kept rows kept).1.counts → Counted rows c
   pub few_keys : length (numbers_kept rows kept).1.counts ≤ length (ridge_keys more n)
   pub few : n ≤ 20 → length (numbers_kept rows kept).1.counts ≤ 190
 
 -- at rank 3 no more than vertices
-pub rank_three_ridges : (n : ℕ) (rows : List Row) (kept : List Kept) → RidgesKept 0 n rows kept → length (numbers_kept rows kept).1.counts ≤ n
+pub rank_three_ridges : (n : ℕ) (rows : List Row) (kept : List Kept) → RidgesKept 0 n rows kept
+    → length (numbers_kept rows kept).1.counts ≤ n
 rank_three_ridges n rows kept h = let a = h.few_keys in let b = keys_vertices n in omega arith

@@ -1,5 +1,5 @@
--- How much a call of rank 3 or 4 keeps of its inner calls: what numbers can stand there, and how many. From what the call has before its search alone. Leans on KeptTable, EntryFigures and
--- FewOrbits.
+-- How much a call of rank 3 or 4 keeps of its inner calls: what numbers can stand there, and how many. From what the
+-- call has before its search alone. Leans on KeptTable, EntryFigures and FewOrbits.
 use Rattle.std.specs.Prelude.{◌≡◌, refl, ◌⊎◌}
 use Rattle.std.proofs.Math.Path.{sym, ap, subst}
 use Rattle.std.proofs.Common.{◌∙◌, inl, inr}
@@ -31,7 +31,8 @@ use Rattle.shapes.specs.Kept.{Kept, kept_of}
 
 -- ---- answers of rank 2 and 3
 
--- the ridges of an answer are as many as its orbits, each with its count; the places of an entry are orbits, none twice
+-- the ridges of an answer are as many as its orbits, each with its count; the places of an entry are orbits, none
+-- twice
 pub record AnswerSized (rows : List Row) (a : Answer) : Type 0 where
   pub possible_many : length a.possible ≡ length a.counts
   pub counted : (c : ℕ) → Mem c a.counts → Counted rows c
@@ -70,7 +71,8 @@ pub record KeptSized (more n : ℕ) (rows : List Row) (k : Kept) : Type 0 where
   pub edges_many : length k.edges ≡ length k.places
   pub edges_set : (l : List Pair) → Mem l k.edges → EdgeSet n l
   pub few_edges_holds : n ≤ 20 → (l : List Pair) → Mem l k.edges → length l ≤ 190
-  pub compounds_below : (c : Compound) → Mem c k.compounds → (c.whole < length k.places) × (c.first < c.second) × (c.second < length k.places)
+  pub compounds_below : (c : Compound) → Mem c k.compounds
+      → (c.whole < length k.places) × (c.first < c.second) × (c.second < length k.places)
 
 -- at rank 3: one facet with one edge, a place for each of its one or two inner orbits, and no compounds
 pub record KeptEdge (k : Kept) : Type 0 where
@@ -85,10 +87,13 @@ pub edge_alone : (e : Pair) → edge_pairs (edge_figure e) ≡ e ∷ []
 unfolding edge_pairs rank_of edge_figure
 edge_alone e = refl
 
-pub kept_edge : (rules : Rules) (plane : Subspace) (points : List Vec) (rows : List Row) (p : Prepared) → Preparation 0 rules (faceting 0 rules) plane points rows p
+pub kept_edge : (rules : Rules) (plane : Subspace) (points : List Vec) (rows : List Row) (p : Prepared)
+    → Preparation 0 rules (faceting 0 rules) plane points rows p
     → (k : Kept) → Mem k (map kept_of p.inner) → KeptEdge k
 unfolding kept_of
-kept_edge rules plane points rows p made k m = let r = of_map kept_of k p.inner m in subst KeptEdge (sym r.2) (of_inner r.0 r.1)
+kept_edge rules plane points rows p made k m =
+    let r = of_map kept_of k p.inner m in
+    subst KeptEdge (sym r.2) (of_inner r.0 r.1)
   where
     of_inner : (i : Inner) → Mem i p.inner → KeptEdge (kept_of i)
     of_inner i m =
@@ -102,9 +107,13 @@ kept_edge rules plane points rows p made k m = let r = of_map kept_of k p.inner 
           few_counts = few.1;
           places =
               ap (map (λ (e : Entry). first e.list)) r.entries
-              ∙ ap (λ (l : List ℕ). l ∷ []) (map-map (λ (place : Pair). place.0) (λ (v : ℕ). (v, 0)) (count_from 0 r.ends) ∙ map_self (λ (v : ℕ). v) (count_from 0 r.ends) (λ v j. refl))
+              ∙ ap (λ (l : List ℕ). l ∷ [])
+              (map-map (λ (place : Pair). place.0) (λ (v : ℕ). (v, 0)) (count_from 0 r.ends)
+              ∙ map_self (λ (v : ℕ). v) (count_from 0 r.ends) (λ v j. refl))
               ∙ ap (λ (n : ℕ). count_from 0 n ∷ []) (sym counts);
-          edges = ap (map edge_pairs) (one_edge rules plane points rows p made i m) ∙ ap (λ (l : List Pair). l ∷ []) (edge_alone (edge_of i.orbit));
+          edges =
+              ap (map edge_pairs) (one_edge rules plane points rows p made i m)
+              ∙ ap (λ (l : List Pair). l ∷ []) (edge_alone (edge_of i.orbit));
           compounds = r.compounds;
         }
 
@@ -118,12 +127,23 @@ facets_kept (k ∷ ks) = length k.places + facets_kept ks
 pub facets_kept_holds : (inner : List Inner) → facets_kept (map kept_of inner) ≡ facet_sum inner
 unfolding facets_kept facet_sum kept_of
 facets_kept_holds [] = refl
-facets_kept_holds (i ∷ is) = let a = length-map i.answer.entries (λ (e : Entry). map (λ (place : Pair). place.0) e.list) in let b = facets_kept_holds is in omega arith
+facets_kept_holds (i ∷ is) =
+    let a = length-map i.answer.entries (λ (e : Entry). map (λ (place : Pair). place.0) e.list) in
+    let b = facets_kept_holds is in
+    omega arith
 
-pub few_facets_kept : (more : ℕ) (rules : Rules) (plane : Subspace) (points : List Vec) (rows : List Row) (p : Prepared) → Preparation more rules (faceting more rules) plane points rows p
+pub few_facets_kept : (more : ℕ) (rules : Rules) (plane : Subspace) (points : List Vec) (rows : List Row)
+    (p : Prepared) → Preparation more rules (faceting more rules) plane points rows p
     → facets_kept (map kept_of p.inner) ≤ rules.bounds.facets
-few_facets_kept more rules plane points rows p made = let e = facets_kept_holds p.inner in let k = made.few_facets_holds in omega arith
+few_facets_kept more rules plane points rows p made =
+    let e = facets_kept_holds p.inner in
+    let k = made.few_facets_holds in
+    omega arith
 
-pub few_orbits_kept : (more : ℕ) (rules : Rules) (plane : Subspace) (points : List Vec) (rows : List Row) (p : Prepared) → Preparation more rules (faceting more rules) plane points rows p
+pub few_orbits_kept : (more : ℕ) (rules : Rules) (plane : Subspace) (points : List Vec) (rows : List Row)
+    (p : Prepared) → Preparation more rules (faceting more rules) plane points rows p
     → length (map kept_of p.inner) ≤ rules.bounds.orbits
-few_orbits_kept more rules plane points rows p made = let e = length-map p.inner kept_of in let k = made.few_orbits_holds in omega arith
+few_orbits_kept more rules plane points rows p made =
+    let e = length-map p.inner kept_of in
+    let k = made.few_orbits_holds in
+    omega arith

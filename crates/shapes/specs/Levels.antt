@@ -1,6 +1,8 @@
--- Elements in levels: an item of the next level is an ascending list of items of this one, at every level from the lowest up. The ranks that a figure has are read off such items: the lowest
--- items as they are written, then each level's items in order, each as the places of its subs in the level below, and one body. Nested sets of edges are one instance (Nested); numbers that
--- order as the sets do may be another. Here the reading, and what it does when the lowest level is taken off. Leans on the laws.
+-- Elements in levels: an item of the next level is an ascending list of items of this one, at every level from the
+-- lowest up. The ranks that a figure has are read off such items: the lowest items as they are written, then each
+-- level's items in order, each as the places of its subs in the level below, and one body. Nested sets of edges are
+-- one instance (Nested); numbers that order as the sets do may be another. Here the reading, and what it does when
+-- the lowest level is taken off. Leans on the laws.
 use Rattle.std.specs.Prelude.{◌≡◌, refl, length}
 use Rattle.std.proofs.Common.{sym, ap, ◌∙◌, subst}
 use mathlib.Core.List.{List, [], ◌∷◌, map, flat_map, Memᴰ, map-map}
@@ -28,14 +30,25 @@ pub record Sets (T : Levels) : Type 1 where
   pub Good : (k : ℕ) → T.Item k → Type 0
   pub ascends : (k : ℕ) (x : T.Item (suc k)) → Good (suc k) x → Ascends (T.order k) (T.subs k x)
   pub good : (k : ℕ) (x : T.Item (suc k)) → Good (suc k) x → (y : T.Item k) → Mem y (T.subs k x) → Good k y
-  pub by_subs : (k : ℕ) (x y : T.Item (suc k)) → Good (suc k) x → Good (suc k) y → T.order (suc k) x y ≡ compare_list (T.order k) (T.subs k x) (T.subs k y)
+  pub by_subs : (k : ℕ) (x y : T.Item (suc k)) → Good (suc k) x → Good (suc k) y
+      → T.order (suc k) x y ≡ compare_list (T.order k) (T.subs k x) (T.subs k y)
 
 -- the levels without the lowest
 abbrev pub over : Levels → Levels
-over T = record { Item = λ k. T.Item (suc k); order = λ k. T.order (suc k); linear = λ k. T.linear (suc k); subs = λ k. T.subs (suc k) }
+over T = record {
+  Item = λ k. T.Item (suc k);
+  order = λ k. T.order (suc k);
+  linear = λ k. T.linear (suc k);
+  subs = λ k. T.subs (suc k);
+}
 
 abbrev pub over_sets : (T : Levels) → Sets T → Sets (over T)
-over_sets T G = record { Good = λ k. G.Good (suc k); ascends = λ k. G.ascends (suc k); good = λ k. G.good (suc k); by_subs = λ k. G.by_subs (suc k) }
+over_sets T G = record {
+  Good = λ k. G.Good (suc k);
+  ascends = λ k. G.ascends (suc k);
+  good = λ k. G.good (suc k);
+  by_subs = λ k. G.by_subs (suc k);
+}
 
 -- ascending, each once
 abbrev pub items_in_order : (T : Levels) (k : ℕ) → List (T.Item k) → List (T.Item k)
@@ -112,23 +125,27 @@ pub under_ascends : (T : Levels) (k : ℕ) (xs : List (T.Item (suc k))) → Asce
 unfolding under
 under_ascends T k xs = in_order_ascends (T.order k) (T.linear k) (flat_map (T.subs k) xs)
 
-pub under_good : (T : Levels) (G : Sets T) (k : ℕ) (xs : List (T.Item (suc k))) → AllGood T G (suc k) xs → AllGood T G k (under T k xs)
+pub under_good : (T : Levels) (G : Sets T) (k : ℕ) (xs : List (T.Item (suc k))) → AllGood T G (suc k) xs
+    → AllGood T G k (under T k xs)
 unfolding under
 under_good T G k xs h y m =
     let r = of_flat_map (T.subs k) y xs (of_in_order (T.order k) (T.linear k) y (flat_map (T.subs k) xs) m) in
     G.good k r.0 (h r.0 r.1) y r.2
 
-pub lowest_ascends : (T : Levels) (k : ℕ) (xs : List (T.Item k)) → Ascends (T.order k) xs → Ascends (T.order zero) (lowest T k xs)
+pub lowest_ascends : (T : Levels) (k : ℕ) (xs : List (T.Item k)) → Ascends (T.order k) xs
+    → Ascends (T.order zero) (lowest T k xs)
 unfolding lowest
 lowest_ascends T zero xs h = h
 lowest_ascends T (suc k) xs h = lowest_ascends T k (under T k xs) (under_ascends T k xs)
 
-pub lowest_good : (T : Levels) (G : Sets T) (k : ℕ) (xs : List (T.Item k)) → AllGood T G k xs → AllGood T G zero (lowest T k xs)
+pub lowest_good : (T : Levels) (G : Sets T) (k : ℕ) (xs : List (T.Item k)) → AllGood T G k xs
+    → AllGood T G zero (lowest T k xs)
 unfolding lowest
 lowest_good T G zero xs h = h
 lowest_good T G (suc k) xs h = lowest_good T G k (under T k xs) (under_good T G k xs h)
 
-pub lowest_in_ascends : (T : Levels) (G : Sets T) (k : ℕ) (x : T.Item k) → G.Good k x → Ascends (T.order zero) (lowest_in T k x)
+pub lowest_in_ascends : (T : Levels) (G : Sets T) (k : ℕ) (x : T.Item k) → G.Good k x
+    → Ascends (T.order zero) (lowest_in T k x)
 unfolding lowest_in
 lowest_in_ascends T G zero x h = ((λ y i. elim i [ ]), tt)
 lowest_in_ascends T G (suc k) x h = lowest_ascends T k (T.subs k x) (G.ascends k x h)
@@ -142,19 +159,23 @@ lowest_in_good T G (suc k) x h y m = lowest_good T G k (T.subs k x) (G.good k x 
 -- ---- the lowest level taken off
 
 -- the subs of what is lowest above are lowest
-lowest_over : (T : Levels) (k : ℕ) (xs : List (T.Item (suc k))) (y : T.Item (suc zero)) → Mem y (lowest (over T) k xs) → (z : T.Item zero) → Mem z (T.subs zero y) → Mem z (lowest T (suc k) xs)
+lowest_over : (T : Levels) (k : ℕ) (xs : List (T.Item (suc k))) (y : T.Item (suc zero)) → Mem y (lowest (over T) k xs)
+    → (z : T.Item zero) → Mem z (T.subs zero y) → Mem z (lowest T (suc k) xs)
 unfolding lowest under
-lowest_over T zero xs y m z i = in_in_order (T.order zero) (T.linear zero) z (flat_map (T.subs zero) xs) (in_flat_map (T.subs zero) z y xs m i)
+lowest_over T zero xs y m z i =
+    in_in_order (T.order zero) (T.linear zero) z (flat_map (T.subs zero) xs) (in_flat_map (T.subs zero) z y xs m i)
 lowest_over T (suc k) xs y m z i = lowest_over T k (items_in_order T (suc k) (flat_map (T.subs (suc k)) xs)) y m z i
 
-pub lowest_in_over : (T : Levels) (k : ℕ) (x : T.Item (suc k)) (y : T.Item (suc zero)) → Mem y (lowest_in (over T) k x) → (z : T.Item zero) → Mem z (T.subs zero y) → Mem z (lowest_in T (suc k) x)
+pub lowest_in_over : (T : Levels) (k : ℕ) (x : T.Item (suc k)) (y : T.Item (suc zero))
+    → Mem y (lowest_in (over T) k x) → (z : T.Item zero) → Mem z (T.subs zero y) → Mem z (lowest_in T (suc k) x)
 unfolding lowest_in lowest
 lowest_in_over T zero x y (Memᴰ.head e) z i = subst (λ (w : T.Item (suc zero)). Mem z (T.subs zero w)) e i
 lowest_in_over T zero x y (Memᴰ.tail m) z i = elim m [ ]
 lowest_in_over T (suc k) x y m z i = lowest_over T k (T.subs (suc k) x) y m z i
 
 upper_over : (T : Levels) (k : ℕ) (xs : List (T.Item (suc k))) (last : List Elements)
-    → upper_ranks T (suc k) xs last ≡ map (places_in T zero (lowest T (suc k) xs)) (lowest (over T) k xs) ∷ upper_ranks (over T) k xs last
+    → upper_ranks T (suc k) xs last
+    ≡ map (places_in T zero (lowest T (suc k) xs)) (lowest (over T) k xs) ∷ upper_ranks (over T) k xs last
 unfolding upper_ranks lowest under
 upper_over T zero xs last = refl
 upper_over T (suc k) xs last =
@@ -163,24 +184,31 @@ upper_over T (suc k) xs last =
 
 -- the ranks of a figure above its lowest are those of the levels above, items written as the places of their subs
 pub ranks_over : (T : Levels) (write : T.Item zero → List ℕ) (k : ℕ) (xs : List (T.Item (suc k)))
-    → ranks_on T write (suc k) xs ≡ map write (lowest T (suc k) xs) ∷ ranks_on (over T) (places_in T zero (lowest T (suc k) xs)) k xs
+    → ranks_on T write (suc k) xs
+    ≡ map write (lowest T (suc k) xs) ∷ ranks_on (over T) (places_in T zero (lowest T (suc k) xs)) k xs
 unfolding ranks_on
-ranks_over T write k xs = ap (λ (r : List Elements). map write (lowest T (suc k) xs) ∷ r) (upper_over T k xs (body_of (length xs)))
+ranks_over T write k xs =
+    ap (λ (r : List Elements). map write (lowest T (suc k) xs) ∷ r) (upper_over T k xs (body_of (length xs)))
 
-pub ranks_of_over : (T : Levels) (G : Sets T) (write : T.Item zero → List ℕ) (k : ℕ) (x : T.Item (suc k)) → G.Good (suc k) x
-    → ranks_of T write (suc k) x ≡ map write (lowest_in T (suc k) x) ∷ ranks_of (over T) (places_in T zero (lowest_in T (suc k) x)) k x
+pub ranks_of_over : (T : Levels) (G : Sets T) (write : T.Item zero → List ℕ) (k : ℕ) (x : T.Item (suc k))
+    → G.Good (suc k) x
+    → ranks_of T write (suc k) x
+    ≡ map write (lowest_in T (suc k) x) ∷ ranks_of (over T) (places_in T zero (lowest_in T (suc k) x)) k x
 unfolding ranks_of ranks_on lowest_in lowest upper_ranks body_of
 ranks_of_over T G write zero x h =
-    ap (λ (body : List ℕ). map write (T.subs zero x) ∷ (body ∷ []) ∷ []) (sym (own_places (T.order zero) (T.linear zero) (T.subs zero x) (G.ascends zero x h)))
+    ap (λ (body : List ℕ). map write (T.subs zero x) ∷ (body ∷ []) ∷ [])
+    (sym (own_places (T.order zero) (T.linear zero) (T.subs zero x) (G.ascends zero x h)))
 ranks_of_over T G write (suc k) x h = ranks_over T write k (T.subs (suc k) x)
 
 -- ---- the lowest items written otherwise
 
-pub ranks_of_sent : (T : Levels) (write other : T.Item zero → List ℕ) (f : ℕ → ℕ) (k : ℕ) (x : T.Item k) → ((z : T.Item zero) → Mem z (lowest_in T k x) → sort_nats (map f (write z)) ≡ other z)
+pub ranks_of_sent : (T : Levels) (write other : T.Item zero → List ℕ) (f : ℕ → ℕ) (k : ℕ) (x : T.Item k)
+    → ((z : T.Item zero) → Mem z (lowest_in T k x) → sort_nats (map f (write z)) ≡ other z)
     → lowest_by f (ranks_of T write k x) ≡ ranks_of T other k x
 unfolding ranks_of ranks_on lowest_in lowest_by renumber
 ranks_of_sent T write other f zero x same = ap (λ (e : List ℕ). (e ∷ []) ∷ []) (same x (here refl))
 ranks_of_sent T write other f (suc k) x same =
     let all = lowest T k (T.subs k x) in
     ap (λ (es : Elements). es ∷ upper_ranks T k (T.subs k x) (body_of (length (T.subs k x))))
-    (map-map (λ (e : List ℕ). sort_nats (map f e)) write all ∙ map_same (λ (z : T.Item zero). sort_nats (map f (write z))) other all same)
+    (map-map (λ (e : List ℕ). sort_nats (map f e)) write all
+    ∙ map_same (λ (z : T.Item zero). sort_nats (map f (write z))) other all same)

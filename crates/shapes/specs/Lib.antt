@@ -1,4 +1,5 @@
--- What figures, rows, splitting and lists of places look like in the answers of calls, at every rank: laws of the definitions, with no code in sight.
+-- What figures, rows, splitting and lists of places look like in the answers of calls, at every rank: laws of the
+-- definitions, with no code in sight.
 pub mod Answered
 pub mod Emitted
 pub mod Edges

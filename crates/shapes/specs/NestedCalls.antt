@@ -1,5 +1,6 @@
--- Every figure of every call is that of a nested set: entries, possible facets and ridges, by induction on the rank. The figure of a list found is that of all row images of its split facets'
--- elements, at every rank from 3. Leans on NestedFigures, Calls and SplitCalls.
+-- Every figure of every call is that of a nested set: entries, possible facets and ridges, by induction on the rank.
+-- The figure of a list found is that of all row images of its split facets' elements, at every rank from 3. Leans on
+-- NestedFigures, Calls and SplitCalls.
 use Rattle.std.specs.Prelude.{◌≡◌, refl, length}
 use mathlib.Core.List.{List, [], map, flat_map}
 use Prim.Native.Nat.{ℕ, zero, suc, ◌<◌}
@@ -31,7 +32,8 @@ unfoldable pub entry_points : ℕ → ℕ → ℕ
 entry_points zero n = 2
 entry_points (suc more) n = n
 
--- the possible facets of a call of rank 2 + k, which are ridges of the call above: at rank 2 a vertex, and above an element with the points that stand in its figure
+-- the possible facets of a call of rank 2 + k, which are ridges of the call above: at rank 2 a vertex, and above an
+-- element with the points that stand in its figure
 abbrev pub Ridge : ℕ → Type 0
 Ridge zero = ℕ
 Ridge (suc k) = Pointed k
@@ -52,12 +54,16 @@ read_ridge (suc k) f = (length (rank_of 1 f), read_nested k f)
 pub ridge_read : (n k : ℕ) (r : Ridge k) → RidgeOn n k r → read_ridge k (ridge_figure k r) ≡ r
 unfolding read_ridge ridge_figure rank_of vertex_ridge
 ridge_read n zero v h = refl
-ridge_read n (suc k) x h = let points = nested_points x.0 k x.1 in let element = nested_read n x.0 k x.1 h in λ t. (points t, element t)
+ridge_read n (suc k) x h =
+    let points = nested_points x.0 k x.1 in
+    let element = nested_read n x.0 k x.1 h in
+    λ t. (points t, element t)
 
 -- the answer of a call of rank 2 + more on n points
 pub record NestedAnswer (n more : ℕ) (a : Answer) : Type 0 where
   pub entries : (e : Entry) → Mem e a.entries → Nests n (entry_points more n) more e.figure
-  pub possible : (fs : List Figure) → Mem fs a.possible → (f : Figure) → Mem f fs → (r : Ridge more) × (f ≡ ridge_figure more r) × RidgeOn n more r
+  pub possible : (fs : List Figure) → Mem fs a.possible → (f : Figure) → Mem f fs
+      → (r : Ridge more) × (f ≡ ridge_figure more r) × RidgeOn n more r
 
 -- ---- facets
 
@@ -87,5 +93,7 @@ facets_many i = length-map i.answer.entries (λ (x : Entry). move_ends (λ (v : 
 
 -- what holds of the answers of one rank less
 abbrev pub Below : ℕ → Rules → Type 0
-Below more rules = (plane : Subspace) (points : List Vec) (rows : List Row) (budget : ℕ) (b : Answer) → Given points rows → faceting more rules plane points rows budget ≡ answered b
+Below more rules =
+    (plane : Subspace) (points : List Vec) (rows : List Row) (budget : ℕ) (b : Answer) → Given points rows
+    → faceting more rules plane points rows budget ≡ answered b
     → NestedAnswer (length points) more b

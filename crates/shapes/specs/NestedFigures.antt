@@ -1,5 +1,7 @@
--- The figures of nested sets. The figure of facets is that of the set of their elements, at every rank from 3: `figure_of` in one equation. Moved and sorted it is the figure of the element sent;
--- moved by a map that rises it is the figure of the element as it comes; and figures on as many points are equal exactly where the elements are. Leans on Nested and FigureOf.
+-- The figures of nested sets. The figure of facets is that of the set of their elements, at every rank from 3:
+-- `figure_of` in one equation. Moved and sorted it is the figure of the element sent; moved by a map that rises it is
+-- the figure of the element as it comes; and figures on as many points are equal exactly where the elements are.
+-- Leans on Nested and FigureOf.
 use Rattle.std.specs.Prelude.{◌≡◌, refl, List, [], ◌∷◌, map, ℕ, zero, suc, length, get_or, drop, replicate}
 use Rattle.std.proofs.Common.{ap, ◌∙◌}
 use Rattle.std.proofs.lemmas.Simd.{map-map}
@@ -34,10 +36,12 @@ pointed_figure k x = nested_figure x.0 k x.1
 
 -- ---- moved
 
-pub move_ranks : (to : ℕ → ℕ) (empty points : Elements) (ranks : List Elements) → move_sorted to (empty ∷ points ∷ ranks) ≡ empty ∷ points ∷ sort_all (lowest_by to ranks)
+pub move_ranks : (to : ℕ → ℕ) (empty points : Elements) (ranks : List Elements)
+    → move_sorted to (empty ∷ points ∷ ranks) ≡ empty ∷ points ∷ sort_all (lowest_by to ranks)
 unfolding move_sorted sort_strong move_ends sort_all lowest_by renumber
 move_ranks to empty points [] = refl
-move_ranks to empty points (edges ∷ more) = ap (λ (es : Elements). empty ∷ points ∷ sort_ranks es more) (map-map sort_nats (map to) edges)
+move_ranks to empty points (edges ∷ more) =
+    ap (λ (es : Elements). empty ∷ points ∷ sort_ranks es more) (map-map sort_nats (map to) edges)
 
 -- ---- an element read off its figure
 
@@ -57,8 +61,10 @@ unfolding read_nested nested_figure edge_pairs rank_of ends
 nested_read n points k x h =
     let edge : List ℕ → Pair = λ e. (get_or e 0 0, get_or e 1 0) in
     let edges : map edge (lowest_of (nested_ranks k x)) ≡ lowest_in nested k x =
-    ap (map edge) (lowest_of_ranks nested ends k x) ∙ map-map edge ends (lowest_in nested k x) ∙ map_self (λ (e : Pair). (e.0, e.1)) (lowest_in nested k x) (λ e i. refl) in
-    ap (λ (es : List Pair). read_item k nested nested_building es (drop 1 (nested_ranks k x))) edges ∙ ranks_read k nested (nested_sets n) nested_building ends x h
+    ap (map edge) (lowest_of_ranks nested ends k x) ∙ map-map edge ends (lowest_in nested k x)
+    ∙ map_self (λ (e : Pair). (e.0, e.1)) (lowest_in nested k x) (λ e i. refl) in
+    ap (λ (es : List Pair). read_item k nested nested_building es (drop 1 (nested_ranks k x))) edges
+    ∙ ranks_read k nested (nested_sets n) nested_building ends x h
 
 pub nested_points : (points k : ℕ) (x : Nested k) → length (rank_of 1 (nested_figure points k x)) ≡ points
 unfolding rank_of nested_figure

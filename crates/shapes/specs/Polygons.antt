@@ -1,4 +1,5 @@
--- Edges sent elsewhere, as their ends come or the smaller first; a polygon's edges sent as they come, and read off its figure. Leans on EdgeSets.
+-- Edges sent elsewhere, as their ends come or the smaller first; a polygon's edges sent as they come, and read off
+-- its figure. Leans on EdgeSets.
 use Rattle.std.specs.Prelude.{◌≡◌, refl, ◌⊎◌, List, [], ◌∷◌, map, length, get_or, replicate}
 use Rattle.std.proofs.Common.{sym, ◌∙◌, inl, inr, arith}
 use Rattle.std.proofs.lemmas.Simd.{map-map}
@@ -30,7 +31,8 @@ via_proper n m to into e h =
     let s = h.below in
     let a = into.below e.0 (omega arith) in
     let b = into.below e.1 (omega arith) in
-    let differ : to e.0 ≡ to e.1 → ⊥ = λ q. let same = into.apart e.0 e.1 (omega arith) (omega arith) q in absurd (omega arith) in
+    let differ : to e.0 ≡ to e.1 → ⊥ = λ q. let same = into.apart e.0 e.1 (omega arith) (omega arith) q in
+    absurd (omega arith) in
     record { rises = apart_rises (to e.0) (to e.1) differ; below = omega arith }
   where
     apart_rises : (x y : ℕ) → (x ≡ y → ⊥) → min x y < max x y
@@ -47,7 +49,8 @@ via_proper n m to into e h =
 pub polygon_raised : (to : ℕ → ℕ) (k : ℕ) (l : List Pair) → move_ends to (polygon k l) ≡ polygon k (map (ends_via to) l)
 unfolding move_ends polygon ends ends_via
 polygon_raised to k l =
-    let edges : map (map to) (map ends l) ≡ map ends (map (ends_via to) l) = map-map (map to) ends l ∙ sym (map-map ends (ends_via to) l) in
+    let edges : map (map to) (map ends l) ≡ map ends (map (ends_via to) l) = map-map (map to) ends l
+    ∙ sym (map-map ends (ends_via to) l) in
     let same : length l ≡ length (map (ends_via to) l) = sym (length-map l (ends_via to)) in
     λ t. ([] ∷ []) ∷ replicate k (0 ∷ []) ∷ edges t ∷ (count_from 0 (same t) ∷ []) ∷ []
 
@@ -58,4 +61,6 @@ edge_pairs f = map (λ (e : List ℕ). (get_or e 0 0, get_or e 1 0)) (rank_of 2 
 
 pub polygon_edges : (k : ℕ) (l : List Pair) → edge_pairs (polygon k l) ≡ l
 unfolding edge_pairs rank_of polygon ends
-polygon_edges k l = map-map (λ (e : List ℕ). (get_or e 0 0, get_or e 1 0)) ends l ∙ map_self (λ (e : Pair). (e.0, e.1)) l (λ e i. refl)
+polygon_edges k l =
+    map-map (λ (e : List ℕ). (get_or e 0 0, get_or e 1 0)) ends l
+    ∙ map_self (λ (e : Pair). (e.0, e.1)) l (λ e i. refl)

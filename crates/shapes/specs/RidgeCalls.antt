@@ -1,4 +1,5 @@
--- The ridges of calls of rank 3 and 4: vertices at rank 3, edges at rank 4, so that such a call numbers its ridges by vertices or by pairs of ends (at rank 3 a vertex twice). From what the call has before its search. Leans on Ridges.
+-- The ridges of calls of rank 3 and 4: vertices at rank 3, edges at rank 4, so that such a call numbers its ridges by
+-- vertices or by pairs of ends (at rank 3 a vertex twice). From what the call has before its search. Leans on Ridges.
 use Rattle.std.specs.Prelude.{◌≡◌}
 use Rattle.std.proofs.Math.Path.{sym, ap}
 use Rattle.std.proofs.Common.{◌∙◌}
@@ -19,7 +20,8 @@ use Rattle.shapes.specs.LowRanks.{inner_rank_two, edge_of, possible_edges}
 use Rattle.shapes.specs.Calls.{inner_points}
 use Rattle.shapes.specs.Polygons.{edge_via}
 use Rattle.shapes.specs.Kept.{ends_of}
-use Rattle.shapes.specs.Ridges.{AnyKey, AnyMap, any_keys, key_numbers, ridge_numbers, numbers_by_keys, vertices_keyed, edges_keyed, twice}
+use Rattle.shapes.specs.Ridges.{AnyKey, AnyMap, any_keys, key_numbers, ridge_numbers, numbers_by_keys, vertices_keyed}
+use Rattle.shapes.specs.Ridges.{edges_keyed, twice}
 
 -- the ridges of an orbit's inner answer as pairs of ends, in the set's positions
 unfoldable pub end_keys : Inner → List (List Pair)
@@ -31,7 +33,8 @@ end_keys i = map (map ends_of) i.answer.possible
 unfoldable pub vertex_keys : Inner → List (List ℕ)
 vertex_keys i = map (λ (v : ℕ). v ∷ []) (count_from 0 (length i.answer.counts))
 
-module _ (rules : Rules) (plane : Subspace) (points : List Vec) (rows : List Row) (p : Prepared) (made : Preparation 0 rules (faceting 0 rules) plane points rows p) where
+module _ (rules : Rules) (plane : Subspace) (points : List Vec) (rows : List Row) (p : Prepared)
+    (made : Preparation 0 rules (faceting 0 rules) plane points rows p) where
   pub vertex_ridges : (i : Inner) → Mem i p.inner → i.answer.possible ≡ map (map vertex_ridge) (vertex_keys i)
   unfolding vertex_keys
   vertex_ridges i m =
@@ -43,7 +46,9 @@ module _ (rules : Rules) (plane : Subspace) (points : List Vec) (rows : List Row
 
   -- the ridges of a call of rank 3, numbered by vertices
   pub rank_three_vertices : ridge_numbers p.rows p.inner ≡ key_numbers compare (λ to v. to v) p.rows vertex_keys p.inner
-  rank_three_vertices = numbers_by_keys compare (λ to v. to v) vertex_ridge AnyKey AnyMap vertices_keyed 0 p.rows vertex_keys p.inner vertex_ridges (any_keys 0 p.rows vertex_keys p.inner)
+  rank_three_vertices =
+      numbers_by_keys compare (λ to v. to v) vertex_ridge AnyKey AnyMap vertices_keyed 0 p.rows vertex_keys p.inner
+      vertex_ridges (any_keys 0 p.rows vertex_keys p.inner)
 
   -- a vertex is a pair of equal ends
   pub vertices_as_ends : (i : Inner) → Mem i p.inner → end_keys i ≡ map (map twice) (vertex_keys i)
@@ -56,14 +61,17 @@ module _ (rules : Rules) (plane : Subspace) (points : List Vec) (rows : List Row
 
 -- ---- rank 4
 
-module _ (rules : Rules) (plane : Subspace) (points : List Vec) (rows : List Row) (p : Prepared) (made : Preparation 1 rules (faceting 1 rules) plane points rows p) where
+module _ (rules : Rules) (plane : Subspace) (points : List Vec) (rows : List Row) (p : Prepared)
+    (made : Preparation 1 rules (faceting 1 rules) plane points rows p) where
   pub edge_ridges : (i : Inner) → Mem i p.inner → i.answer.possible ≡ map (map edge_figure) (end_keys i)
   unfolding end_keys ends_of rank_of edge_figure
   edge_ridges i m =
       let inner = made.inner.each i m in
-      let its = answered_call 0 rules _ (inner_points plane points i) (rows_within i.orbit.vertices rows) inner.budget i.answer inner.is in
+      let its = answered_call 0 rules _ (inner_points plane points i)
+      (rows_within i.orbit.vertices rows) inner.budget i.answer inner.is in
       let orbits = map (λ (j : Inner). j.orbit) its.before.inner in
-      let e : i.answer.possible ≡ map (λ (o : Orbit). edge_figure (edge_of o) ∷ []) orbits = possible_edges rules _ (inner_points plane points i) (rows_within i.orbit.vertices rows) i.answer its in
+      let e : i.answer.possible ≡ map (λ (o : Orbit). edge_figure (edge_of o) ∷ []) orbits =
+      possible_edges rules _ (inner_points plane points i) (rows_within i.orbit.vertices rows) i.answer its in
       e
       ∙ sym (map-map (map edge_figure) (λ (o : Orbit). edge_of o ∷ []) orbits)
       ∙ ap (map (map edge_figure)) (sym (map-map (map ends_of) (λ (o : Orbit). edge_figure (edge_of o) ∷ []) orbits))
@@ -71,4 +79,6 @@ module _ (rules : Rules) (plane : Subspace) (points : List Vec) (rows : List Row
 
   -- the ridges of a call of rank 4, numbered by pairs of ends
   pub rank_four_ends : ridge_numbers p.rows p.inner ≡ key_numbers compare_pair edge_via p.rows end_keys p.inner
-  rank_four_ends = numbers_by_keys compare_pair edge_via edge_figure AnyKey AnyMap edges_keyed 0 p.rows end_keys p.inner edge_ridges (any_keys 0 p.rows end_keys p.inner)
+  rank_four_ends =
+      numbers_by_keys compare_pair edge_via edge_figure AnyKey AnyMap edges_keyed 0 p.rows end_keys p.inner
+      edge_ridges (any_keys 0 p.rows end_keys p.inner)

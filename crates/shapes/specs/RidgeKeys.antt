@@ -1,5 +1,6 @@
--- The ridges of a call as keys, at every rank from 3: at rank 3 a vertex, above an element with the points that stand in its figure. Rows carry them as they carry figures, so that a call
--- numbers its ridges by such keys. Leans on Ridges and NestedCalls.
+-- The ridges of a call as keys, at every rank from 3: at rank 3 a vertex, above an element with the points that stand
+-- in its figure. Rows carry them as they carry figures, so that a call numbers its ridges by such keys. Leans on
+-- Ridges and NestedCalls.
 use mathlib.Core.List.{List, map}
 use Prim.Native.Nat.{ℕ, zero, suc, compare, Ordering}
 use Rattle.definitions.specs.Recursion.{Inner}

@@ -1,5 +1,6 @@
--- The shape of a figure: its ranks from the edges up, each element's subs strictly ascending and naming elements of the rank below, no two elements of a rank equal; sorted, each rank
--- strictly ascends and the last has one element. `element_sort_strong` leaves such a figure as it is. Leans on the definitions and laws.
+-- The shape of a figure: its ranks from the edges up, each element's subs strictly ascending and naming elements of
+-- the rank below, no two elements of a rank equal; sorted, each rank strictly ascends and the last has one element.
+-- `element_sort_strong` leaves such a figure as it is. Leans on the definitions and laws.
 use Rattle.std.specs.Prelude.{◌≡◌, refl, List, [], ◌∷◌, length, get_or, drop}
 use Rattle.std.proofs.Common.{ap, arith}
 use Prim.Native.Nat.{ℕ, zero, suc, ◌<◌, compare}
@@ -47,7 +48,8 @@ pub record Tower (bound : ℕ) (ranks : List Elements) : Type 0 where
   pub sorted : Sorted ranks
   pub crowned : Crowned ranks
 
--- A figure on so many points with rank + 1 ranks: behind the empty element's rank and the points', a tower of rank − 1.
+-- A figure on so many points with rank + 1 ranks: behind the empty element's rank and the points', a tower of rank −
+-- 1.
 pub record Shaped (points rank : ℕ) (f : Figure) : Type 0 where
   pub empty : Elements
   pub vertices : Elements
@@ -69,7 +71,8 @@ pub no_element_holds : (b : ℕ) → Element b []
 no_element_holds b = record { ascends = tt; below = λ x m. elim m [ ] }
 
 -- an element at a place, or the empty one where there is none
-pub element_at : (b : ℕ) (es : Elements) → ((e : List ℕ) → Mem e es → Element b e) → (i : ℕ) → Element b (get_or es i [])
+pub element_at : (b : ℕ) (es : Elements) → ((e : List ℕ) → Mem e es → Element b e) → (i : ℕ)
+    → Element b (get_or es i [])
 element_at b [] h i = no_element_holds b
 element_at b (e ∷ es) h zero = h e (here refl)
 element_at b (e ∷ es) h (suc i) = element_at b es (λ d m. h d (there m)) i

@@ -1,5 +1,6 @@
--- How much there can be: facets in an emitted list and in a split list, edges of a figure, sets in a hyperplane orbit. Bounds that code needs for its regions and counters, from the
--- definitions alone. Leans on Emitted, SplitCalls, EdgeSets and Sets.
+-- How much there can be: facets in an emitted list and in a split list, edges of a figure, sets in a hyperplane
+-- orbit. Bounds that code needs for its regions and counters, from the definitions alone. Leans on Emitted,
+-- SplitCalls, EdgeSets and Sets.
 use Rattle.std.specs.Prelude.{◌≡◌, refl, Bool, true, false, eqb, length, get_or}
 use Rattle.std.proofs.Common.{sym, ap, ◌∙◌, subst, arith, eqb→eq, length-append}
 use mathlib.Core.List.{List, [], ◌∷◌, ◌++◌, map}
@@ -44,22 +45,28 @@ facets_from_length orbit (i ∷ is) =
     let d = facets_from_length (suc orbit) is in
     omega arith
 
-in_facets_from : (orbit : ℕ) (inner : List Inner) (o f : ℕ) → f < get_or (map facet_number inner) o 0 → Mem (orbit + o, f) (facets_from orbit inner)
+in_facets_from : (orbit : ℕ) (inner : List Inner) (o f : ℕ) → f < get_or (map facet_number inner) o 0
+    → Mem (orbit + o, f) (facets_from orbit inner)
 unfolding facets_from
 in_facets_from orbit [] o f h = absurd (omega arith)
 in_facets_from orbit (i ∷ is) zero f h =
     let first : List Facet = map (λ (g : ℕ). (orbit, g)) (count_from 0 (facet_number i)) in
-    let own : Mem {A = Facet} (orbit, f) first = in_map (λ (g : ℕ). (orbit, g)) f (count_from 0 (facet_number i)) (in_count 0 (facet_number i) f (omega arith) (omega arith)) in
-    in_left (orbit + 0, f) first (facets_from (suc orbit) is) (subst (λ (n : ℕ). Mem {A = Facet} (n, f) first) (omega arith) own)
+    let own : Mem {A = Facet} (orbit, f) first = in_map (λ (g : ℕ). (orbit, g)) f (count_from 0 (facet_number i))
+    (in_count 0 (facet_number i) f (omega arith) (omega arith)) in
+    in_left (orbit + 0, f) first (facets_from (suc orbit) is)
+    (subst (λ (n : ℕ). Mem {A = Facet} (n, f) first) (omega arith) own)
 in_facets_from orbit (i ∷ is) (suc o) f h =
     let first : List Facet = map (λ (g : ℕ). (orbit, g)) (count_from 0 (facet_number i)) in
     let later = facets_from (suc orbit) is in
-    in_right (orbit + suc o, f) first later (subst (λ (n : ℕ). Mem {A = Facet} (n, f) later) (omega arith) (in_facets_from (suc orbit) is o f h))
+    in_right (orbit + suc o, f) first later
+    (subst (λ (n : ℕ). Mem {A = Facet} (n, f) later) (omega arith) (in_facets_from (suc orbit) is o f h))
 
 -- different facets of a call are no more than it has
-pub facets_few : (p : Prepared) (l : List Facet) → Distinct l → ((f : Facet) → Mem f l → InCall p f) → length l ≤ facet_sum p.inner
+pub facets_few : (p : Prepared) (l : List Facet) → Distinct l → ((f : Facet) → Mem f l → InCall p f)
+    → length l ≤ facet_sum p.inner
 facets_few p l h k =
-    let r = distinct_within l (facets_from 0 p.inner) h (λ f m. subst (λ (o : ℕ). Mem (o, f.1) (facets_from 0 p.inner)) (omega arith) (in_facets_from 0 p.inner f.0 f.1 (k f m))) in
+    let r = distinct_within l (facets_from 0 p.inner) h (λ f m. subst
+    (λ (o : ℕ). Mem (o, f.1) (facets_from 0 p.inner)) (omega arith) (in_facets_from 0 p.inner f.0 f.1 (k f m))) in
     let e = facets_from_length 0 p.inner in
     omega arith
 
@@ -69,8 +76,10 @@ module _ (rules : Rules) (p : Prepared) (found : Found) (is_found_holds : search
   found_length l m =
       let orbits = map (λ (f : Facet). f.0) l in
       let e = length-map l (λ (f : Facet). f.0) in
-      let r = distinct_below (length p.inner) orbits (pairs_map OtherOrbit Differ (λ (f : Facet). f.0) l (λ f i g j other. other) (found_apart rules p found is_found_holds l m))
-      (λ o i. let q = of_map (λ (f : Facet). f.0) o l i in subst (λ (n : ℕ). n < length p.inner) (sym q.2) (facet_orbit p.inner q.0 (found_facet rules p found is_found_holds l m q.0 q.1)).0) in
+      let r = distinct_below (length p.inner) orbits (pairs_map OtherOrbit Differ (λ (f : Facet). f.0) l
+      (λ f i g j other. other) (found_apart rules p found is_found_holds l m))
+      (λ o i. let q = of_map (λ (f : Facet). f.0) o l i in subst (λ (n : ℕ). n < length p.inner) (sym q.2)
+      (facet_orbit p.inner q.0 (found_facet rules p found is_found_holds l m q.0 q.1)).0) in
       omega arith
 
 -- ---- edges
@@ -101,13 +110,15 @@ in_pairs_below (suc n) v w h k = go (eqb w n) refl (λ q. in_pairs_below n v w h
     go : (b : Bool) → eqb w n ≡ b → (w < n → Mem (v, w) (pairs_below n)) → Mem (v, w) (front ++ pairs_below n)
     go true e ih =
         let same = eqb→eq w n (true→holds e) in
-        in_left (v, w) front (pairs_below n) (subst (λ (y : ℕ). Mem (v, y) front) (sym same) (in_map (λ (x : ℕ). (x, n)) v (count_from 0 n) (in_count 0 n v (omega arith) (omega arith))))
+        in_left (v, w) front (pairs_below n) (subst (λ (y : ℕ). Mem (v, y) front) (sym same)
+        (in_map (λ (x : ℕ). (x, n)) v (count_from 0 n) (in_count 0 n v (omega arith) (omega arith))))
     go false e ih = in_right (v, w) front (pairs_below n) (ih (let d = apart w n e in omega arith))
 
 -- a figure on n points has at most n (n − 1) / 2 edges
 pub edges_few : (n : ℕ) (l : List Pair) → EdgeSet n l → 2 * length l + n ≤ n * n
 edges_few n l h =
-    let r = distinct_within l (pairs_below n) (ascends_distinct compare_pair pairs l h.ascends) (λ e m. in_pairs_below n e.0 e.1 (h.proper e m).rises (h.proper e m).below) in
+    let r = distinct_within l (pairs_below n) (ascends_distinct compare_pair pairs l h.ascends)
+    (λ e m. in_pairs_below n e.0 e.1 (h.proper e m).rises (h.proper e m).below) in
     let k = pairs_below_length n in
     omega arith
 
@@ -117,7 +128,9 @@ edges_few n l h =
 pub set_stays : (n : ℕ) (vertices : List ℕ) → VertexSet n vertices → set_image vertices (count_from 0 n) ≡ vertices
 unfolding set_image image sort_nats
 set_stays n vertices h =
-    ap sort_nats (map_self (image (count_from 0 n)) vertices (λ v m. let b = h.below v m in count_at 0 n v 0 b ∙ omega arith)) ∙ sort_ascending compare nats vertices h.ascends
+    ap sort_nats
+    (map_self (image (count_from 0 n)) vertices (λ v m. let b = h.below v m in count_at 0 n v 0 b ∙ omega arith))
+    ∙ sort_ascending compare nats vertices h.ascends
 
 -- an orbit has at least its first set, and at most a set for each row
 pub record Counted (rows : List Row) (count : ℕ) : Type 0 where

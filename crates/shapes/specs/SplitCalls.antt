@@ -1,5 +1,6 @@
--- Splitting in the answers of calls, at every rank, by induction on the rank: an entry's list is not empty and names nothing twice, a compound is made of two entries, and a split list names
--- facets that the call has, none twice. Leans on Splitting, Emitted and LowRanks.
+-- Splitting in the answers of calls, at every rank, by induction on the rank: an entry's list is not empty and names
+-- nothing twice, a compound is made of two entries, and a split list names facets that the call has, none twice.
+-- Leans on Splitting, Emitted and LowRanks.
 use Rattle.std.specs.Prelude.{◌≡◌, refl, ℕ, ◌<◌}
 use Rattle.std.proofs.Math.Path.{ap}
 use mathlib.Core.List.{List, [], ◌∷◌, map, flat_map}

@@ -1,5 +1,6 @@
--- Splitting [8.6] ended: no entry of an answered call names a facet that is a compound of its orbit's inner answer, at
--- every rank from 3, and so splitting an entry's list once more, with any number of steps, leaves it as it is. Leans on SplitCalls.
+-- Splitting [8.6] ended: no entry of an answered call names a facet that is a compound of its orbit's inner answer,
+-- at every rank from 3, and so splitting an entry's list once more, with any number of steps, leaves it as it is.
+-- Leans on SplitCalls.
 use Rattle.std.specs.Prelude.{ℕ}
 use Rattle.std.specs.Prelude.{Option}
 use mathlib.Core.List.{List, []}

@@ -1,5 +1,6 @@
--- Splitting ends. A compound's two components have lists that are not empty and together make up its own, so twice as many steps as the facet's list has items leave no compound, and more
--- change nothing; the parts' lists are disjoint and make up the facet's list. Over any lists and compounds of them. Leans on Compounds.
+-- Splitting ends. A compound's two components have lists that are not empty and together make up its own, so twice as
+-- many steps as the facet's list has items leave no compound, and more change nothing; the parts' lists are disjoint
+-- and make up the facet's list. Over any lists and compounds of them. Leans on Compounds.
 use Rattle.std.proofs.Math.Path.{◌≡◌, refl, ap, subst}
 use Rattle.std.proofs.Common.{sym, ◌∙◌}
 use Rattle.std.specs.Prelude.{get_or}
@@ -33,7 +34,8 @@ module _ {A : Type 0} where
   distinct_across (y ∷ l) m h x (Memᴰ.head e) j = h.0 x (in_right x l m j) (sym e)
   distinct_across (y ∷ l) m h x (Memᴰ.tail i) j = distinct_across l m h.1 x i j
 
-module _ (lists : List (List Pair)) (cs : List Compound) (good : (c : Compound) → Mem c cs → Composed lists c) (some_items : (l : List Pair) → Mem l lists → 0 < length l) where
+module _ (lists : List (List Pair)) (cs : List Compound) (good : (c : Compound) → Mem c cs → Composed lists c)
+    (some_items : (l : List Pair) → Mem l lists → 0 < length l) where
   abbrev at : ℕ → List Pair
   at a = get_or lists a []
 
@@ -53,24 +55,35 @@ module _ (lists : List (List Pair)) (cs : List Compound) (good : (c : Compound) 
 
   -- ---- what is left in the queue has numbers of entries, and the same items
 
-  step_items : (queue : List ℕ) (a : ℕ) (parts : Pair) → components_of cs a ≡ Some parts → Permᴰ (flat_map at (queue ++ (parts.0 ∷ parts.1 ∷ []))) (at a ++ flat_map at queue)
+  step_items : (queue : List ℕ) (a : ℕ) (parts : Pair) → components_of cs a ≡ Some parts
+      → Permᴰ (flat_map at (queue ++ (parts.0 ∷ parts.1 ∷ []))) (at a ++ flat_map at queue)
   unfolding flat_map
   step_items queue a parts e =
       let both = at parts.0 ++ at parts.1 in
       let joined : flat_map at (queue ++ (parts.0 ∷ parts.1 ∷ [])) ≡ flat_map at queue ++ both =
-      flat_map_append at queue (parts.0 ∷ parts.1 ∷ []) ∙ ap (λ (l : List Pair). flat_map at queue ++ (at parts.0 ++ l)) (append-nil (at parts.1)) in
+      flat_map_append at queue (parts.0 ∷ parts.1 ∷ [])
+      ∙ ap (λ (l : List Pair). flat_map at queue ++ (at parts.0 ++ l)) (append-nil (at parts.1)) in
       subst (λ (l : List Pair). Permᴰ l (at a ++ flat_map at queue)) (sym joined)
-      (Permᴰ.trans (Permᴰ.append_left (flat_map at queue) (Permᴰ.symm (step_composed a parts e).items)) (append_turned (flat_map at queue) (at a)))
+      (Permᴰ.trans (Permᴰ.append_left (flat_map at queue) (Permᴰ.symm (step_composed a parts e).items))
+      (append_turned (flat_map at queue) (at a)))
 
   pub split_items : (steps : ℕ) (queue : List ℕ) → Permᴰ (flat_map at (split_queue steps cs queue)) (flat_map at queue)
   unfolding split_queue flat_map
   split_items zero queue = Permᴰ.refl (flat_map at queue)
   split_items (suc steps) [] = Permᴰ.nil
-  split_items (suc steps) (a ∷ queue) = go (components_of cs a) refl (split_items steps queue) (λ parts. split_items steps (queue ++ (parts.0 ∷ parts.1 ∷ [])))
+  split_items (suc steps) (a ∷ queue) =
+      go (components_of cs a) refl (split_items steps queue)
+      (λ parts. split_items steps (queue ++ (parts.0 ∷ parts.1 ∷ [])))
     where
-      go : (o : Option Pair) → components_of cs a ≡ o → Permᴰ (flat_map at (split_queue steps cs queue)) (flat_map at queue)
-          → ((parts : Pair) → Permᴰ (flat_map at (split_queue steps cs (queue ++ (parts.0 ∷ parts.1 ∷ [])))) (flat_map at (queue ++ (parts.0 ∷ parts.1 ∷ []))))
-          → Permᴰ (flat_map at (elim o [ None ↦ a ∷ split_queue steps cs queue | Some parts ↦ split_queue steps cs (queue ++ (parts.0 ∷ parts.1 ∷ [])) ])) (at a ++ flat_map at queue)
+      go : (o : Option Pair) → components_of cs a ≡ o
+          → Permᴰ (flat_map at (split_queue steps cs queue)) (flat_map at queue)
+          → ((parts : Pair) → Permᴰ (flat_map at (split_queue steps cs (queue ++ (parts.0 ∷ parts.1 ∷ []))))
+          (flat_map at (queue ++ (parts.0 ∷ parts.1 ∷ []))))
+          → Permᴰ (flat_map at (elim o [
+            | None ↦ a ∷ split_queue steps cs queue
+            | Some parts ↦
+                split_queue steps cs (queue ++ (parts.0 ∷ parts.1 ∷ []))
+          ])) (at a ++ flat_map at queue)
       go None e ih ih' = Permᴰ.append_left (at a) ih
       go (Some parts) e ih ih' = Permᴰ.trans (ih' parts) (step_items queue a parts e)
 
@@ -114,4 +127,6 @@ module _ (lists : List (List Pair)) (cs : List Compound) (good : (c : Compound) 
 
   -- where the facet's list names nothing twice, the parts' lists are disjoint
   pub parts_disjoint : (a : ℕ) → a < length lists → Distinct (at a) → Pairs Disjoint (parts_of cs (size a) a)
-  parts_disjoint a h d = disjoint_lists (parts_of cs (size a) a) (pairs_perm Differ (λ x y n e. n (sym e)) (Permᴰ.symm (parts_items a h)) d)
+  parts_disjoint a h d =
+      disjoint_lists (parts_of cs (size a) a)
+      (pairs_perm Differ (λ x y n e. n (sym e)) (Permᴰ.symm (parts_items a h)) d)

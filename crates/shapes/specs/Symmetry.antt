@@ -1,6 +1,7 @@
--- The promised symmetry [13.12]: rows closed under composition carry every figure of a call to itself, at every rank from 3, whatever the points, the limits and the rules. That rows which compose do
--- is the law of nested sets (NestedRows); here closed rows are such rows, and a figure that is carried has each of its ranks carried. No fact about choices or about the order of the search is used.
--- Leans on NestedRows, ClosedRows and Jobs.
+-- The promised symmetry [13.12]: rows closed under composition carry every figure of a call to itself, at every rank
+-- from 3, whatever the points, the limits and the rules. That rows which compose do is the law of nested sets
+-- (NestedRows); here closed rows are such rows, and a figure that is carried has each of its ranks carried. No fact
+-- about choices or about the order of the search is used. Leans on NestedRows, ClosedRows and Jobs.
 use Rattle.std.specs.Prelude.{◌≡◌, refl, List, [], ◌∷◌, map, ℕ, get_or, drop}
 use Rattle.std.proofs.Common.{sym, ap, ◌∙◌, subst}
 use Rattle.std.proofs.Math.ListN.{get_or-map}
@@ -17,8 +18,10 @@ use Rattle.shapes.specs.Gathered.{sort_all}
 
 -- ---- rank by rank
 
--- what a row does to a figure that it carries to itself [13.11]: the images of a rank's elements are its elements, from the edges up to the facets
-ranks_kept : (to : ℕ → ℕ) (es : Elements) (more : List Elements) → sort_ranks (renumber to es) more ≡ es ∷ more → RanksKept to (es ∷ more)
+-- what a row does to a figure that it carries to itself [13.11]: the images of a rank's elements are its elements,
+-- from the edges up to the facets
+ranks_kept : (to : ℕ → ℕ) (es : Elements) (more : List Elements) → sort_ranks (renumber to es) more ≡ es ∷ more
+    → RanksKept to (es ∷ more)
 unfolding sort_ranks renumber RanksKept element_image sort_nats sort_by
 ranks_kept to es [] e = tt
 ranks_kept to es (next ∷ more) e =
@@ -27,7 +30,8 @@ ranks_kept to es (next ∷ more) e =
     let number : ℕ → ℕ = λ i. number_in (sort_by compare_nats moved) (get_or moved i []) in
     let goes : ℕ → ℕ = λ i. number_in es (element_image to (get_or es i [])) in
     let same : number ≡ goes = λ t i. number_in (sorted t) (get_or-map (element_image to) es i [] t) in
-    let rest : sort_ranks (renumber goes next) more ≡ next ∷ more = ap (λ (f : ℕ → ℕ). sort_ranks (renumber f next) more) (sym same) ∙ ap (drop 1) e in (
+    let rest : sort_ranks (renumber goes next) more
+    ≡ next ∷ more = ap (λ (f : ℕ → ℕ). sort_ranks (renumber f next) more) (sym same) ∙ ap (drop 1) e in (
       record {
         among = λ d m. subst (λ (l : Elements). Mem d l) sorted (in_sorted compare_nats d moved m);
         back = λ d m. of_sorted compare_nats d moved (subst (λ (l : Elements). Mem d l) (sym sorted) m);

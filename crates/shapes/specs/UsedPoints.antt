@@ -1,5 +1,5 @@
--- The points that a summary counts [12.5], at every rank: the ends of a figure's edges, each once (`used_are_ends`); and
--- how many they are, from the edges alone. Leans on the laws of lists.
+-- The points that a summary counts [12.5], at every rank: the ends of a figure's edges, each once (`used_are_ends`);
+-- and how many they are, from the edges alone. Leans on the laws of lists.
 use Rattle.std.specs.Prelude.{◌≡◌, refl, Bool, true, false, cond, ◌||◌, ℕ, zero, suc, ◌≤◌, ◌<◌, eqb, length, replicate}
 use Rattle.std.proofs.Common.{sym, ap, ◌∙◌, subst, arith, eqb→eq}
 use mathlib.Core.List.{List, [], ◌∷◌, map, Nodup}
@@ -16,14 +16,17 @@ use Rattle.shapes.specs.EdgeSets.{ends}
 
 -- a point is counted exactly if some edge of the figure ends there, and none is counted twice
 pub record UsedAreEnds (f : Figure) : Type 0 where
-  pub counted : (v : ℕ) (edge : List ℕ) → v < length (rank_of 1 f) → Mem edge (rank_of 2 f) → Mem v edge → Mem v (used_points f)
-  pub only : (v : ℕ) → Mem v (used_points f) → (v < length (rank_of 1 f)) × ((edge : List ℕ) × Mem edge (rank_of 2 f) × Mem v edge)
+  pub counted : (v : ℕ) (edge : List ℕ) → v < length (rank_of 1 f) → Mem edge (rank_of 2 f) → Mem v edge
+      → Mem v (used_points f)
+  pub only : (v : ℕ) → Mem v (used_points f)
+      → (v < length (rank_of 1 f)) × ((edge : List ℕ) × Mem edge (rank_of 2 f) × Mem v edge)
   pub once : Nodup (used_points f)
 
 count_differs : (a n : ℕ) → Pairs (λ (x y : ℕ). x ≡ y → ⊥) (count_from a n)
 unfolding count_from
 count_differs a zero = tt
-count_differs a (suc n) = ((λ y i e. let r = (of_count (suc a) n y i).0 in absurd (omega arith)), count_differs (suc a) n)
+count_differs a (suc n) =
+    ((λ y i e. let r = (of_count (suc a) n y i).0 in absurd (omega arith)), count_differs (suc a) n)
 
 pub used_are_ends : (f : Figure) → UsedAreEnds f
 unfolding used_points is_end member_nat
@@ -39,7 +42,9 @@ used_are_ends f =
           let w = any_witness (member_nat v) (rank_of 2 f) k.1 in
           let x = any_witness (eqb v) w.0 w.2 in
           (omega arith, (w.0, w.1, subst (λ (z : ℕ). Mem z w.0) (sym (eqb→eq v x.0 x.2)) x.1));
-      once = pairs→nodup (used_points f) (pairs_keep (λ (x y : ℕ). x ≡ y → ⊥) (is_end f) points (count_differs 0 (length (rank_of 1 f))));
+      once =
+          pairs→nodup (used_points f)
+          (pairs_keep (λ (x y : ℕ). x ≡ y → ⊥) (is_end f) points (count_differs 0 (length (rank_of 1 f))));
     }
 
 -- ---- how many they are
@@ -62,12 +67,14 @@ unfolding keep
 keep_same p q [] h = refl
 keep_same p q (x ∷ l) h = let r = keep_same p q l h in λ t. cond (h x t) (x ∷ r t) (r t)
 
-pub used_ends : (f : Figure) (n : ℕ) (edges : List Pair) → rank_of 1 f ≡ replicate n (0 ∷ []) → rank_of 2 f ≡ map ends edges → length (used_points f) ≡ ends_used n edges
+pub used_ends : (f : Figure) (n : ℕ) (edges : List Pair) → rank_of 1 f ≡ replicate n (0 ∷ [])
+    → rank_of 2 f ≡ map ends edges → length (used_points f) ≡ ends_used n edges
 unfolding used_points is_end ends_used
 used_ends f n edges points lines =
     let many = ap length points ∙ length-replicate {A = List ℕ} n (0 ∷ []) in
     let same : (v : ℕ) → is_end f v ≡ end_of edges v = λ v. ap (any_of (member_nat v)) lines ∙ any_ends v edges in
-    ap length (keep_same (is_end f) (end_of edges) (count_from 0 (length (rank_of 1 f))) same ∙ ap (λ (k : ℕ). keep (end_of edges) (count_from 0 k)) many)
+    ap length (keep_same (is_end f) (end_of edges) (count_from 0 (length (rank_of 1 f))) same
+    ∙ ap (λ (k : ℕ). keep (end_of edges) (count_from 0 k)) many)
 
 -- no more than there are points
 kept_few : (p : ℕ → Bool) (l : List ℕ) → length (keep p l) ≤ length l
@@ -81,4 +88,7 @@ kept_few p (x ∷ l) = go (p x) (kept_few p l)
 
 pub used_few : (f : Figure) → length (used_points f) ≤ length (rank_of 1 f)
 unfolding used_points
-used_few f = let h = kept_few (is_end f) (count_from 0 (length (rank_of 1 f))) in let e = count_length 0 (length (rank_of 1 f)) in omega arith
+used_few f =
+    let h = kept_few (is_end f) (count_from 0 (length (rank_of 1 f))) in
+    let e = count_length 0 (length (rank_of 1 f)) in
+    omega arith

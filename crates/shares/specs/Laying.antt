@@ -6,7 +6,9 @@ use Rattle.definitions.specs.Job.{number_at}
 use Rattle.laws.specs.Segments.{placed}
 use Rattle.pool.specs.Pool.{count, used, closed_lists, opened, emptied, length_at, place_at, Sound}
 use Rattle.pool.specs.Holds.{Holds, holds_length, holds_item, item_room, holds_count}
-use Rattle.shares.specs.Areas.{area, flat, Space, Made, AreaEmpty, AreaGrown, area_kept, clear_kept, clear_ready, clear_holds, grown_none, grown_more, grown_ready, grown_all, lists_to, lists_more, lists_long}
+use Rattle.shares.specs.Areas.{area, flat, Space, Made, AreaEmpty, AreaGrown, area_kept, clear_kept, clear_ready}
+use Rattle.shares.specs.Areas.{clear_holds, grown_none, grown_more, grown_ready, grown_all, lists_to, lists_more}
+use Rattle.shares.specs.Areas.{lists_long}
 
 -- ---- lists of a pool, read
 
@@ -33,13 +35,15 @@ module _ (w most : ℕ) (s : List ℕ) (sound : Sound w most s) (k : ℕ) (h : k
 
 -- ---- pools laid list by list
 
-module _ {from to w most : ℕ} (s : List ℕ) {items lists : ℕ} (space : Space from to w most (length s) items lists) (p : List ℕ) (e : p ≡ emptied (area from to s)) (at : ℕ → List ℕ) where
+module _ {from to w most : ℕ} (s : List ℕ) {items lists : ℕ} (space : Space from to w most (length s) items lists)
+    (p : List ℕ) (e : p ≡ emptied (area from to s)) (at : ℕ → List ℕ) where
   pub laid_start : AreaGrown from to w most (placed from (to - from) s p) (placed from (to - from) s p) (lists_to at 0)
   unfolding lists_to
   laid_start = grown_none (clear_ready s space p e)
 
   module _ {ws : List ℕ} (n : ℕ) (g : AreaGrown from to w most (placed from (to - from) s p) ws (lists_to at n)) where
-    pub laid_more : {t : List ℕ} → AreaGrown from to w most ws t (at n ∷ []) → AreaGrown from to w most (placed from (to - from) s p) t (lists_to at (n + 1))
+    pub laid_more : {t : List ℕ} → AreaGrown from to w most ws t (at n ∷ [])
+        → AreaGrown from to w most (placed from (to - from) s p) t (lists_to at (n + 1))
     laid_more {t} k = rw (lists_more at n) (grown_more (clear_ready s space p e) g k)
 
     pub laid_ready : (k : ℕ) → length (flat (lists_to at n)) + k ≤ items → n < lists → AreaEmpty from to w most ws k 1

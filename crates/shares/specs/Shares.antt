@@ -1,5 +1,5 @@
--- The share of each place, from the areas that it is read from: the orbits' counts, each facet's orbit, each orbit's ridges with their inner counts and their numbers, each facet's places.
--- Leans on Keeps, Areas and Codes.
+-- The share of each place, from the areas that it is read from: the orbits' counts, each facet's orbit, each orbit's
+-- ridges with their inner counts and their numbers, each facet's places. Leans on Keeps, Areas and Pool.
 use Rattle.std.specs.Prelude.{◌≡◌, List, [], ◌∷◌, ◌++◌, map, ℕ, ◌+◌, ◌*◌, ◌/◌, ◌≤◌, ◌<◌, length, get_or, take}
 use Rattle.std.proofs.Common.{ap, ◌∙◌, arith, div-le_self, mul-le-mul_left}
 use Rattle.std.proofs.lemmas.List.{map-append, length-map}
@@ -7,9 +7,9 @@ use Rattle.definitions.specs.Job.{number_at}
 use Rattle.definitions.specs.Search.{Share}
 use Rattle.laws.specs.Parts.{take_more}
 use Rattle.pool.specs.Pool.{count, closed_lists, Sound}
-use Rattle.shelf.specs.declared.Shelf.{Shelf}
-use Rattle.shelf.specs.Keeps.{owners_part, ridges_part, places_part}
-use Rattle.shares.specs.declared.Desk.{Desk}
+use Rattle.layout.specs.declared.KeptLayout.{KeptLayout}
+use Rattle.layout.specs.Keeps.{owners_part, ridges_part, places_part}
+use Rattle.shares.specs.declared.TableLayout.{TableLayout}
 use Rattle.shares.specs.Areas.{area, area_kept}
 
 -- a share as one number: ridge orbit + 65,536 × share
@@ -24,13 +24,13 @@ pub record Sources : Type 0 where
   pub places : List ℕ
   pub numbers : List ℕ
 
-unfoldable pub sources_of : Shelf → Desk → List ℕ → Sources
-sources_of shelf desk s = record {
+unfoldable pub sources_of : KeptLayout → TableLayout → List ℕ → Sources
+sources_of layout tables s = record {
   orbits = area 0 2048 s;
-  owners = owners_part shelf s;
-  ridges = ridges_part shelf s;
-  places = places_part shelf s;
-  numbers = area desk.numbers desk.shares s;
+  owners = owners_part layout s;
+  ridges = ridges_part layout s;
+  places = places_part layout s;
+  numbers = area tables.numbers tables.shares s;
 }
 
 -- an orbit's count, a facet's orbit, an orbit's ridges and their numbers, a facet's places
@@ -60,14 +60,14 @@ unfoldable pub facet_codes : Sources → List ℕ → ℕ → List ℕ
 facet_codes src counts x = map (code_at src counts (owner_of src x)) (places_in src x)
 
 -- the areas lie one behind another, before the shares
-pub record Orders (shelf : Shelf) (desk : Desk) (size : ℕ) : Type 0 where
-  pub orbits : 2048 ≤ shelf.owners
-  pub owners : shelf.owners + 2 * shelf.facets ≤ shelf.ridges
-  pub ridges : shelf.ridges ≤ shelf.places
-  pub places : shelf.places ≤ shelf.end
-  pub end : shelf.end ≤ desk.numbers
-  pub numbers : desk.numbers ≤ desk.shares
-  pub inside : desk.shares ≤ size
+pub record Orders (layout : KeptLayout) (tables : TableLayout) (size : ℕ) : Type 0 where
+  pub orbits : 2048 ≤ layout.owners
+  pub owners : layout.owners + 2 * layout.facets ≤ layout.ridges
+  pub ridges : layout.ridges ≤ layout.places
+  pub places : layout.places ≤ layout.end
+  pub end : layout.end ≤ tables.numbers
+  pub numbers : tables.numbers ≤ tables.shares
+  pub inside : tables.shares ≤ size
 
 -- every place names a ridge of its facet's orbit, with small counts
 pub record SourcesFit (src : Sources) (counts : List ℕ) (facets : ℕ) : Type 0 where
@@ -81,19 +81,25 @@ pub record SourcesFit (src : Sources) (counts : List ℕ) (facets : ℕ) : Type 
   pub inner_small : (o a : ℕ) → a < length (ridges_in src o) → get_or (ridges_in src o) a 0 / 65536 ≤ 120
   pub same_ridges : (o : ℕ) → o < count src.ridges → length (numbers_in src o) ≡ length (ridges_in src o)
   pub ridge_small : (o a : ℕ) → a < length (numbers_in src o) → get_or (numbers_in src o) a 0 < length counts
-  pub place_small : (x i : ℕ) → x < facets → i < length (places_in src x) → get_or (places_in src x) i 0 < length (ridges_in src (owner_of src x))
+  pub place_small : (x i : ℕ) → x < facets → i < length (places_in src x)
+      → get_or (places_in src x) i 0 < length (ridges_in src (owner_of src x))
 
 -- ---- laws
 
 -- the areas are as they were where only what lies behind is written
-pub sources_kept : (shelf : Shelf) (desk : Desk) (s t : List ℕ) → Orders shelf desk (length s) → take desk.shares t ≡ take desk.shares s → sources_of shelf desk t ≡ sources_of shelf desk s
+pub sources_kept : (layout : KeptLayout) (tables : TableLayout) (s t : List ℕ)
+    → Orders layout tables (length s) → take tables.shares t ≡ take tables.shares s
+    → sources_of layout tables t ≡ sources_of layout tables s
 unfolding sources_of
-sources_kept shelf desk s t o e =
-    let a = area_kept desk.shares 0 2048 s t e (omega arith) (omega (arith, o.orbits, o.owners, o.ridges, o.places, o.end, o.numbers)) in
-    let b = area_kept desk.shares shelf.owners shelf.ridges s t e (omega (arith, o.owners)) (omega (arith, o.ridges, o.places, o.end, o.numbers)) in
-    let c = area_kept desk.shares shelf.ridges shelf.places s t e o.ridges (omega (arith, o.places, o.end, o.numbers)) in
-    let d = area_kept desk.shares shelf.places shelf.end s t e o.places (omega (arith, o.end, o.numbers)) in
-    let f = area_kept desk.shares desk.numbers desk.shares s t e o.numbers (omega arith) in
+sources_kept layout tables s t o e =
+    let a = area_kept tables.shares 0 2048 s t e (omega arith)
+    (omega (arith, o.orbits, o.owners, o.ridges, o.places, o.end, o.numbers)) in
+    let b = area_kept tables.shares layout.owners layout.ridges s t e (omega (arith, o.owners))
+    (omega (arith, o.ridges, o.places, o.end, o.numbers)) in
+    let c = area_kept tables.shares layout.ridges layout.places s t e o.ridges
+    (omega (arith, o.places, o.end, o.numbers)) in
+    let d = area_kept tables.shares layout.places layout.end s t e o.places (omega (arith, o.end, o.numbers)) in
+    let f = area_kept tables.shares tables.numbers tables.shares s t e o.numbers (omega arith) in
     λ i. record { orbits = a i; owners = b i; ridges = c i; places = d i; numbers = f i }
 
 -- a share is small
@@ -104,9 +110,14 @@ share_small c i r h k =
 
 -- one place more
 pub codes_more : (src : Sources) (counts : List ℕ) (x i : ℕ) → i < length (places_in src x)
-    → map (code_at src counts (owner_of src x)) (take (i + 1) (places_in src x)) ≡ map (code_at src counts (owner_of src x)) (take i (places_in src x)) ++ (code_at src counts (owner_of src x) (get_or (places_in src x) i 0) ∷ [])
-codes_more src counts x i h = ap (map (code_at src counts (owner_of src x))) (take_more (places_in src x) i 0 h) ∙ map-append (code_at src counts (owner_of src x)) (take i (places_in src x)) (get_or (places_in src x) i 0 ∷ [])
+    → map (code_at src counts (owner_of src x)) (take (i + 1) (places_in src x))
+    ≡ map (code_at src counts (owner_of src x)) (take i (places_in src x))
+    ++ (code_at src counts (owner_of src x) (get_or (places_in src x) i 0) ∷ [])
+codes_more src counts x i h =
+    ap (map (code_at src counts (owner_of src x))) (take_more (places_in src x) i 0 h)
+    ∙ map-append (code_at src counts (owner_of src x)) (take i (places_in src x)) (get_or (places_in src x) i 0 ∷ [])
 
-pub codes_long : (src : Sources) (counts : List ℕ) (x : ℕ) → length (facet_codes src counts x) ≡ length (places_in src x)
+pub codes_long : (src : Sources) (counts : List ℕ) (x : ℕ)
+    → length (facet_codes src counts x) ≡ length (places_in src x)
 unfolding facet_codes
 codes_long src counts x = length-map (places_in src x) (code_at src counts (owner_of src x))

@@ -1,4 +1,5 @@
--- What is true of every struct of this crate: its counts fit its arrays, and zeros stand behind all that they reach. It is said of the fields alone, so that the structs can carry it.
+-- What is true of every struct of this crate: its counts fit its arrays, and zeros stand behind all that they reach.
+-- It is said of the fields alone, so that the structs can carry it.
 use Rattle.std.specs.Prelude.{◌≡◌, List, [], ◌∷◌, ◌++◌, ℕ, ◌≤◌, Float}
 use Rattle.definitions.specs.Vectors.{Vec}
 use Rattle.laws.specs.Parts.{rows}

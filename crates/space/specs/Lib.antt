@@ -3,4 +3,3 @@ pub mod Fits
 pub mod Meaning
 pub mod Rows
 pub mod Counts
-pub mod Lengths

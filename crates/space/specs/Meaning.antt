@@ -1,5 +1,6 @@
--- What the structs of this crate mean in the definitions' terms. Numbers lie in flat arrays, in rows of five; a row means its first d numbers, and zeros stand behind
--- all that the counts reach, so that a struct is known from what it means. Leans on the definitions and on the rows of the crate of laws.
+-- What the structs of this crate mean in the definitions' terms. Numbers lie in flat arrays, in rows of five; a row
+-- means its first d numbers, and zeros stand behind all that the counts reach, so that a struct is known from what it
+-- means. Leans on the definitions and on the rows of the crate of laws.
 use Rattle.std.specs.Prelude.{is_none, ◌&&◌, ◌≡◌, Bool, true, false, List, [], ◌∷◌, ◌++◌, ℕ, ◌≤◌, leb, length, Float}
 use Rattle.definitions.specs.Vectors.{Vec}
 use Rattle.definitions.specs.Subspace.{Subspace}
@@ -16,7 +17,8 @@ use Rattle.space.specs.declared.Limits.{Limits as StoredLimits}
 unfoldable pub subspace_of : StoredSubspace → Subspace
 subspace_of s = record { offset = vector_of s.d s.offset; basis = rows 5 s.d s.rank s.basis }
 
--- The struct holds a subspace, and no other struct holds the same one: `one_subspace`. That its counts are those of the subspace follows; it is said for whoever calls.
+-- The struct holds a subspace, and no other struct holds the same one: `one_subspace`. That its counts are those of
+-- the subspace follows; it is said for whoever calls.
 pub record HoldsSubspace (s : StoredSubspace) (meaning : Subspace) : Type 0 where
   pub d_is : s.d ≡ length meaning.offset
   pub rank_is : s.rank ≡ length meaning.basis

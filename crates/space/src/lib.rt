@@ -1,4 +1,6 @@
-// Subspaces, points and limits. Each function equals a definition of Subspace or Orbits, chapter 4 and [5.3], at every d up to five and at any tolerance. Numbers lie in flat arrays, five places to a vector; only the first d of them mean something, and zeros stand behind all that mean something.
+// Subspaces, points and limits. Each function equals a definition of Subspace or Orbits, chapter 4 and [5.3], at
+// every d up to five and at any tolerance. Numbers lie in flat arrays, five places to a vector; only the first d of
+// them mean something, and zeros stand behind all that mean something.
 
 #![tactic(auto)]
 
@@ -6,7 +8,8 @@ ghost use Rattle.std.specs.Prelude.{◌≡◌, ◌∷◌, [], ◌++◌, map, ◌
 ghost use Rattle.std.specs.Float.Ieee.{lt};
 ghost use Rattle.std.specs.Float.{nan};
 ghost use Rattle.definitions.specs.Vectors.{minus, norm};
-ghost use Rattle.definitions.specs.Subspace.{project, residual, distance, add_point, from_points, is_hyperplane, flatten};
+ghost use Rattle.definitions.specs.Subspace.{project, residual, distance, add_point, from_points, is_hyperplane};
+ghost use Rattle.definitions.specs.Subspace.{flatten};
 ghost use Rattle.definitions.specs.Orbits.{point_at, too_short, too_long, breaks_limit};
 ghost use Rattle.laws.specs.Parts.{set_five};
 ghost use Rattle.vectors.specs.Meaning.{vector_of, five};
@@ -14,8 +17,9 @@ ghost use Rattle.space.specs.Fits.{SubspaceFits, PointsFit};
 
 // ---- subspaces
 
-// [4.1] d numbers of offset, and `rank` basis vectors. The counts fit the arrays, and zeros stand behind what they reach.
-// The counts stand beside the arrays: d is one length for all the vectors, which an `ArrayVec` for each would say once more for each, and the vectors lie one behind another, since the loops of `vectors` borrow them so.
+// [4.1] d numbers of offset, and `rank` basis vectors. The counts fit the arrays, and zeros stand behind what they
+// reach. The counts stand beside the arrays: d is one length for all the vectors, which an `ArrayVec` for each would
+// say once more for each, and the vectors lie one behind another, since the loops of `vectors` borrow them so.
 #[derive(Clone, Copy)]
 pub struct Subspace {
     pub offset: [f64; 5],
@@ -26,7 +30,8 @@ pub struct Subspace {
 }
 
 impl Subspace {
-    ghost use Rattle.space.specs.Meaning.{subspace_of, HoldsSubspace, point_alone, with_vector, is_full_rank, points_of};
+    ghost use Rattle.space.specs.Meaning.{subspace_of, HoldsSubspace, point_alone, with_vector, is_full_rank};
+    ghost use Rattle.space.specs.Meaning.{points_of};
 
     // A point alone: its basis has no vector yet.
     pub fn new(offset: [f64; 5], d: usize) -> Subspace
@@ -44,7 +49,8 @@ impl Subspace {
     // A vector joins the basis as it is. Its five numbers are written one by one, for the reason at `point_at`.
     pub fn push(&mut self, v: [f64; 5])
         requires { (self.old.rank < 5) × (v ≡ five (vector_of self.old.d v)) }
-        ensures { HoldsSubspace self.new (with_vector (subspace_of self.old) (vector_of self.old.d v)) × (self.new.d ≡ self.old.d) × (self.new.rank ≡ self.old.rank + 1) }
+        ensures { HoldsSubspace self.new (with_vector (subspace_of self.old) (vector_of self.old.d v))
+            × (self.new.d ≡ self.old.d) × (self.new.rank ≡ self.old.rank + 1) }
     {
         let at = 5 * self.rank;
         self.basis[at] = v[0];
@@ -62,7 +68,8 @@ impl Subspace {
         vectors::minus(p, self.offset, self.d)
     }
 
-    // [4.2] the projection of the point that begins at a place. A local for d, since each turn of the loop hands it on twice.
+    // [4.2] the projection of the point that begins at a place. A local for d, since each turn of the loop hands it
+    // on twice.
     fn project_at(&self, points: &[f64], at: usize) -> [f64; 5]
         requires { at + self.now.d ≤ length points.now }
         ensures { result ≡ five (project (subspace_of self.now) (vector_of self.now.d (drop at points.now))) }
@@ -110,10 +117,12 @@ impl Subspace {
         root::root_below(vectors::dot_at(&r, &r, 0, self.d), tolerance)
     }
 
-    // [4.3] a basis vector more, where the residual is longer than the tolerance. The subspace goes by value and is handed back: a form that was asked for (docs/DECISIONS.md, "Language forms").
+    // [4.3] a basis vector more, where the residual is longer than the tolerance. The subspace goes by value and is
+    // handed back: a form that was asked for (docs/DECISIONS.md, "Language forms").
     pub fn add(self, p: [f64; 5], tolerance: f64) -> Subspace
         requires { self.rank < 5 }
-        ensures { HoldsSubspace result (add_point tolerance (subspace_of self) (vector_of self.d p)) × (result.d ≡ self.d) }
+        ensures { HoldsSubspace result (add_point tolerance (subspace_of self) (vector_of self.d p))
+            × (result.d ≡ self.d) }
     {
         let unit = vectors::normalise(self.residual(p), self.d);
         if unit.norm > tolerance {
@@ -126,7 +135,8 @@ impl Subspace {
 
     // [4.4] Without a point the offset has no numbers; else d is the points' own.
     pub fn from_points(points: &Points, tolerance: f64) -> Subspace
-        ensures { HoldsSubspace result (from_points tolerance (points_of points.now)) × (0 < points.now.n → result.d ≡ points.now.d) }
+        ensures { HoldsSubspace result (from_points tolerance (points_of points.now))
+            × (0 < points.now.n → result.d ≡ points.now.d) }
     {
         if points.n == 0 {
             return Subspace::new([0.0; 5], 0);
@@ -170,7 +180,8 @@ impl Subspace {
 
 // ---- points
 
-// n points of d numbers each, 20 at most. Their numbers lie one behind another, and not point by point in an `ArrayVec`: what works on points borrows the numbers where they lie. d is one length for all of them.
+// n points of d numbers each, 20 at most. Their numbers lie one behind another, and not point by point in an
+// `ArrayVec`: what works on points borrows the numbers where they lie. d is one length for all of them.
 #[derive(Clone, Copy)]
 pub struct Points {
     pub at: [f64; 100],
@@ -203,7 +214,8 @@ impl Points {
     // One point more, at the end.
     pub fn push(&mut self, p: [f64; 5])
         requires { (self.old.n < 20) × (p ≡ five (vector_of self.old.d p)) }
-        ensures { HoldsPoints self.new self.old.d (points_of self.old ++ (vector_of self.old.d p ∷ [])) × (self.new.n ≡ self.old.n + 1) }
+        ensures { HoldsPoints self.new self.old.d (points_of self.old ++ (vector_of self.old.d p ∷ []))
+            × (self.new.n ≡ self.old.n + 1) }
     {
         put_point(&mut self.at, self.n, p);
         self.n += 1;
@@ -212,7 +224,8 @@ impl Points {
     // Every point, flattened by a plane that has the points' d.
     pub fn flatten_all(&self, plane: &Subspace) -> Points
         requires { self.now.d ≡ plane.now.d }
-        ensures { HoldsPoints result plane.now.rank (map (flatten (subspace_of plane.now)) (points_of self.now)) × (result.n ≡ self.now.n) }
+        ensures { HoldsPoints result plane.now.rank (map (flatten (subspace_of plane.now)) (points_of self.now))
+            × (result.n ≡ self.now.n) }
     {
         let mut flat = Points::new(plane.rank);
         for i in 0..self.n {
@@ -238,9 +251,10 @@ impl Points {
     }
 }
 
-// What works on points borrows their numbers: to hand a struct of them on would copy it.
-// Five numbers are read and written one by one. A range of five, read by `try_into` and written by `copy_from_slice`, was tried and is slower: in a copy of these loops, to copy a point took
-// 2 to 3 times as long, and to lay a plane through three points and take the distances of 16 points from it 8 percent longer in three dimensions, and 16 in four.
+// What works on points borrows their numbers: to hand a struct of them on would copy it. Five numbers are read and
+// written one by one. A range of five, read by `try_into` and written by `copy_from_slice`, was tried and is slower:
+// in a copy of these loops, to copy a point took 2 to 3 times as long, and to lay a plane through three points and
+// take the distances of 16 points from it 8 percent longer in three dimensions, and 16 in four.
 
 // The five places of point i.
 pub fn point_at(points: &[f64], i: usize) -> [f64; 5]
@@ -289,7 +303,8 @@ impl Limits {
         self.shortest.is_none() && self.longest.is_none()
     }
 
-    // Whether a length breaks a limit. Each limit is matched: a form that was asked for (docs/DECISIONS.md, "Language forms").
+    // Whether a length breaks a limit. Each limit is matched: a form that was asked for (docs/DECISIONS.md, "Language
+    // forms").
     #[tactic(auto, unfolding(definitions::specs::Orbits::too_short, definitions::specs::Orbits::too_long))]
     pub fn broken_by(self, length: f64, tolerance: f64) -> bool
         ensures { result ≡ (too_short tolerance self.shortest length || too_long tolerance self.longest length) }

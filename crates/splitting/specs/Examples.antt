@@ -6,7 +6,8 @@ use Rattle.definitions.specs.Open.{open_all}
 use Rattle.splitting.specs.Splitting.{split_nats, split_list}
 
 -- a proper prefix first, and items in their own order
-pub prefix_first : sort_by compare_nats ((2 ∷ 1 ∷ []) ∷ (1 ∷ 3 ∷ []) ∷ (1 ∷ []) ∷ []) ≡ (1 ∷ []) ∷ (1 ∷ 3 ∷ []) ∷ (2 ∷ 1 ∷ []) ∷ []
+pub prefix_first : sort_by compare_nats ((2 ∷ 1 ∷ []) ∷ (1 ∷ 3 ∷ []) ∷ (1 ∷ []) ∷ [])
+    ≡ (1 ∷ []) ∷ (1 ∷ 3 ∷ []) ∷ (2 ∷ 1 ∷ []) ∷ []
 unfolding open_all
 prefix_first = refl
 

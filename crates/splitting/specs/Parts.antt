@@ -1,5 +1,5 @@
--- Splitting on numbers is the splitting of facets [8.6], for any numbering whose table says of each facet what its orbit's compounds say.
--- Leans on the definitions and Splitting. Assumes nothing.
+-- Splitting on numbers is the splitting of facets [8.6], for any numbering whose table says of each facet what its
+-- orbit's compounds say. Leans on the definitions and Splitting. Assumes nothing.
 use Rattle.std.specs.Prelude.{◌≡◌, ◌⊎◌, get_or}
 use Rattle.std.proofs.Math.Path.{refl, sym}
 use Rattle.std.proofs.Common.{ap, ◌∙◌, subst, inl, inr}
@@ -24,11 +24,14 @@ abbrev pub Of : (ℕ → Pair) → ℕ → ℕ → ℕ → Type 0
 Of to bound orbit a = (a < bound) × ((to a).0 ≡ orbit)
 
 -- Of every number of the orbit the table says what the orbit's compounds say, and components stay in the orbit.
-pub record Matches (to : ℕ → Pair) (bound : ℕ) (table : List (Option Pair)) (orbit : ℕ) (compounds : List Compound) : Type 0 where
+pub record Matches (to : ℕ → Pair) (bound : ℕ) (table : List (Option Pair)) (orbit : ℕ)
+    (compounds : List Compound) : Type 0 where
   pub same : (a : ℕ) → Of to bound orbit a → components_of compounds (to a).1 ≡ within to (get_or table a None)
-  pub stays : (a : ℕ) → Of to bound orbit a → (p : Pair) → get_or table a None ≡ Some p → Of to bound orbit p.0 × Of to bound orbit p.1
+  pub stays : (a : ℕ) → Of to bound orbit a → (p : Pair) → get_or table a None ≡ Some p
+      → Of to bound orbit p.0 × Of to bound orbit p.1
 
-module _ (to : ℕ → Pair) (bound : ℕ) (table : List (Option Pair)) (orbit : ℕ) (compounds : List Compound) (m : Matches to bound table orbit compounds) where
+module _ (to : ℕ → Pair) (bound : ℕ) (table : List (Option Pair)) (orbit : ℕ) (compounds : List Compound)
+    (m : Matches to bound table orbit compounds) where
   abbrev All : List ℕ → Type 0
   All q = (a : ℕ) → Mem a q → Of to bound orbit a
 
@@ -49,7 +52,8 @@ module _ (to : ℕ → Pair) (bound : ℕ) (table : List (Option Pair)) (orbit :
   each [] f = refl
   each (a ∷ q) f = rw (named a (f a (here refl)).1, each q (λ b i. f b (there i))) refl
 
-  pub queue_numbered : (steps : ℕ) (q : List ℕ) → All q → map to (split_nats steps table q) ≡ map (λ (part : ℕ). (orbit, part)) (split_queue steps compounds (map number q))
+  pub queue_numbered : (steps : ℕ) (q : List ℕ) → All q → map to (split_nats steps table q)
+      ≡ map (λ (part : ℕ). (orbit, part)) (split_queue steps compounds (map number q))
   unfolding split_nats split_queue
   queue_numbered zero q f = each q f
   queue_numbered (suc steps) [] f = refl
@@ -63,21 +67,29 @@ module _ (to : ℕ → Pair) (bound : ℕ) (table : List (Option Pair)) (orbit :
         | Some parts ↦ split_queue steps compounds (map number q ++ (parts.0 ∷ parts.1 ∷ []))
       ]
 
-      go : (o : Option Pair) → get_or table a None ≡ o → map to (split_nats steps table q) ≡ map (λ (part : ℕ). (orbit, part)) (split_queue steps compounds (map number q))
-          → ((r : List ℕ) → All r → map to (split_nats steps table r) ≡ map (λ (part : ℕ). (orbit, part)) (split_queue steps compounds (map number r)))
-          → map to (elim o [ None ↦ a ∷ split_nats steps table q | Some parts ↦ split_nats steps table (q ++ (parts.0 ∷ parts.1 ∷ [])) ])
+      go : (o : Option Pair) → get_or table a None ≡ o → map to (split_nats steps table q)
+          ≡ map (λ (part : ℕ). (orbit, part)) (split_queue steps compounds (map number q))
+          → ((r : List ℕ) → All r → map to (split_nats steps table r)
+          ≡ map (λ (part : ℕ). (orbit, part)) (split_queue steps compounds (map number r)))
+          → map to (elim o [
+            | None ↦ a ∷ split_nats steps table q
+            | Some parts ↦
+                split_nats steps table (q ++ (parts.0 ∷ parts.1 ∷ []))
+          ])
           ≡ map (λ (part : ℕ). (orbit, part)) (step (within to o))
       go None e ih rec = rw (named a (f a (here refl)).1, ih) refl
       go (Some p) e ih rec =
           let s = m.stays a (f a (here refl)) p e in
           rec (q ++ (p.0 ∷ p.1 ∷ [])) (two_more q p.0 p.1 (λ b i. f b (there i)) s.0 s.1)
-          ∙ ap (λ (r : List ℕ). map (λ (part : ℕ). (orbit, part)) (split_queue steps compounds r)) (map-append number q (p.0 ∷ p.1 ∷ []))
+          ∙ ap (λ (r : List ℕ). map (λ (part : ℕ). (orbit, part)) (split_queue steps compounds r))
+          (map-append number q (p.0 ∷ p.1 ∷ []))
 
 -- ---- a call's lists
 
 -- [9.3] where every facet's parts are the definition's, so is every list
 pub lists_numbered : (to : ℕ → Pair) (table : List (Option Pair)) (steps : ℕ) (parts : Pair → List Pair) (l : List ℕ)
-    → ((a : ℕ) → Mem a l → map to (split_nats steps table (a ∷ [])) ≡ parts (to a)) → map to (split_list steps table l) ≡ flat_map parts (map to l)
+    → ((a : ℕ) → Mem a l → map to (split_nats steps table (a ∷ [])) ≡ parts (to a))
+    → map to (split_list steps table l) ≡ flat_map parts (map to l)
 unfolding split_list flat_map
 lists_numbered to table steps parts [] f = refl
 lists_numbered to table steps parts (a ∷ l) f =
@@ -86,12 +98,14 @@ lists_numbered to table steps parts (a ∷ l) f =
 
 -- ---- what is below a bound stays below it
 
-pub split_nats_below : (bound : ℕ) (table : List (Option Pair)) → ((a : ℕ) (p : Pair) → get_or table a None ≡ Some p → (p.0 < bound) × (p.1 < bound))
+pub split_nats_below : (bound : ℕ) (table : List (Option Pair))
+    → ((a : ℕ) (p : Pair) → get_or table a None ≡ Some p → (p.0 < bound) × (p.1 < bound))
     → (steps : ℕ) (q : List ℕ) → ItemsBelow bound q → ItemsBelow bound (split_nats steps table q)
 unfolding split_nats
 split_nats_below bound table g zero q f = f
 split_nats_below bound table g (suc steps) [] f = f
-split_nats_below bound table g (suc steps) (a ∷ q) f = go (get_or table a None) refl (λ r h. split_nats_below bound table g steps r h)
+split_nats_below bound table g (suc steps) (a ∷ q) f =
+    go (get_or table a None) refl (λ r h. split_nats_below bound table g steps r h)
   where
     later : ItemsBelow bound q
     later x i = f x (there i)
@@ -106,7 +120,12 @@ split_nats_below bound table g (suc steps) (a ∷ q) f = go (get_or table a None
     first_or r h x (Memᴰ.head e) = f x (here e)
     first_or r h x (Memᴰ.tail i) = h x i
 
-    go : (o : Option Pair) → get_or table a None ≡ o → ((r : List ℕ) → ItemsBelow bound r → ItemsBelow bound (split_nats steps table r))
-        → ItemsBelow bound (elim o [ None ↦ a ∷ split_nats steps table q | Some parts ↦ split_nats steps table (q ++ (parts.0 ∷ parts.1 ∷ [])) ])
+    go : (o : Option Pair) → get_or table a None ≡ o
+        → ((r : List ℕ) → ItemsBelow bound r → ItemsBelow bound (split_nats steps table r))
+        → ItemsBelow bound (elim o [
+          | None ↦ a ∷ split_nats steps table q
+          | Some parts ↦
+              split_nats steps table (q ++ (parts.0 ∷ parts.1 ∷ []))
+        ])
     go None e rec = first_or (split_nats steps table q) (rec q later)
     go (Some p) e rec = rec (q ++ (p.0 ∷ p.1 ∷ [])) (λ x i. both p (g a p e) x (in_append x q (p.0 ∷ p.1 ∷ []) i))

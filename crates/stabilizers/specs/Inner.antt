@@ -1,4 +1,5 @@
--- The rows that were written are the rows of the inner call: they decode to the definition's rows within the set [6.5], and are permutations of its positions. Leans on Places.
+-- The rows that were written are the rows of the inner call: they decode to the definition's rows within the set
+-- [6.5], and are permutations of its positions. Leans on Places.
 use Rattle.std.specs.Prelude.{◌≡◌, refl, Bool, false, cond, T, eqb, take, drop}
 use Rattle.std.proofs.Math.Path.{sym, ap, subst}
 use Rattle.std.proofs.Common.{◌∙◌, arith, add-one, eqb→eq}
@@ -18,21 +19,25 @@ use Rattle.laws.specs.Pairs.{Pairs}
 use Rattle.laws.specs.Parts.{rows, rows_more, rows_of_take, get_d_rows, length_rows}
 use Rattle.laws.specs.Segments.{take_sets_le, part_sets}
 use Rattle.laws.specs.Sets.{vertices_of, vertices_set, set_range, set_rises}
-use Rattle.openers.specs.Rows.{rows_in, row_at, image_at_holds, written_rows, written_length}
+use Rattle.rows.specs.Rows.{rows_in, row_at, image_at_holds, written_rows, written_length}
 use Rattle.stabilizers.specs.Permutations.{Permutations}
 use Rattle.stabilizers.specs.Places.{vertices_few, stays, image_one}
 
 -- ---- decoded
 
-one_row : (size k : ℕ) (row : Row) (out : List ℕ) → length row ≡ size → size ≤ 32 → 32 * k + 32 ≤ length out → rows_in size (k + 1) (sets out (32 * k) row) ≡ rows_in size k out ++ (row ∷ [])
+one_row : (size k : ℕ) (row : Row) (out : List ℕ) → length row ≡ size → size ≤ 32 → 32 * k + 32 ≤ length out
+    → rows_in size (k + 1) (sets out (32 * k) row) ≡ rows_in size k out ++ (row ∷ [])
 unfolding rows_in
 one_row size k row out e h l =
     let s = sets out (32 * k) row in
-    let before : rows 32 size k s ≡ rows 32 size k out = sym (rows_of_take 32 size k s h) ∙ (ap (rows 32 size k) (take_sets_le row out (32 * k) (32 * k) (omega arith)) ∙ rows_of_take 32 size k out h) in
-    let last : take size (drop (32 * k) s) ≡ row = ap (λ (j : ℕ). take j (drop (32 * k) s)) (sym e) ∙ part_sets row out (32 * k) (omega arith) in
+    let before : rows 32 size k s ≡ rows 32 size k out = sym (rows_of_take 32 size k s h)
+    ∙ (ap (rows 32 size k) (take_sets_le row out (32 * k) (32 * k) (omega arith)) ∙ rows_of_take 32 size k out h) in
+    let last : take size (drop (32 * k) s) ≡ row = ap (λ (j : ℕ). take j (drop (32 * k) s)) (sym e)
+    ∙ part_sets row out (32 * k) (omega arith) in
     rows_more 32 size k s ∙ (rw (before, last) refl)
 
-written_rows_holds : (size : ℕ) (rs : List Row) (k : ℕ) (out : List ℕ) → ((row : Row) → Mem row rs → length row ≡ size) → size ≤ 32 → 32 * (k + length rs) ≤ length out
+written_rows_holds : (size : ℕ) (rs : List Row) (k : ℕ) (out : List ℕ)
+    → ((row : Row) → Mem row rs → length row ≡ size) → size ≤ 32 → 32 * (k + length rs) ≤ length out
     → rows_in size (k + length rs) (written_rows rs k out) ≡ rows_in size k out ++ rs
 unfolding written_rows
 written_rows_holds size [] k out e h l = let z : k + 0 ≡ k = omega arith in rw z (sym (append-nil (rows_in size k out)))
@@ -42,7 +47,9 @@ written_rows_holds size (row ∷ rs) k out e h l =
     let long = length-sets out (32 * k) row in
     ap (λ (j : ℕ). rows_in size j (written_rows rs (suc k) s)) z
     ∙ (written_rows_holds size rs (suc k) s (λ r m. e r (there m)) h (omega arith)
-    ∙ (ap (λ (j : ℕ). rows_in size j s ++ rs) (sym (add-one k)) ∙ (ap (λ (t : List Row). t ++ rs) (one_row size k row out (e row (here refl)) h (omega arith)) ∙ append_assoc (rows_in size k out) (row ∷ []) rs)))
+    ∙ (ap (λ (j : ℕ). rows_in size j s ++ rs) (sym (add-one k))
+    ∙ (ap (λ (t : List Row). t ++ rs) (one_row size k row out (e row (here refl)) h (omega arith))
+    ∙ append_assoc (rows_in size k out) (row ∷ []) rs)))
 
 -- ---- permutations
 
@@ -95,7 +102,8 @@ module _ (n m : ℕ) (s : List ℕ) (fits : Permutations n m s) (x : ℕ) where
   unfolding vertices_of
   vs_rise = set_rises (vertices_set 0 n x)
 
-  within_fits : (i : ℕ) → i < m → keeps_set vs (row_at n i s) ≡ true → WithinFits (length vs) (row_within vs (row_at n i s))
+  within_fits : (i : ℕ) → i < m → keeps_set vs (row_at n i s) ≡ true
+      → WithinFits (length vs) (row_within vs (row_at n i s))
   unfolding row_within
   within_fits i l e = record {
     wide = length-map vs place;
@@ -111,11 +119,15 @@ module _ (n m : ℕ) (s : List ℕ) (fits : Permutations n m s) (x : ℕ) where
       moved : (v : ℕ) → v < length vs → Mem (image (row_at n i s) (get_or vs v 0)) vs
       moved v h = stays n i s (fits.each i l) x e (get_or vs v 0) (member_at vs v 0 h)
 
-      at : (v : ℕ) → v < length vs → get_or (map place vs) v 0 ≡ place_of (eqb (image (row_at n i s) (get_or vs v 0))) vs
+      at : (v : ℕ) → v < length vs
+          → get_or (map place vs) v 0 ≡ place_of (eqb (image (row_at n i s) (get_or vs v 0))) vs
       at v h = map_at_holds place vs v 0 0 h
 
-      apart : (u w : ℕ) → u < length vs → w < length vs → image (row_at n i s) (get_or vs u 0) ≡ image (row_at n i s) (get_or vs w 0) → get_or vs u 0 ≡ get_or vs w 0
-      apart u w h k q = image_one n i s (fits.each i l) (get_or vs u 0) (get_or vs w 0) (in_range _ (member_at vs u 0 h)) (in_range _ (member_at vs w 0 k)) q
+      apart : (u w : ℕ) → u < length vs → w < length vs → image (row_at n i s) (get_or vs u 0)
+          ≡ image (row_at n i s) (get_or vs w 0) → get_or vs u 0 ≡ get_or vs w 0
+      apart u w h k q =
+          image_one n i s (fits.each i l) (get_or vs u 0) (get_or vs w 0) (in_range _ (member_at vs u 0 h))
+          (in_range _ (member_at vs w 0 k)) q
 
   abbrev pub inner : List Row
   inner = rows_within vs (rows_in n m s)
@@ -134,7 +146,9 @@ module _ (n m : ℕ) (s : List ℕ) (fits : Permutations n m s) (x : ℕ) where
 
   inner_few : length (rows_within (vertices_of n x) (rows_in n m s)) ≤ m
   unfolding rows_within rows_in
-  inner_few = let e = length-map (keep (keeps_set vs) (rows 32 n m s)) (row_within vs) in omega (arith, keep_few (keeps_set vs) (rows 32 n m s), length_rows 32 n m s)
+  inner_few =
+      let e = length-map (keep (keeps_set vs) (rows 32 n m s)) (row_within vs) in
+      omega (arith, keep_few (keeps_set vs) (rows 32 n m s), length_rows 32 n m s)
 
   size_fits : length (vertices_of n x) ≤ 20
   unfolding vertices_of
@@ -149,14 +163,17 @@ module _ (n m : ℕ) (s : List ℕ) (fits : Permutations n m s) (x : ℕ) where
     inner_rows_holds =
         let z : 0 + length inner ≡ length inner = omega arith in
         ap (λ (j : ℕ). rows_in (length vs) j written) (sym z)
-        ∙ (written_rows_holds (length vs) inner 0 out (λ row h. (inner_fits row h).wide) (omega (arith, size_fits)) (omega (arith, inner_few)) ∙ none)
+        ∙ (written_rows_holds (length vs) inner 0 out (λ row h. (inner_fits row h).wide) (omega (arith, size_fits))
+        (omega (arith, inner_few)) ∙ none)
       where
         none : rows_in (length vs) 0 out ++ inner ≡ inner
         none = no_rows (length vs) out inner
 
     inner_row : (i : ℕ) → i < length inner → take (length vs) (drop (32 * i) written) ≡ get_or inner i []
     unfolding rows_in
-    inner_row i h = sym (get_d_rows 32 (length vs) (length inner) written i h) ∙ ap (λ (l : List Row). get_or l i []) inner_rows_holds
+    inner_row i h =
+        sym (get_d_rows 32 (length vs) (length inner) written i h)
+        ∙ ap (λ (l : List Row). get_or l i []) inner_rows_holds
 
     -- and are permutations of its positions
     pub inner_permute : Permutations (length vs) (length inner) written
@@ -166,7 +183,8 @@ module _ (n m : ℕ) (s : List ℕ) (fits : Permutations n m s) (x : ℕ) where
       long = omega (arith, written_length inner 0 out, inner_few);
       each = λ i h.
           let row = inner_fits (get_or inner i []) (member_at inner i [] h) in
-          let at : (v : ℕ) → v < length vs → get_or written (32 * i + v) 0 ≡ get_or (get_or inner i []) v 0 = λ v l. sym (image_at_holds (length vs) i written v l) ∙ ap (λ (r : Row). get_or r v 0) (inner_row i h) in
+          let at : (v : ℕ) → v < length vs → get_or written (32 * i + v) 0 ≡ get_or (get_or inner i []) v 0 = λ v l.
+          sym (image_at_holds (length vs) i written v l) ∙ ap (λ (r : Row). get_or r v 0) (inner_row i h) in
           record {
             n_fits = size_fits;
             long = omega (arith, written_length inner 0 out, inner_few);

@@ -1,5 +1,6 @@
-// The rows that keep a set, rewritten to positions in it, in order, with repeats kept: the rows of an inner call [6.5]. A set is the number of its vertices; rows lie at a stride
-// of 32 bytes, and so do the rows that are written. Leans on the sets' images.
+// The rows that keep a set, rewritten to positions in it, in order, with repeats kept: the rows of an inner call
+// [6.5]. A set is the number of its vertices; rows lie at a stride of 32 bytes, and so do the rows that are written.
+// Leans on the sets' images.
 
 #![tactic(auto)]
 
@@ -7,16 +8,16 @@ ghost use Rattle.std.specs.Prelude.{◌≡◌, ◌*◌, ◌^◌, ◌≤◌, ◌<
 ghost use lib.Seq.{sets};
 ghost use Rattle.definitions.specs.Recursion.{keeps_set, rows_within};
 ghost use Rattle.laws.specs.Sets.{vertices_of};
-ghost use Rattle.openers.specs.Rows.{rows_in, row_at, written_rows};
+ghost use Rattle.rows.specs.Rows.{rows_in, row_at, written_rows};
 ghost use Rattle.stabilizers.specs.Permutations.{Permutations};
 ghost use Rattle.stabilizers.specs.Places.{places};
 
 use arrayvec::ArrayVec;
-use openers::Rows;
+use rows::{ROW_BYTES, Rows};
 use sets::{count_below, set_image, vertices_of};
 
-// Rows that are permutations of n vertices.
-// How many rows there are is not bounded here: `rows_within` takes any number of them, and what gathers images by them asks for 120 at most, by a clause.
+// Rows that are permutations of n vertices. How many rows there are is not bounded here: `rows_within` takes any
+// number of them, and what gathers images by them asks for 120 at most, by a clause.
 #[derive(Clone, Copy)]
 pub struct Symmetries<'a> {
     pub rows: Rows<'a>,
@@ -44,18 +45,27 @@ impl<'a> Symmetries<'a> {
         }
     }
 
-    // The rows that keep a set, rewritten to positions in it; returns how many there are, and no `Rows`: of a region that goes into the result no clause can say what it ends as.
-    // Counted by hand: the count is the place of the next row that is written, and in the end the answer. `filter` with `enumerate` would tell the places, and not how many rows there were.
+    // The rows that keep a set, rewritten to positions in it; returns how many there are, and no `Rows`: of a region
+    // that goes into the result no clause can say what it ends as. Counted by hand: the count is the place of the
+    // next row that is written, and in the end the answer. `filter` with `enumerate` would tell the places, and not
+    // how many rows there were.
     pub fn rows_within(self, set: u32, out: &mut [u8]) -> usize
         requires { (set < 2 ^ self.n) × (32 * self.rows.count ≤ length out.old) }
-        ensures count { result ≡ length (rows_within (vertices_of self.entry.n set) (rows_in self.entry.n self.entry.rows.count self.entry.rows.bytes.now)) }
-        ensures rows { out.new ≡ written_rows (rows_within (vertices_of self.entry.n set) (rows_in self.entry.n self.entry.rows.count self.entry.rows.bytes.now)) 0 out.old }
+        ensures count { result ≡ length (rows_within (vertices_of self.entry.n set)
+            (rows_in self.entry.n self.entry.rows.count self.entry.rows.bytes.now)) }
+        ensures rows { out.new ≡ written_rows (rows_within (vertices_of self.entry.n set)
+            (rows_in self.entry.n self.entry.rows.count self.entry.rows.bytes.now)) 0 out.old }
     {
         let vertices = vertices_of(set, self.n);
         let mut count = 0;
         for i in 0..self.rows.count {
             if self.keeps_set(i, set, &vertices) {
-                self.write_row(i, set, &vertices, &mut out[32 * count..32 * count + 32]);
+                self.write_row(
+                    i,
+                    set,
+                    &vertices,
+                    &mut out[ROW_BYTES * count..ROW_BYTES * count + ROW_BYTES],
+                );
                 count += 1;
             }
         }

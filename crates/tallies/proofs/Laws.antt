@@ -19,17 +19,19 @@ use Rattle.words.specs.Words.{words, words_length, get_d_words}
 use Rattle.sorted.specs.Ascending.{Ascending, insert_new, union, ascending_nil}
 use Rattle.sorted.specs.Gathering.{added, ascending_added}
 use Rattle.sorted.specs.Merging.{New, Merged}
-use Rattle.openers.specs.Rows.{rows_in, row_at, image_at_holds}
+use Rattle.rows.specs.Rows.{rows_in, row_at, image_at_holds}
 use Rattle.sets.specs.Vertices.{RowSends, row_sends}
 use Rattle.stabilizers.specs.Permutations.{Permutation}
 use Rattle.orbits.specs.Numbers.{image_numbers}
-use Rattle.tallies.specs.Marks.{mark_number, latest, latest_is, TalliesBelow, none_before, last_marks, last_other, mark_more, marks_ascend, new_marks}
+use Rattle.tallies.specs.Marks.{mark_number, latest, latest_is, TalliesBelow, none_before, last_marks, last_other}
+use Rattle.tallies.specs.Marks.{mark_more, marks_ascend, new_marks}
 use Rattle.tallies.specs.Counts.{Counted, count_by, count_one, sum_by, most_weight, added_few, images_few, found_opened}
 use Rattle.tallies.specs.Meaning.{GlobalsFit, counted_in, TallyFits}
 
 -- ---- the latest mark
 
-module _ (s : List ℕ) (known key end : ℕ) (a : Ascending (words 4 s known)) (e : end ≡ place_of (leb (256 * (key + 1))) (words 4 s known)) where
+module _ (s : List ℕ) (known key end : ℕ) (a : Ascending (words 4 s known))
+    (e : end ≡ place_of (leb (256 * (key + 1))) (words 4 s known)) where
   pub end_within : end ≤ known
   end_within = omega (arith, place_le (leb (256 * (key + 1))) (words 4 s known), words_length 4 s known)
 
@@ -40,7 +42,8 @@ module _ (s : List ℕ) (known key end : ℕ) (a : Ascending (words 4 s known)) 
     some_before : 0 < place_of (leb (256 * (key + 1))) (words 4 s known)
     some_before = go end is_some e
       where
-        go : (k : ℕ) → (k ≡ 0 → ⊥) → k ≡ place_of (leb (256 * (key + 1))) (words 4 s known) → 0 < place_of (leb (256 * (key + 1))) (words 4 s known)
+        go : (k : ℕ) → (k ≡ 0 → ⊥) → k ≡ place_of (leb (256 * (key + 1))) (words 4 s known)
+            → 0 < place_of (leb (256 * (key + 1))) (words 4 s known)
         go zero n q = absurd (n refl)
         go (suc k) n q = omega arith
 
@@ -59,19 +62,23 @@ module _ (s : List ℕ) (known key end : ℕ) (a : Ascending (words 4 s known)) 
 -- ---- marks gathered
 
 -- the image of a key under a full row is a number below 2 ^ 20
-pub image_small : (g i key : ℕ) (full : List ℕ) → Permutation g i full → set_number (set_image (vertices_of g key) (row_at g i full)) < 1048576
+pub image_small : (g i key : ℕ) (full : List ℕ) → Permutation g i full
+    → set_number (set_image (vertices_of g key) (row_at g i full)) < 1048576
 unfolding set_image row_at vertices_of
 image_small g i key full p =
     let at = image_at_holds g i full in
     let s = image_set g (image (take g (drop (32 * i) full))) (vertices_of g key) (vertices_set 0 g key)
-    (λ u h. subst (λ (k : ℕ). k < g) (sym (at u h)) (p.below u h)) (λ u w h k e. p.one u w h k (sym (at u h) ∙ (e ∙ at w k))) in
+    (λ u h. subst (λ (k : ℕ). k < g) (sym (at u h)) (p.below u h))
+    (λ u w h k e. p.one u w h k (sym (at u h) ∙ (e ∙ at w k))) in
     let small : 2 ^ g ≤ 1048576 = pow-le-pow_right {n = 2} (omega arith) {i = g} {j = 20} p.n_fits in
     omega (arith, number_small s)
 
 -- a key's vertices are sent to global numbers
-pub key_sends : (n g set : ℕ) (globals vertices : List ℕ) → GlobalsFit n g globals → vertices ≡ vertices_of n set → RowSends 0 globals vertices
+pub key_sends : (n g set : ℕ) (globals vertices : List ℕ) → GlobalsFit n g globals → vertices ≡ vertices_of n set
+    → RowSends 0 globals vertices
 key_sends n g set globals vertices f e =
-    rw e (row_sends 0 n set globals (omega (arith, f.n_fits, f.long)) (λ v h. let z : 32 * 0 + v ≡ v = omega arith in rw z (omega (arith, f.below v h, f.g_fits))))
+    rw e (row_sends 0 n set globals (omega (arith, f.n_fits, f.long)) (λ v h. let z : 32 * 0 + v ≡ v = omega arith in
+    rw z (omega (arith, f.below v h, f.g_fits))))
 
 module _ (g key : ℕ) (full : List ℕ) where
   abbrev pub images_to : ℕ → List ℕ
@@ -81,17 +88,20 @@ module _ (g key : ℕ) (full : List ℕ) where
   unfolding image_numbers rows_in rows added
   gathered_none tally = refl
 
-  images_more : (i : ℕ) → image_numbers g key (rows_in g (i + 1) full) ≡ image_numbers g key (rows_in g i full) ++ (set_number (set_image (vertices_of g key) (row_at g i full)) ∷ [])
+  images_more : (i : ℕ) → image_numbers g key (rows_in g (i + 1) full)
+      ≡ image_numbers g key (rows_in g i full) ++ (set_number (set_image (vertices_of g key) (row_at g i full)) ∷ [])
   unfolding image_numbers rows_in row_at
   images_more i = map_rows_more (λ (row : Row). set_number (set_image (vertices_of g key) row)) 32 g i full
 
   -- one image more
-  pub gathered_more : (tally i x : ℕ) (new after : List ℕ) → x ≡ set_number (set_image (vertices_of g key) (row_at g i full)) → new ≡ map (mark_number tally) (images_to i)
+  pub gathered_more : (tally i x : ℕ) (new after : List ℕ)
+      → x ≡ set_number (set_image (vertices_of g key) (row_at g i full)) → new ≡ map (mark_number tally) (images_to i)
       → after ≡ insert_new (256 * x + tally) new → after ≡ map (mark_number tally) (images_to (i + 1))
   gathered_more tally i x new after is_x held is =
       is
       ∙ mark_more tally x new (image_numbers g key (rows_in g i full)) held
-      ∙ ap (λ (l : List ℕ). map (mark_number tally) (added [] l)) (ap (λ (y : ℕ). image_numbers g key (rows_in g i full) ++ (y ∷ [])) is_x ∙ sym (images_more i))
+      ∙ ap (λ (l : List ℕ). map (mark_number tally) (added [] l))
+      (ap (λ (y : ℕ). image_numbers g key (rows_in g i full) ++ (y ∷ [])) is_x ∙ sym (images_more i))
 
   pub images_to_most : (i : ℕ) → length (images_to i) ≤ i
   unfolding rows_in image_numbers
@@ -117,8 +127,10 @@ module _ (known tally : ℕ) (marks images sums : List ℕ) (f : TallyFits known
   pub known_few : (known ≤ 30720) × (4 * known ≤ length marks)
   unfolding counted_in
   known_few =
-      let w = words_length 4 marks known in
-      (omega (arith, f.ready.fits.few_marks, f.ready.fits.few_tallies, f.ready.free), omega (arith, f.long, f.ready.fits.few_marks, f.ready.fits.few_tallies, f.ready.free))
+      let w = words_length 4 marks known in (
+        omega (arith, f.ready.fits.few_marks, f.ready.fits.few_tallies, f.ready.free),
+        omega (arith, f.long, f.ready.fits.few_marks, f.ready.fits.few_tallies, f.ready.free),
+      )
 
   pub marks_up_holds : Ascending (words 4 marks known)
   unfolding counted_in
@@ -144,7 +156,8 @@ latest_opened n l key k b e =
     let w : (256 * key + k) % 256 ≡ k = omega arith in
     omega (arith, b.under (256 * key + k) r.there)
 
-pub sum_found : (l sums : List ℕ) (key k : ℕ) → latest 256 l key ≡ Some k → get_or sums k 0 ≡ sum_by (latest 256 l key) sums
+pub sum_found : (l sums : List ℕ) (key k : ℕ) → latest 256 l key ≡ Some k
+    → get_or sums k 0 ≡ sum_by (latest 256 l key) sums
 unfolding sum_by
 sum_found l sums key k e = rw e refl
 
@@ -154,7 +167,8 @@ sum_none l sums key e = rw e refl
 
 -- ---- a tally opened
 
-module _ (g m key : ℕ) (full : List ℕ) (known tally : ℕ) (marks images sums : List ℕ) (f : TallyFits known tally marks images sums) (some_row : 0 < m) (few : m ≤ 120)
+module _ (g m key : ℕ) (full : List ℕ) (known tally : ℕ) (marks images sums : List ℕ)
+    (f : TallyFits known tally marks images sums) (some_row : 0 < m) (few : m ≤ 120)
     (new : List ℕ) (held : new ≡ map (mark_number tally) (images_to g key full m)) where
   count : length new ≡ length (images_to g key full m)
   count = ap length held ∙ length-map (images_to g key full m) (mark_number tally)
@@ -166,36 +180,53 @@ module _ (g m key : ℕ) (full : List ℕ) (known tally : ℕ) (marks images sum
   unfolding counted_in
   marks_room =
       let r = images_to_few g key full m some_row in
-      let w = words_length 4 marks known in
-      (omega (arith, count, f.long, f.ready.fits.few_marks, f.ready.fits.few_tallies, f.ready.free, r.1), omega (arith, count, r.0), omega (arith, count, r.1))
+      let w = words_length 4 marks known in (
+        omega (arith, count, f.long, f.ready.fits.few_marks, f.ready.fits.few_tallies, f.ready.free, r.1),
+        omega (arith, count, r.0),
+        omega (arith, count, r.1),
+      )
 
   pub merge_new : New (words 4 marks known) new
   unfolding counted_in
   merge_new = rw held (record {
     old = f.ready.fits.ascends;
-    ascends = marks_ascend tally (images_to g key full m) (ascending_added [] (image_numbers g key (rows_in g m full)) ascending_nil);
+    ascends =
+        marks_ascend tally (images_to g key full m)
+        (ascending_added [] (image_numbers g key (rows_in g m full)) ascending_nil);
     fresh = record { new = new_marks tally (words 4 marks known) (images_to g key full m) small f.ready.fits.below };
   })
 
   pub tally_opened : (weight : ℕ) (after : List ℕ) → Merged marks known new after
-      → counted_in (known + length new) (tally + 1) after (set images tally (length new)) (set sums tally (weight / length new)) ≡ count_by None g (rows_in g m full) (counted_in known tally marks images sums) key weight
+      → counted_in (known + length new) (tally + 1) after (set images tally (length new))
+      (set sums tally (weight / length new))
+      ≡ count_by None g (rows_in g m full) (counted_in known tally marks images sums) key weight
   unfolding counted_in count_by
   tally_opened weight after merged =
-      same (merged.numbers ∙ ap (union (words 4 marks known)) held) (add-one tally) (ap (set images tally) count) (ap (λ (j : ℕ). set sums tally (weight / j)) count)
+      same (merged.numbers ∙ ap (union (words 4 marks known)) held) (add-one tally) (ap (set images tally) count)
+      (ap (λ (j : ℕ). set sums tally (weight / j)) count)
     where
       same : {a b : List ℕ} {c d : ℕ} {p q r s : List ℕ} → a ≡ b → c ≡ d → p ≡ q → r ≡ s
-          → ◌≡◌ {A = Counted} (record { marks = a; tallies = c; images = p; sums = r }) (record { marks = b; tallies = d; images = q; sums = s })
+          → ◌≡◌ {A = Counted} (record { marks = a; tallies = c; images = p; sums = r }) (record {
+            marks = b;
+            tallies = d;
+            images = q;
+            sums = s;
+          })
       same a c p r = rw (a, c, p, r) refl
 
 -- ---- one orbit counted
 
 module _ (g key weight : ℕ) (rows : List Row) (known tally : ℕ) (marks images sums : List ℕ) where
-  pub count_opened : (c : Counted) → latest 256 (words 4 marks known) key ≡ None → c ≡ count_by None g rows (counted_in known tally marks images sums) key weight
+  pub count_opened : (c : Counted) → latest 256 (words 4 marks known) key ≡ None
+      → c ≡ count_by None g rows (counted_in known tally marks images sums) key weight
       → c ≡ count_one g rows (counted_in known tally marks images sums) key weight
   unfolding count_one counted_in
-  count_opened c e q = q ∙ ap (λ (o : Option ℕ). count_by o g rows (counted_in known tally marks images sums) key weight) (sym e)
+  count_opened c e q =
+      q ∙ ap (λ (o : Option ℕ). count_by o g rows (counted_in known tally marks images sums) key weight) (sym e)
 
-  pub count_added : (k : ℕ) (after : List ℕ) → latest 256 (words 4 marks known) key ≡ Some k → after ≡ set sums k (get_or sums k 0 + weight / get_or images k 0)
-      → counted_in known tally marks images after ≡ count_one g rows (counted_in known tally marks images sums) key weight
+  pub count_added : (k : ℕ) (after : List ℕ) → latest 256 (words 4 marks known) key ≡ Some k
+      → after ≡ set sums k (get_or sums k 0 + weight / get_or images k 0)
+      → counted_in known tally marks images after
+      ≡ count_one g rows (counted_in known tally marks images sums) key weight
   unfolding count_one counted_in count_by
   count_added k after e q = rw (e, q) refl

@@ -1,6 +1,7 @@
 -- Tallies as numbers: ascending marks, and two rows of numbers by tally. What one orbit
 -- changes, what all do, and that nothing runs over. Leans on Marks. Assumes nothing.
-use Rattle.std.specs.Prelude.{◌≡◌, Bool, true, false, cond, ℕ, suc, ◌+◌, ◌*◌, ◌/◌, ◌%◌, ◌≤◌, ◌<◌, leb, eqb, set, replicate}
+use Rattle.std.specs.Prelude.{◌≡◌, Bool, true, false, cond, ℕ, suc, ◌+◌, ◌*◌, ◌/◌, ◌%◌, ◌≤◌, ◌<◌, leb, eqb, set}
+use Rattle.std.specs.Prelude.{replicate}
 use Rattle.std.proofs.Math.Path.{refl}
 use Rattle.std.proofs.Common.{ap, subst, ◌∙◌, div-le_self, arith, get_or-set_same, get_or-set_other}
 use Rattle.std.proofs.Math.Bool.{or-true}
@@ -12,7 +13,8 @@ use Rattle.std.proofs.lemmas.List.{length-replicate, get_or-replicate}
 use Rattle.definitions.specs.Lists.{Pair, any_of, member_nat, keep}
 use Rattle.definitions.specs.Orbits.{Row, set_image}
 use Rattle.laws.specs.Sets.{set_number, vertices_of}
-use Rattle.sorted.specs.Ascending.{Ascending, insert_new, union, ascending_nil, ascending_union, ascending_head, ascending_tail, member_union, member_head, member_below, length_insert, insert_few}
+use Rattle.sorted.specs.Ascending.{Ascending, insert_new, union, ascending_nil, ascending_union, ascending_head}
+use Rattle.sorted.specs.Ascending.{ascending_tail, member_union, member_head, member_below, length_insert, insert_few}
 use Rattle.sorted.specs.Gathering.{added, ascending_added, Fresh}
 use Rattle.orbits.specs.Numbers.{image_numbers}
 use Rattle.tallies.specs.Marks.{mark_number, latest, latest_is, TalliesBelow, marks_ascend, tallies_new, new_marks}
@@ -27,7 +29,8 @@ unfolding union
 union_length l [] a c f = omega arith
 union_length l (x ∷ b) a c f =
     let out : member_nat x l ≡ false = f.new x (member_head x b) in
-    let absent : member_nat x (union l b) ≡ false = member_union x l b ∙ (rw (member_below x b (ascending_head c)) out) in
+    let absent : member_nat x (union l b) ≡ false = member_union x l b
+    ∙ (rw (member_below x b (ascending_head c)) out) in
     let rest : Fresh l b = record { new = λ z m. f.new z (member_later z x b m) } in
     length_insert x (union l b) (ascending_union l b a)
     ∙ (rw (absent, union_length l b a (ascending_tail c) rest) (omega arith))
@@ -66,13 +69,16 @@ pair_key n globals q = set_number (set_image (vertices_of n q.0) globals)
 -- orbit by orbit
 unfoldable pub count_all : ℕ → Row → ℕ → List Row → ℕ → Counted → List Pair → Counted
 count_all n globals g rows count c [] = c
-count_all n globals g rows count c (q ∷ qs) = count_all n globals g rows count (count_one g rows c (pair_key n globals q) (count * q.1)) qs
+count_all n globals g rows count c (q ∷ qs) =
+    count_all n globals g rows count (count_one g rows c (pair_key n globals q) (count * q.1)) qs
 
 pub count_more : (n : ℕ) (globals : Row) (g : ℕ) (rows : List Row) (count : ℕ) (c : Counted) (qs : List Pair) (q : Pair)
-    → count_all n globals g rows count c (qs ++ (q ∷ [])) ≡ count_one g rows (count_all n globals g rows count c qs) (pair_key n globals q) (count * q.1)
+    → count_all n globals g rows count c (qs ++ (q ∷ []))
+    ≡ count_one g rows (count_all n globals g rows count c qs) (pair_key n globals q) (count * q.1)
 unfolding count_all
 count_more n globals g rows count c [] q = refl
-count_more n globals g rows count c (p ∷ qs) q = count_more n globals g rows count (count_one g rows c (pair_key n globals p) (count * p.1)) qs q
+count_more n globals g rows count c (p ∷ qs) q =
+    count_more n globals g rows count (count_one g rows c (pair_key n globals p) (count * p.1)) qs q
 
 -- before the first
 unfoldable pub none_counted : Counted
@@ -133,14 +139,18 @@ none_fits = record {
 pub added_few : (l xs : List ℕ) → (length l ≤ length (added l xs)) × (length (added l xs) ≤ length l + length xs)
 unfolding added
 added_few l [] = (omega arith, omega arith)
-added_few l (x ∷ xs) = let r = added_few (insert_new x l) xs in let s = insert_few x l in (omega (arith, r.0, s.0), omega (arith, r.1, s.1))
+added_few l (x ∷ xs) =
+    let r = added_few (insert_new x l) xs in
+    let s = insert_few x l in
+    (omega (arith, r.0, s.0), omega (arith, r.1, s.1))
 
 added_some : (xs : List ℕ) → 0 < length xs → 0 < length (added [] xs)
 unfolding added insert_new
 added_some [] h = absurd (omega arith)
 added_some (x ∷ xs) h = let r = (added_few (x ∷ []) xs).0 in omega arith
 
-pub images_few : (g key : ℕ) (rows : List Row) → 0 < length rows → (0 < length (added [] (image_numbers g key rows))) × (length (added [] (image_numbers g key rows)) ≤ length rows)
+pub images_few : (g key : ℕ) (rows : List Row) → 0 < length rows → (0 < length (added [] (image_numbers g key rows)))
+    × (length (added [] (image_numbers g key rows)) ≤ length rows)
 unfolding image_numbers
 images_few g key rows h =
     let n = length-map rows (λ (row : Row). set_number (set_image (vertices_of g key) row)) in
@@ -150,7 +160,8 @@ images_few g key rows h =
 part_small : (weight k : ℕ) → weight / k ≤ weight
 part_small weight k = div-le_self weight k
 
-module _ (done g : ℕ) (rows : List Row) (c : Counted) (key weight : ℕ) (f : CountFits done c) (free : done < 256) (light : weight ≤ most_weight)
+module _ (done g : ℕ) (rows : List Row) (c : Counted) (key weight : ℕ) (f : CountFits done c) (free : done < 256)
+    (light : weight ≤ most_weight)
     (some_row : 0 < length rows) (few_rows : length rows ≤ 120) where
   abbrev new : List ℕ
   new = added [] (image_numbers g key rows)
@@ -162,14 +173,24 @@ module _ (done g : ℕ) (rows : List Row) (c : Counted) (key weight : ℕ) (f : 
       few = omega (arith, f.long_images, f.few_tallies)
 
       go : Dec (i ≡ c.tallies) → 0 < get_or (set c.images c.tallies (length new)) i 0
-      go (yes e) = let q = get_or-set_same c.images c.tallies (length new) 0 few in let r = ap (λ (j : ℕ). get_or (set c.images c.tallies (length new)) j 0) e in omega (arith, (images_few g key rows some_row).0)
-      go (no n) = let q = get_or-set_other c.images c.tallies i (length new) 0 n in let r = f.some_images i (omega arith) in omega arith
+      go (yes e) =
+          let q = get_or-set_same c.images c.tallies (length new) 0 few in
+          let r = ap (λ (j : ℕ). get_or (set c.images c.tallies (length new)) j 0) e in
+          omega (arith, (images_few g key rows some_row).0)
+      go (no n) =
+          let q = get_or-set_other c.images c.tallies i (length new) 0 n in
+          let r = f.some_images i (omega arith) in
+          omega arith
 
-  set_sums : (k x i : ℕ) → k < 256 → x ≤ suc done * most_weight → i < 256 → get_or (set c.sums k x) i 0 ≤ suc done * most_weight
+  set_sums : (k x i : ℕ) → k < 256 → x ≤ suc done * most_weight → i < 256
+      → get_or (set c.sums k x) i 0 ≤ suc done * most_weight
   set_sums k x i h small g = go (ℕ_discrete i k)
     where
       go : Dec (i ≡ k) → get_or (set c.sums k x) i 0 ≤ suc done * most_weight
-      go (yes e) = let q = get_or-set_same c.sums k x 0 (omega (arith, f.long_sums)) in let r = ap (λ (j : ℕ). get_or (set c.sums k x) j 0) e in omega arith
+      go (yes e) =
+          let q = get_or-set_same c.sums k x 0 (omega (arith, f.long_sums)) in
+          let r = ap (λ (j : ℕ). get_or (set c.sums k x) j 0) e in
+          omega arith
       go (no n) = let q = get_or-set_other c.sums k i x 0 n in let r = f.small_sums i g in omega arith
 
   opened_fits : CountFits (suc done) (count_by None g rows c key weight)
@@ -177,7 +198,8 @@ module _ (done g : ℕ) (rows : List Row) (c : Counted) (key weight : ℕ) (f : 
   opened_fits =
       let small : c.tallies < 256 = omega (arith, f.few_tallies) in
       let up = marks_ascend c.tallies new (ascending_added [] (image_numbers g key rows) ascending_nil) in
-      let n = union_length c.marks (map (mark_number c.tallies) new) f.ascends up (record { new = new_marks c.tallies c.marks new small f.below }) in
+      let n = union_length c.marks (map (mark_number c.tallies) new) f.ascends up
+      (record { new = new_marks c.tallies c.marks new small f.below }) in
       let m = length-map new (mark_number c.tallies) in
       let few = (images_few g key rows some_row).1 in
       record {
@@ -186,7 +208,8 @@ module _ (done g : ℕ) (rows : List Row) (c : Counted) (key weight : ℕ) (f : 
         few_marks = omega (arith, f.few_marks);
         few_tallies = omega (arith, f.few_tallies);
         some_images = set_images;
-        small_sums = λ i h. set_sums c.tallies (weight / length new) i small (omega (arith, part_small weight (length new))) h;
+        small_sums =
+            λ i h. set_sums c.tallies (weight / length new) i small (omega (arith, part_small weight (length new))) h;
         long_images = length-set c.images c.tallies (length new) ∙ f.long_images;
         long_sums = length-set c.sums c.tallies (weight / length new) ∙ f.long_sums;
       }
@@ -201,7 +224,8 @@ module _ (done g : ℕ) (rows : List Row) (c : Counted) (key weight : ℕ) (f : 
         few_marks = f.few_marks;
         few_tallies = omega (arith, f.few_tallies);
         some_images = f.some_images;
-        small_sums = λ i q. set_sums k x i h (omega (arith, f.small_sums k h, part_small weight (get_or c.images k 0))) q;
+        small_sums =
+            λ i q. set_sums k x i h (omega (arith, f.small_sums k h, part_small weight (get_or c.images k 0))) q;
         long_images = f.long_images;
         long_sums = length-set c.sums k x ∙ f.long_sums;
       }
@@ -215,7 +239,8 @@ module _ (done g : ℕ) (rows : List Row) (c : Counted) (key weight : ℕ) (f : 
       go (Some k) e = added_fits k (latest_is 256 c.marks key k e).below
 
 -- a tally that is found is one of those that were opened
-pub found_opened : (done : ℕ) (c : Counted) (key k : ℕ) → CountFits done c → latest 256 c.marks key ≡ Some k → (k < c.tallies) × (k < 256)
+pub found_opened : (done : ℕ) (c : Counted) (key k : ℕ) → CountFits done c → latest 256 c.marks key ≡ Some k
+    → (k < c.tallies) × (k < 256)
 found_opened done c key k f e =
     let r = latest_is 256 c.marks key k e in
     let h = r.below in
@@ -224,12 +249,19 @@ found_opened done c key k f e =
 
 -- so many orbits, each of a weight that fits
 pub all_fit : (n : ℕ) (globals : Row) (g : ℕ) (rows : List Row) (count : ℕ) → 0 < length rows → length rows ≤ 120
-    → (done : ℕ) (c : Counted) (qs : List Pair) → ((i : ℕ) → i < length qs → count * (get_or qs i (0, 0)).1 ≤ most_weight) → done + length qs ≤ 256 → CountFits done c
+    → (done : ℕ) (c : Counted) (qs : List Pair)
+    → ((i : ℕ) → i < length qs → count * (get_or qs i (0, 0)).1 ≤ most_weight) → done + length qs ≤ 256
+    → CountFits done c
     → CountFits (done + length qs) (count_all n globals g rows count c qs)
 unfolding count_all
-all_fit n globals g rows count some_row few_rows done c [] light room f = let e : done + 0 ≡ done = omega arith in rw e f
+all_fit n globals g rows count some_row few_rows done c [] light room f =
+    let e : done + 0 ≡ done = omega arith in
+    rw e f
 all_fit n globals g rows count some_row few_rows done c (q ∷ qs) light room f =
-    let next = one_fits done g rows c (pair_key n globals q) (count * q.1) f (omega arith) (light 0 (omega arith)) some_row few_rows in
+    let next = one_fits done g rows c (pair_key n globals q) (count * q.1) f (omega arith)
+    (light 0 (omega arith)) some_row few_rows in
     let e : suc done + length qs ≡ done + suc (length qs) = omega arith in
-    subst (λ (k : ℕ). CountFits k (count_all n globals g rows count (count_one g rows c (pair_key n globals q) (count * q.1)) qs)) e
-    (all_fit n globals g rows count some_row few_rows (suc done) (count_one g rows c (pair_key n globals q) (count * q.1)) qs (λ i h. light (suc i) (omega arith)) (omega arith) next)
+    subst (λ (k : ℕ).
+    CountFits k (count_all n globals g rows count (count_one g rows c (pair_key n globals q) (count * q.1)) qs)) e
+    (all_fit n globals g rows count some_row few_rows (suc done) (count_one g rows c (pair_key n globals q)
+    (count * q.1)) qs (λ i h. light (suc i) (omega arith)) (omega arith) next)

@@ -1,6 +1,7 @@
 -- What the code is given: a package, with its global numbers and full rows in bytes, rows at a stride of 32.
 -- What they mean is a package [17.1]. Leans on the rows in bytes and on Counts.
-use Rattle.std.specs.Prelude.{◌≡◌, List, ◌++◌, map, ℕ, ◌+◌, ◌-◌, ◌*◌, ◌^◌, ◌≤◌, ◌<◌, length, get_or, take, drop, replicate}
+use Rattle.std.specs.Prelude.{◌≡◌, List, ◌++◌, map, ℕ, ◌+◌, ◌-◌, ◌*◌, ◌^◌, ◌≤◌, ◌<◌, length, get_or, take, drop}
+use Rattle.std.specs.Prelude.{replicate}
 use Rattle.std.proofs.Common.{sym, ap, subst, ◌∙◌, arith}
 use Rattle.std.proofs.Math.Nat.{pow-le-pow_right}
 use Rattle.definitions.specs.Orbits.{image, set_image}
@@ -8,9 +9,10 @@ use Rattle.definitions.specs.Job.{number_at}
 use Rattle.definitions.specs.Noble as def
 use Rattle.laws.specs.Lists.{of_map}
 use Rattle.laws.specs.Pairs.{pairs_map}
-use Rattle.laws.specs.Sets.{set_number, number_small, vertices_of, SetFrom, vertices_set, set_range, set_rises, sorted_set}
+use Rattle.laws.specs.Sets.{set_number, number_small, vertices_of, SetFrom, vertices_set, set_range, set_rises}
+use Rattle.laws.specs.Sets.{sorted_set}
 use Rattle.words.specs.Words.{words}
-use Rattle.openers.specs.Rows.{rows_in, row_at, image_at_holds}
+use Rattle.rows.specs.Rows.{rows_in, row_at, image_at_holds}
 use Rattle.tallies.specs.Counts.{Counted, most_weight, Ready}
 use Rattle.tallies.specs.declared.Package.{Package}
 use Rattle.tallies.specs.declared.Tally.{Tally}
@@ -41,7 +43,12 @@ package_in n whole = record {
 
 -- what marks in bytes and two rows of numbers count
 unfoldable pub counted_in : ℕ → ℕ → List ℕ → List ℕ → List ℕ → Counted
-counted_in known tallies marks images sums = record { marks = words 4 marks known; tallies = tallies; images = images; sums = sums }
+counted_in known tallies marks images sums = record {
+  marks = words 4 marks known;
+  tallies = tallies;
+  images = images;
+  sums = sums;
+}
 
 -- an orbit more may be counted, and there is room for its marks
 pub record TallyFits (known tallies : ℕ) (marks images sums : List ℕ) : Type 0 where
@@ -71,7 +78,8 @@ pub record WeightsFit (count orbits : ℕ) (ws : List ℕ) : Type 0 where
   pub light : (j : ℕ) → j < orbits → count * number_at ws (8 * j + 4) 4 ≤ most_weight
 
 -- a key's global numbers are a set
-pub key_set : (n g : ℕ) (globals : List ℕ) → GlobalsFit n g globals → (x : ℕ) → SetFrom 0 g (set_image (vertices_of n x) (row_at n 0 globals))
+pub key_set : (n g : ℕ) (globals : List ℕ) → GlobalsFit n g globals → (x : ℕ)
+    → SetFrom 0 g (set_image (vertices_of n x) (row_at n 0 globals))
 unfolding set_image vertices_of row_at
 key_set n g globals f x =
     let s = vertices_set 0 n x in
@@ -83,15 +91,22 @@ key_set n g globals f x =
     subst (λ (k : ℕ). k < g) (sym r.2) (below r.0 (omega arith)))
   where
     at : (v : ℕ) → v < n → image (take n (drop (32 * 0) globals)) v ≡ get_or globals v 0
-    at v h = let z : 32 * 0 + v ≡ v = omega arith in image_at_holds n 0 globals v h ∙ ap (λ (k : ℕ). get_or globals k 0) z
+    at v h =
+        let z : 32 * 0 + v ≡ v = omega arith in
+        image_at_holds n 0 globals v h ∙ ap (λ (k : ℕ). get_or globals k 0) z
 
     below : (v : ℕ) → v < n → image (take n (drop (32 * 0) globals)) v < g
     below v h = subst (λ (k : ℕ). k < g) (sym (at v h)) (f.below v h)
 
-    one : (u w : ℕ) → u < 0 + n → w < 0 + n → image (take n (drop (32 * 0) globals)) u ≡ image (take n (drop (32 * 0) globals)) w → u ≡ w
-    one u w h k e = let p : u < n = omega arith in let q : w < n = omega arith in f.one u w p q (sym (at u p) ∙ e ∙ at w q)
+    one : (u w : ℕ) → u < 0 + n → w < 0 + n
+        → image (take n (drop (32 * 0) globals)) u ≡ image (take n (drop (32 * 0) globals)) w → u ≡ w
+    one u w h k e =
+        let p : u < n = omega arith in
+        let q : w < n = omega arith in
+        f.one u w p q (sym (at u p) ∙ e ∙ at w q)
 
-pub key_small : (n g : ℕ) (globals : List ℕ) → GlobalsFit n g globals → (x : ℕ) → set_number (set_image (vertices_of n x) (row_at n 0 globals)) < 1048576
+pub key_small : (n g : ℕ) (globals : List ℕ) → GlobalsFit n g globals → (x : ℕ)
+    → set_number (set_image (vertices_of n x) (row_at n 0 globals)) < 1048576
 key_small n g globals f x =
     let small : 2 ^ g ≤ 1048576 = pow-le-pow_right {n = 2} (omega arith) {i = g} {j = 20} f.g_fits in
     omega (arith, number_small (key_set n g globals f x))

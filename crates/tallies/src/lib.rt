@@ -1,6 +1,6 @@
-// Which hyperplane orbits a package keeps: tallies added up orbit by orbit, then the orbits moved together whose key's
-// tally is 2 or more. A key is the number of its set of global numbers, below 2 ^ 20. A mark is one number, 256 · key +
-// tally, in an ascending region, so that nothing is written over: a key's latest mark is its largest number.
+// Which hyperplane orbits a package keeps: tallies added up orbit by orbit, then the orbits moved together whose
+// key's tally is 2 or more. A key is the number of its set of global numbers, below 2 ^ 20. A mark is one number, 256
+// · key + tally, in an ascending region, so that nothing is written over: a key's latest mark is its largest number.
 // Each function equals a step of [17.4] to [17.6]. Leans on the sorted sets, the sets' images and the orbits.
 
 #![tactic(auto)]
@@ -14,14 +14,16 @@ ghost use Rattle.laws.specs.Sets.{set_number, vertices_of};
 ghost use Rattle.words.specs.Words.{words};
 ghost use Rattle.sorted.specs.Ascending.{Ascending};
 ghost use Rattle.sorted.specs.Gathering.{added};
-ghost use Rattle.openers.specs.Rows.{rows_in, row_at};
+ghost use Rattle.rows.specs.Rows.{rows_in, row_at};
 ghost use Rattle.orbits.specs.Numbers.{image_numbers, orbit_of};
 ghost use Rattle.orbits.specs.Workspace.{orbits_in, orbits_room};
 ghost use Rattle.tallies.specs.Marks.{latest, mark_number, TalliesBelow};
 ghost use Rattle.tallies.specs.Counts.{count_by, count_one, count_all, sum_by, none_counted, keep_pairs, most_weight};
-ghost use Rattle.tallies.specs.Meaning.{GlobalsFit, PackageFits, package_in, images_in, sums_in, listed_in, ListFits, WeightsFit};
+ghost use Rattle.tallies.specs.Meaning.{GlobalsFit, PackageFits, package_in, images_in, sums_in, listed_in, ListFits};
+ghost use Rattle.tallies.specs.Meaning.{WeightsFit};
 
 use arrayvec::ArrayVec;
+use orbits::ORBITS_BYTES;
 use sets::{set_image, vertices_of};
 use sorted::Sorted;
 use stabilizers::Symmetries;
@@ -29,18 +31,21 @@ use words::Word;
 
 // ---- marks
 
+// As many tallies as there may be: no more than orbits.
+const MOST_TALLIES: u32 = 256;
+
 // The tally of a key's latest mark: the last number below the next key's, if it is one of this key's.
 fn mark_of(marks: Sorted, key: u32) -> Option<usize>
     requires { key < 1048576 }
     ensures { result ≡ latest 256 (words 4 marks.entry.bytes.now marks.entry.count) key }
 {
-    let end = marks.first_from(256 * (key + 1));
+    let end = marks.first_from(MOST_TALLIES * (key + 1));
     if end == 0 {
         return None;
     }
     let last = u32::get(marks.bytes, 4 * (end - 1));
-    if last / 256 == key {
-        return Some((last % 256) as usize);
+    if last / MOST_TALLIES == key {
+        return Some((last % MOST_TALLIES) as usize);
     }
     None
 }
@@ -48,20 +53,22 @@ fn mark_of(marks: Sorted, key: u32) -> Option<usize>
 // The marks of all images of a key with a tally, ascending.
 fn gather_marks(full: Symmetries, key: u32, tally: u32) -> ArrayVec<u32, 120>
     requires { (full.rows.count ≤ 120) × (tally < 256) }
-    ensures { result.items ≡ map (mark_number tally) (added [] (image_numbers full.entry.n key (rows_in full.entry.n full.entry.rows.count full.entry.rows.bytes.now))) }
+    ensures { result.items ≡ map (mark_number tally) (added []
+        (image_numbers full.entry.n key (rows_in full.entry.n full.entry.rows.count full.entry.rows.bytes.now))) }
 {
     let vertices = vertices_of(key, full.n);
     let mut new = ArrayVec::new();
     for i in 0..full.rows.count {
         let image = set_image(full.rows.bytes, i, &vertices);
-        sorted::insert(&mut new, 256 * image + tally);
+        sorted::insert(&mut new, MOST_TALLIES * image + tally);
     }
     new
 }
 
 // ---- tallies
 
-// The package of a full set [17.1]: the global numbers of a call's vertices, the full rows, which permute the points of the full set, and what each set of an orbit counts for.
+// The package of a full set [17.1]: the global numbers of a call's vertices, the full rows, which permute the points
+// of the full set, and what each set of an orbit counts for.
 #[derive(Clone, Copy)]
 pub struct Package<'a> {
     pub globals: &'a [u8],
@@ -86,8 +93,11 @@ struct Tallies {
 impl Tallies {
     // An unmarked key opens a tally: its images are marked with it, and it begins with its part of the weight.
     fn open(&mut self, whole: Package, key: u32, weight: u64, marks: &mut [u8])
-        requires { (0 < whole.full.rows.count) × (whole.full.rows.count ≤ 120) × ListFits self.old.known marks.old self.old.tallies.items }
-        ensures { listed_in self.new.known marks.new self.new.tallies.items ≡ count_by None whole.entry.full.n (rows_in whole.entry.full.n whole.entry.full.rows.count whole.entry.full.rows.bytes.now) (listed_in self.old.known marks.old self.old.tallies.items) key weight }
+        requires { (0 < whole.full.rows.count)
+            × (whole.full.rows.count ≤ 120) × ListFits self.old.known marks.old self.old.tallies.items }
+        ensures { listed_in self.new.known marks.new self.new.tallies.items ≡ count_by None whole.entry.full.n
+            (rows_in whole.entry.full.n whole.entry.full.rows.count whole.entry.full.rows.bytes.now)
+            (listed_in self.old.known marks.old self.old.tallies.items) key weight }
     {
         let new = gather_marks(whole.full, key, self.tallies.len() as u32);
         let many = new.len();
@@ -101,11 +111,14 @@ impl Tallies {
 
     // A marked key adds its part of the weight to its tally.
     fn add_portion(&mut self, k: usize, weight: u64)
-        requires { (k < length self.old.tallies.items) × (0 < get_or (images_in self.old.tallies.items) k 0) × (get_or (sums_in self.old.tallies.items) k 0 + weight ≤ 18446744073709551615) }
+        requires { (k < length self.old.tallies.items)
+            × (0 < get_or (images_in self.old.tallies.items) k 0)
+            × (get_or (sums_in self.old.tallies.items) k 0 + weight ≤ 18446744073709551615) }
         ensures known { self.new.known ≡ self.old.known }
         ensures many { length self.new.tallies.items ≡ length self.old.tallies.items }
         ensures images { images_in self.new.tallies.items ≡ images_in self.old.tallies.items }
-        ensures sums { sums_in self.new.tallies.items ≡ set (sums_in self.old.tallies.items) k (get_or (sums_in self.old.tallies.items) k 0 + weight / get_or (images_in self.old.tallies.items) k 0) }
+        ensures sums { sums_in self.new.tallies.items ≡ set (sums_in self.old.tallies.items) k
+            (get_or (sums_in self.old.tallies.items) k 0 + weight / get_or (images_in self.old.tallies.items) k 0) }
     {
         let tally = &mut self.tallies.as_mut_slice()[k];
         tally.sum += weight / tally.images;
@@ -113,8 +126,13 @@ impl Tallies {
 
     // One orbit more.
     fn add_orbit(&mut self, whole: Package, key: u32, weight: u64, marks: &mut [u8])
-        requires { (0 < whole.full.rows.count) × (whole.full.rows.count ≤ 120) × ListFits self.old.known marks.old self.old.tallies.items × (key < 1048576) × (weight ≤ most_weight) }
-        ensures { listed_in self.new.known marks.new self.new.tallies.items ≡ count_one whole.entry.full.n (rows_in whole.entry.full.n whole.entry.full.rows.count whole.entry.full.rows.bytes.now) (listed_in self.old.known marks.old self.old.tallies.items) key weight }
+        requires { (0 < whole.full.rows.count)
+            × (whole.full.rows.count ≤ 120)
+            × ListFits self.old.known marks.old self.old.tallies.items
+            × (key < 1048576) × (weight ≤ most_weight) }
+        ensures { listed_in self.new.known marks.new self.new.tallies.items ≡ count_one whole.entry.full.n
+            (rows_in whole.entry.full.n whole.entry.full.rows.count whole.entry.full.rows.bytes.now)
+            (listed_in self.old.known marks.old self.old.tallies.items) key weight }
     {
         let marked = Sorted {
             bytes: marks,
@@ -130,16 +148,20 @@ impl Tallies {
 // The key of a set: its global numbers, as a set's number.
 fn key_of(whole: Package, n: usize, set: u32) -> u32
     requires { GlobalsFit n whole.full.n whole.globals.now }
-    ensures { (result ≡ set_number (set_image (vertices_of n set) (row_at n 0 whole.entry.globals.now))) × (result < 1048576) }
+    ensures { (result ≡ set_number (set_image (vertices_of n set) (row_at n 0 whole.entry.globals.now)))
+        × (result < 1048576) }
 {
     set_image(whole.globals, 0, &vertices_of(set, n))
 }
 
-// The tallies of all orbits, in order.
-// The loops go by the number of an orbit, here and below: an iterator of the orbits would hold on to the workspace that the loop writes.
+// The tallies of all orbits, in order. The loops go by the number of an orbit, here and below: an iterator of the
+// orbits would hold on to the workspace that the loop writes.
 fn tally_orbits(whole: Package, n: usize, orbits: usize, ws: &mut [u8]) -> Tallies
     requires { PackageFits n whole × (orbits ≤ 256) × (orbits_room ≤ length ws.old) }
-    ensures counted { listed_in result.known (drop 2048 ws.new) result.tallies.items ≡ count_all n (row_at n 0 whole.entry.globals.now) whole.entry.full.n (rows_in whole.entry.full.n whole.entry.full.rows.count whole.entry.full.rows.bytes.now) whole.entry.count none_counted (orbits_in ws.old orbits) }
+    ensures counted { listed_in result.known (drop 2048 ws.new) result.tallies.items
+        ≡ count_all n (row_at n 0 whole.entry.globals.now) whole.entry.full.n
+        (rows_in whole.entry.full.n whole.entry.full.rows.count whole.entry.full.rows.bytes.now) whole.entry.count
+        none_counted (orbits_in ws.old orbits) }
     ensures front { take 2048 ws.new ≡ take 2048 ws.old }
     ensures light { WeightsFit whole.entry.count orbits ws.old }
 {
@@ -150,7 +172,7 @@ fn tally_orbits(whole: Package, n: usize, orbits: usize, ws: &mut [u8]) -> Talli
     for i in 0..orbits {
         let key = key_of(whole, n, u32::get(ws, 8 * i));
         let weight = u64::from(whole.count) * u64::from(u32::get(ws, 8 * i + 4));
-        tallies.add_orbit(whole, key, weight, &mut ws[2048..]);
+        tallies.add_orbit(whole, key, weight, &mut ws[ORBITS_BYTES..]);
     }
     tallies
 }
@@ -176,19 +198,25 @@ fn move_orbit(ws: &mut [u8], from: usize, to: usize)
     ws.copy_within(8 * from..8 * from + 8, 8 * to);
 }
 
-// The orbits whose key's tally is 2 or more, moved together; returns how many there are.
-// `Ascending` stays a clause: the function writes the workspace that it speaks of.
-// Counted by hand: the count is the place of the next orbit that is written, and in the end the answer. No `filter`: it would hold on to the region that the loop writes.
+// The orbits whose key's tally is 2 or more, moved together; returns how many there are. `Ascending` stays a clause:
+// the function writes the workspace that it speaks of. Counted by hand: the count is the place of the next orbit that
+// is written, and in the end the answer. No `filter`: it would hold on to the region that the loop writes.
 fn move_together(whole: Package, n: usize, orbits: usize, tallies: &Tallies, ws: &mut [u8]) -> usize
-    requires { GlobalsFit n whole.full.n whole.globals.now × (orbits ≤ 256) × (2048 + 4 * tallies.now.known ≤ length ws.old) × Ascending (words 4 (drop 2048 ws.old) tallies.now.known) × TalliesBelow (length tallies.now.tallies.items) (words 4 (drop 2048 ws.old) tallies.now.known) }
+    requires { GlobalsFit n whole.full.n whole.globals.now
+        × (orbits ≤ 256)
+        × (2048 + 4 * tallies.now.known ≤ length ws.old)
+        × Ascending (words 4 (drop 2048 ws.old) tallies.now.known)
+        × TalliesBelow (length tallies.now.tallies.items) (words 4 (drop 2048 ws.old) tallies.now.known) }
     ensures few { result ≤ orbits }
-    ensures kept { orbits_in ws.new result ≡ keep_pairs n (row_at n 0 whole.entry.globals.now) (words 4 (drop 2048 ws.old) tallies.now.known) (sums_in tallies.now.tallies.items) (orbits_in ws.old orbits) }
+    ensures kept { orbits_in ws.new result
+        ≡ keep_pairs n (row_at n 0 whole.entry.globals.now) (words 4 (drop 2048 ws.old) tallies.now.known)
+        (sums_in tallies.now.tallies.items) (orbits_in ws.old orbits) }
 {
     let mut kept = 0;
     for i in 0..orbits {
         let key = key_of(whole, n, u32::get(ws, 8 * i));
         let marks = Sorted {
-            bytes: &ws[2048..],
+            bytes: &ws[ORBITS_BYTES..],
             count: tallies.known,
         };
         if 2 <= sum_of(marks, key, tallies.tallies.as_slice()) {
@@ -199,12 +227,13 @@ fn move_together(whole: Package, n: usize, orbits: usize, tallies: &Tallies, ws:
     kept
 }
 
-// [17.6] The first `orbits` orbits of a workspace become those that the package keeps; returns how many there are. The
-// workspace is that of `orbits`; the region of the sets seen holds the marks.
+// [17.6] The first `orbits` orbits of a workspace become those that the package keeps; returns how many there are.
+// The workspace is that of `orbits`; the region of the sets seen holds the marks.
 pub fn keep_orbits(whole: Package, n: usize, orbits: usize, ws: &mut [u8]) -> usize
     requires { PackageFits n whole × (orbits ≤ 256) × (orbits_room ≤ length ws.old) }
     ensures few { result ≤ orbits }
-    ensures kept { map (orbit_of n) (orbits_in ws.new result) ≡ kept_by (package_in n whole.entry) (map (orbit_of n) (orbits_in ws.old orbits)) }
+    ensures kept { map (orbit_of n) (orbits_in ws.new result)
+        ≡ kept_by (package_in n whole.entry) (map (orbit_of n) (orbits_in ws.old orbits)) }
 {
     let tallies = tally_orbits(whole, n, orbits, ws);
     move_together(whole, n, orbits, &tallies, ws)

@@ -1,5 +1,6 @@
--- A vector of the code is an array of five numbers with a count d: it means its first d numbers. What the code makes has zeros behind them, so that an array is known from what it
--- means. Leans on the definitions and on the laws of segments.
+-- A vector of the code is an array of five numbers with a count d: it means its first d numbers. What the code makes
+-- has zeros behind them, so that an array is known from what it means. Leans on the definitions and on the laws of
+-- segments.
 use Rattle.std.specs.Prelude.{List, ℕ, take, replicate, Float}
 use Rattle.definitions.specs.Vectors.{Vec, zero64}
 use Rattle.laws.specs.Segments.{onto}

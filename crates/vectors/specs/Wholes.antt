@@ -1,4 +1,5 @@
--- An array is known from its front and from what stands behind it; and how many numbers a difference or a gain has. Leans on Meaning and on the laws of segments.
+-- An array is known from its front and from what stands behind it; and how many numbers a difference or a gain has.
+-- Leans on Meaning and on the laws of segments.
 use Rattle.std.specs.Prelude.{◌≡◌, refl, List, [], ◌∷◌, ℕ, suc, ◌+◌, ◌≤◌, length, get_or, drop, Float}
 use Rattle.std.proofs.Common.{sym, ap, ◌∙◌, arith, take-append-drop, length-take-le, get_or-drop, drop-drop}
 use Rattle.std.proofs.lemmas.List.{length-map, length-replicate}
@@ -27,11 +28,16 @@ normalised_length v = length-map v _
 -- ---- a front, and what stands behind it
 
 -- what is alike from a place on is alike at that place and behind it
-pub rest_same : (a b : List Float) (i : ℕ) (z : Float) → drop i a ≡ drop i b → (get_or a i z ≡ get_or b i z) × (drop (i + 1) a ≡ drop (i + 1) b)
+pub rest_same : (a b : List Float) (i : ℕ) (z : Float) → drop i a ≡ drop i b
+    → (get_or a i z ≡ get_or b i z) × (drop (i + 1) a ≡ drop (i + 1) b)
 rest_same a b i z e =
     let here : i + 0 ≡ i = omega arith in
-    let at : (l : List Float) → get_or (drop i l) 0 z ≡ get_or l i z = λ l. get_or-drop i l 0 z ∙ ap (λ (k : ℕ). get_or l k z) here in
-    (sym (at a) ∙ (ap (λ (l : List Float). get_or l 0 z) e ∙ at b), sym (drop-drop 1 i a) ∙ (ap (drop 1) e ∙ drop-drop 1 i b))
+    let at : (l : List Float)
+    → get_or (drop i l) 0 z ≡ get_or l i z = λ l. get_or-drop i l 0 z ∙ ap (λ (k : ℕ). get_or l k z) here in (
+      sym (at a) ∙ (ap (λ (l : List Float). get_or l 0 z) e ∙ at b),
+      sym (drop-drop 1 i a)
+          ∙ (ap (drop 1) e ∙ drop-drop 1 i b),
+    )
 
 -- the front and the rest are the whole
 pub whole : (l s : List Float) (v : Vec) (d : ℕ) → d ≤ length l → vector_of d l ≡ v → drop d l ≡ drop d s → l ≡ onto v s

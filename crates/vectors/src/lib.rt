@@ -1,4 +1,5 @@
-// Vectors of up to five numbers. Each function equals a definition of Vectors, [3.4] to [3.6]: floats are f64, and each operation is rounded once.
+// Vectors of up to five numbers. Each function equals a definition of Vectors, [3.4] to [3.6]: floats are f64, and
+// each operation is rounded once.
 
 #![tactic(auto)]
 
@@ -7,9 +8,11 @@ ghost use Rattle.definitions.specs.Vectors.{dot, norm, normalised, minus, plus_t
 ghost use Rattle.laws.specs.Segments.{onto};
 ghost use Rattle.vectors.specs.Meaning.{vector_of, five};
 
-// A d beside vectors is how many of their five places mean something: one number for all the vectors that meet, and no length of one array.
-// The vectors of a call lie in arrays, one behind the other. The loops borrow such an array and are told where a vector begins: to copy it out would cost more than its arithmetic.
-// The loops count an index: it names the same place of two or three arrays that begin at places of their own, and a `zip` of their parts says no more. The library has a sum of floats, which begins at −0, where the definition's begins at +0.
+// A d beside vectors is how many of their five places mean something: one number for all the vectors that meet, and
+// no length of one array. The vectors of a call lie in arrays, one behind the other. The loops borrow such an array
+// and are told where a vector begins: to copy it out would cost more than its arithmetic. The loops count an index:
+// it names the same place of two or three arrays that begin at places of their own, and a `zip` of their parts says
+// no more. The library has a sum of floats, which begins at −0, where the definition's begins at +0.
 
 // The dot product: from +0, the products are added in index order. The second vector begins at a place.
 pub fn dot_at(a: &[f64], b: &[f64], at: usize, d: usize) -> f64
@@ -45,8 +48,9 @@ pub struct Normalised {
     pub norm: f64,
 }
 
-// Divides each component by the norm and returns the norm beside the vector. It divides before anyone looks at the norm, so that a norm of zero has its equation too.
-// A loop, and no `map` of the array: behind d numbers the zeros stay, which a `map` would divide too, by a norm of zero into a NaN.
+// Divides each component by the norm and returns the norm beside the vector. It divides before anyone looks at the
+// norm, so that a norm of zero has its equation too. A loop, and no `map` of the array: behind d numbers the zeros
+// stay, which a `map` would divide too, by a norm of zero into a NaN.
 pub fn normalise(v: [f64; 5], d: usize) -> Normalised
     requires { d ≤ 5 }
     ensures { (result.vector ≡ five (normalised (vector_of d v))) × (result.norm ≡ norm (vector_of d v)) }

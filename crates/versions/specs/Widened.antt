@@ -1,7 +1,8 @@
--- A job with more bytes put in behind its header, read: what stood before the place is read as it was, and what stood behind it is read so many bytes later. Leans on the
--- definition of a job.
+-- A job with more bytes put in behind its header, read: what stood before the place is read as it was, and what stood
+-- behind it is read so many bytes later. Leans on the definition of a job.
 use Rattle.std.specs.Prelude.{◌≡◌, ℕ, ◌+◌, ◌*◌, ◌≤◌, length, take}
-use Rattle.std.proofs.Common.{sym, ◌∙◌, length-append, length-drop, take-append-drop, length-take-le, drop-drop, drop_at}
+use Rattle.std.proofs.Common.{sym, ◌∙◌, length-append, length-drop, take-append-drop, length-take-le, drop-drop}
+use Rattle.std.proofs.Common.{drop_at}
 use Rattle.std.proofs.Math.Path.{ap}
 use mathlib.Core.List.{◌++◌, map, append_assoc}
 use native.Mathlib.Omega.{arith}
@@ -21,7 +22,8 @@ module _ (rest more : Bytes) (k : ℕ) where
 
   pub widened_length : length widened ≡ length rest + length more
   widened_length =
-      let whole : length (take k rest) + length (drop k rest) ≡ length rest = sym (length-append (take k rest) (drop k rest)) ∙ ap length (take-append-drop k rest) in
+      let whole : length (take k rest) + length (drop k rest)
+      ≡ length rest = sym (length-append (take k rest) (drop k rest)) ∙ ap length (take-append-drop k rest) in
       let outer = length-append (take k rest ++ more) (drop k rest) in
       let inner = length-append (take k rest) more in
       omega arith
@@ -38,19 +40,24 @@ module _ (rest more : Bytes) (k : ℕ) where
     part_kept x m h =
         let l = front_length in
         let d = length-drop x (take k rest) in
-        ap (λ (l : Bytes). take m (drop x l)) apart ∙ ap (take m) (drop-append-le x (take k rest) (more ++ drop k rest) (omega arith))
+        ap (λ (l : Bytes). take m (drop x l)) apart
+        ∙ ap (take m) (drop-append-le x (take k rest) (more ++ drop k rest) (omega arith))
         ∙ take-append-le m (drop x (take k rest)) (more ++ drop k rest) (omega arith)
         ∙ part_take k rest x m h
 
     -- what was put in
     pub part_new : take (length more) (drop k widened) ≡ more
-    part_new = ap (λ (l : Bytes). take (length more) (drop k l)) apart ∙ ap (take (length more)) (drop_at (take k rest) (more ++ drop k rest) k front_length) ∙ take-append_seam more (drop k rest)
+    part_new =
+        ap (λ (l : Bytes). take (length more) (drop k l)) apart
+        ∙ ap (take (length more)) (drop_at (take k rest) (more ++ drop k rest) k front_length)
+        ∙ take-append_seam more (drop k rest)
 
     -- all behind the place
     pub all_behind : (q : ℕ) → drop (k + length more + q) widened ≡ drop (k + q) rest
     all_behind q =
         let front = take k rest ++ more in
-        let l : length front ≡ k + length more = length-append (take k rest) more ∙ ap (λ (n : ℕ). n + length more) front_length in
+        let l : length front ≡ k + length more = length-append (take k rest) more
+        ∙ ap (λ (n : ℕ). n + length more) front_length in
         ap (λ (n : ℕ). drop (n + q) (front ++ drop k rest)) (sym l)
         ∙ drop-append-add front (drop k rest) q
         ∙ drop-drop q k rest
@@ -80,9 +87,11 @@ module _ {w bytes : Bytes} {a b : ℕ} (same : SameFrom w a bytes b) where
   unfolding floats_at float_at number_at
   same_floats many = λ j. map (λ (i : ℕ). of_bits binary64 (little (take 8 (same.on (8 * i) j)))) (count_from 0 many)
 
-  pub same_rows : (n count : ℕ) → map (λ (i : ℕ). take n (drop (a + n * i) w)) (count_from 0 count) ≡ map (λ (i : ℕ). take n (drop (b + n * i) bytes)) (count_from 0 count)
+  pub same_rows : (n count : ℕ) → map (λ (i : ℕ). take n (drop (a + n * i) w)) (count_from 0 count)
+      ≡ map (λ (i : ℕ). take n (drop (b + n * i) bytes)) (count_from 0 count)
   same_rows n count = λ j. map (λ (i : ℕ). take n (same.on (n * i) j)) (count_from 0 count)
 
-pub same_vectors : {w bytes : Bytes} {a b : ℕ} → SameFrom w a bytes b → (d many : ℕ) → vectors_at w a d many ≡ vectors_at bytes b d many
+pub same_vectors : {w bytes : Bytes} {a b : ℕ} → SameFrom w a bytes b → (d many : ℕ)
+    → vectors_at w a d many ≡ vectors_at bytes b d many
 unfolding vectors_at
 same_vectors same d many = λ j. map (λ (i : ℕ). same_floats (same_later same (8 * d * i)) d j) (count_from 0 many)

@@ -5,13 +5,14 @@
 ghost use Rattle.std.specs.Prelude.{◌≡◌, ◌-◌, ◌<◌};
 ghost use Rattle.definitions.specs.Search.{Table};
 ghost use Rattle.facets.specs.Layout.{verdict, frames_part};
-ghost use Rattle.frames.specs.Paths.{frame_at, PathStands};
+ghost use Rattle.frames.specs.Paths.{frame_at, PathHeld};
 ghost use Rattle.frames.specs.Steps.{next_place, Visited, CandidateDue};
 
 use candidates::Candidates;
 use facets::{Areas, Verdict};
 
-// Where the search stands: the verdict on the list that was examined last, how many frames there are, and how many lists may still be examined.
+// Where the search stands: the verdict on the list that was examined last, how many frames there are, and how many
+// lists may still be examined.
 #[derive(Clone, Copy)]
 pub struct State {
     pub verdict: Verdict,
@@ -19,12 +20,14 @@ pub struct State {
     pub left: u32,
 }
 
-// The place of the next candidate in the deepest frame, if any is left.
-// The workspace and the areas are two parameters: the search writes the workspace between two calls, so that the loan of a struct of both would end with each call. `Candidates`, which is
-// made for one call too, adds to them the kind, which its five methods share. That the path stands is a clause, here and below: it speaks of some table, and a ghost field cannot say which.
+// The place of the next candidate in the deepest frame, if any is left. The workspace and the areas are two
+// parameters: the search writes the workspace between two calls, so that the loan of a struct of both would end with
+// each call. `Candidates`, which is made for one call too, adds to them the kind, which its five methods share.
+// `PathHeld` stays a clause, here and below: it speaks of some table, and a ghost field cannot say which.
 pub fn next(ws: &[u8], a: Areas, depth: usize) -> Option<usize>
-    requires { (t : Table) × PathStands t a ws.now depth (depth - 1) × (0 < depth) }
-    ensures { (t : Table) → PathStands t a ws.now depth (depth - 1) → result ≡ next_place t (frame_at t (frames_part a ws.now) (depth - 1)) }
+    requires { (t : Table) × PathHeld t a ws.now depth (depth - 1) × (0 < depth) }
+    ensures { (t : Table) → PathHeld t a ws.now depth (depth - 1)
+        → result ≡ next_place t (frame_at t (frames_part a ws.now) (depth - 1)) }
 {
     let k = depth - 1;
     let frames = a.frames(ws);
@@ -39,7 +42,10 @@ pub fn next(ws: &[u8], a: Areas, depth: usize) -> Option<usize>
 // The next candidate is taken, and the list that it makes is judged.
 pub fn visit(ws: &mut [u8], a: Areas, s: State, place: usize) -> State
     requires { (t : Table) × CandidateDue t a ws.old s.depth place × (0 < s.left) }
-    ensures { (result.depth ≡ s.depth) × (result.left ≡ s.left - 1) × ((t : Table) → CandidateDue t a ws.old s.depth place → Visited t a ws.old ws.new s.depth place result.verdict) }
+    ensures { (result.depth ≡ s.depth)
+        × (result.left ≡ s.left - 1)
+        × ((t : Table) → CandidateDue t a ws.old s.depth place
+        → Visited t a ws.old ws.new s.depth place result.verdict) }
 {
     let k = s.depth - 1;
     let candidates = Candidates {

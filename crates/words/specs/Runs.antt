@@ -24,19 +24,24 @@ unfolding run
 run_append w ms ns = flat_map_append (bytes_of w) ms ns
 
 -- what was written is read
-pub words_run : (w : ℕ) (ns rest : List ℕ) → ((n : ℕ) → Mem n ns → n < 256 ^ w) → words w (run w ns ++ rest) (length ns) ≡ ns
+pub words_run : (w : ℕ) (ns rest : List ℕ) → ((n : ℕ) → Mem n ns → n < 256 ^ w)
+    → words w (run w ns ++ rest) (length ns) ≡ ns
 unfolding run words flat_map
 words_run w [] rest f = refl
 words_run w (n ∷ ns) rest f =
     let e = bytes_of_length w n in
-    let a : bytes_of w n ++ run w ns ++ rest ≡ bytes_of w n ++ (run w ns ++ rest) = append_assoc (bytes_of w n) (run w ns) rest in
+    let a : bytes_of w n ++ run w ns ++ rest
+    ≡ bytes_of w n ++ (run w ns ++ rest) = append_assoc (bytes_of w n) (run w ns) rest in
     rw (a, take_at (bytes_of w n) (run w ns ++ rest) w e, drop_at (bytes_of w n) (run w ns ++ rest) w e)
     (cons_same (little_bytes_of w n (f n (here refl))) (words_run w ns rest (λ k i. f k (there i))))
 
-pub words_sets : (w : ℕ) (s : List ℕ) (at : ℕ) (ns : List ℕ) → at + w * length ns ≤ length s → ((n : ℕ) → Mem n ns → n < 256 ^ w)
+pub words_sets : (w : ℕ) (s : List ℕ) (at : ℕ) (ns : List ℕ) → at + w * length ns ≤ length s
+    → ((n : ℕ) → Mem n ns → n < 256 ^ w)
     → words w (drop at (sets s at (run w ns))) (length ns) ≡ ns
 words_sets w s at ns h f =
     let l = run_length w ns in
-    ap (λ (r : List ℕ). words w (drop at r) (length ns)) (sets-eq (run w ns) s at (omega arith) ∙ append_assoc (take at s) (run w ns) (drop (at + length (run w ns)) s))
-    ∙ (ap (λ (r : List ℕ). words w r (length ns)) (drop_at (take at s) (run w ns ++ drop (at + length (run w ns)) s) at (length-take-le at s (omega arith)))
+    ap (λ (r : List ℕ). words w (drop at r) (length ns)) (sets-eq (run w ns) s at (omega arith)
+    ∙ append_assoc (take at s) (run w ns) (drop (at + length (run w ns)) s))
+    ∙ (ap (λ (r : List ℕ). words w r (length ns))
+    (drop_at (take at s) (run w ns ++ drop (at + length (run w ns)) s) at (length-take-le at s (omega arith)))
     ∙ words_run w ns (drop (at + length (run w ns)) s) f)

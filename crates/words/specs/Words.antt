@@ -1,13 +1,16 @@
--- Little-endian numbers of any width in a list of bytes, and a list of bytes as a list of such numbers. Reading is `number_at` of the definitions [10.1];
--- writing is `put`. Each law is stated once, for every width. Leans on the definitions of the job's bytes and on the laws of segments. Assumes nothing.
-use Rattle.std.specs.Prelude.{◌≡◌, refl, List, [], ◌∷◌, ◌++◌, ◌⊎◌, ℕ, zero, suc, ◌+◌, ◌-◌, ◌*◌, ◌/◌, ◌%◌, ◌^◌, ◌≤◌, ◌<◌, length, get_or, set, take, drop}
-use Rattle.std.proofs.Common.{sym, ap, ◌∙◌, inl, inr, zero-add, suc-add, mul-zero, pow-suc, div-one, div-lt_iff_lt-mul, zero-lt-suc, arith, length-drop, take_at, drop_at, take-add, drop-cons, drop-drop, length-take-le, take-take}
-use Rattle.std.proofs.Math.Nat.{pow-zero, pow-succ', one-le-pow, div-div-eq-div-mul}
+-- Little-endian numbers of any width in a list of bytes, and a list of bytes as a list of such numbers. Reading is
+-- `number_at` of the definitions [10.1]; writing is `put`. Each law is stated once, for every width. Leans on the
+-- definitions of the job's bytes and on the laws of segments. Assumes nothing.
+use Rattle.std.specs.Prelude.{◌≡◌, refl, List, [], ◌∷◌, ◌++◌, ◌⊎◌, ℕ, zero, suc, ◌+◌, ◌-◌, ◌*◌, ◌/◌, ◌%◌, ◌^◌, ◌≤◌, ◌<◌}
+use Rattle.std.specs.Prelude.{length, get_or, set, take, drop}
+use Rattle.std.proofs.Common.{sym, ap, ◌∙◌, inl, inr, zero-add, suc-add, mul-zero, pow-suc, div-lt_iff_lt-mul}
+use Rattle.std.proofs.Common.{zero-lt-suc, arith, length-drop, take_at, drop_at, drop-drop, take-take}
+use Rattle.std.proofs.Math.Nat.{pow-zero}
 use Rattle.std.proofs.lemmas.List.Edits.{sets}
 use Rattle.std.proofs.Math.Seq.{length-sets}
-use Rattle.std.proofs.Math.Arith.{mod-mul}
 use Rattle.definitions.specs.Job.{little, number_at, word_bytes}
-use Rattle.laws.specs.Segments.{part, take_sets_le, take_sets_ge, drop_sets_ge, drop_sets_add, part_sets, sets_append, drop_take, part_take, cons_same}
+use Rattle.laws.specs.Segments.{part, take_sets_le, take_sets_ge, drop_sets_ge, drop_sets_add, part_sets, drop_take}
+use Rattle.laws.specs.Segments.{part_take, cons_same}
 
 -- v in so many bytes, the lowest first
 unfoldable pub bytes_of : ℕ → ℕ → List ℕ
@@ -61,45 +64,9 @@ pub put_length : (w : ℕ) (s : List ℕ) (at v : ℕ) → length (put w s at v)
 unfolding put
 put_length w s at v = length-sets s at (bytes_of w v)
 
--- a number in two halves, read and written
-pub number_at_add : (s : List ℕ) (at a b : ℕ) → at + a ≤ length s → number_at s at (a + b) ≡ number_at s at a + 256 ^ a * number_at s (at + a) b
-unfolding number_at
-number_at_add s at a b h =
-    let l : length (take a (drop at s)) ≡ a = length-take-le a (drop at s) (rw length-drop (omega arith)) in
-    rw (take-add a b (drop at s), little_append, drop-drop a at s, l) refl
-
--- one byte
-pub number_at_byte : (s : List ℕ) (at : ℕ) → at < length s → number_at s at 1 ≡ get_or s at 0
-unfolding number_at little
-number_at_byte s at h = rw (drop-cons s at 0 h) (omega arith)
-
-bytes_of_add : (a b v : ℕ) → bytes_of (a + b) v ≡ bytes_of a v ++ bytes_of b (v / 256 ^ a)
-unfolding bytes_of
-bytes_of_add zero b v = rw (zero-add, pow-zero, div-one) refl
-bytes_of_add (suc a) b v =
-    let d : v / 256 / 256 ^ a ≡ v / 256 ^ suc a = div-div-eq-div-mul v 256 (256 ^ a) ∙ ap (λ (k : ℕ). v / k) (sym (pow-succ' 256 a)) in
-    rw suc-add (ap (λ (l : List ℕ). v % 256 ∷ l) (bytes_of_add a b (v / 256) ∙ ap (λ (k : ℕ). bytes_of a (v / 256) ++ bytes_of b k) d))
-
-bytes_of_low : (a v : ℕ) → bytes_of a (v % 256 ^ a) ≡ bytes_of a v
-unfolding bytes_of
-bytes_of_low zero v = refl
-bytes_of_low (suc a) v =
-    let m : v % 256 ^ suc a ≡ v / 256 % 256 ^ a * 256 + v % 256 =
-    ap (λ (k : ℕ). v % k) (pow-suc 256 a) ∙ mod-mul v (one-le-pow a 256 (zero-lt-suc 255)) (zero-lt-suc 255) in
-    let low : v % 256 ^ suc a % 256 ≡ v % 256 = rw m (omega arith) in
-    let high : v % 256 ^ suc a / 256 ≡ v / 256 % 256 ^ a = rw m (omega arith) in
-    rw (low, high) (ap (λ (l : List ℕ). v % 256 ∷ l) (bytes_of_low a (v / 256)))
-
-pub put_add : (s : List ℕ) (at a b v : ℕ) → put (a + b) s at v ≡ put b (put a s at (v % 256 ^ a)) (at + a) (v / 256 ^ a)
-unfolding put
-put_add s at a b v =
-    rw bytes_of_low
-    (ap (sets s at) (bytes_of_add a b v)
-    ∙ (sym (sets_append (bytes_of a v) (bytes_of b (v / 256 ^ a)) s at)
-    ∙ ap (λ (k : ℕ). sets (sets s at (bytes_of a v)) (at + k) (bytes_of b (v / 256 ^ a))) (bytes_of_length a v)))
-
 -- what was written is read
-pub number_at_put : (w : ℕ) (s : List ℕ) (at v : ℕ) → at + w ≤ length s → v < 256 ^ w → number_at (put w s at v) at w ≡ v
+pub number_at_put : (w : ℕ) (s : List ℕ) (at v : ℕ) → at + w ≤ length s → v < 256 ^ w
+    → number_at (put w s at v) at w ≡ v
 unfolding number_at put
 number_at_put w s at v h f =
     let n = bytes_of_length w v in
@@ -121,7 +88,8 @@ unfolding put
 drop_put_add w s n at v = drop_sets_add (bytes_of w v) s n at
 
 -- any part beside the number is as it was
-pub part_put_off : (w : ℕ) (s : List ℕ) (at v j m : ℕ) → (j + m ≤ at) ⊎ (at + w ≤ j) → take m (drop j (put w s at v)) ≡ take m (drop j s)
+pub part_put_off : (w : ℕ) (s : List ℕ) (at v j m : ℕ) → (j + m ≤ at) ⊎ (at + w ≤ j)
+    → take m (drop j (put w s at v)) ≡ take m (drop j s)
 part_put_off w s at v j m (inl h) =
     let e : j + (at - j) ≡ at = omega arith in
     ap (λ (k : ℕ). take m (drop j (put w s k v))) (sym e)
@@ -129,13 +97,15 @@ part_put_off w s at v j m (inl h) =
 part_put_off w s at v j m (inr h) = ap (take m) (drop_put w s at v j h)
 
 -- a number written inside a part is written in the part
-pub part_put_in : (w : ℕ) (s : List ℕ) (a n at v : ℕ) → at + w ≤ n → part a n (put w s (a + at) v) ≡ put w (part a n s) at v
+pub part_put_in : (w : ℕ) (s : List ℕ) (a n at v : ℕ) → at + w ≤ n
+    → part a n (put w s (a + at) v) ≡ put w (part a n s) at v
 unfolding put
 part_put_in w s a n at v h =
     let e = bytes_of_length w v in
     ap (take n) (drop_sets_add (bytes_of w v) s a at) ∙ take_sets_ge (bytes_of w v) (drop a s) n at (omega arith)
 
-pub number_at_put_off : (w : ℕ) (s : List ℕ) (at v j m : ℕ) → (j + m ≤ at) ⊎ (at + w ≤ j) → number_at (put w s at v) j m ≡ number_at s j m
+pub number_at_put_off : (w : ℕ) (s : List ℕ) (at v j m : ℕ) → (j + m ≤ at) ⊎ (at + w ≤ j)
+    → number_at (put w s at v) j m ≡ number_at s j m
 unfolding number_at
 number_at_put_off w s at v j m o = ap little (part_put_off w s at v j m o)
 
@@ -177,20 +147,23 @@ get_d_words w s zero i h = absurd (omega arith)
 get_d_words w s (suc n) zero h = rw mul-zero refl
 get_d_words w s (suc n) (suc i) h =
     let e : w + w * i ≡ w * suc i = omega arith in
-    get_d_words w (drop w s) n i (omega arith) ∙ (ap (λ (l : List ℕ). little (take w l)) (drop-drop (w * i) w s) ∙ ap (λ (k : ℕ). little (take w (drop k s))) e)
+    get_d_words w (drop w s) n i (omega arith)
+    ∙ (ap (λ (l : List ℕ). little (take w l)) (drop-drop (w * i) w s) ∙ ap (λ (k : ℕ). little (take w (drop k s))) e)
 
 -- the first m of n numbers, and the rest
 pub take_words : (w : ℕ) (s : List ℕ) (m n : ℕ) → m ≤ n → take m (words w s n) ≡ words w s m
 take_words w s m n h =
     let e : m + (n - m) ≡ n = omega arith in
     ap (λ (k : ℕ). take m (words w s k)) (sym e)
-    ∙ (ap (take m) (words_add w s m (n - m)) ∙ take_at (words w s m) (words w (drop (w * m) s) (n - m)) m (words_length w s m))
+    ∙ (ap (take m) (words_add w s m (n - m))
+    ∙ take_at (words w s m) (words w (drop (w * m) s) (n - m)) m (words_length w s m))
 
 pub drop_words : (w : ℕ) (s : List ℕ) (m n : ℕ) → m ≤ n → drop m (words w s n) ≡ words w (drop (w * m) s) (n - m)
 drop_words w s m n h =
     let e : m + (n - m) ≡ n = omega arith in
     ap (λ (k : ℕ). drop m (words w s k)) (sym e)
-    ∙ (ap (drop m) (words_add w s m (n - m)) ∙ drop_at (words w s m) (words w (drop (w * m) s) (n - m)) m (words_length w s m))
+    ∙ (ap (drop m) (words_add w s m (n - m))
+    ∙ drop_at (words w s m) (words w (drop (w * m) s) (n - m)) m (words_length w s m))
 
 -- the numbers are those of their own bytes
 pub words_take : (w : ℕ) (s : List ℕ) (k n : ℕ) → w * n ≤ k → words w (take k s) n ≡ words w s n
@@ -203,19 +176,22 @@ words_take w s k (suc n) h =
     rw (a, b, words_take w (drop w s) (k - w) n (omega arith)) refl
 
 -- what is written is the number at its place: the byte table is an array of numbers
-pub words_put : (w : ℕ) (s : List ℕ) (n i v : ℕ) → i < n → w * n ≤ length s → v < 256 ^ w → words w (put w s (w * i) v) n ≡ set (words w s n) i v
+pub words_put : (w : ℕ) (s : List ℕ) (n i v : ℕ) → i < n → w * n ≤ length s → v < 256 ^ w
+    → words w (put w s (w * i) v) n ≡ set (words w s n) i v
 unfolding words number_at
 words_put w s zero i v h l f = absurd (omega arith)
 words_put w s (suc n) zero v h l f =
     let e : w + w * n ≡ w * suc n = omega arith in
-    rw mul-zero (cons_same (number_at_put w s 0 v (omega arith) f) (ap (λ (r : List ℕ). words w r n) (drop_put w s 0 v w (omega arith))))
+    rw mul-zero (cons_same (number_at_put w s 0 v (omega arith) f)
+    (ap (λ (r : List ℕ). words w r n) (drop_put w s 0 v w (omega arith))))
 words_put w s (suc n) (suc i) v h l f =
     let e : w + w * i ≡ w * suc i = omega arith in
     let e' : w + w * n ≡ w * suc n = omega arith in
     rw (← e)
     (cons_same
     (ap little (take_put w s (w + w * i) v w (omega arith)))
-    (ap (λ (r : List ℕ). words w r n) (drop_put_add w s w (w * i) v) ∙ words_put w (drop w s) n i v (omega arith) (rw length-drop (omega arith)) f))
+    (ap (λ (r : List ℕ). words w r n) (drop_put_add w s w (w * i) v)
+    ∙ words_put w (drop w s) n i v (omega arith) (rw length-drop (omega arith)) f))
 
 -- what is written behind them, in any width
 pub words_put_behind : (w u : ℕ) (s : List ℕ) (n at v : ℕ) → w * n ≤ at → words w (put u s at v) n ≡ words w s n
@@ -224,9 +200,14 @@ words_put_behind w u s n at v h =
     ∙ (ap (λ (r : List ℕ). words w r n) (take_put u s at v (w * n) h) ∙ words_take w s (w * n) n (omega arith))
 
 -- one more is appended
-pub words_push : (w : ℕ) (s : List ℕ) (n v : ℕ) → w * n + w ≤ length s → v < 256 ^ w → words w (put w s (w * n) v) (n + 1) ≡ words w s n ++ (v ∷ [])
+pub words_push : (w : ℕ) (s : List ℕ) (n v : ℕ) → w * n + w ≤ length s → v < 256 ^ w
+    → words w (put w s (w * n) v) (n + 1) ≡ words w s n ++ (v ∷ [])
 words_push w s n v h f =
-    rw (words_more w (put w s (w * n) v) n, number_at_put w s (w * n) v h f, words_put_behind w w s n (w * n) v (omega arith)) refl
+    rw (
+      words_more w (put w s (w * n) v) n,
+      number_at_put w s (w * n) v h f,
+      words_put_behind w w s n (w * n) v (omega arith),
+    ) refl
 
 -- ---- a table of numbers that begins at some place of a list of bytes
 
@@ -236,13 +217,17 @@ module _ (w : ℕ) (s : List ℕ) (base n : ℕ) where
   get_d_table i h = get_d_words w (drop base s) n i h ∙ number_at_drop s base (w * i) w
 
   -- one is written
-  pub table_put : (i v : ℕ) → i < n → base + w * n ≤ length s → v < 256 ^ w → words w (drop base (put w s (base + w * i) v)) n ≡ set (words w (drop base s) n) i v
+  pub table_put : (i v : ℕ) → i < n → base + w * n ≤ length s → v < 256 ^ w
+      → words w (drop base (put w s (base + w * i) v)) n ≡ set (words w (drop base s) n) i v
   table_put i v h l f =
       let d = length-drop base s in
-      ap (λ (r : List ℕ). words w r n) (drop_put_add w s base (w * i) v) ∙ words_put w (drop base s) n i v h (omega arith) f
+      ap (λ (r : List ℕ). words w r n) (drop_put_add w s base (w * i) v)
+      ∙ words_put w (drop base s) n i v h (omega arith) f
 
   -- one is appended
-  pub table_push : (v : ℕ) → base + w * n + w ≤ length s → v < 256 ^ w → words w (drop base (put w s (base + w * n) v)) (n + 1) ≡ words w (drop base s) n ++ (v ∷ [])
+  pub table_push : (v : ℕ) → base + w * n + w ≤ length s → v < 256 ^ w
+      → words w (drop base (put w s (base + w * n) v)) (n + 1) ≡ words w (drop base s) n ++ (v ∷ [])
   table_push v l f =
       let d = length-drop base s in
-      ap (λ (r : List ℕ). words w r (n + 1)) (drop_put_add w s base (w * n) v) ∙ words_push w (drop base s) n v (omega arith) f
+      ap (λ (r : List ℕ). words w r (n + 1)) (drop_put_add w s base (w * n) v)
+      ∙ words_push w (drop base s) n v (omega arith) f

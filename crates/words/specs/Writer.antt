@@ -1,6 +1,8 @@
--- An answer buffer that is cleared once and then takes words one behind another: after each, the words so far and zeros behind them. Words for which there is
--- no room are dropped, and the cursor tells. Leans on `word_bytes` [12.6] and on Words. Assumes nothing.
-use Rattle.std.specs.Prelude.{◌≡◌, cond, ℕ, ◌+◌, ◌-◌, ◌*◌, ◌/◌, ◌≤◌, ◌<◌, leb, take, drop, replicate, Option, Some, None}
+-- An answer buffer that is cleared once and then takes words one behind another: after each, the words so far and
+-- zeros behind them. Words for which there is no room are dropped, and the cursor tells. Leans on `word_bytes` [12.6]
+-- and on Words. Assumes nothing.
+use Rattle.std.specs.Prelude.{◌≡◌, cond, ℕ, ◌+◌, ◌-◌, ◌*◌, ◌/◌, ◌≤◌, ◌<◌, leb, take, drop, replicate, Option, Some}
+use Rattle.std.specs.Prelude.{None}
 use Rattle.std.proofs.Math.Path.{refl, sym, ap}
 use Rattle.std.proofs.Common.{◌∙◌, length-append, length-take, take_all}
 use mathlib.Core.List.{List, [], ◌∷◌, ◌++◌, flat_map, append_assoc, append-nil}
@@ -51,7 +53,9 @@ behind_word n (Some at) = cond (leb (at + 4) n) (Some (at + 4)) None
 pub encoded_append : (a b : List ℕ) → encoded (a ++ b) ≡ encoded a ++ encoded b
 unfolding encoded flat_map
 encoded_append [] b = refl
-encoded_append (x ∷ a) b = ap (λ (l : List ℕ). word_bytes x ++ l) (encoded_append a b) ∙ sym (append_assoc (word_bytes x) (encoded a) (encoded b))
+encoded_append (x ∷ a) b =
+    ap (λ (l : List ℕ). word_bytes x ++ l) (encoded_append a b)
+    ∙ sym (append_assoc (word_bytes x) (encoded a) (encoded b))
 
 pub encoded_one : (v : ℕ) → encoded (v ∷ []) ≡ bytes_of 4 v
 unfolding encoded flat_map
@@ -73,7 +77,8 @@ put_zeros w m v h =
     let e = bytes_of_length w v in
     let z : length {A = ℕ} (replicate m 0) ≡ m = length-replicate m 0 in
     sets_front (bytes_of w v) (replicate m 0) (omega arith)
-    ∙ (ap (λ (k : ℕ). bytes_of w v ++ drop k (replicate m 0)) e ∙ ap (λ (r : List ℕ). bytes_of w v ++ r) (drop_replicate w m 0))
+    ∙ (ap (λ (k : ℕ). bytes_of w v ++ drop k (replicate m 0)) e
+    ∙ ap (λ (r : List ℕ). bytes_of w v ++ r) (drop_replicate w m 0))
 
 put_behind : (w : ℕ) (l r : List ℕ) (v : ℕ) → put w (l ++ r) (length l) v ≡ l ++ put w r 0 v
 unfolding put
@@ -81,16 +86,19 @@ put_behind w l r v =
     let at : length l ≡ length l + 0 = omega arith in
     ap (λ (k : ℕ). sets (l ++ r) k (bytes_of w v)) at ∙ sets_behind l r (bytes_of w v) 0
 
-pub put_padded : (w n : ℕ) (l : List ℕ) (v : ℕ) → length l + w ≤ n → put w (padded n l) (length l) v ≡ padded n (l ++ bytes_of w v)
+pub put_padded : (w n : ℕ) (l : List ℕ) (v : ℕ) → length l + w ≤ n
+    → put w (padded n l) (length l) v ≡ padded n (l ++ bytes_of w v)
 unfolding padded
 put_padded w n l v h =
     let m : n - length l - w ≡ n - length (l ++ bytes_of w v) = rw (length-append, bytes_of_length) (omega arith) in
     put_behind w l (replicate (n - length l) 0) v
     ∙ (ap (λ (r : List ℕ). l ++ r) (put_zeros w (n - length l) v (omega arith))
-    ∙ (sym (append_assoc l (bytes_of w v) (replicate (n - length l - w) 0)) ∙ ap (λ (k : ℕ). l ++ bytes_of w v ++ replicate k 0) m))
+    ∙ (sym (append_assoc l (bytes_of w v) (replicate (n - length l - w) 0))
+    ∙ ap (λ (k : ℕ). l ++ bytes_of w v ++ replicate k 0) m))
 
 -- one word more, with zeros behind: what each write of an answer does
-pub put_word : (n : ℕ) (l : List ℕ) (v : ℕ) → 4 * length l + 4 ≤ n → put 4 (padded n (encoded l)) (4 * length l) v ≡ padded n (encoded (l ++ (v ∷ [])))
+pub put_word : (n : ℕ) (l : List ℕ) (v : ℕ) → 4 * length l + 4 ≤ n
+    → put 4 (padded n (encoded l)) (4 * length l) v ≡ padded n (encoded (l ++ (v ∷ [])))
 put_word n l v h =
     let e = encoded_length l in
     ap (λ (k : ℕ). put 4 (padded n (encoded l)) k v) (sym e)
@@ -144,7 +152,8 @@ module _ (n : ℕ) (l : List ℕ) (v : ℕ) where
   cursor_no_room h =
       let e = more_length in
       let past : behind_word n (cursor_of n l) ≡ None =
-      ⊎_elim (λ g. ap (behind_word n) (here g) ∙ (rw (lt-leb (4 * length l + 4) n h) refl)) (λ g. ap (behind_word n) (cursor_full n l g)) (le_or_lt (4 * length l) n) in
+      ⊎_elim (λ g. ap (behind_word n) (here g) ∙ (rw (lt-leb (4 * length l + 4) n h) refl))
+      (λ g. ap (behind_word n) (cursor_full n l g)) (le_or_lt (4 * length l) n) in
       past ∙ sym (cursor_full n (l ++ (v ∷ [])) (omega arith))
 
   -- the cursor after one word more
@@ -154,7 +163,8 @@ module _ (n : ℕ) (l : List ℕ) (v : ℕ) where
   written_length : length (written n l) ≡ n
   unfolding written
   written_length =
-      padded_length n (encoded (take (n / 4) l)) (rw (encoded_length, length-take) (omega (arith, min-le_left (n / 4) (length l))))
+      padded_length n (encoded (take (n / 4) l))
+      (rw (encoded_length, length-take) (omega (arith, min-le_left (n / 4) (length l))))
 
   written_room : 4 * length l + 4 ≤ n → with_word (written n l) (cursor_of n l) v ≡ written n (l ++ (v ∷ []))
   unfolding with_word
@@ -162,7 +172,8 @@ module _ (n : ℕ) (l : List ℕ) (v : ℕ) where
       let e = more_length in
       let c : cursor_of n l ≡ Some (4 * length l) = here (omega arith) in
       let before = written_fits n l (omega arith) in
-      rw c (rw (written_length, le-leb (4 * length l + 4) n h, before) (put_word n l v h ∙ sym (written_fits n (l ++ (v ∷ [])) (omega arith))))
+      rw c (rw (written_length, le-leb (4 * length l + 4) n h, before)
+      (put_word n l v h ∙ sym (written_fits n (l ++ (v ∷ [])) (omega arith))))
 
   written_same : n < 4 * length l + 4 → written n l ≡ written n (l ++ (v ∷ []))
   unfolding written
@@ -173,7 +184,8 @@ module _ (n : ℕ) (l : List ℕ) (v : ℕ) where
   written_no_room h =
       let past : with_word (written n l) (cursor_of n l) v ≡ written n l =
       ⊎_elim
-      (λ g. ap (λ (at : Option ℕ). with_word (written n l) at v) (here g) ∙ (rw (written_length, lt-leb (4 * length l + 4) n h) refl))
+      (λ g. ap (λ (at : Option ℕ). with_word (written n l) at v) (here g)
+      ∙ (rw (written_length, lt-leb (4 * length l + 4) n h) refl))
       (λ g. ap (λ (at : Option ℕ). with_word (written n l) at v) (cursor_full n l g))
       (le_or_lt (4 * length l) n) in
       past ∙ written_same h

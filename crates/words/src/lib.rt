@@ -1,5 +1,6 @@
-// Numbers and lists in byte slices. What is large lives in bytes of a workspace that the caller lends: these are the words to speak of it.
-// Every number is little-endian. A `requires` here is a bound on an index and nothing else. Contracts say what is read by the definitions `number_at` and `float_at` [10.1].
+// Numbers and lists in byte slices. What is large lives in bytes of a workspace that the caller lends: these are the
+// words to speak of it. Every number is little-endian. A `requires` here is a bound on an index and nothing else.
+// Contracts say what is read by the definitions `number_at` and `float_at` [10.1].
 
 #![tactic(auto)]
 
@@ -15,6 +16,9 @@ ghost use Rattle.words.specs.Writer.{with_word, behind_word};
 ghost use Rattle.words.specs.Wrote.{Writes};
 
 // ---- numbers
+
+// Two numbers below 65,536 lie in one of four bytes: the one, and HIGH times the other.
+pub const HIGH: u32 = 65536;
 
 // A number that lies in so many bytes of a slice, the lowest byte first.
 pub trait Word: Copy {
@@ -96,8 +100,9 @@ impl Word for u64 {
 
 // ---- floats
 
-// In a bit pattern: the sign, 2^63; the infinity, above which the patterns of NaNs lie, the sign aside; and the one that is written for a NaN. A constant calls `to_bits` by its path.
-// The library's `from_bits` and `to_bits` ask for no NaN, so the patterns of NaNs are told apart, and named, as numbers.
+// In a bit pattern: the sign, 2^63; the infinity, above which the patterns of NaNs lie, the sign aside; and the one
+// that is written for a NaN. A constant calls `to_bits` by its path. The library's `from_bits` and `to_bits` ask for
+// no NaN, so the patterns of NaNs are told apart, and named, as numbers.
 const SIGN: u64 = 0x8000_0000_0000_0000;
 
 const INFINITY: u64 = f64::to_bits(f64::INFINITY);
@@ -117,7 +122,8 @@ pub fn get_f64(s: &[u8], at: usize) -> Option<f64>
     Some(f64::from_bits(bits))
 }
 
-// Every NaN is written as the one that the library's `to_bits` names. No call of the register writes a float; a public function stays.
+// Every NaN is written as the one that the library's `to_bits` names. No call of the register writes a float; a
+// public function stays.
 pub fn put_f64(s: &mut [u8], at: usize, x: f64)
     requires { at + 8 ≤ length s.old }
     ensures { s.new ≡ put 8 s.old at (to_bits binary64 x) }
@@ -145,7 +151,8 @@ impl<'a> Writer<'a> {
         }
     }
 
-    // Where there is room the word is written at the cursor, which moves behind it; where there is none nothing is written, now and later.
+    // Where there is room the word is written at the cursor, which moves behind it; where there is none nothing is
+    // written, now and later.
     pub fn push(&mut self, v: u32)
         ensures cursor { self.new.at ≡ behind_word (length self.old.buffer.now) self.old.at }
         ensures buffer { self.new.buffer.now ≡ with_word self.old.buffer.now self.old.at v }

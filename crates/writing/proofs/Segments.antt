@@ -7,8 +7,9 @@ use lib.ListN.{set, replicate}
 use Rattle.definitions.specs.Figures.{dyad, rank_of}
 use Rattle.definitions.specs.Recursion.{vertex_ridge, swapped_ends, separate_ends}
 use Rattle.definitions.specs.Lists.{any_of, keep, count_from, member_nat}
-use Rattle.definitions.specs.Job.{counted, figure_words, facet_words, entry_words, compound_words, is_end, used_points, summary_words, answer_words}
-use Rattle.openers.specs.Meaning.{pair_of}
+use Rattle.definitions.specs.Job.{counted, figure_words, facet_words, entry_words, compound_words, is_end, used_points}
+use Rattle.definitions.specs.Job.{summary_words, answer_words}
+use Rattle.rows.specs.Codes.{pair_of}
 use Rattle.shapes.specs.Edges.{edge_figure}
 use Rattle.shapes.specs.EdgeSets.{ends}
 use Rattle.shapes.specs.UsedPoints.{end_of, ends_used}
@@ -31,15 +32,23 @@ pub swapped_entry : 1 ∷ 1 ∷ 0 ∷ 0 ∷ 1 ∷ 0 ∷ 0 ∷ figure_words dyad 
 unfolding swapped_ends counted entry_words facet_words figure_words dyad flat_map
 swapped_entry = refl
 
-pub separate_entry : 1 ∷ 2 ∷ 0 ∷ 0 ∷ 1 ∷ 0 ∷ 2 ∷ 0 ∷ 0 ∷ 1 ∷ 0 ∷ figure_words dyad ≡ counted entry_words (separate_ends 0).entries
+pub separate_entry : 1 ∷ 2 ∷ 0 ∷ 0 ∷ 1 ∷ 0 ∷ 2 ∷ 0 ∷ 0 ∷ 1 ∷ 0 ∷ figure_words dyad
+    ≡ counted entry_words (separate_ends 0).entries
 unfolding separate_ends counted entry_words facet_words figure_words dyad flat_map
 separate_entry = refl
 
 module _ (budget left : ℕ) where
-  pub swapped_words : (budget - left) ∷ 1 ∷ 2 ∷ counted entry_words (swapped_ends 0).entries ++ (counted figure_words (vertex_ridge 0 ∷ []) ++ (0 ∷ 2 ∷ 1 ∷ 2 ∷ [])) ≡ answer_words budget (swapped_ends left)
-  unfolding answer_words swapped_ends counted entry_words facet_words figure_words dyad vertex_ridge summary_words used_points is_end keep count_from any_of member_nat compound_words rank_of flat_map
+  pub swapped_words : (budget - left) ∷ 1 ∷ 2 ∷ counted entry_words (swapped_ends 0).entries
+      ++ (counted figure_words (vertex_ridge 0 ∷ []) ++ (0 ∷ 2 ∷ 1 ∷ 2 ∷ []))
+      ≡ answer_words budget (swapped_ends left)
+  unfolding answer_words swapped_ends counted entry_words facet_words figure_words dyad vertex_ridge summary_words
+      used_points is_end keep count_from any_of member_nat compound_words rank_of flat_map
   swapped_words = refl
 
-  pub separate_words : (budget - left) ∷ 2 ∷ 1 ∷ 1 ∷ counted entry_words (separate_ends 0).entries ++ (counted figure_words (vertex_ridge 0 ∷ []) ++ (counted figure_words (vertex_ridge 1 ∷ []) ++ (0 ∷ 2 ∷ 1 ∷ 2 ∷ []))) ≡ answer_words budget (separate_ends left)
-  unfolding answer_words separate_ends counted entry_words facet_words figure_words dyad vertex_ridge summary_words used_points is_end keep count_from any_of member_nat compound_words rank_of flat_map
+  pub separate_words : (budget - left) ∷ 2 ∷ 1 ∷ 1 ∷ counted entry_words (separate_ends 0).entries
+      ++ (counted figure_words (vertex_ridge 0 ∷ [])
+      ++ (counted figure_words (vertex_ridge 1 ∷ []) ++ (0 ∷ 2 ∷ 1 ∷ 2 ∷ [])))
+      ≡ answer_words budget (separate_ends left)
+  unfolding answer_words separate_ends counted entry_words facet_words figure_words dyad vertex_ridge summary_words
+      used_points is_end keep count_from any_of member_nat compound_words rank_of flat_map
   separate_words = refl

@@ -1,5 +1,5 @@
-// The answer's words from what a call of rank 2 or 3 leaves in the workspace, and the parts that an answer has at every rank: counts, lists, compounds. Leans on
-// the words of figures, marked edges, lists and possible facets.
+// The answer's words from what a call of rank 2 or 3 leaves in the workspace, and the parts that an answer has at
+// every rank: counts, lists, compounds. Leans on the words of figures, marked edges, lists and possible facets.
 
 #![tactic(auto)]
 
@@ -13,23 +13,25 @@ ghost use Rattle.definitions.specs.Figures.{dyad, compounds_from};
 ghost use Rattle.definitions.specs.Recursion.{vertex_ridge, swapped_ends, separate_ends};
 ghost use Rattle.orbits.specs.Workspace.{orbits_in};
 ghost use Rattle.labels.specs.Labels.{labels_in};
-ghost use Rattle.openers.specs.Rows.{rows_in};
+ghost use Rattle.rows.specs.Rows.{rows_in};
 ghost use Rattle.words.specs.Words.{words};
 ghost use Rattle.edge_marks.specs.Marks.{marks_of};
-ghost use Rattle.shelf.specs.Areas.{area_of};
-ghost use Rattle.shelf.specs.Keeps.{owners_part, edges_part};
-ghost use Rattle.shelf.specs.Leaves.{lists_left, both_left, order_left, emitted_pool};
-ghost use Rattle.shelf.specs.declared.Level.{Level};
-ghost use Rattle.writing.specs.Standing.{ListsStanding, PartsStanding, Standing, parts_from, owners_in, edges_in, both_words, figured, polygon_from, summary_from};
+ghost use Rattle.layout.specs.Areas.{area_of};
+ghost use Rattle.layout.specs.Keeps.{owners_part, edges_part};
+ghost use Rattle.layout.specs.Leaves.{lists_left, both_left, order_left, emitted_pool};
+ghost use Rattle.layout.specs.declared.Level.{Level};
+ghost use Rattle.writing.specs.EdgesHeld.{ListsHeld, PartsHeld, EdgesHeld, parts_from, owners_in, edges_in, both_words};
+ghost use Rattle.writing.specs.EdgesHeld.{figured, polygon_from, summary_from};
 ghost use Rattle.writing.specs.Written.{WroteAnswer};
 ghost use Rattle.entry_lists.specs.Counts.{count_words};
 
 use edge_marks::Facets;
 use entry_lists::FacetNames;
-use openers::Rows;
+use layout::{Level, ORDER_BYTES};
 use order::{Lists, Pool};
+use pool::MOST_LISTS;
 use possible_facets::{Edges, FacetFigure, Owners};
-use shelf::Level;
+use rows::{EDGE_CODES, Rows};
 use words::{Word, Writer};
 
 // ---- what a call leaves
@@ -39,13 +41,14 @@ use words::{Word, Writer};
 pub struct Left<'a> {
     pub ws: &'a [u8],
     pub level: Level,
-    pub ghost standing: { ListsStanding level ws.now },
+    pub ghost standing: { ListsHeld level ws.now },
 }
 
 impl<'a> Left<'a> {
     // The split lists of the entries, in their order.
     pub fn lists(self) -> Lists<'a>
-        ensures { (result.bytes.now ≡ drop self.entry.level.lists self.entry.ws.now) × (result.area ≡ area_of self.entry.level) }
+        ensures { (result.bytes.now ≡ drop self.entry.level.lists self.entry.ws.now)
+            × (result.area ≡ area_of self.entry.level) }
     {
         Lists {
             bytes: &self.ws[self.level.lists..],
@@ -55,12 +58,13 @@ impl<'a> Left<'a> {
 
     // The pool of the split lists.
     fn split(self) -> Pool<'a>
-        ensures { (result.bytes.now ≡ part self.entry.level.lists self.entry.level.bytes self.entry.ws.now) × (result.most ≡ 1024) }
+        ensures { (result.bytes.now ≡ part self.entry.level.lists self.entry.level.bytes self.entry.ws.now)
+            × (result.most ≡ 1024) }
     {
         let from = self.level.lists;
         Pool {
             bytes: &self.ws[from..from + self.level.bytes],
-            most: 1024,
+            most: MOST_LISTS,
         }
     }
 
@@ -71,7 +75,7 @@ impl<'a> Left<'a> {
         let from = self.level.emitted;
         Pool {
             bytes: &self.ws[from..from + self.level.extent],
-            most: 1024,
+            most: MOST_LISTS,
         }
     }
 
@@ -85,24 +89,25 @@ impl<'a> Left<'a> {
 
     // The orbit of each facet.
     fn owners(self) -> Owners<'a>
-        ensures { (result.bytes.now ≡ owners_part self.entry.level.shelf self.entry.ws.now) × (result.facets ≡ self.entry.level.shelf.facets) }
+        ensures { (result.bytes.now ≡ owners_part self.entry.level.layout self.entry.ws.now)
+            × (result.facets ≡ self.entry.level.layout.facets) }
     {
-        let shelf = self.level.shelf;
+        let layout = self.level.layout;
         Owners {
-            bytes: &self.ws[shelf.owners..shelf.ridges],
-            facets: shelf.facets,
+            bytes: &self.ws[layout.owners..layout.ridges],
+            facets: layout.facets,
         }
     }
 
-    // The edges of each facet. `Sound` stays a clause: it does not follow from what `Left` holds, that the lists stand.
+    // The edges of each facet. `Sound` stays a clause: it does not follow from `ListsHeld`, which `Left` holds.
     fn edges(self) -> Pool<'a>
-        requires { Sound 2 1024 (edges_part self.level.shelf self.ws.now) }
-        ensures { (result.bytes.now ≡ edges_part self.entry.level.shelf self.entry.ws.now) × (result.most ≡ 1024) }
+        requires { Sound 2 1024 (edges_part self.level.layout self.ws.now) }
+        ensures { (result.bytes.now ≡ edges_part self.entry.level.layout self.entry.ws.now) × (result.most ≡ 1024) }
     {
-        let shelf = self.level.shelf;
+        let layout = self.level.layout;
         Pool {
-            bytes: &self.ws[shelf.edges..shelf.labels],
-            most: 1024,
+            bytes: &self.ws[layout.edges..layout.labels],
+            most: MOST_LISTS,
         }
     }
 }
@@ -112,21 +117,25 @@ impl<'a> Left<'a> {
 pub struct Carried<'a> {
     pub left: Left<'a>,
     pub rows: Rows<'a>,
-    pub ghost standing: { Standing rows.count rows.bytes.now left.level left.ws.now },
+    pub ghost standing: { EdgesHeld rows.count rows.bytes.now left.level left.ws.now },
 }
 
 impl<'a> Carried<'a> {
-    // Both together. A function and no literal: they come of two loans, which a call takes as one, and where a literal had to (tried in `answering`) the proof did not close.
+    // Both together. A function and no literal: they come of two loans, which a call takes as one, and where a
+    // literal had to (tried in `answering`) the proof did not close.
     pub fn new(left: Left<'a>, rows: Rows<'a>) -> Self
-        requires { Standing rows.count rows.bytes.now left.level left.ws.now }
-        ensures { (result.left.level ≡ left.entry.level) × (result.left.ws.now ≡ left.entry.ws.now) × (result.rows.count ≡ rows.entry.count) × (result.rows.bytes.now ≡ rows.entry.bytes.now) }
+        requires { EdgesHeld rows.count rows.bytes.now left.level left.ws.now }
+        ensures { (result.left.level ≡ left.entry.level)
+            × (result.left.ws.now ≡ left.entry.ws.now)
+            × (result.rows.count ≡ rows.entry.count) × (result.rows.bytes.now ≡ rows.entry.bytes.now) }
     {
         Carried { left, rows }
     }
 
     // The facets, with the rows that carry them.
     pub fn facets(self) -> Facets<'a>
-        ensures { (result.edges.bytes.now ≡ edges_part self.entry.left.level.shelf self.entry.left.ws.now) × (result.rows.bytes.now ≡ self.entry.rows.bytes.now) × (result.rows.count ≡ self.entry.rows.count) }
+        ensures { (result.edges.bytes.now ≡ edges_part self.entry.left.level.layout self.entry.left.ws.now)
+            × (result.rows.bytes.now ≡ self.entry.rows.bytes.now) × (result.rows.count ≡ self.entry.rows.count) }
     {
         Facets {
             edges: self.left.edges(),
@@ -135,9 +144,12 @@ impl<'a> Carried<'a> {
     }
 
     // The marks of the edges of entry k.
-    pub fn entry_marks(self, k: usize) -> [bool; 400]
+    pub fn entry_marks(self, k: usize) -> [bool; EDGE_CODES]
         requires { k < self.left.level.count }
-        ensures { result ≡ marks_of (rows_in 32 self.entry.rows.count self.entry.rows.bytes.now) (edges_in self.entry.left.level self.entry.left.ws.now) (get_or (lists_left self.entry.left.level self.entry.left.ws.now) k []) }
+        ensures { result
+            ≡ marks_of (rows_in 32 self.entry.rows.count self.entry.rows.bytes.now)
+            (edges_in self.entry.left.level self.entry.left.ws.now)
+            (get_or (lists_left self.entry.left.level self.entry.left.ws.now) k []) }
     {
         edge_marks::mark_list(self.left.lists(), k, self.facets())
     }
@@ -147,8 +159,10 @@ impl<'a> Carried<'a> {
 
 // The two lists of entry k: split, and as the search emitted it.
 pub fn write_entry_lists(w: &mut Writer, left: Left, names: FacetNames, k: usize)
-    requires { (words 2 names.owners.bytes.now names.owners.facets ≡ owners_in left.level left.ws.now) × (k < left.level.count) }
-    ensures { Writes w.old w.new (both_words (owners_in left.entry.level left.entry.ws.now) (get_or (both_left left.entry.level left.entry.ws.now) k ([], []))) }
+    requires { (words 2 names.owners.bytes.now names.owners.facets ≡ owners_in left.level left.ws.now)
+        × (k < left.level.count) }
+    ensures { Writes w.old w.new (both_words (owners_in left.entry.level left.entry.ws.now)
+        (get_or (both_left left.entry.level left.entry.ws.now) k ([], []))) }
 {
     let number = left.number(k);
     let split = left.split();
@@ -197,9 +211,11 @@ impl<'a> EntryFigure for Polygons<'a> {
 
     ghost ws = { λ it. it.carried.left.ws.now };
 
-    ghost figure = { λ it. polygon_from it.n (rows_in 32 it.carried.rows.count it.carried.rows.bytes.now) (edges_in it.carried.left.level it.carried.left.ws.now) };
+    ghost figure = { λ it. polygon_from it.n (rows_in 32 it.carried.rows.count it.carried.rows.bytes.now)
+        (edges_in it.carried.left.level it.carried.left.ws.now) };
 
-    ghost summary = { λ it. summary_from it.n (rows_in 32 it.carried.rows.count it.carried.rows.bytes.now) (edges_in it.carried.left.level it.carried.left.ws.now) };
+    ghost summary = { λ it. summary_from it.n (rows_in 32 it.carried.rows.count it.carried.rows.bytes.now)
+        (edges_in it.carried.left.level it.carried.left.ws.now) };
 
     fn left(&self) -> Left<'_> {
         self.carried.left
@@ -220,7 +236,8 @@ impl<'a> EntryFigure for Polygons<'a> {
 
 // How many entries there are, and each: its split list, the list before splitting, and its figure.
 pub fn write_entries<T: EntryFigure>(w: &mut Writer, figures: &T)
-    ensures { Writes w.old w.new (counted (figured (owners_in (T.level figures.now) (T.ws figures.now)) (T.figure figures.now)) (both_left (T.level figures.now) (T.ws figures.now))) }
+    ensures { Writes w.old w.new (counted (figured (owners_in (T.level figures.now) (T.ws figures.now))
+        (T.figure figures.now)) (both_left (T.level figures.now) (T.ws figures.now))) }
 {
     let left = figures.left();
     let owners = left.owners();
@@ -238,7 +255,8 @@ pub fn write_entries<T: EntryFigure>(w: &mut Writer, figures: &T)
 
 // A summary of each entry.
 pub fn write_summaries<T: EntryFigure>(w: &mut Writer, figures: &T)
-    ensures { Writes w.old w.new (flat_map (T.summary figures.now) (lists_left (T.level figures.now) (T.ws figures.now))) }
+    ensures { Writes w.old w.new
+        (flat_map (T.summary figures.now) (lists_left (T.level figures.now) (T.ws figures.now))) }
 {
     let left = figures.left();
     for k in 0..left.level.count {
@@ -276,25 +294,29 @@ pub fn write_front(w: &mut Writer, ws: &[u8], orbits: usize, budget: Budget)
 
 // The compounds among the entries.
 pub fn write_labels(w: &mut Writer, left: Left)
-    ensures { Writes w.old w.new (counted compound_words (compounds_from 0 (labels_in (left.entry.level.bytes + 2048) left.entry.level.count (drop left.entry.level.lists left.entry.ws.now)))) }
+    ensures { Writes w.old w.new (counted compound_words (compounds_from 0 (labels_in (left.entry.level.bytes + 2048)
+        left.entry.level.count (drop left.entry.level.lists left.entry.ws.now)))) }
 {
     let lists = &left.ws[left.level.lists..];
-    entry_lists::write_compounds(w, lists, left.level.bytes + 2048, left.level.count);
+    entry_lists::write_compounds(w, lists, left.level.bytes + ORDER_BYTES, left.level.count);
 }
 
-// The parts of an answer, one behind the other: what was examined and the counts, the entries, the possible facets, the compounds, the summaries.
-// `PartsStanding` stays a clause: this function alone asks it, of the entries of either rank.
+// The parts of an answer, one behind the other: what was examined and the counts, the entries, the possible facets,
+// the compounds, the summaries. `PartsHeld` stays a clause: this function alone asks it, of the entries of either
+// rank.
 pub fn write_parts<T: EntryFigure, F: FacetFigure>(
     w: &mut Writer,
     entries: &T,
     facets: &F,
     budget: Budget,
 )
-    requires { PartsStanding (T.level entries.now) (T.ws entries.now) × ((orbit : ℕ) → orbit < (T.level entries.now).shelf.orbits → F.knows facets.now orbit) }
-    ensures { Writes w.old w.new (parts_from (T.figure entries.now) (T.summary entries.now) (λ (orbit : ℕ). F.words (F.size facets.now orbit)) (T.level entries.now) (T.ws entries.now) budget.whole budget.rest) }
+    requires { PartsHeld (T.level entries.now) (T.ws entries.now)
+        × ((orbit : ℕ) → orbit < (T.level entries.now).layout.orbits → F.knows facets.now orbit) }
+    ensures { Writes w.old w.new (parts_from (T.figure entries.now) (T.summary entries.now) (λ (orbit : ℕ).
+        F.words (F.size facets.now orbit)) (T.level entries.now) (T.ws entries.now) budget.whole budget.rest) }
 {
     let left = entries.left();
-    let orbits = left.level.shelf.orbits;
+    let orbits = left.level.layout.orbits;
     write_front(w, left.ws, orbits, budget);
     write_entries(w, entries);
     possible_facets::write_possible(w, facets, left.owners(), orbits, left.edges());
@@ -302,10 +324,12 @@ pub fn write_parts<T: EntryFigure, F: FacetFigure>(
     write_summaries(w, entries);
 }
 
-// The answer of a call of rank 3 from what it leaves. `standing` (specs/Written) says that what it leaves is what `Carried` asks for.
+// The answer of a call of rank 3 from what it leaves. `standing` (specs/Written) says that what it leaves is what
+// `Carried` asks for.
 pub fn write_answer(w: &mut Writer, carried: Carried, n: usize, budget: Budget)
     requires { n ≤ 20 }
-    ensures { WroteAnswer n carried.entry.rows.count carried.entry.rows.bytes.now carried.entry.left.level carried.entry.left.ws.now budget.whole budget.rest w.old w.new }
+    ensures { WroteAnswer n carried.entry.rows.count carried.entry.rows.bytes.now carried.entry.left.level
+        carried.entry.left.ws.now budget.whole budget.rest w.old w.new }
 {
     write_parts(w, &Polygons { carried, n }, &Edges, budget);
 }
@@ -323,7 +347,7 @@ fn write_segment(w: &mut Writer)
 fn write_segment_summary(w: &mut Writer)
     ensures { Writes w.old w.new (2 ∷ 1 ∷ 2 ∷ []) }
 {
-    let mut marks = [false; 400];
+    let mut marks = [false; EDGE_CODES];
     marks[1] = true;
     let edges = edge_marks::count_marks(&marks);
     edge_marks::write_summary(w, &marks, 2, edges, 2);

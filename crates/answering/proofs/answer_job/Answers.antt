@@ -10,8 +10,7 @@ use Rattle.refusals.specs.Refused.{refused_on}
 use Rattle.answering.proofs.answer_job.Goals as goal
 
 pub write_job-requires : goal.write_job-requires
-write_job-requires c =
-    (c.in_ok-fields.ensures, c.requires)
+write_job-requires c = (c.in_ok-fields.ensures, c.requires)
 
 pub returns-in_err-fields : goal.returns-in_err-fields
 unfolding written_in buffer_in and_then buffer_of

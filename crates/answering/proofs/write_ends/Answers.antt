@@ -1,4 +1,5 @@
--- `answering::write_ends` meets its contract: the two answers of rank 2, by whether the ends are swapped. Assumes nothing.
+-- `answering::write_ends` meets its contract: the two answers of rank 2, by whether the ends are swapped. Assumes
+-- nothing.
 use mathlib.Core.Bool.{true, false}
 use mathlib.Core.Path.{◌≡◌}
 use borrow.Author.Rules.{rules}

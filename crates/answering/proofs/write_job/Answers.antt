@@ -1,4 +1,5 @@
--- `answering::write_job` meets its contract: what is written of the job's call is what the job gets by itself. Assumes nothing.
+-- `answering::write_job` meets its contract: what is written of the job's call is what the job gets by itself.
+-- Assumes nothing.
 use mathlib.Core.Path.{sym, ap, ◌∙◌}
 use lib.ListN.{length}
 use Rattle.answering.specs.Closed.{written_in, buffer_in}
@@ -7,8 +8,7 @@ use Rattle.laws.specs.Clauses.{of_two}
 use Rattle.answering.proofs.write_job.Goals as goal
 
 pub write_called-requires : goal.write_called-requires
-write_called-requires c =
-    (c.requires.1, (_, c.call_job-called.ensures.said))
+write_called-requires c = (c.requires.1, (_, c.call_job-called.ensures.said))
 
 pub returns : goal.returns
 returns c = of_two (λ x0 x1. record { result = x0; buffer = x1 })

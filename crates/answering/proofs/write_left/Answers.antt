@@ -27,7 +27,8 @@ pub returns-then-rank-eq3 : goal.returns-then-rank-eq3
 returns-then-rank-eq3 c =
     let e : c.args.rank - 3 ≡ 0 = omega arith in
     let carried = c.new-carried.ensures in
-    λ kept w. rw e (polygons_wrote (rw e at w) (rw (carried.0, carried.1, carried.2, carried.3) at c.write_answer.ensures))
+    λ kept w.
+    rw e (polygons_wrote (rw e at w) (rw (carried.0, carried.1, carried.2, carried.3) at c.write_answer.ensures))
 
 pub write_polyhedra-requires : goal.write_polyhedra-requires
 write_polyhedra-requires c =

@@ -1,4 +1,5 @@
--- `batches::answer_row` meets its contract: a row that cannot be cut is refused with 26, and any other has its records. Assumes nothing.
+-- `batches::answer_row` meets its contract: a row that cannot be cut is refused with 26, and any other has its
+-- records. Assumes nothing.
 use mathlib.Core.Path.{◌≡◌, sym, ap, ◌∙◌}
 use mathlib.Core.Bool.{true, false}
 use Prim.Native.Nat.{ℕ}

@@ -1,3 +1,5 @@
+-- `batches::is_cut` meets its contract: a rest too short for a length, or a length that overruns the row, decides
+-- (`looked_remainder`, `looked_overrun`). A turn passes one job (`looked_next`), and at the end none is left.
 use mathlib.Core.Path.{sym, subst}
 use Prim.Native.Nat.{ℕ, ◌+◌}
 use native.Mathlib.Omega.{arith}
@@ -11,8 +13,7 @@ pub returns-then-left-lt-LENGTH_BYTES : goal.returns-then-left-lt-LENGTH_BYTES
 returns-then-left-lt-LENGTH_BYTES c = looked_remainder c.loop-at.invariant (omega arith) (omega arith)
 
 pub returns-then-left-many : goal.returns-then-left-many
-returns-then-left-many c =
-    looked_overrun c.loop-at.invariant (omega arith) (omega (arith, c.get-many.ensures))
+returns-then-left-many c = looked_overrun c.loop-at.invariant (omega arith) (omega (arith, c.get-many.ensures))
 
 pub loop-at-preserved : goal.loop-at-preserved
 loop-at-preserved c =

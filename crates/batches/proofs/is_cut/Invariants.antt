@@ -1,4 +1,5 @@
--- `batches::is_cut` meets its contract. The loop's invariant: before `at` there are jobs alone, so that the rest decides. The measure is what is left of the row. Assumes nothing.
+-- `batches::is_cut` meets its contract. The loop's invariant: before `at` there are jobs alone, so that the rest
+-- decides. The measure is what is left of the row. Assumes nothing.
 use Prim.Native.Nat.{◌-◌}
 use lib.ListN.{length}
 use Rattle.batches.specs.Cutting.{Looked}

@@ -1,4 +1,5 @@
--- `read_full` puts no more bytes at the buffer's front than it has.
+-- `read_full` puts no more bytes at the buffer's front than it has. The loop's invariant: `done` is at most the
+-- buffer's length. The measure is the room that is left in the buffer.
 use Rattle.std.proofs.Common.{length, ◌-◌, ◌≤◌}
 use Rattle.buffers.proofs.read_full.Given as goal
 

@@ -10,5 +10,7 @@ use Rattle.calls.proofs.swaps_ends.Goals as goal
 
 pub returns : goal.returns
 returns c = λ n some h.
-    any_from_yields_List (swaps_at c.args.rows.bytes.now) _ _ _ c.any.ensures.ran (YieldsList-from_range 0 c.args.rows.count c.args.rows.count refl (omega arith)) (λ x b q k. search (rules, tests))
+    any_from_yields_List (swaps_at c.args.rows.bytes.now) _ _ _ c.any.ensures.ran
+    (YieldsList-from_range 0 c.args.rows.count c.args.rows.count refl (omega arith))
+    (λ x b q k. search (rules, tests))
     ∙ some_swaps c.args.rows.bytes.now c.args.rows.count n some

@@ -2,7 +2,7 @@
 use native.Mathlib.Omega.{arith}
 use mathlib.Core.Path.{◌≡◌, ◌∙◌}
 use Prim.Native.Nat.{suc, ◌-◌}
-use Rattle.frames.specs.Stands.{last_counted}
+use Rattle.frames.specs.PathFacts.{last_counted}
 use Rattle.frames.specs.Steps.{frame_room_at, withdrawn}
 use Rattle.depths.proofs.withdraw.Goals as goal
 
@@ -13,8 +13,14 @@ pub leave-requires : goal.leave-requires
 leave-requires c =
     let st = c.requires.1 in
     let z : suc (c.args.depth - 1) ≡ c.args.depth = omega arith in
-    rw (c.from.ensures, c.taken-x.ensures, c.frames.ensures)
-    (c.requires.0, st.inputs, st.frames.taken (c.args.depth - 1) (omega arith), last_counted c.requires.0 c.args.a c.args.ws.now c.args.depth (c.args.depth - 1) (rw z st))
+    rw (c.from.ensures, c.taken-x.ensures, c.frames.ensures) (
+      c.requires.0,
+      st.inputs,
+      st.frames.taken (c.args.depth - 1) (omega arith),
+      last_counted c.requires.0 c.args.a c.args.ws.now c.args.depth (c.args.depth - 1) (rw z st),
+    )
 
 pub returns : goal.returns
-returns c = λ t st. rw c.leave.ensures (withdrawn t c.args.a c.args.ws.now c.args.depth c.from.result st c.requires.2 (rw c.frames.ensures at (c.from.ensures ∙ c.taken-x.ensures)))
+returns c =
+    λ t st. rw c.leave.ensures (withdrawn t c.args.a c.args.ws.now c.args.depth c.from.result st c.requires.2
+    (rw c.frames.ensures at (c.from.ensures ∙ c.taken-x.ensures)))

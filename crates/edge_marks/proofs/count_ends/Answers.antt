@@ -17,5 +17,7 @@ returns c =
     let n = c.args.n in
     let is = end_of (edges_marked c.args.marks.now) in
     let e : c.count.result ≡ length (filter is (range_with_len 0 n)) =
-    count_from_yields_List _ _ c.count.ensures.ran (YieldsList-from_filter _ is (YieldsList-from_range 0 n n c.filter.ensures.source (omega arith)) c.filter.ensures.closure (λ x b q k. search (rules, tests))) in
+    count_from_yields_List _ _ c.count.ensures.ran
+    (YieldsList-from_filter _ is (YieldsList-from_range 0 n n c.filter.ensures.source (omega arith))
+    c.filter.ensures.closure (λ x b q k. search (rules, tests))) in
     (e ∙ ends_counted c.args.marks.now n, omega (arith, e, ends_few c.args.marks.now n))

@@ -1,4 +1,4 @@
--- `edge_marks::count_marks` meets its contract.
+-- `edge_marks::count_marks` meets its contract. The loop's invariant: `many` is the number of marks below `code`.
 use mathlib.Core.Path.{◌≡◌}
 use Prim.Native.Nat.{◌≤◌}
 use lib.ListN.{length}

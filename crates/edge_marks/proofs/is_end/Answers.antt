@@ -9,5 +9,6 @@ use Rattle.edge_marks.proofs.is_end.Goals as goal
 
 pub returns : goal.returns
 returns c =
-    any_from_yields_List (joins c.args.marks.now c.args.v) _ _ _ c.any.ensures.ran (YieldsList-from_range 0 20 20 refl refl) (λ x b q k. search (rules, tests))
+    any_from_yields_List (joins c.args.marks.now c.args.v) _ _ _ c.any.ensures.ran
+    (YieldsList-from_range 0 20 20 refl refl) (λ x b q k. search (rules, tests))
     ∙ end_is c.args.marks.now c.args.v c.requires

@@ -1,7 +1,8 @@
--- `edge_marks::write_marks` meets its contract.
+-- `edge_marks::write_marks` meets its contract. The loop's invariant: the edges of the marks below `code` are
+-- written.
 use mathlib.Core.List.{map}
 use Prim.Native.Nat.{◌≤◌}
-use Rattle.openers.specs.Meaning.{pair_of}
+use Rattle.rows.specs.Codes.{pair_of}
 use Rattle.shapes.specs.FigureWords.{edge_words}
 use Rattle.edge_marks.specs.Marks.{codes_marked}
 use Rattle.words.specs.Wrote.{Writes}

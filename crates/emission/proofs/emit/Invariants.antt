@@ -1,4 +1,5 @@
--- `emission::emit` meets its contract. The loop's invariant: the first k facets of the path are pushed. The measure is what is left of the path. Assumes nothing.
+-- `emission::emit` meets its contract. The loop's invariant: the first k facets of the path are pushed. Assumes
+-- nothing.
 use mathlib.Core.Path.{◌≡◌}
 use Prim.Native.Nat.{◌≤◌}
 use Rattle.emission.specs.Emission.{after_pushes}

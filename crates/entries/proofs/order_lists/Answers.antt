@@ -16,7 +16,9 @@ lists-count-requires c = rw (whole c.args.bytes) (omega (arith, c.requires.sound
 
 pub label_irc-requires : goal.label_irc-requires
 unfolding in_order
-label_irc-requires c = label_asked c.args.bytes c.args.s.now c.requires _ _ c.sort_lists.ensures (c.lists-count.ensures ∙ ap (λ (b : ℕ). count (take b c.args.s.now)) (whole c.args.bytes))
+label_irc-requires c =
+    label_asked c.args.bytes c.args.s.now c.requires _ _ c.sort_lists.ensures (c.lists-count.ensures
+    ∙ ap (λ (b : ℕ). count (take b c.args.s.now)) (whole c.args.bytes))
 
 pub returns : goal.returns
 unfolding in_order

@@ -1,33 +1,44 @@
--- `entries::split_entries` meets its contract: the pool is moved, the part from the table of components on is lent to splitting, and the split lists are put in order. Assumes nothing.
+-- `entries::split_entries` meets its contract: the pool is moved, the part from the table of components on is lent to
+-- splitting, and the split lists are put in order. Assumes nothing.
 use mathlib.Core.Path.{◌∙◌}
 use Rattle.laws.specs.Merging.{moved}
 use Rattle.std.specs.Prelude.{map, ◌+◌}
 use Rattle.std.proofs.Common.{sym, subst}
 use Rattle.pool.specs.Pool.{closed_lists}
 use Rattle.laws.specs.Segments.{part}
-use Rattle.shelf.specs.declared.Level.{Level}
+use Rattle.layout.specs.declared.Level.{Level}
 use Rattle.entries.specs.Listed.{Listed}
 use Rattle.entries.specs.Split.{split_asked, sort_asked, split_left, split_on}
 use Rattle.entries.proofs.split_entries.Goals as goal
 
 pub split_lists-requires : goal.split_lists-requires
-split_lists-requires c = split_asked c.args.shelf c.args.from c.args.bytes c.args.ws.now c.requires c.copy_within.new.self (c.copy_within.ensures.after ∙ moved _ c.args.from c.args.bytes _)
+split_lists-requires c =
+    split_asked c.args.layout c.args.from c.args.bytes c.args.ws.now c.requires c.copy_within.new.self
+    (c.copy_within.ensures.after ∙ moved _ c.args.from c.args.bytes _)
 
 pub sort_entries-sorted-requires : goal.sort_entries-sorted-requires
 sort_entries-sorted-requires c = let m = c.copy_within in let p = c.split_lists in
-    sort_asked c.args.shelf c.args.from c.args.bytes c.args.ws.now c.requires m.new.self (m.ensures.after ∙ moved _ c.args.from c.args.bytes _) p.new.ws p.auto.ws p.ensures
+    sort_asked c.args.layout c.args.from c.args.bytes c.args.ws.now c.requires m.new.self
+    (m.ensures.after ∙ moved _ c.args.from c.args.bytes _) p.new.ws p.auto.ws p.ensures
 
 pub returns : goal.returns
 returns c = let m = c.copy_within in let p = c.split_lists in
     let r = c.sort_entries-sorted in
-    let to = c.args.shelf.owners + 2048 + c.args.bytes in
+    let to = c.args.layout.owners + 2048 + c.args.bytes in
     subst
     (λ (x : Level).
-    Listed c.args.shelf (c.args.shelf.owners + 2048) (c.args.shelf.owners + 2048) c.args.bytes to 2101260
+    Listed c.args.layout (c.args.layout.owners + 2048) (c.args.layout.owners + 2048) c.args.bytes to 2101260
     (closed_lists 2 1024 (part c.args.from c.args.bytes c.args.ws.now))
-    (map (split_on c.args.shelf c.args.ws.now) (closed_lists 2 1024 (part c.args.from c.args.bytes c.args.ws.now)))
+    (map (split_on c.args.layout c.args.ws.now) (closed_lists 2 1024 (part c.args.from c.args.bytes c.args.ws.now)))
     c.args.ws.now
-    (record { shelf = x.shelf; emitted = c.args.shelf.owners + 2048; extent = c.args.bytes; lists = x.lists; bytes = x.bytes; count = r.result.count })
-    r.new.ws)
+    (record {
+      layout = x.layout;
+      emitted = c.args.layout.owners + 2048;
+      extent = c.args.bytes;
+      lists = x.lists;
+      bytes = x.bytes;
+      count = r.result.count;
+    }) r.new.ws)
     (sym r.ensures.level_is)
-    (split_left c.args.shelf c.args.from c.args.bytes c.args.ws.now c.requires m.new.self (m.ensures.after ∙ moved _ c.args.from c.args.bytes _) p.new.ws p.auto.ws p.ensures r.result r.new.ws r.ensures)
+    (split_left c.args.layout c.args.from c.args.bytes c.args.ws.now c.requires m.new.self
+    (m.ensures.after ∙ moved _ c.args.from c.args.bytes _) p.new.ws p.auto.ws p.ensures r.result r.new.ws r.ensures)

@@ -1,4 +1,5 @@
--- `entry_lists::write_counts` meets its contract.
+-- `entry_lists::write_counts` meets its contract. The loop's invariant: behind the number of orbits, the counts of
+-- the first i are written.
 use mathlib.Core.List.{map}
 use Prim.Native.Nat.{◌≤◌}
 use Rattle.definitions.specs.Lists.{Pair}

@@ -5,8 +5,8 @@ use Rattle.faceting.proofs.find_kept.Goals as goal
 
 pub returns-in_err-found : goal.returns-in_err-found
 returns-in_err-found c =
-    rw (handed_on _ _ c.from_residual.ensures.1) (kept_refused c.args.search.flat.now.n _ _ c.args.way _ _ _ c.in_err-found.ensures)
+    rw (handed_on _ _ c.from_residual.ensures.1)
+    (kept_refused c.args.search.flat.now.n _ _ c.args.way _ _ _ c.in_err-found.ensures)
 
 pub returns : goal.returns
-returns c =
-    c.keep_found.ensures _ _ c.in_ok-found.ensures
+returns c = c.keep_found.ensures _ _ c.in_ok-found.ensures

@@ -1,4 +1,5 @@
--- `faceting::keep_found` meets its contract: without a package every orbit is kept, and else those that it keeps. Assumes nothing.
+-- `faceting::keep_found` meets its contract: without a package every orbit is kept, and else those that it keeps.
+-- Assumes nothing.
 use native.Mathlib.Omega.{arith}
 use Rattle.std.specs.Prelude.{Ok}
 use Rattle.faceting.specs.Ways.{kept_plain}
@@ -16,7 +17,8 @@ pub returns-in-Some : goal.returns-in-Some
 returns-in-Some c =
     let a = c.args in
     let keep = c.keep_orbits in
-    λ bound orbits e. rw c.in-Some.is (kept_some a.n bound orbits a.count a.ws.now e _ keep.result keep.new.ws keep.ensures.kept)
+    λ bound orbits e.
+    rw c.in-Some.is (kept_some a.n bound orbits a.count a.ws.now e _ keep.result keep.new.ws keep.ensures.kept)
 
 pub returns-in-None : goal.returns-in-None
 returns-in-None c =

@@ -12,5 +12,7 @@ returns c = of_four (λ x0 x1 x2 x3. record { points = x0; plane = x1; count = x
     (let chosen = c.chosen_points-points in
     let refit = c.refit-plane in
     let within = c.rows_within-m in
-    let plane = subst (λ (ps : List Vec). Refitted refit.result chosen.result (from_points c.args.tolerance ps) c.args.wanted) chosen.ensures.means refit.ensures in
+    let plane =
+    subst (λ (ps : List Vec). Refitted refit.result chosen.result (from_points c.args.tolerance ps) c.args.wanted)
+    chosen.ensures.means refit.ensures in
     (chosen.ensures, plane, within.ensures.count, within.ensures.rows))

@@ -10,7 +10,8 @@ returns-then-over c = judge_over _ (sym c.if-over.true ∙ c.requires.1)
 
 pub returns-in-Some : goal.returns-in-Some
 unfolding verdict
-returns-in-Some c = judge_open _ (sym c.if-over.false ∙ c.requires.1) c.in-Some.ridge (sym c.in-Some.is ∙ c.lowest.ensures)
+returns-in-Some c =
+    judge_open _ (sym c.if-over.false ∙ c.requires.1) c.in-Some.ridge (sym c.in-Some.is ∙ c.lowest.ensures)
 
 pub returns-in-None : goal.returns-in-None
 unfolding verdict

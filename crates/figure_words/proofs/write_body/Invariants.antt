@@ -1,4 +1,5 @@
--- `figure_words::write_body` meets its contract.
+-- `figure_words::write_body` meets its contract. The loop's invariant: behind the count, the numbers below `facet`
+-- are written.
 use Prim.Native.Nat.{◌≤◌}
 use Rattle.definitions.specs.Lists.{count_from}
 use Rattle.words.specs.Wrote.{Writes}

@@ -1,4 +1,4 @@
--- `figure_words::write_points` meets its contract.
+-- `figure_words::write_points` meets its contract. The loop's invariant: the words of the first i points are written.
 use Prim.Native.Nat.{◌≤◌}
 use Rattle.shapes.specs.FigureWords.{point_words}
 use Rattle.words.specs.Wrote.{Writes}

@@ -1,3 +1,5 @@
+-- `filter::filter_noted` meets its contract: a list in which another is found is left out (`left_out_holds`), and any
+-- other is kept (`kept_too`). At the end all lists were looked at (`all_kept`).
 use mathlib.Core.Path.{sym, ◌∙◌}
 use native.Mathlib.Omega.{arith}
 use Rattle.order.specs.Areas.{lists_length}
@@ -19,20 +21,32 @@ pub finds_other-requires : goal.finds_other-requires
 finds_other-requires c =
     let l = c.loop-a in
     let g = c.search_start-start in
-    asked c.args.area c.args.at c.args.ws.now c.requires.0.holds c.requires.0.behind c.requires.0.ascends l.many l.ws l.a l.invariant.0 l.start l.invariant.1 c.loop-a-test.true g.result g.ensures c.args.notes.now c.requires.0.few c.requires.1
+    asked c.args.area c.args.at c.args.ws.now c.requires.0.holds c.requires.0.behind c.requires.0.ascends l.many l.ws
+    l.a l.invariant.0 l.start l.invariant.1 c.loop-a-test.true g.result g.ensures c.args.notes.now
+    c.requires.0.few c.requires.1
 
 pub loop-a-preserved : goal.loop-a-preserved
 loop-a-preserved c =
     let l = c.loop-a in
     let t = c.loop-a-test.true in
     let g = c.search_start-start in
-    let b = begun_next _ l.a _ (begun c.args.area c.args.at c.args.ws.now c.requires.0.holds c.requires.0.behind c.requires.0.ascends l.many l.ws l.a l.invariant.0 l.start l.invariant.1 t g.result g.ensures) in
+    let b = begun_next _ l.a _ (begun c.args.area c.args.at c.args.ws.now c.requires.0.holds c.requires.0.behind
+    c.requires.0.ascends l.many l.ws l.a l.invariant.0 l.start l.invariant.1 t g.result g.ensures) in
     elim c.if-not-finds_other.branch [
-      | then-not-finds_other w ↦ rw (w.ws-is, w.many-is) (kept_too c.args.area c.args.at c.args.ws.now c.requires.0.holds c.requires.0.behind l.many l.ws l.a l.invariant.0 t (sym w.if-not-finds_other.true ∙ c.finds_other.ensures) _ w.put.ensures, b)
-      | else-not-finds_other w ↦ rw (w.ws-is, w.many-is) (left_out_holds c.args.area c.args.at c.args.ws.now c.requires.0.holds c.requires.0.behind l.many l.ws l.a l.invariant.0 t (sym w.if-not-finds_other.false ∙ c.finds_other.ensures), b)
+      | then-not-finds_other w ↦ rw (w.ws-is, w.many-is) (
+        kept_too c.args.area c.args.at c.args.ws.now c.requires.0.holds c.requires.0.behind l.many l.ws l.a
+            l.invariant.0 t (sym w.if-not-finds_other.true ∙ c.finds_other.ensures) _ w.put.ensures,
+        b,
+      )
+      | else-not-finds_other w ↦ rw (w.ws-is, w.many-is) (
+        left_out_holds c.args.area c.args.at c.args.ws.now c.requires.0.holds c.requires.0.behind l.many l.ws l.a
+            l.invariant.0 t (sym w.if-not-finds_other.false ∙ c.finds_other.ensures),
+        b,
+      )
     ]
 
 pub returns : goal.returns
 returns c = of_two (λ x0 x1. record { many = x0; numbers = x1 })
     (let l = c.loop-a in
-    all_kept c.args.area c.args.at c.args.ws.now c.requires.0.holds c.requires.0.behind l.many l.ws l.a l.invariant.0 c.loop-a-test.false)
+    all_kept c.args.area c.args.at c.args.ws.now c.requires.0.holds c.requires.0.behind l.many l.ws l.a l.invariant.0
+    c.loop-a-test.false)

@@ -1,4 +1,5 @@
--- `filter::filter_noted` meets its contract. Invariant: what is kept of the places before a stands from `at` on, and no list before the start is found in a list from a on. Assumes nothing.
+-- `filter::filter_noted` meets its contract. Invariant: what is kept of the places before a stands from `at` on, and
+-- no list before the start is found in a list from a on. Assumes nothing.
 use Rattle.order.specs.Areas.{lists_of}
 use Rattle.filter.specs.Found.{Begun, Going}
 use Rattle.filter.proofs.filter_noted.Given as goal

@@ -1,3 +1,5 @@
+-- `filter::note_shared` meets its contract: a turn notes what one list more shares with the one before it
+-- (`noting_more`).
 use native.Mathlib.Omega.{arith}
 use Rattle.order.specs.Areas.{lists_of}
 use Rattle.filter.specs.Noted.{noting_more}
@@ -6,4 +8,5 @@ use Rattle.filter.proofs.note_shared.Goals as goal
 pub loop-k-preserved : goal.loop-k-preserved
 loop-k-preserved c =
     let l = c.loop-k in
-    noting_more (lists_of c.args.lists.area c.args.lists.bytes.now) _ _ l.notes l.k c.shared_items.result l.invariant (omega arith) c.shared_items.ensures
+    noting_more (lists_of c.args.lists.area c.args.lists.bytes.now) _ _ l.notes l.k c.shared_items.result l.invariant
+    (omega arith) c.shared_items.ensures

@@ -1,4 +1,5 @@
--- `filter::shared_items` meets its contract: the items before the first that differs are those in common. Assumes nothing.
+-- `filter::shared_items` meets its contract: the items before the first that differs are those in common. Assumes
+-- nothing.
 use mathlib.Core.Path.{◌≡◌, sym, ◌∙◌}
 use mathlib.Core.List.{List}
 use Prim.Native.Nat.{ℕ, zero, suc, ◌+◌, ◌≤◌, ◌<◌}
@@ -29,10 +30,12 @@ module _ (b c : List ℕ) where
   so_many (suc i) h same =
       let x = same i (omega arith) (omega arith) in
       let e = read_inside b i 0 65536 (omega arith) in
-      rw (← add-one i) (shared_more b c i (so_many i (omega arith) (λ k l m. same k l (omega arith))) (omega arith) (omega (arith, e, x.0)) (sym e ∙ x.1) (before_end c i (omega (arith, x.0, x.1))))
+      rw (← add-one i) (shared_more b c i (so_many i (omega arith) (λ k l m. same k l (omega arith))) (omega arith)
+      (omega (arith, e, x.0)) (sym e ∙ x.1) (before_end c i (omega (arith, x.0, x.1))))
 
   first_other : (m : ℕ) → m ≡ length b → (r : Option ℕ)
-      → MatchOption r ((k : ℕ) → 0 ≤ k → k < m → Same k) (λ i. (0 ≤ i) × (i < m) × Other i × ((k : ℕ) → 0 ≤ k → k < i → Same k))
+      → MatchOption r ((k : ℕ) → 0 ≤ k → k < m → Same k)
+      (λ i. (0 ≤ i) × (i < m) × Other i × ((k : ℕ) → 0 ≤ k → k < i → Same k))
       → unwrap_or r m ≡ shared b c
   first_other m long None h = shared_end b c m (so_many m (omega arith) h) (omega arith)
   first_other m long (Some i) h =
@@ -46,4 +49,5 @@ returns c =
     let x = list_of c.args.lists.area s c.args.k in
     let y = list_of c.args.lists.area s (c.args.k + 1) in
     c.unwrap_or.ensures ∙ first_other x y c.length-m.result c.length-m.ensures c.find.result
-    (first_from_Range _ _ _ _ (Other x y) (Same x y) c.find.ensures.ran (λ i q k. search (rules, tests)) (λ i q k. search (rules, tests)))
+    (first_from_Range _ _ _ _ (Other x y) (Same x y) c.find.ensures.ran (λ i q k. search (rules, tests))
+    (λ i q k. search (rules, tests)))

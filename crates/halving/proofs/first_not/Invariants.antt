@@ -1,4 +1,5 @@
--- `halving::first_not` meets its contract: the test holds just before `low` and fails at `high`. The measure is what lies between. Assumes nothing.
+-- `halving::first_not` meets its contract: the test holds just before `low` and fails at `high`. The measure is what
+-- lies between. Assumes nothing.
 use Rattle.std.specs.Prelude.{◌≡◌, true, false, ℕ, ◌+◌, ◌-◌, ◌≤◌, ◌<◌}
 use Rattle.halving.proofs.first_not.Given as goal
 

@@ -14,5 +14,7 @@ use Rattle.job.proofs.all_within.Goals as goal
 pub returns : goal.returns
 unfolding floats_at spaced
 returns c =
-    all_from_yields_List (λ (i : ℕ). size_within c.args.most (float_at c.args.job.now (c.args.at + 8 * i))) _ _ _ c.all.ensures.ran (YieldsList-from_range 0 c.args.many c.args.many refl (omega arith)) (λ x b q k. search rules)
+    all_from_yields_List
+    (λ (i : ℕ). size_within c.args.most (float_at c.args.job.now (c.args.at + 8 * i))) _ _ _ c.all.ensures.ran
+    (YieldsList-from_range 0 c.args.many c.args.many refl (omega arith)) (λ x b q k. search rules)
     ∙ each_spaced (size_within c.args.most) (float_at c.args.job.now) 8 c.args.at c.args.many

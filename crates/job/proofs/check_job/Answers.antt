@@ -17,7 +17,8 @@ pub returns-in_err-fields : goal.returns-in_err-fields
 unfolding job_tests
 returns-in_err-fields c =
     let job = c.args.job.now in
-    refused_on _ _ c.from_residual.ensures.1 ∙ refused_before (header_tests job) (value_tests job) job _ c.in_err-fields.ensures
+    refused_on _ _ c.from_residual.ensures.1
+    ∙ refused_before (header_tests job) (value_tests job) job _ c.in_err-fields.ensures
 
 pub returns : goal.returns
 unfolding job_tests

@@ -29,16 +29,17 @@ overflow_mul-in_points c =
 
 pub returns-then-not-limits_good : goal.returns-then-not-limits_good
 returns-then-not-limits_good c =
-    limits_fail _ _ (loadable _ _ c.args.job.exact c.args.job.read) (sym c.limits_good.ensures ∙ c.if-not-limits_good.true)
+    limits_fail _ _ (loadable _ _ c.args.job.exact c.args.job.read)
+    (sym c.limits_good.ensures ∙ c.if-not-limits_good.true)
 
 pub all_within-requires : goal.all_within-requires
-all_within-requires c =
-    (loadable _ _ c.args.job.exact c.args.job.read).offset_fits
+all_within-requires c = (loadable _ _ c.args.job.exact c.args.job.read).offset_fits
 
 pub returns-then-not-all_within : goal.returns-then-not-all_within
 returns-then-not-all_within c =
     let limits = sym c.limits_good.ensures ∙ c.if-not-limits_good.false in
-    offset_fails _ _ (loadable _ _ c.args.job.exact c.args.job.read) limits (sym c.all_within.ensures ∙ c.if-not-all_within.true)
+    offset_fails _ _ (loadable _ _ c.args.job.exact c.args.job.read) limits
+    (sym c.all_within.ensures ∙ c.if-not-all_within.true)
 
 pub all_within-requires-2 : goal.all_within-requires-2
 all_within-requires-2 c =
@@ -49,7 +50,8 @@ pub returns-then-not-all_within-2 : goal.returns-then-not-all_within-2
 returns-then-not-all_within-2 c =
     let limits = sym c.limits_good.ensures ∙ c.if-not-limits_good.false in
     let offset = sym c.all_within.ensures ∙ c.if-not-all_within.false in
-    basis_fails _ _ (loadable _ _ c.args.job.exact c.args.job.read) limits offset (sym c.all_within-2.ensures ∙ c.if-not-all_within-2.true)
+    basis_fails _ _ (loadable _ _ c.args.job.exact c.args.job.read) limits offset
+    (sym c.all_within-2.ensures ∙ c.if-not-all_within-2.true)
 
 pub all_within-requires-3 : goal.all_within-requires-3
 all_within-requires-3 c =

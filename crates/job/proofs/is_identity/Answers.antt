@@ -13,5 +13,6 @@ use Rattle.job.proofs.is_identity.Goals as goal
 
 pub returns : goal.returns
 returns c =
-    all_from_yields_List (λ (i : ℕ). eqb (get_or c.args.job.now (c.args.at + i) 0) i) _ _ _ c.all.ensures.ran (YieldsList-from_range 0 c.args.n c.args.n refl (omega arith)) (λ x b q k. search (rules, tests))
+    all_from_yields_List (λ (i : ℕ). eqb (get_or c.args.job.now (c.args.at + i) 0) i) _ _ _ c.all.ensures.ran
+    (YieldsList-from_range 0 c.args.n c.args.n refl (omega arith)) (λ x b q k. search (rules, tests))
     ∙ each_own c.args.job.now c.args.at c.args.n c.requires

@@ -1,3 +1,5 @@
+-- `job::is_permutation` meets its contract: a byte that is no vertex, or that was met before, decides
+-- (`marks_stop_beyond`, `marks_stop_again`). Any other is marked (`marks_go_on`), and at the end none is left.
 use mathlib.Core.Path.{refl, ◌∙◌}
 use native.Mathlib.Omega.{arith}
 use borrow.Author.Tests.{lt-ltb, le-ltb}
@@ -20,13 +22,18 @@ pub returns-then-marks-v : goal.returns-then-marks-v
 returns-then-marks-v c =
     let l = c.loop-i in
     let w = c.from-v.ensures in
-    marks_stop_again _ _ _ l.marks l.i (omega arith) (omega arith) (lt-ltb _ _ (rw w at c.if-n-v.false)) (rw w at c.if-marks-v.true) l.invariant.2
+    marks_stop_again _ _ _ l.marks l.i (omega arith) (omega arith) (lt-ltb _ _ (rw w at c.if-n-v.false))
+    (rw w at c.if-marks-v.true) l.invariant.2
 
 pub loop-i-preserved : goal.loop-i-preserved
 loop-i-preserved c =
     let l = c.loop-i in
-    let w = c.from-v.ensures in
-    (omega arith, length-set l.marks _ _ ∙ l.invariant.1, rw w (marks_go_on _ _ _ l.marks l.i (omega arith) (omega arith) (lt-ltb _ _ (rw w at c.if-n-v.false)) (rw w at c.if-marks-v.false) l.invariant.2))
+    let w = c.from-v.ensures in (
+      omega arith,
+      length-set l.marks _ _ ∙ l.invariant.1,
+      rw w (marks_go_on _ _ _ l.marks l.i (omega arith)
+          (omega arith) (lt-ltb _ _ (rw w at c.if-n-v.false)) (rw w at c.if-marks-v.false) l.invariant.2),
+    )
 
 pub returns : goal.returns
 returns c =

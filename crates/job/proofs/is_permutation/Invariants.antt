@@ -1,4 +1,5 @@
--- `job::is_permutation` meets its contract. The invariant: the bytes from the i-th on decide, with the marks of those before. Assumes nothing.
+-- `job::is_permutation` meets its contract. The invariant: the bytes from the i-th on decide, with the marks of those
+-- before. Assumes nothing.
 use mathlib.Core.Path.{◌≡◌}
 use Prim.Native.Nat.{◌≤◌}
 use lib.ListN.{length}

@@ -15,5 +15,8 @@ use Rattle.job.proofs.rows_good.Goals as goal
 pub returns : goal.returns
 unfolding rows_at spaced
 returns c =
-    all_from_yields_List (λ (i : ℕ). is_permutation c.args.n (take c.args.n (drop (c.args.at + c.args.n * i) c.args.job.now))) _ _ _ c.all.ensures.ran (YieldsList-from_range 0 c.args.count c.args.count refl (omega arith)) (λ x b q k. search rules)
-    ∙ each_spaced (is_permutation c.args.n) (λ (q : ℕ). take c.args.n (drop q c.args.job.now)) c.args.n c.args.at c.args.count
+    all_from_yields_List (λ (i : ℕ). is_permutation c.args.n
+    (take c.args.n (drop (c.args.at + c.args.n * i) c.args.job.now))) _ _ _ c.all.ensures.ran
+    (YieldsList-from_range 0 c.args.count c.args.count refl (omega arith)) (λ x b q k. search rules)
+    ∙ each_spaced (is_permutation c.args.n)
+    (λ (q : ℕ). take c.args.n (drop q c.args.job.now)) c.args.n c.args.at c.args.count

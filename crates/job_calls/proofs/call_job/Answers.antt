@@ -1,4 +1,5 @@
--- `job_calls::call_job` meets its contract: without a package the call in the plain way is the job's own. Assumes nothing.
+-- `job_calls::call_job` meets its contract: without a package the call in the plain way is the job's own. Assumes
+-- nothing.
 use mathlib.Core.Path.{subst}
 use Rattle.definitions.specs.Faceting.{Way}
 use Rattle.faceting.specs.Ways.{way_plain, plain_fits}
@@ -13,4 +14,5 @@ returns c =
     let a = c.args in
     let call = c.call_in_way in
     called_plainly a.job.now a.fields call.new.rows call.result call.new.ws
-    (subst (λ (w : Way). CalledIn w a.job.now a.fields call.new.rows call.result call.new.ws) (way_plain a.fields.n) call.ensures)
+    (subst (λ (w : Way).
+    CalledIn w a.job.now a.fields call.new.rows call.result call.new.ws) (way_plain a.fields.n) call.ensures)

@@ -16,8 +16,12 @@ store-requires c =
       | then-swapped w ↦ rw w.if-swapped.true w.many-is
       | else-swapped w ↦ rw w.if-swapped.false w.many-is
     ] in
-    let few = first_or_both_few c.args.swapped c.if-swapped.many c.end_code.result c.end_code-2.result many in
-    (omega (arith, c.requires.2.ridge_room), room_fewer c.requires.3 _ few, first_or_both_fitting c.args.swapped c.if-swapped.many c.end_code.result c.end_code-2.result many 4 (omega arith) (omega arith))
+    let few = first_or_both_few c.args.swapped c.if-swapped.many c.end_code.result c.end_code-2.result many in (
+      omega (arith, c.requires.2.ridge_room),
+      room_fewer c.requires.3 _ few,
+      first_or_both_fitting c.args.swapped
+          c.if-swapped.many c.end_code.result c.end_code-2.result many 4 (omega arith) (omega arith),
+    )
 
 pub store-requires-2 : goal.store-requires-2
 store-requires-2 c =
@@ -25,8 +29,12 @@ store-requires-2 c =
       | then-swapped w ↦ rw w.if-swapped.true w.many-is
       | else-swapped w ↦ rw w.if-swapped.false w.many-is
     ] in
-    let few = first_or_both_few c.args.swapped c.if-swapped.many _ _ many in
-    (omega (arith, c.requires.2.place_room), room_fewer (room_beside c.requires.4 c.store.ensures.beside (inr (omega (arith, c.requires.2.ridge_room)))) _ few, first_or_both_fitting c.args.swapped c.if-swapped.many _ _ many 2 (lit< tt) (lit< tt))
+    let few = first_or_both_few c.args.swapped c.if-swapped.many _ _ many in (
+      omega (arith, c.requires.2.place_room),
+      room_fewer
+          (room_beside c.requires.4 c.store.ensures.beside (inr (omega (arith, c.requires.2.ridge_room)))) _ few,
+      first_or_both_fitting c.args.swapped c.if-swapped.many _ _ many 2 (lit< tt) (lit< tt),
+    )
 
 pub returns : goal.returns
 returns c =
@@ -35,5 +43,10 @@ returns c =
       | else-swapped w ↦ rw w.if-swapped.false w.many-is
     ] in
     let both = first_or_both c.args.swapped c.if-swapped.many in
-    ends_stored c.args.shelf c.args.swapped c.args.v c.args.w c.args.ws.now c.store.new.ws c.store-2.new.ws c.requires.2
-    (rw (both c.end_code.result c.end_code-2.result many, c.end_code.ensures, c.end_code-2.ensures) at c.store.ensures) (rw (both _ _ many) at c.store-2.ensures)
+    ends_stored c.args.layout c.args.swapped c.args.v c.args.w c.args.ws.now c.store.new.ws c.store-2.new.ws
+    c.requires.2
+    (rw (
+      both c.end_code.result c.end_code-2.result many,
+      c.end_code.ensures,
+      c.end_code-2.ensures,
+    ) at c.store.ensures) (rw (both _ _ many) at c.store-2.ensures)

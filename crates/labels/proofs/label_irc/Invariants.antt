@@ -1,6 +1,7 @@
--- `labels::label_irc` meets its contract. Invariants, from the outermost loop in: the labels of the entries before a are
--- written, and none of the lists before the start is found inside entry a or a later one; none of the lists before b is found inside entry a; the walk from i and j on succeeds where the whole walk
--- does; none of the lists behind b and before c is what is left. Measure of the walk: the items of list a that are left.
+-- `labels::label_irc` meets its contract. Invariants, from the outermost loop in: the labels of the entries before a
+-- are written, and none of the lists before the start is found inside entry a or a later one; none of the lists
+-- before b is found inside entry a; the walk from i and j on succeeds where the whole walk does; none of the lists
+-- behind b and before c is what is left. Measure of the walk: the items of list a that are left.
 use mathlib.Core.Path.{◌≡◌}
 use Prim.Native.Nat.{◌-◌, ◌≤◌, compare}
 use lib.ListN.{drop}
@@ -11,7 +12,10 @@ use Rattle.labels.proofs.Labelling.{Base, Searching, Seeking, Started}
 use Rattle.labels.proofs.label_irc.Given as goal
 
 abbrev pub invariant-loop-j : goal.invariant-loop-j
-invariant-loop-j l = (l.i ≤ l.m) × (l.j ≤ l.n) × (is_found (walk compare (drop l.i (list_of l.area l.lists.0.now l.a)) (drop l.j (list_of l.area l.lists.0.now l.b))) ≡ is_found (walk compare (list_of l.area l.lists.0.now l.a) (list_of l.area l.lists.0.now l.b)))
+invariant-loop-j l =
+    (l.i ≤ l.m) × (l.j ≤ l.n) × (is_found
+    (walk compare (drop l.i (list_of l.area l.lists.0.now l.a)) (drop l.j (list_of l.area l.lists.0.now l.b)))
+    ≡ is_found (walk compare (list_of l.area l.lists.0.now l.a) (list_of l.area l.lists.0.now l.b)))
 
 abbrev pub decreases-loop-j : goal.decreases-loop-j
 decreases-loop-j l = l.m - l.i

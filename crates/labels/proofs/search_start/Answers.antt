@@ -12,7 +12,8 @@ returns c =
     let area = c.args.lists.area in
     let s = c.args.lists.bytes.now in
     let x = list_of area s c.args.a in
-    c.unwrap_or.ensures ∙ search_found x (lists_of area s) c.args.from area.count c.requires.1 (lists_length area.most area.bytes area.count s) c.find.result
-    (first_from_Range _ _ _ _ (λ b. false ≡ first_above compare x (list_of area s b)) (λ b. true ≡ first_above compare x (list_of area s b)) c.find.ensures.ran
-    (λ b q k. search (rules, tests))
-    (λ b q k. search (rules, tests)))
+    c.unwrap_or.ensures ∙ search_found x (lists_of area s) c.args.from area.count c.requires.1
+    (lists_length area.most area.bytes area.count s) c.find.result
+    (first_from_Range _ _ _ _ (λ b. false ≡ first_above compare x (list_of area s b))
+    (λ b. true ≡ first_above compare x (list_of area s b)) c.find.ensures.ran
+    (λ b q k. search (rules, tests)) (λ b q k. search (rules, tests)))

@@ -31,10 +31,16 @@ get-requires c = (fitting _ _ _ c.requires c.header_of-h.ensures c.places_of-p.e
 
 pub returns : goal.returns
 returns c =
-    let shortest = present_read _ (float_at c.args.job.now 11) _ (c.then.ensures.variant ∙ c.has_flag.ensures) c.then.ensures.some (λ x p. search rules) in
-    let longest = present_read _ (float_at c.args.job.now c.places_of-p.result.max) _ (c.then-2.ensures.variant ∙ c.has_flag-2.ensures) c.then-2.ensures.some (λ x p. search rules) in
-    let entries = present_read _ (number_at c.args.job.now c.places_of-p.result.limit 4) _ (c.then-3.ensures.variant ∙ c.has_flag-3.ensures) c.then-3.ensures.some (λ x p. search rules) in
-    let tolerance = present_read _ (float_at c.args.job.now c.places_of-p.result.tolerance) _ c.then-tolerance.ensures.variant c.then-tolerance.ensures.some (λ x p. search rules) in
-    let rule = present_read _ (get_or c.args.job.now c.places_of-p.result.rule 0) _ c.then-rule.ensures.variant c.then-rule.ensures.some (λ x p. search rules) in
+    let shortest = present_read _ (float_at c.args.job.now 11) _
+    (c.then.ensures.variant ∙ c.has_flag.ensures) c.then.ensures.some (λ x p. search rules) in
+    let longest = present_read _ (float_at c.args.job.now c.places_of-p.result.max) _
+    (c.then-2.ensures.variant ∙ c.has_flag-2.ensures) c.then-2.ensures.some (λ x p. search rules) in
+    let entries = present_read _ (number_at c.args.job.now c.places_of-p.result.limit 4) _
+    (c.then-3.ensures.variant ∙ c.has_flag-3.ensures) c.then-3.ensures.some (λ x p. search rules) in
+    let tolerance = present_read _ (float_at c.args.job.now c.places_of-p.result.tolerance) _
+    c.then-tolerance.ensures.variant c.then-tolerance.ensures.some (λ x p. search rules) in
+    let rule = present_read _ (get_or c.args.job.now c.places_of-p.result.rule 0) _ c.then-rule.ensures.variant
+    c.then-rule.ensures.some (λ x p. search rules) in
     fields_are _ _ _ _ _ _ _ _ _ c.header_of-h.ensures c.places_of-p.ensures shortest longest entries
-    (c.unwrap_or.ensures ∙ instead_read _ _ _ _ tolerance) (c.unwrap_or-2.ensures ∙ instead_read _ _ _ _ rule) c.get.ensures
+    (c.unwrap_or.ensures ∙ instead_read _ _ _ _ tolerance)
+    (c.unwrap_or-2.ensures ∙ instead_read _ _ _ _ rule) c.get.ensures

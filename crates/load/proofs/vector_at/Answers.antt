@@ -1,3 +1,5 @@
+-- `load::vector_at` meets its contract: a turn reads one number more (`floats_more`). At the end i is d, and the
+-- front with the zeros behind it is the whole (`whole`).
 use mathlib.Core.Path.{◌≡◌, refl, ◌∙◌}
 use Prim.Native.Nat.{◌+◌}
 use native.Mathlib.Omega.{arith}

@@ -1,4 +1,5 @@
--- `nobles::check_noble` meets its contract: the job's own tests refuse, or 18 does, or it is left to the workspace. Assumes nothing.
+-- `nobles::check_noble` meets its contract: the job's own tests refuse, or 18 does, or it is left to the workspace.
+-- Assumes nothing.
 use mathlib.Core.Path.{sym, ◌∙◌}
 use borrow.Author.Tests.{le-leb, lt-leb}
 use Rattle.nobles.specs.Passed.{refused_own, refused_eighteen, refused_twelve, all_pass, few_points}

@@ -10,8 +10,7 @@ use Rattle.refusals.specs.Refused.{refused_on}
 use Rattle.nobles.proofs.noble_job.Goals as goal
 
 pub write_noble-requires : goal.write_noble-requires
-write_noble-requires c =
-    (c.in_ok-fields.ensures, c.requires)
+write_noble-requires c = (c.in_ok-fields.ensures, c.requires)
 
 pub returns-in_err-fields : goal.returns-in_err-fields
 unfolding written_in buffer_in and_then buffer_of

@@ -1,4 +1,5 @@
--- `nobles::write_noble` meets its contract: the package is loaded, the call by it is the definition's, and what is written of it is what the job gets by itself. Assumes nothing.
+-- `nobles::write_noble` meets its contract: the package is loaded, the call by it is the definition's, and what is
+-- written of it is what the job gets by itself. Assumes nothing.
 use mathlib.Core.Path.{refl, sym, ap, ◌∙◌}
 use lib.ListN.{length}
 use Rattle.answering.specs.Closed.{written_in, buffer_in}
@@ -12,17 +13,23 @@ use Rattle.nobles.proofs.write_noble.Goals as goal
 pub load_package-whole-requires : goal.load_package-whole-requires
 load_package-whole-requires c =
     let a = c.args in
-    let passes = job_passes a.job.now a.pack.now (length a.ws.now) a.fields c.requires.0 in
-    ((counts a.job.now (length a.ws.now) a.fields passes).n_most, pack_fits a.job.now a.pack.now (length a.ws.now) a.fields c.requires.0, refl, refl)
+    let passes = job_passes a.job.now a.pack.now (length a.ws.now) a.fields c.requires.0 in (
+      (counts a.job.now (length a.ws.now) a.fields passes).n_most,
+      pack_fits a.job.now a.pack.now (length a.ws.now) a.fields c.requires.0,
+      refl,
+      refl,
+    )
 
 pub call_in_way-called-requires : goal.call_in_way-called-requires
 call_in_way-called-requires c =
-    let a = c.args in
-    (job_passes a.job.now a.pack.now (length a.ws.now) a.fields c.requires.0, refl, package_fits c.load_package-whole.ensures.fits)
+    let a = c.args in (
+      job_passes a.job.now a.pack.now (length a.ws.now) a.fields c.requires.0,
+      refl,
+      package_fits c.load_package-whole.ensures.fits,
+    )
 
 pub write_called-requires : goal.write_called-requires
-write_called-requires c =
-    (c.requires.1, (_, c.call_in_way-called.ensures.said))
+write_called-requires c = (c.requires.1, (_, c.call_in_way-called.ensures.said))
 
 pub returns : goal.returns
 returns c = of_two (λ x0 x1. record { result = x0; buffer = x1 })
@@ -31,7 +38,8 @@ returns c = of_two (λ x0 x1. record { result = x0; buffer = x1 })
     let load = c.load_package-whole in
     let said = c.call_in_way-called.ensures.said in
     let is = noble_call a.job.now a.pack.now (length a.ws.now) a.fields c.requires.0 _ load.ensures.is in
-    let whole = ap (bytes_of a.fields.budget) is ∙ sym (alone_is a.job.now a.pack.now (length a.ws.now) a.fields c.requires.0) in (
+    let whole = ap (bytes_of a.fields.budget) is
+    ∙ sym (alone_is a.job.now a.pack.now (length a.ws.now) a.fields c.requires.0) in (
       c.write_called.ensures.result _ said ∙ ap (written_in room) whole,
       c.write_called.ensures.buffer _ said ∙ ap (buffer_in room) whole,
     ))

@@ -1,4 +1,5 @@
--- `list_jobs` is safe and ends: each job begins behind the one before it.
+-- `list_jobs` is safe and ends: each job begins behind the one before it. The loop's invariant: `at` lies in the
+-- input, and no more jobs were listed than there are bytes before `at`. The measure is what is left of the input.
 use Rattle.std.proofs.Common.{◌-◌, ◌≤◌, length}
 use Rattle.orbit_list.proofs.list_jobs.Given as goal
 

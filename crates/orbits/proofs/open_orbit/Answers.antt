@@ -8,7 +8,9 @@ use Rattle.orbits.proofs.Laws.{opened_none}
 use Rattle.orbits.proofs.open_orbit.Goals as goal
 
 pub returns-then-state-bound : goal.returns-then-state-bound
-returns-then-state-bound c = opened_none c.args.bound c.args.state.known c.args.state.count c.args.ws.now c.args.set _ c.requires.1 c.if-state-bound.true
+returns-then-state-bound c =
+    opened_none c.args.bound c.args.state.known c.args.state.count c.args.ws.now c.args.set _ c.requires.1
+    c.if-state-bound.true
 
 pub merge-requires : goal.merge-requires
 merge-requires c =
@@ -18,7 +20,8 @@ merge-requires c =
     let free : c.args.state.count < c.args.bound = omega (arith, room.count_fits, c.if-state-bound.false) in
     let gathers = rw c.seen.ensures at c.gather_images-new.ensures in
     let second = rw c.len-many.ensures.value at c.put-2.ensures in
-    let new = new_sets c.args.bound c.args.state.known c.args.state.count c.args.ws.now c.args.set _ items room few c.ranges.set.fits free _ _ c.put.ensures second gathers in
+    let new = new_sets c.args.bound c.args.state.known c.args.state.count c.args.ws.now c.args.set _ items room few
+    c.ranges.set.fits free _ _ c.put.ensures second gathers in
     (search rules, rw c.as_slice.ensures.value new)
 
 pub returns : goal.returns
@@ -30,4 +33,5 @@ returns c =
     let gathers = rw c.seen.ensures at c.gather_images-new.ensures in
     let second = rw c.len-many.ensures.value at c.put-2.ensures in
     let merged = rw c.as_slice.ensures.value at c.merge.ensures in
-    rw c.len-many.ensures.value (opened_by c.args.bound c.args.state.known c.args.state.count c.args.ws.now c.args.set _ items room few c.ranges.set.fits free _ _ _ c.put.ensures second merged gathers)
+    rw c.len-many.ensures.value (opened_by c.args.bound c.args.state.known c.args.state.count c.args.ws.now c.args.set
+    _ items room few c.ranges.set.fits free _ _ _ c.put.ensures second merged gathers)

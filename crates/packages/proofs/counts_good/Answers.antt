@@ -28,7 +28,8 @@ returns-then-not-between-2 c =
     let a = c.args in
     let rows = ap (between 1 120) (c.from-rows.ensures ∙ c.get.ensures) in
     let size = ap (between 2 20) c.from-size.ensures in
-    counts_size a.n a.pack.now (sym rows ∙ (sym c.between.ensures ∙ c.if-not-between.false)) (sym size ∙ (sym c.between-2.ensures ∙ c.if-not-between-2.true))
+    counts_size a.n a.pack.now (sym rows ∙ (sym c.between.ensures ∙ c.if-not-between.false))
+    (sym size ∙ (sym c.between-2.ensures ∙ c.if-not-between-2.true))
 
 pub returns-then-not-between-3 : goal.returns-then-not-between-3
 returns-then-not-between-3 c =
@@ -36,7 +37,8 @@ returns-then-not-between-3 c =
     let rows = ap (between 1 120) (c.from-rows.ensures ∙ c.get.ensures) in
     let size = ap (between 2 20) c.from-size.ensures in
     let count = ap (between 1 65535) (c.from-count.ensures ∙ c.get-2.ensures) in
-    counts_count a.n a.pack.now (sym rows ∙ (sym c.between.ensures ∙ c.if-not-between.false)) (sym size ∙ (sym c.between-2.ensures ∙ c.if-not-between-2.false))
+    counts_count a.n a.pack.now (sym rows ∙ (sym c.between.ensures ∙ c.if-not-between.false))
+    (sym size ∙ (sym c.between-2.ensures ∙ c.if-not-between-2.false))
     (sym count ∙ (sym c.between-3.ensures ∙ c.if-not-between-3.true))
 
 pub overflow_mul-result : goal.overflow_mul-result
@@ -60,5 +62,6 @@ returns c =
     let size = ap (between 2 20) c.from-size.ensures in
     let count = ap (between 1 65535) (c.from-count.ensures ∙ c.get-2.ensures) in
     rw (c.from-rows.ensures, c.get.ensures, c.from-size.ensures)
-    (counts_length a.n a.pack.now (sym rows ∙ (sym c.between.ensures ∙ c.if-not-between.false)) (sym size ∙ (sym c.between-2.ensures ∙ c.if-not-between-2.false))
+    (counts_length a.n a.pack.now (sym rows ∙ (sym c.between.ensures ∙ c.if-not-between.false))
+    (sym size ∙ (sym c.between-2.ensures ∙ c.if-not-between-2.false))
     (sym count ∙ (sym c.between-3.ensures ∙ c.if-not-between-3.false)))

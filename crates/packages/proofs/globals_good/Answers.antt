@@ -17,5 +17,7 @@ pub returns : goal.returns
 returns c =
     let g = c.args.g in
     let l = c.args.globals.now in
-    all_from_yields_List (λ (i : ℕ). ltb (get_or l i 0) g && not (member_nat (get_or l i 0) (drop (i + 1) l))) _ _ _ c.all.ensures.ran (YieldsList-from_range 0 (length l) (length l) refl (omega arith)) (λ x b q k. search (rules, tests))
+    all_from_yields_List
+    (λ (i : ℕ). ltb (get_or l i 0) g && not (member_nat (get_or l i 0) (drop (i + 1) l))) _ _ _ c.all.ensures.ran
+    (YieldsList-from_range 0 (length l) (length l) refl (omega arith)) (λ x b q k. search (rules, tests))
     ∙ each_once g l

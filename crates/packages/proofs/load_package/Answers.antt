@@ -1,4 +1,5 @@
--- `packages::load_package` meets its contract: global numbers and full rows are copied from where they stand. Assumes nothing.
+-- `packages::load_package` meets its contract: global numbers and full rows are copied from where they stand. Assumes
+-- nothing.
 use mathlib.Core.Path.{◌∙◌}
 use native.Mathlib.Omega.{arith}
 use Rattle.packages.specs.Passed.{loaded_numbers, full_permute, package_fits, package_is}
@@ -27,26 +28,37 @@ copy_rows-requires c =
 pub copy_rows-requires-2 : goal.copy_rows-requires-2
 copy_rows-requires-2 c =
     let k = loaded_numbers c.args.n c.args.pack.now c.requires.0 c.requires.1 in
-    rw (c.from-size.ensures, c.from-rows.ensures, c.get.ensures) (omega (arith, k.size_most), omega (arith, k.long), omega (arith, k.rows_most, c.requires.3))
+    rw (c.from-size.ensures, c.from-rows.ensures, c.get.ensures)
+    (omega (arith, k.size_most), omega (arith, k.long), omega (arith, k.rows_most, c.requires.3))
 
 pub invariant_of-rows : goal.invariant_of-rows
 invariant_of-rows c =
     let k = loaded_numbers c.args.n c.args.pack.now c.requires.0 c.requires.1 in
-    record { room = omega (arith, c.from-rows.ensures, c.get.ensures, k.rows_most, c.copy_rows-2.ensures.rows.1, c.requires.3) }
+    record {
+      room =
+          omega (arith, c.from-rows.ensures, c.get.ensures, k.rows_most, c.copy_rows-2.ensures.rows.1, c.requires.3);
+    }
 
 pub invariant_of-full : goal.invariant_of-full
 invariant_of-full c =
     let full = rw (c.from-size.ensures, c.from-rows.ensures, c.get.ensures) at c.copy_rows-2.ensures.rows in
-    record { permute = rw (c.from-size.ensures, c.from-rows.ensures, c.get.ensures) (full_permute c.args.n c.args.pack.now c.requires.0 c.requires.1 c.copy_rows-2.new.region full.0 (full.1 ∙ c.requires.3)) }
+    record {
+      permute = rw (c.from-size.ensures, c.from-rows.ensures, c.get.ensures) (full_permute c.args.n
+          c.args.pack.now c.requires.0 c.requires.1 c.copy_rows-2.new.region full.0 (full.1 ∙ c.requires.3));
+    }
 
 pub returns-clause-fits : goal.returns-clause-fits
 returns-clause-fits c =
     let globals = c.copy_rows.ensures.rows in
     let full = rw (c.from-size.ensures, c.from-rows.ensures, c.get.ensures) at c.copy_rows-2.ensures.rows in
-    package_fits c.args.n c.args.pack.now c.requires.0 c.requires.1 _ c.from-size.ensures (c.from-rows.ensures ∙ c.get.ensures) (c.from-count.ensures ∙ c.get-2.ensures) globals.0 (globals.1 ∙ c.requires.2) full.0
+    package_fits c.args.n c.args.pack.now c.requires.0 c.requires.1 _ c.from-size.ensures
+    (c.from-rows.ensures ∙ c.get.ensures) (c.from-count.ensures ∙ c.get-2.ensures) globals.0
+    (globals.1 ∙ c.requires.2) full.0
 
 pub returns-clause-is : goal.returns-clause-is
 returns-clause-is c =
     let globals = c.copy_rows.ensures.rows in
     let full = rw (c.from-size.ensures, c.from-rows.ensures, c.get.ensures) at c.copy_rows-2.ensures.rows in
-    package_is c.args.n c.args.pack.now c.requires.0 c.requires.1 _ c.from-size.ensures (c.from-rows.ensures ∙ c.get.ensures) (c.from-count.ensures ∙ c.get-2.ensures) globals.0 (globals.1 ∙ c.requires.2) full.0
+    package_is c.args.n c.args.pack.now c.requires.0 c.requires.1 _ c.from-size.ensures
+    (c.from-rows.ensures ∙ c.get.ensures) (c.from-count.ensures ∙ c.get-2.ensures) globals.0
+    (globals.1 ∙ c.requires.2) full.0

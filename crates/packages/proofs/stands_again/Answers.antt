@@ -1,4 +1,5 @@
--- `packages::stands_again` meets its contract: what is asked of the bytes behind a place is the definition's test of them. Assumes nothing.
+-- `packages::stands_again` meets its contract: what is asked of the bytes behind a place is the definition's test of
+-- them. Assumes nothing.
 use native.Mathlib.Omega.{arith}
 use Rattle.packages.specs.Once.{any_behind}
 use Rattle.packages.proofs.stands_again.Goals as goal

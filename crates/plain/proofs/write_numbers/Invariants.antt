@@ -1,4 +1,5 @@
--- `plain::write_numbers` meets its contract. Invariant: behind the count the first i numbers are written. Measure: the numbers that are left. Assumes nothing.
+-- `plain::write_numbers` meets its contract. Invariant: behind the count the first i numbers are written. Assumes
+-- nothing.
 use Prim.Native.Nat.{◌-◌, ◌≤◌}
 use lib.ListN.{drop}
 use Rattle.words.specs.Words.{words}

@@ -1,4 +1,5 @@
--- `pool::item` meets its contract: a width is at least one byte, so that what fits in the region is a count. Assumes nothing.
+-- `pool::item` meets its contract: a width is at least one byte, so that what fits in the region is a count. Assumes
+-- nothing.
 use Prim.Native.Nat.{ℕ, ◌+◌, ◌*◌, ◌≤◌, ◌<◌}
 use mathlib.Core.Path.{◌≡◌}
 use native.Mathlib.Omega.{arith}
@@ -24,19 +25,26 @@ overflow_add-most g c = omega arith
 
 pub overflow_add-a : goal.overflow_add-a
 unfolding place_at start
-overflow_add-a g c = let h = room _ _ _ _ c.args.i c.args.most _ g.met.T.Word.wide c.BYTES.ensures c.get-a.ensures c.requires.1 in omega arith
+overflow_add-a g c =
+    let h = room _ _ _ _ c.args.i c.args.most _ g.met.T.Word.wide c.BYTES.ensures c.get-a.ensures c.requires.1 in
+    omega arith
 
 pub overflow_mul-BYTES : goal.overflow_mul-BYTES
 unfolding place_at start
-overflow_mul-BYTES g c = let h = room _ _ _ _ c.args.i c.args.most _ g.met.T.Word.wide c.BYTES.ensures c.get-a.ensures c.requires.1 in omega arith
+overflow_mul-BYTES g c =
+    let h = room _ _ _ _ c.args.i c.args.most _ g.met.T.Word.wide c.BYTES.ensures c.get-a.ensures c.requires.1 in
+    omega arith
 
 pub overflow_add-most-2 : goal.overflow_add-most-2
 unfolding place_at start
-overflow_add-most-2 g c = let h = room _ _ _ _ c.args.i c.args.most _ g.met.T.Word.wide c.BYTES.ensures c.get-a.ensures c.requires.1 in omega arith
+overflow_add-most-2 g c =
+    let h = room _ _ _ _ c.args.i c.args.most _ g.met.T.Word.wide c.BYTES.ensures c.get-a.ensures c.requires.1 in
+    omega arith
 
 pub get-requires : goal.get-requires
 unfolding place_at start
-get-requires g c = (room _ _ _ _ c.args.i c.args.most _ g.met.T.Word.wide c.BYTES.ensures c.get-a.ensures c.requires.1).0
+get-requires g c =
+    (room _ _ _ _ c.args.i c.args.most _ g.met.T.Word.wide c.BYTES.ensures c.get-a.ensures c.requires.1).0
 
 pub returns : goal.returns
 unfolding place_at start

@@ -1,4 +1,5 @@
--- `pool::push` meets its contract: the item begins where the open list ends, and a width is at least one byte. Assumes nothing.
+-- `pool::push` meets its contract: the item begins where the open list ends, and a width is at least one byte.
+-- Assumes nothing.
 use Prim.Native.Nat.{ℕ, ◌+◌, ◌*◌, ◌≤◌}
 use mathlib.Core.Path.{◌≡◌}
 use native.Mathlib.Omega.{arith}
@@ -16,11 +17,15 @@ put-requires g c = room _ _ _ _ c.args.most _ c.BYTES.ensures c.get-used.ensures
 
 pub overflow_mul-BYTES : goal.overflow_mul-BYTES
 unfolding used
-overflow_mul-BYTES g c = let h = room _ _ _ _ c.args.most _ c.BYTES.ensures c.get-used.ensures c.requires.0 in omega arith
+overflow_mul-BYTES g c =
+    let h = room _ _ _ _ c.args.most _ c.BYTES.ensures c.get-used.ensures c.requires.0 in
+    omega arith
 
 pub overflow_add-most-2 : goal.overflow_add-most-2
 unfolding used
-overflow_add-most-2 g c = let h = room _ _ _ _ c.args.most _ c.BYTES.ensures c.get-used.ensures c.requires.0 in omega arith
+overflow_add-most-2 g c =
+    let h = room _ _ _ _ c.args.most _ c.BYTES.ensures c.get-used.ensures c.requires.0 in
+    omega arith
 
 pub overflow_add-used : goal.overflow_add-used
 unfolding used

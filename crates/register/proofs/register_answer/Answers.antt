@@ -1,4 +1,5 @@
--- `register::register_answer` meets its contract: what came of the job is its return value, whatever the bytes and lengths; the demands follow from code and buffer. Assumes nothing.
+-- `register::register_answer` meets its contract: what came of the job is its return value, whatever the bytes and
+-- lengths; the demands follow from code and buffer. Assumes nothing.
 use mathlib.Core.Path.{sym, ap, ◌∙◌}
 use Prim.Native.Nat.{ℕ}
 use native.Mathlib.Omega.{arith}
@@ -16,14 +17,21 @@ use Rattle.register.proofs.Sizes.{written_fits}
 use Rattle.register.proofs.register_answer.Goals as goal
 
 pub answer_job-requires : goal.answer_job-requires
-answer_job-requires c =
-    c.fill.ensures.after (λ y e. e) ∙ ap (λ (k : ℕ). replicate k 0) (sym c.fill.auto.self)
+answer_job-requires c = c.fill.ensures.after (λ y e. e) ∙ ap (λ (k : ℕ). replicate k 0) (sym c.fill.auto.self)
 
 pub code-requires : goal.code-requires
 code-requires c = written_fits _ _ _ c.answer_job.ensures.result (omega (arith, c.fill.auto.self))
 
 pub returns : goal.returns
-returns c = in_six (λ x0 x1 x2 x3 x4 x5. record { code = x0; buffer = x1; first = x2; second = x3; third = x4; symmetry = x5 })
+returns c =
+    in_six (λ x0 x1 x2 x3 x4 x5. record {
+      code = x0;
+      buffer = x1;
+      first = x2;
+      second = x3;
+      third = x4;
+      symmetry = x5;
+    })
     (let job = c.args.job.now in
     let size = length c.args.workspace.now in
     let room = length c.args.answer.now in

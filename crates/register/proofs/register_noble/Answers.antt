@@ -1,4 +1,5 @@
--- `register::register_noble` meets its contract: what came of the job with its package is its return value, whatever the bytes and lengths; the demands follow from code and buffer. Assumes nothing.
+-- `register::register_noble` meets its contract: what came of the job with its package is its return value, whatever
+-- the bytes and lengths; the demands follow from code and buffer. Assumes nothing.
 use mathlib.Core.Path.{sym, ap, ◌∙◌}
 use Prim.Native.Nat.{ℕ}
 use native.Mathlib.Omega.{arith}
@@ -15,14 +16,21 @@ use Rattle.register.proofs.Sizes.{written_fits}
 use Rattle.register.proofs.register_noble.Goals as goal
 
 pub noble_job-requires : goal.noble_job-requires
-noble_job-requires c =
-    c.fill.ensures.after (λ y e. e) ∙ ap (λ (k : ℕ). replicate k 0) (sym c.fill.auto.self)
+noble_job-requires c = c.fill.ensures.after (λ y e. e) ∙ ap (λ (k : ℕ). replicate k 0) (sym c.fill.auto.self)
 
 pub code-requires : goal.code-requires
 code-requires c = written_fits _ _ _ c.noble_job.ensures.result (omega (arith, c.fill.auto.self))
 
 pub returns : goal.returns
-returns c = in_six (λ x0 x1 x2 x3 x4 x5. record { code = x0; buffer = x1; first = x2; second = x3; third = x4; symmetry = x5 })
+returns c =
+    in_six (λ x0 x1 x2 x3 x4 x5. record {
+      code = x0;
+      buffer = x1;
+      first = x2;
+      second = x3;
+      third = x4;
+      symmetry = x5;
+    })
     (let job = c.args.job.now in
     let pack = c.args.pack.now in
     let size = length c.args.workspace.now in
@@ -32,4 +40,5 @@ returns c = in_six (λ x0 x1 x2 x3 x4 x5. record { code = x0; buffer = x1; first
     let fits : SFits w64 c.code.result = search rules in
     meets_all job pack size room
     (to_z-of_z fits ∙ (c.code.ensures ∙ code_is job pack size room told))
-    (c.noble_job.ensures.buffer ∙ (ap (λ (k : ℕ). buffer_in k (noble_alone job pack size)) same ∙ buffer_is job pack size room)))
+    (c.noble_job.ensures.buffer
+    ∙ (ap (λ (k : ℕ). buffer_in k (noble_alone job pack size)) same ∙ buffer_is job pack size room)))

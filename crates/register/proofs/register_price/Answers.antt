@@ -1,4 +1,5 @@
--- `register::register_price` meets its contract: the quote's refusal or its total, as the return value, and the buffer that was left with it. Assumes nothing.
+-- `register::register_price` meets its contract: the quote's refusal or its total, as the return value, and the
+-- buffer that was left with it. Assumes nothing.
 use mathlib.Core.Path.{ap, ◌∙◌}
 use Prim.Native.Nat.{ℕ}
 use lib.IntN.{pos, neg_ℤ}
@@ -20,7 +21,8 @@ returns-in-Err c = of_three (λ x0 x1 x2. record { code = x0; total = x1; buffer
     let room = length c.args.answer.now in
     let told = c.in-Err.ensures.result in
     let fits : SFits w64 c.refusal.result = search rules in
-    let code = to_z-of_z fits ∙ (c.refusal.ensures ∙ (ap (λ (n : ℕ). neg_ℤ (pos n)) c.number.ensures ∙ ap quote_code told)) in
+    let code = to_z-of_z fits
+    ∙ (c.refusal.ensures ∙ (ap (λ (n : ℕ). neg_ℤ (pos n)) c.number.ensures ∙ ap quote_code told)) in
     (code, (λ h. code ∙ ap quote_code (enough_room room o h)), c.quote_job.ensures.buffer))
 
 pub overflow_cast-result : goal.overflow_cast-result

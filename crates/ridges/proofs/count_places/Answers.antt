@@ -1,3 +1,5 @@
+-- `ridges::count_places` meets its contract: a place in one of the ridge orbits is counted (`counted_joins`), another
+-- is passed (`all_stay`), and at the end all places were looked at (`all_end`).
 use mathlib.Core.Path.{◌∙◌}
 use mathlib.Core.List.{[]}
 use Prim.Native.Nat.{◌%◌, ◌<◌}
@@ -21,18 +23,28 @@ item-code-requires c =
 pub overflow_add-counted : goal.overflow_add-counted
 overflow_add-counted c =
     let l = c.loop-i in
-    omega (arith, counted_few l.counted l.invariant.2 (c.item-code.result % 65536) c.if-ridge-ridges.true, l.invariant.0, c.list_length-n.type_inv)
+    omega (
+      arith,
+      counted_few l.counted l.invariant.2 (c.item-code.result % 65536) c.if-ridge-ridges.true,
+      l.invariant.0,
+      c.list_length-n.type_inv,
+    )
 
 pub loop-i-preserved : goal.loop-i-preserved
 loop-i-preserved c =
     let l = c.loop-i in
-    let h : l.i < length (get_or (closed_lists 4 1024 c.args.shares.now) c.args.x []) = omega (arith, l.invariant.0, c.loop-i-test.true) in
+    let h : l.i < length (get_or (closed_lists 4 1024 c.args.shares.now) c.args.x []) =
+    omega (arith, l.invariant.0, c.loop-i-test.true) in
     let v = c.item-code.ensures ∙ item_read 4 1024 _ c.requires.0 c.args.x c.requires.1 l.i h in (
       l.invariant.0,
       omega arith,
       elim c.if-ridge-ridges.branch [
-        | then-ridge-ridges w ↦ rw (w.counted-is) (counted_joins l.counted l.invariant.2 h c.item-code.result v (omega (arith, c.item-code.type_inv)) c.requires.2 w.if-ridge-ridges.true)
-        | else-ridge-ridges w ↦ rw (w.counted-is) (all_stay l.invariant.2 h c.item-code.result v (omega (arith, c.item-code.type_inv)) c.requires.2 w.if-ridge-ridges.false)
+        | then-ridge-ridges w ↦ rw (w.counted-is) (counted_joins l.counted l.invariant.2 h c.item-code.result v
+            (omega (arith, c.item-code.type_inv)) c.requires.2 w.if-ridge-ridges.true)
+        | else-ridge-ridges w ↦ rw (w.counted-is) (all_stay l.invariant.2 h c.item-code.result v (omega (
+          arith,
+          c.item-code.type_inv,
+        )) c.requires.2 w.if-ridge-ridges.false)
       ],
     )
 

@@ -1,4 +1,4 @@
--- `count_places` meets its contract. The loop's invariant: the first i places are counted, each for its ridge orbit. The measure is what is left of them.
+-- `count_places` meets its contract. The loop's invariant: the first i places are counted, each for its ridge orbit.
 use mathlib.Core.Path.{◌≡◌}
 use mathlib.Core.List.{[]}
 use Prim.Native.Nat.{◌≤◌}
@@ -9,4 +9,6 @@ use Rattle.ridges.proofs.Tables.{AddingAll}
 use Rattle.ridges.proofs.count_places.Given as goal
 
 abbrev pub invariant-loop-i : goal.invariant-loop-i
-invariant-loop-i l = (l.n ≡ length (get_or (closed_lists 4 1024 l.shares) l.x [])) × (l.i ≤ l.n) × AddingAll l.ridges (get_or (closed_lists 4 1024 l.shares) l.x []) (many_in l.counted) (last_in l.counted) l.i
+invariant-loop-i l =
+    (l.n ≡ length (get_or (closed_lists 4 1024 l.shares) l.x [])) × (l.i ≤ l.n)
+    × AddingAll l.ridges (get_or (closed_lists 4 1024 l.shares) l.x []) (many_in l.counted) (last_in l.counted) l.i

@@ -1,4 +1,4 @@
--- `ones_of_facet` meets its contract. The loop's invariant: the shares of 1 among the first i places are pushed. The measure is what is left of them.
+-- `ones_of_facet` meets its contract. The loop's invariant: the shares of 1 among the first i places are pushed.
 use mathlib.Core.Path.{◌≡◌}
 use mathlib.Core.List.{[]}
 use Prim.Native.Nat.{◌≤◌}
@@ -9,4 +9,9 @@ use Rattle.ridges.specs.Codes.{ones_in}
 use Rattle.ridges.proofs.ones_of_facet.Given as goal
 
 abbrev pub invariant-loop-i : goal.invariant-loop-i
-invariant-loop-i l = (length l.ws ≡ length l.initial.ws) × (l.n ≡ length (get_or (closed_lists 4 1024 (area l.desk.shares l.desk.touched l.initial.ws)) l.x [])) × (l.i ≤ l.n) × Joined l.desk.ones l.desk.frames 2 l.ridges l.initial.ws l.ws (ones_in l.ridge l.x (take l.i (get_or (closed_lists 4 1024 (area l.desk.shares l.desk.touched l.initial.ws)) l.x [])))
+invariant-loop-i l =
+    (length l.ws ≡ length l.initial.ws) × (l.n
+    ≡ length (get_or (closed_lists 4 1024 (area l.tables.shares l.tables.touched l.initial.ws)) l.x []))
+    × (l.i ≤ l.n)
+    × Joined l.tables.ones l.tables.frames 2 l.ridges l.initial.ws l.ws (ones_in l.ridge l.x (take l.i
+    (get_or (closed_lists 4 1024 (area l.tables.shares l.tables.touched l.initial.ws)) l.x [])))

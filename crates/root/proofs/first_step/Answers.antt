@@ -7,10 +7,17 @@ pub overflow_mul-result : goal.overflow_mul-result
 overflow_mul-result c = omega (arith, start_range c.args.n c.start-s.result c.requires.0 c.requires.1 c.start-s.ensures)
 
 pub nonzero_div-result-2 : goal.nonzero_div-result-2
-nonzero_div-result-2 c = omega (arith, start_range c.args.n c.start-s.result c.requires.0 c.requires.1 c.start-s.ensures)
+nonzero_div-result-2 c =
+    omega (arith, start_range c.args.n c.start-s.result c.requires.0 c.requires.1 c.start-s.ensures)
 
 pub overflow_add-result : goal.overflow_add-result
-overflow_add-result c = omega (arith, start_range c.args.n c.start-s.result c.requires.0 c.requires.1 c.start-s.ensures, quotient_small c.args.n c.start-s.result c.requires.0 c.requires.1 c.start-s.ensures)
+overflow_add-result c =
+    omega (
+      arith,
+      start_range c.args.n c.start-s.result c.requires.0 c.requires.1 c.start-s.ensures,
+      quotient_small c.args.n c.start-s.result c.requires.0 c.requires.1 c.start-s.ensures,
+    )
 
 pub returns : goal.returns
-returns c = first_step c.args.n c.start-s.result c.requires.0 c.requires.1 c.start-s.ensures _ (omega arith) (omega arith)
+returns c =
+    first_step c.args.n c.start-s.result c.requires.0 c.requires.1 c.start-s.ensures _ (omega arith) (omega arith)

@@ -1,4 +1,5 @@
--- `root::root` meets its contract: NaN, zeros, what is refused and the rest, as the tests on the bits tell them apart. Assumes nothing.
+-- `root::root` meets its contract: NaN, zeros, what is refused and the rest, as the tests on the bits tell them
+-- apart. Assumes nothing.
 use mathlib.Core.Path.{sym, ◌∙◌}
 use native.Mathlib.Omega.{arith}
 use Rattle.root.specs.Special.{nan_refused, no_nan_bits, is_zero, is_refused_holds, is_value}

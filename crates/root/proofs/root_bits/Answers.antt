@@ -15,7 +15,10 @@ whole_root-r-requires c =
 pub overflow_add-result : goal.overflow_add-result
 overflow_add-result c =
     let s = c.scale-s in
-    omega (arith, root_range s.result.q s.result.w s.ensures.low s.ensures.high c.whole_root-r.result c.whole_root-r.ensures)
+    omega (
+      arith,
+      root_range s.result.q s.result.w s.ensures.low s.ensures.high c.whole_root-r.result c.whole_root-r.ensures,
+    )
 
 pub overflow_mul-result : goal.overflow_mul-result
 overflow_mul-result c = omega (arith, c.scale-s.ensures.reach)

@@ -1,4 +1,5 @@
--- `root::start` meets its contract: the rule is one test, which the checker computes over all arguments with the program's own coefficients. Assumes nothing.
+-- `root::start` meets its contract: the rule is one test, which the checker computes over all arguments with the
+-- program's own coefficients. Assumes nothing.
 use Rattle.definitions.specs.Lists.{all_of, count_from}
 use Rattle.root.specs.Start.{cubic, is_start, gives_starts, start_rule, product_le, product_lt, sum_lt}
 use Rattle.root.proofs.start.Goals as goal

@@ -7,7 +7,11 @@ use Rattle.sets.proofs.refit.Goals as goal
 pub returns-then-plane-wanted : goal.returns-then-plane-wanted
 unfolding refitted_plane plane_in
 returns-then-plane-wanted c = let e = c.from_points-plane.ensures in
-    record { answer = rw (e.0.means, eq-eqb _ _ (sym e.0.rank_is ∙ c.if-plane-wanted.true)) refl; holds = e.0; same_d = e.1 }
+    record {
+      answer = rw (e.0.means, eq-eqb _ _ (sym e.0.rank_is ∙ c.if-plane-wanted.true)) refl;
+      holds = e.0;
+      same_d = e.1;
+    }
 
 pub returns-else-plane-wanted : goal.returns-else-plane-wanted
 unfolding refitted_plane plane_in

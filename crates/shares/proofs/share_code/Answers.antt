@@ -1,39 +1,88 @@
 -- `share_code` meets its contract: what it reads stands there, and the numbers stay small.
 use native.Mathlib.Omega.{arith}
-use Rattle.shares.proofs.Sharing.{orbit_few, orbit_asks, ridge_asks, number_asks, ridge_inside, product_small, part_small, code_made, code_none}
+use Rattle.shares.proofs.Sharing.{orbit_few, orbit_asks, ridge_asks, number_asks, ridge_inside, product_small}
+use Rattle.shares.proofs.Sharing.{part_small, code_made, code_none}
 use lib.ListN.{get_or}
 use mathlib.Core.Path.{refl, ◌∙◌}
 use Rattle.shares.proofs.share_code.Goals as goal
 
 pub overflow_mul-o : goal.overflow_mul-o
-overflow_mul-o c = omega (arith, orbit_few c.args.shelf c.args.desk c.args.ws.now c.args.counts.now c.requires.0 c.requires.1 c.args.o c.requires.2)
+overflow_mul-o c =
+    omega (
+      arith,
+      orbit_few c.args.layout c.args.tables c.args.ws.now c.args.counts.now c.requires.0
+          c.requires.1 c.args.o c.requires.2,
+    )
 
 pub overflow_add-o : goal.overflow_add-o
-overflow_add-o c = omega (arith, orbit_few c.args.shelf c.args.desk c.args.ws.now c.args.counts.now c.requires.0 c.requires.1 c.args.o c.requires.2)
+overflow_add-o c =
+    omega (
+      arith,
+      orbit_few c.args.layout c.args.tables c.args.ws.now c.args.counts.now c.requires.0
+          c.requires.1 c.args.o c.requires.2,
+    )
 
 pub get-own-requires : goal.get-own-requires
-get-own-requires c = orbit_asks c.args.shelf c.args.desk c.args.ws.now c.args.counts.now c.requires.0 c.requires.1 c.args.o c.requires.2
+get-own-requires c =
+    orbit_asks c.args.layout c.args.tables c.args.ws.now c.args.counts.now c.requires.0 c.requires.1 c.args.o
+    c.requires.2
 
 pub item-inner-requires : goal.item-inner-requires
-item-inner-requires c = ridge_asks c.args.shelf c.args.desk c.args.ws.now c.args.counts.now c.requires.0 c.requires.1 c.args.o c.requires.2 c.args.a c.requires.3
+item-inner-requires c =
+    ridge_asks c.args.layout c.args.tables c.args.ws.now c.args.counts.now c.requires.0 c.requires.1 c.args.o
+    c.requires.2 c.args.a c.requires.3
 
 pub item-requires : goal.item-requires
-item-requires c = number_asks c.args.shelf c.args.desk c.args.ws.now c.args.counts.now c.requires.0 c.requires.1 c.args.o c.requires.2 c.args.a c.requires.3
+item-requires c =
+    number_asks c.args.layout c.args.tables c.args.ws.now c.args.counts.now c.requires.0 c.requires.1 c.args.o
+    c.requires.2 c.args.a c.requires.3
 
 pub bounds-counts-ridge : goal.bounds-counts-ridge
-bounds-counts-ridge c = omega (arith, ridge_inside c.args.shelf c.args.desk c.args.ws.now c.args.counts.now c.requires.0 c.requires.1 c.args.o c.requires.2 c.args.a c.requires.3 _ _ _ c.get-own.ensures c.item-inner.ensures (c.from-ridge.ensures ∙ c.item.ensures))
+bounds-counts-ridge c =
+    omega (
+      arith,
+      ridge_inside c.args.layout c.args.tables c.args.ws.now c.args.counts.now c.requires.0 c.requires.1
+          c.args.o c.requires.2 c.args.a c.requires.3 _ _ _ c.get-own.ensures c.item-inner.ensures
+          (c.from-ridge.ensures ∙ c.item.ensures),
+    )
 
 pub returns-then-all-eq0 : goal.returns-then-all-eq0
-returns-then-all-eq0 c = code_none c.args.shelf c.args.desk c.args.ws.now c.args.counts.now c.requires.0 c.requires.1 c.args.o c.requires.2 c.args.a c.requires.3 _ _ _ c.get-own.ensures c.item-inner.ensures (c.from-ridge.ensures ∙ c.item.ensures) _ refl c.if-all-eq0.true
+returns-then-all-eq0 c =
+    code_none c.args.layout c.args.tables c.args.ws.now c.args.counts.now c.requires.0 c.requires.1 c.args.o
+    c.requires.2 c.args.a c.requires.3 _ _ _ c.get-own.ensures c.item-inner.ensures
+    (c.from-ridge.ensures ∙ c.item.ensures) _ refl c.if-all-eq0.true
 
 pub overflow_mul-result : goal.overflow_mul-result
-overflow_mul-result c = omega (arith, product_small c.args.shelf c.args.desk c.args.ws.now c.args.counts.now c.requires.0 c.requires.1 c.args.o c.requires.2 c.args.a c.requires.3 _ _ _ c.get-own.ensures c.item-inner.ensures (c.from-ridge.ensures ∙ c.item.ensures))
+overflow_mul-result c =
+    omega (
+      arith,
+      product_small c.args.layout c.args.tables c.args.ws.now c.args.counts.now c.requires.0 c.requires.1
+          c.args.o c.requires.2 c.args.a c.requires.3 _ _ _ c.get-own.ensures c.item-inner.ensures
+          (c.from-ridge.ensures ∙ c.item.ensures),
+    )
 
 pub overflow_mul-result-2 : goal.overflow_mul-result-2
-overflow_mul-result-2 c = omega (arith, part_small c.args.shelf c.args.desk c.args.ws.now c.args.counts.now c.requires.0 c.requires.1 c.args.o c.requires.2 c.args.a c.requires.3 _ _ _ c.get-own.ensures c.item-inner.ensures (c.from-ridge.ensures ∙ c.item.ensures) (get_or c.args.counts.now c.from-ridge.result 0))
+overflow_mul-result-2 c =
+    omega (
+      arith,
+      part_small c.args.layout c.args.tables c.args.ws.now c.args.counts.now c.requires.0 c.requires.1
+          c.args.o c.requires.2 c.args.a c.requires.3 _ _ _ c.get-own.ensures c.item-inner.ensures
+          (c.from-ridge.ensures ∙ c.item.ensures) (get_or c.args.counts.now c.from-ridge.result 0),
+    )
 
 pub overflow_add-result : goal.overflow_add-result
-overflow_add-result c = omega (arith, c.item.type_inv, c.from-ridge.ensures, part_small c.args.shelf c.args.desk c.args.ws.now c.args.counts.now c.requires.0 c.requires.1 c.args.o c.requires.2 c.args.a c.requires.3 _ _ _ c.get-own.ensures c.item-inner.ensures (c.from-ridge.ensures ∙ c.item.ensures) (get_or c.args.counts.now c.from-ridge.result 0))
+overflow_add-result c =
+    omega (
+      arith,
+      c.item.type_inv,
+      c.from-ridge.ensures,
+      part_small c.args.layout c.args.tables c.args.ws.now c.args.counts.now c.requires.0 c.requires.1 c.args.o
+          c.requires.2 c.args.a c.requires.3 _ _ _ c.get-own.ensures c.item-inner.ensures
+          (c.from-ridge.ensures ∙ c.item.ensures) (get_or c.args.counts.now c.from-ridge.result 0),
+    )
 
 pub returns : goal.returns
-returns c = code_made c.args.shelf c.args.desk c.args.ws.now c.args.counts.now c.requires.0 c.requires.1 c.args.o c.requires.2 c.args.a c.requires.3 _ _ _ c.get-own.ensures c.item-inner.ensures (c.from-ridge.ensures ∙ c.item.ensures) _ refl
+returns c =
+    code_made c.args.layout c.args.tables c.args.ws.now c.args.counts.now c.requires.0 c.requires.1 c.args.o
+    c.requires.2 c.args.a c.requires.3 _ _ _ c.get-own.ensures c.item-inner.ensures
+    (c.from-ridge.ensures ∙ c.item.ensures) _ refl

@@ -9,7 +9,8 @@ pub returns-then-facets-a-clause-found : goal.returns-then-facets-a-clause-found
 returns-then-facets-a-clause-found c = outside_table c.args.s.now c.args.facets c.args.a c.if-facets-a.true
 
 pub returns-clause-found : goal.returns-clause-found
-returns-clause-found c = c.components.ensures ∙ inside_table c.args.s.now c.args.facets c.args.a c.get.result (omega arith) c.get.ensures
+returns-clause-found c =
+    c.components.ensures ∙ inside_table c.args.s.now c.args.facets c.args.a c.get.result (omega arith) c.get.ensures
 
 pub returns-clause-small : goal.returns-clause-small
 returns-clause-small c = subst Halves (sym c.components.ensures) (halves c.get.result (omega arith))

@@ -1,4 +1,5 @@
--- `splitting::split_list` meets its contract. The loop's invariant: the parts of the first i facets are pushed. Assumes nothing.
+-- `splitting::split_list` meets its contract. The loop's invariant: the parts of the first i facets are pushed.
+-- Assumes nothing.
 use Rattle.splitting.proofs.Lists.{Splits1}
 use Rattle.splitting.proofs.split_list.Given as goal
 

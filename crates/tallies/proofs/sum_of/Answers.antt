@@ -15,7 +15,8 @@ bounds-tallies-k c = latest_opened _ _ _ _ c.requires.1 (sym (sym c.in-Some.is �
 pub returns-in-Some : goal.returns-in-Some
 returns-in-Some c =
     let e = sym (sym c.in-Some.is ∙ c.mark_of.ensures) in
-    sym (column_at (λ (t : Tally). t.sum) c.args.tallies.now _ _ (latest_opened _ _ _ _ c.requires.1 e)) ∙ sum_found _ _ _ _ e
+    sym (column_at (λ (t : Tally). t.sum) c.args.tallies.now _ _ (latest_opened _ _ _ _ c.requires.1 e))
+    ∙ sum_found _ _ _ _ e
 
 pub returns-in-None : goal.returns-in-None
 returns-in-None c = sum_none _ _ _ (sym (sym c.in-None.is ∙ c.mark_of.ensures))

@@ -1,4 +1,5 @@
--- `totals::leave` meets its contract. The loop's invariant: the workspace is the one at the start with the totals of the first i codes taken off. The measure is what is left of the codes. Assumes nothing.
+-- `totals::leave` meets its contract. The loop's invariant: the workspace is the one at the start with the totals of
+-- the first i codes taken off. Assumes nothing.
 use mathlib.Core.Path.{◌≡◌}
 use Prim.Native.Nat.{◌-◌, ◌≤◌}
 use Rattle.totals.specs.Change.{after_codes}

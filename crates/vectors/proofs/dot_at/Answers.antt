@@ -1,3 +1,4 @@
+-- `vectors::dot_at` meets its contract: a turn adds one product (`dot_more`), and at the end i is d.
 use mathlib.Core.Path.{◌≡◌, refl}
 use Prim.Native.Nat.{◌<◌}
 use native.Mathlib.Omega.{arith}
@@ -16,8 +17,13 @@ pub loop-i-preserved : goal.loop-i-preserved
 loop-i-preserved c =
     let l = c.loop-i in
     let a = c.args in
-    let fits-b : l.i < length (drop a.at a.b.now) = omega (arith, length-drop a.at a.b.now) in
-    (omega arith, rw (l.invariant.1, ← (get_or-drop a.at a.b.now l.i nan)) (dot_more a.a.now (drop a.at a.b.now) l.i (omega arith) fits-b))
+    let fits-b : l.i < length (drop a.at a.b.now) = omega (arith, length-drop a.at a.b.now) in (
+      omega arith,
+      rw (
+        l.invariant.1,
+        ← (get_or-drop a.at a.b.now l.i nan),
+      ) (dot_more a.a.now (drop a.at a.b.now) l.i (omega arith) fits-b),
+    )
 
 pub returns : goal.returns
 returns c =

@@ -1,4 +1,5 @@
--- `dot_at` meets its contract. The invariant: the sum is the dot product of the first i numbers. Leans on the laws of this crate.
+-- `dot_at` meets its contract. The invariant: the sum is the dot product of the first i numbers. Leans on the laws of
+-- this crate.
 use mathlib.Core.Path.{◌≡◌}
 use Prim.Native.Nat.{◌≤◌}
 use lib.ListN.{take, drop}

@@ -1,3 +1,5 @@
+-- `vectors::gain` meets its contract: one number more gains its part in a turn (`plus_times_more`). At the end i is
+-- d, and the front with the rest as it was is the whole (`whole`).
 use mathlib.Core.Path.{◌≡◌, refl, ◌∙◌}
 use Prim.Native.Nat.{◌+◌, ◌<◌}
 use native.Mathlib.Omega.{arith}
@@ -23,7 +25,8 @@ loop-i-preserved c =
       omega arith,
       length-set l.q l.i _ ∙ l.invariant.1,
       take_more_set l.q l.i _ (omega (arith, l.invariant.1))
-          ∙ rw (l.invariant.2, same.0, ← (get_or-drop a.at a.b.now l.i nan)) (plus_times_more a.q.now (drop a.at a.b.now) l.i (omega arith) fits-b a.s),
+          ∙ rw (l.invariant.2, same.0, ← (get_or-drop a.at a.b.now l.i nan))
+          (plus_times_more a.q.now (drop a.at a.b.now) l.i (omega arith) fits-b a.s),
       drop-set-lt (l.i + 1) l.q l.i _ (omega arith) ∙ same.1,
     )
 

@@ -1,3 +1,5 @@
+-- `vectors::normalise` meets its contract: a turn divides one number more (`take_more_set`). At the end i is d, and
+-- the front with the zeros behind it is the whole (`whole`).
 use mathlib.Core.Path.{◌≡◌, refl, sym, ◌∙◌}
 use Prim.Native.Nat.{◌+◌}
 use native.Mathlib.Omega.{arith}
@@ -30,5 +32,8 @@ pub returns : goal.returns
 unfolding normalised five
 returns c =
     let l = c.loop-i in
-    let end : l.i ≡ c.args.d = omega arith in
-    (rw (← c.norm-length.ensures, ← end) (whole l.r (zeros 5) _ l.i (omega (arith, l.invariant.1)) l.invariant.2 l.invariant.3), c.norm-length.ensures)
+    let end : l.i ≡ c.args.d = omega arith in (
+      rw (← c.norm-length.ensures, ← end)
+          (whole l.r (zeros 5) _ l.i (omega (arith, l.invariant.1)) l.invariant.2 l.invariant.3),
+      c.norm-length.ensures,
+    )

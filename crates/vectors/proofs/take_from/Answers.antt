@@ -1,3 +1,5 @@
+-- `vectors::take_from` meets its contract: a turn writes one difference more (`minus_more`). At the end i is d, and
+-- the front with the rest as it was is the whole (`whole`).
 use mathlib.Core.Path.{◌≡◌, refl, ◌∙◌}
 use Prim.Native.Nat.{◌+◌, ◌<◌}
 use native.Mathlib.Omega.{arith}
@@ -21,7 +23,10 @@ loop-i-preserved c =
     let fits-p : l.i < length (drop a.at a.p.now) = omega (arith, length-drop a.at a.p.now) in (
       omega arith,
       length-set l.out l.i _ ∙ l.invariant.1,
-      take_more_set l.out l.i _ (omega (arith, l.invariant.1)) ∙ rw (l.invariant.2, ← (get_or-drop a.at a.p.now l.i nan)) (minus_more (drop a.at a.p.now) a.q.now l.i fits-p (omega arith)),
+      take_more_set l.out l.i _ (omega (arith, l.invariant.1)) ∙ rw (
+        l.invariant.2,
+        ← (get_or-drop a.at a.p.now l.i nan),
+      ) (minus_more (drop a.at a.p.now) a.q.now l.i fits-p (omega arith)),
       drop-set-lt (l.i + 1) l.out l.i _ (omega arith) ∙ (rest_same l.out a.out.now l.i nan l.invariant.3).1,
     )
 

@@ -1,11 +1,13 @@
+-- `writing::write_summaries` meets its contract: a turn writes the summary of one entry more (`flat_more`), and at
+-- the end k is the number of entries (`take_all`).
 use mathlib.Core.Path.{ap}
 use mathlib.Core.List.{[], flat_map}
 use Prim.Native.Nat.{◌<◌}
 use native.Mathlib.Omega.{arith}
 use lib.ListN.{length}
 use lib.Seq.{take_all}
-use Rattle.shelf.specs.declared.Level.{Level}
-use Rattle.shelf.specs.Leaves.{lists_left}
+use Rattle.layout.specs.declared.Level.{Level}
+use Rattle.layout.specs.Leaves.{lists_left}
 use Rattle.words.specs.Wrote.{writes_none, writes_then, writes_as}
 use Rattle.writing.specs.Asked.{many_lists}
 use Rattle.figure_words.specs.Laws.{flat_more}
@@ -24,10 +26,14 @@ loop-k-preserved g c =
     let left = c.left-left in
     let level = g.T.EntryFigure.level c.args.figures.now in
     let lists = lists_left level (g.T.EntryFigure.ws c.args.figures.now) in
-    let below : at-loop.k < level.count = omega (arith, ap (λ (l : Level). l.count) left.ensures.0, c.loop-k-test.true) in
+    let below : at-loop.k
+    < level.count = omega (arith, ap (λ (l : Level). l.count) left.ensures.0, c.loop-k-test.true) in
     let standing = rw (left.ensures.0, left.ensures.1) at left.result.standing in
-    let here : at-loop.k < length lists = omega (arith, many_lists standing, below) in
-    (omega arith, writes_as (writes_then at-loop.invariant.1 c.write_summary.ensures) (flat_more (g.T.EntryFigure.summary c.args.figures.now) lists at-loop.k [] here))
+    let here : at-loop.k < length lists = omega (arith, many_lists standing, below) in (
+      omega arith,
+      writes_as (writes_then at-loop.invariant.1 c.write_summary.ensures)
+          (flat_more (g.T.EntryFigure.summary c.args.figures.now) lists at-loop.k [] here),
+    )
 
 pub returns : goal.returns
 returns g c =
@@ -36,4 +42,5 @@ returns g c =
     let lists = lists_left (g.T.EntryFigure.level c.args.figures.now) (g.T.EntryFigure.ws c.args.figures.now) in
     let same = ap (λ (l : Level). l.count) left.ensures.0 in
     let standing = rw (left.ensures.0, left.ensures.1) at left.result.standing in
-    writes_as at-loop.invariant.1 (ap (flat_map (g.T.EntryFigure.summary c.args.figures.now)) (take_all at-loop.k lists (omega (arith, same, many_lists standing, c.loop-k-test.false))))
+    writes_as at-loop.invariant.1 (ap (flat_map (g.T.EntryFigure.summary c.args.figures.now))
+    (take_all at-loop.k lists (omega (arith, same, many_lists standing, c.loop-k-test.false))))

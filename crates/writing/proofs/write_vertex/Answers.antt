@@ -4,4 +4,6 @@ use Rattle.writing.proofs.Segments.{ridge_words}
 use Rattle.writing.proofs.write_vertex.Goals as goal
 
 pub returns : goal.returns
-returns c = writes_as (writes_then c.push_three.ensures (writes_then c.push_three-2.ensures c.push_three-3.ensures)) (ridge_words _)
+returns c =
+    writes_as (writes_then c.push_three.ensures (writes_then c.push_three-2.ensures c.push_three-3.ensures))
+    (ridge_words _)

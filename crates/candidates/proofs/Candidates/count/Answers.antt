@@ -1,4 +1,5 @@
--- `Candidates::count` meets its contract. How many candidates there are follows from the laws of Numbers. Assumes nothing.
+-- `Candidates::count` meets its contract. How many candidates there are follows from the laws of Numbers. Assumes
+-- nothing.
 use mathlib.Core.Path.{sym, ◌∙◌}
 use Rattle.std.specs.Prelude.{Some}
 use Rattle.facets.specs.Numbers.{kind_length, numbers_all_length}

@@ -1,4 +1,5 @@
--- `Candidates::facet` meets its contract. The item that is read is the candidate, by the laws of Numbers. Assumes nothing.
+-- `Candidates::facet` meets its contract. The item that is read is the candidate, by the laws of Numbers. Assumes
+-- nothing.
 use native.Mathlib.Omega.{arith}
 use mathlib.Core.Path.{sym, ◌∙◌}
 use Prim.Native.Nat.{◌<◌}
@@ -18,7 +19,8 @@ returns-in-None c = λ t h.
 pub item-requires : goal.item-requires
 item-requires c =
     let k = c.args.self.kind_in c.in-Some.ridge c.in-Some.is in
-    rw c.ones-ones.ensures (kind_room c.requires.0 c.args.self.areas c.args.self.ws.now c.requires.1 c.in-Some.ridge c.args.i k (rw c.in-Some.is at c.requires.2))
+    rw c.ones-ones.ensures (kind_room c.requires.0 c.args.self.areas c.args.self.ws.now c.requires.1 c.in-Some.ridge
+    c.args.i k (rw c.in-Some.is at c.requires.2))
 
 pub returns-in-Some : goal.returns-in-Some
 returns-in-Some c = λ t h.
@@ -26,4 +28,5 @@ returns-in-Some c = λ t h.
     let k = c.args.self.kind_in c.in-Some.ridge c.in-Some.is in
     let m = c.requires.2 in
     let q : c.args.i < length (numbers t (Some c.in-Some.ridge)) = rw (← c.in-Some.is) (omega arith) in
-    rw c.in-Some.is (c.from.ensures ∙ (c.item.ensures ∙ rw c.ones-ones.ensures (kind_item t c.args.self.areas c.args.self.ws.now h c.in-Some.ridge c.args.i k q)))
+    rw c.in-Some.is (c.from.ensures ∙ (c.item.ensures ∙ rw c.ones-ones.ensures
+    (kind_item t c.args.self.areas c.args.self.ws.now h c.in-Some.ridge c.args.i k q)))

@@ -1,4 +1,5 @@
--- `FacetNames::write_list` meets its contract: the facets so far are written, and the others are left, each below the bound.
+-- `FacetNames::write_list` meets its contract: the facets so far are written, and the others are left, each below the
+-- bound.
 use mathlib.Core.List.{◌++◌, flat_map}
 use mathlib.Core.Path.{◌≡◌}
 use Rattle.words.specs.Words.{words}

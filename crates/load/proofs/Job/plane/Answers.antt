@@ -1,3 +1,5 @@
+-- `load::Job::plane` meets its contract: in a job of its exact length every vector is there (`loadable`). A turn
+-- reads one vector more (`plane_turn`), and at the end the plane is the job's (`plane_end`).
 use mathlib.Core.Path.{◌≡◌, sym, ap, ◌∙◌}
 use Prim.Native.Nat.{ℕ, ◌+◌, ◌*◌, ◌-◌}
 use native.Mathlib.Omega.{arith}
@@ -43,15 +45,21 @@ push-requires c =
 pub loop-j-preserved : goal.loop-j-preserved
 loop-j-preserved c =
     let l = c.loop-j in
-    let e = l.invariant.1 in
-    (omega arith, c.push.ensures.1 ∙ e, c.push.ensures.2 ∙ ap (λ (x : ℕ). x + 1) l.invariant.2, plane_turn _ _ _ _ _ _ _ _ c.push.ensures.0 l.invariant.3.means (rw e (five_means _ _ _ c.vector_at.ensures (floats_length _ _ _))))
+    let e = l.invariant.1 in (
+      omega arith,
+      c.push.ensures.1 ∙ e,
+      c.push.ensures.2 ∙ ap (λ (x : ℕ). x + 1) l.invariant.2,
+      plane_turn _ _ _ _ _ _
+          _ _ c.push.ensures.0 l.invariant.3.means (rw e (five_means _ _ _ c.vector_at.ensures (floats_length _ _ _))),
+    )
 
 pub returns : goal.returns
 returns c =
     let k = loadable _ _ c.args.self.exact c.args.self.read in
     let l = c.loop-j in
     let end : l.j ≡ c.args.self.fields.rank - 1 = omega arith in
-    let offset = offset_alone _ _ c.new-plane.ensures.0 ∙ five_means _ _ _ c.vector_at-offset.ensures (floats_length _ _ _) in
+    let offset = offset_alone _ _ c.new-plane.ensures.0
+    ∙ five_means _ _ _ c.vector_at-offset.ensures (floats_length _ _ _) in
     (plane_end _ _ _ _ _ l.invariant.3 offset end k, l.invariant.1, l.invariant.2 ∙ end)
 
 pub overflow_sub-j-end : goal.overflow_sub-j-end

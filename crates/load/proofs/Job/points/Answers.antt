@@ -1,3 +1,5 @@
+-- `load::Job::points` meets its contract: in a job of its exact length every point is there (`loadable`). A turn
+-- reads one point more (`points_turn`), and at the end i is n.
 use mathlib.Core.Path.{◌≡◌, sym, ap, ◌∙◌}
 use Prim.Native.Nat.{ℕ, ◌+◌, ◌*◌}
 use native.Mathlib.Omega.{arith}
@@ -40,8 +42,13 @@ push-requires c =
 pub loop-i-preserved : goal.loop-i-preserved
 loop-i-preserved c =
     let l = c.loop-i in
-    let e = l.invariant.1.d_is in
-    (omega arith, points_turn _ _ _ _ _ _ _ _ c.push.ensures.0 e l.invariant.1.means (rw e (five_means _ _ _ c.vector_at.ensures (floats_length _ _ _))), c.push.ensures.1 ∙ ap (λ (x : ℕ). x + 1) l.invariant.2)
+    let e = l.invariant.1.d_is in (
+      omega arith,
+      points_turn _ _ _ _ _ _ _ _ c.push.ensures.0 e l.invariant.1.means
+          (rw e (five_means _ _ _ c.vector_at.ensures (floats_length _ _ _))),
+      c.push.ensures.1
+          ∙ ap (λ (x : ℕ). x + 1) l.invariant.2,
+    )
 
 pub returns : goal.returns
 returns c =

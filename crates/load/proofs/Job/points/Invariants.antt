@@ -6,4 +6,6 @@ use Rattle.space.specs.Meaning.{HoldsPoints}
 use Rattle.load.proofs.Job.points.Given as goal
 
 abbrev pub invariant-loop-i : goal.invariant-loop-i
-invariant-loop-i l = (l.i ≤ l.fn.self.fields.n) × HoldsPoints l.points l.fn.self.fields.d (vectors_at l.fn.self.bytes.now l.fn.self.fields.points l.fn.self.fields.d l.i) × (l.points.n ≡ l.i)
+invariant-loop-i l =
+    (l.i ≤ l.fn.self.fields.n) × HoldsPoints l.points l.fn.self.fields.d
+    (vectors_at l.fn.self.bytes.now l.fn.self.fields.points l.fn.self.fields.d l.i) × (l.points.n ≡ l.i)

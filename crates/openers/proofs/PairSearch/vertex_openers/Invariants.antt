@@ -1,4 +1,5 @@
--- `vertex_openers` meets its contract. The invariant: the openers are those found below v, and the marks are those left by them.
+-- `vertex_openers` meets its contract. The invariant: the openers are those found below v, and the marks are those
+-- left by them.
 use mathlib.Core.Path.{◌≡◌}
 use mathlib.Core.Bool.{false}
 use Prim.Native.Nat.{◌≤◌}

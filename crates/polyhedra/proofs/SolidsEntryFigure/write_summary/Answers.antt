@@ -16,5 +16,6 @@ unfolding solid_summary_from
 returns c =
     let marks = c.entry_marks-marks.ensures in
     let ids = c.args.self.now.imaged.ids in
-    let facets = c.count_chosen-facets.ensures.0 ∙ ap (λ (marks : List Bool). length (chosen_from marks Left (words 4 ids.bytes.now ids.count))) c.entry_facets-inside.ensures in
+    let facets = c.count_chosen-facets.ensures.0 ∙ ap (λ (marks : List Bool).
+    length (chosen_from marks Left (words 4 ids.bytes.now ids.count))) c.entry_facets-inside.ensures in
     writes_as c.write_summary.ensures (λ t. summary_marked c.args.self.now.n (marks t) (facets t))

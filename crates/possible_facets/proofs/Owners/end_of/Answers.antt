@@ -8,8 +8,9 @@ use Rattle.possible_facets.proofs.Owners.end_of.Goals as goal
 pub returns : goal.returns
 returns c =
     let all = words 2 c.args.self.bytes.now c.args.self.facets in
-    let first = first_other c.args.orbit all c.args.x c.args.self.facets c.requires (words_length 2 c.args.self.bytes.now c.args.self.facets) c.find.result
-    (first_from_Range _ _ _ _ (λ i. get_or all i 0 ≡ c.args.orbit → ⊥) (λ i. get_or all i 0 ≡ c.args.orbit) c.find.ensures.ran
-    (λ x q k. search (rules, tests))
-    (λ x q k. search (rules, tests))) in
+    let first = first_other c.args.orbit all c.args.x c.args.self.facets c.requires
+    (words_length 2 c.args.self.bytes.now c.args.self.facets) c.find.result
+    (first_from_Range _ _ _ _ (λ i. get_or all i 0 ≡ c.args.orbit → ⊥)
+    (λ i. get_or all i 0 ≡ c.args.orbit) c.find.ensures.ran
+    (λ x q k. search (rules, tests)) (λ x q k. search (rules, tests))) in
     rw c.unwrap_or.ensures first

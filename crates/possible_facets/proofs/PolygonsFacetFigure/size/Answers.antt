@@ -9,4 +9,7 @@ use Rattle.possible_facets.proofs.PolygonsFacetFigure.size.Goals as goal
 
 pub returns : goal.returns
 unfolding size_in
-returns c = (c.count_below.ensures.0 ∙ ap (λ (x : ℕ). length (vertices_of c.args.self.now.n x)) c.get.ensures, omega (arith, c.count_below.ensures.1, c.requires.1))
+returns c = (
+  c.count_below.ensures.0 ∙ ap (λ (x : ℕ). length (vertices_of c.args.self.now.n x)) c.get.ensures,
+  omega (arith, c.count_below.ensures.1, c.requires.1),
+)

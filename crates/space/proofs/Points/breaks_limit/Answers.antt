@@ -1,4 +1,5 @@
--- `Points::breaks_limit` meets its contract: where no limit is given nothing breaks one, else from the contracts of its calls.
+-- `Points::breaks_limit` meets its contract: where no limit is given nothing breaks one, else from the contracts of
+-- its calls.
 use mathlib.Core.Path.{refl, sym, ◌∙◌}
 use Rattle.definitions.specs.Orbits.{breaks_limit}
 use Rattle.space.specs.Meaning.{points_of, limits_of}

@@ -15,5 +15,6 @@ returns c =
     let w = point_means p c.args.w c.requires.1 _ c.point.ensures in
     let v-long = point_length p c.args.v c.requires.0 in
     let w-long = point_length p c.args.w c.requires.1 in
-    let m : c.minus.result ≡ five (minus (point_at (points_of p) c.args.w) (point_at (points_of p) c.args.v)) = c.minus.ensures ∙ rw (v, w) refl in
+    let m : c.minus.result ≡ five (minus (point_at (points_of p) c.args.w) (point_at (points_of p) c.args.v)) =
+    c.minus.ensures ∙ rw (v, w) refl in
     c.norm.ensures ∙ ap norm (five_means c.minus.result _ p.d m (minus_length _ _ (w-long ∙ sym v-long) ∙ w-long))

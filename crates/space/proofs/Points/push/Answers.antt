@@ -12,5 +12,8 @@ invariant_of-self c =
 
 pub returns : goal.returns
 returns c =
-    let long : length c.args.p ≡ 5 = search rules in
-    (holds_points _ _ _ refl (point_joined c.args.self.now c.args.p c.requires.0 long c.requires.1 _ c.put_point.ensures refl refl), refl)
+    let long : length c.args.p ≡ 5 = search rules in (
+      holds_points _ _ _ refl
+          (point_joined c.args.self.now c.args.p c.requires.0 long c.requires.1 _ c.put_point.ensures refl refl),
+      refl,
+    )

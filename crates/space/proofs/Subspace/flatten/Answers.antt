@@ -1,3 +1,5 @@
+-- `Subspace::flatten` meets its contract: a turn writes one dot product more (`map_rows_more`). At the end j is the
+-- rank, and the front with the zeros behind it is the whole (`whole`).
 use mathlib.Core.Path.{◌≡◌, refl, sym, ◌∙◌}
 use Prim.Native.Nat.{◌+◌}
 use native.Mathlib.Omega.{arith}
@@ -21,7 +23,8 @@ loop-j-preserved c =
     let s = c.args.self.now in (
       omega arith,
       length-set l.r l.j _ ∙ l.invariant.1,
-      take_more_set l.r l.j _ (omega arith) ∙ rw (l.invariant.2, c.dot_at.ensures) (sym (map_rows_more _ 5 s.d l.j s.basis)),
+      take_more_set l.r l.j _ (omega arith)
+          ∙ rw (l.invariant.2, c.dot_at.ensures) (sym (map_rows_more _ 5 s.d l.j s.basis)),
       drop-set-lt (l.j + 1) l.r l.j _ (omega arith) ∙ (rest_same l.r (zeros 5) l.j nan l.invariant.3).1,
     )
 
@@ -30,4 +33,5 @@ unfolding flatten subspace_of five
 returns c =
     let l = c.loop-j in
     let end : l.j ≡ c.args.self.now.rank = omega arith in
-    rw (← end, ← c.away-away.ensures) (whole l.r (zeros 5) _ l.j (omega (arith, l.invariant.1)) l.invariant.2 l.invariant.3)
+    rw (← end, ← c.away-away.ensures)
+    (whole l.r (zeros 5) _ l.j (omega (arith, l.invariant.1)) l.invariant.2 l.invariant.3)

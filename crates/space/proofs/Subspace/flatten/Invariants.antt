@@ -1,4 +1,5 @@
--- `Subspace::flatten` meets its contract. The invariant: the first j numbers are the dot products with the first j basis vectors, and zeros stand behind them. Leans on the laws of rows.
+-- `Subspace::flatten` meets its contract. The invariant: the first j numbers are the dot products with the first j
+-- basis vectors, and zeros stand behind them. Leans on the laws of rows.
 use mathlib.Core.Path.{◌≡◌}
 use mathlib.Core.List.{map}
 use Prim.Native.Nat.{◌-◌, ◌≤◌}
@@ -9,4 +10,6 @@ use Rattle.vectors.specs.Meaning.{zeros}
 use Rattle.space.proofs.Subspace.flatten.Given as goal
 
 abbrev pub invariant-loop-j : goal.invariant-loop-j
-invariant-loop-j l = (l.j ≤ l.self.rank) × (length l.r ≡ 5) × (take l.j l.r ≡ map (dot (take l.self.d l.away)) (rows 5 l.self.d l.j l.self.basis)) × (drop l.j l.r ≡ drop l.j (zeros 5))
+invariant-loop-j l =
+    (l.j ≤ l.self.rank) × (length l.r ≡ 5) × (take l.j l.r
+    ≡ map (dot (take l.self.d l.away)) (rows 5 l.self.d l.j l.self.basis)) × (drop l.j l.r ≡ drop l.j (zeros 5))

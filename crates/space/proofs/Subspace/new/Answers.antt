@@ -15,4 +15,11 @@ returns c = (holds_subspace _ _ refl, refl, refl)
 
 pub invariant_of-result : goal.invariant_of-result
 unfolding rows in_rows joined onto zeros
-invariant_of-result c = record { fits = record { d_fits = c.requires.0; rank_fits = omega arith; offset_is = c.requires.1; basis_is = refl } }
+invariant_of-result c = record {
+  fits = record {
+    d_fits = c.requires.0;
+    rank_fits = omega arith;
+    offset_is = c.requires.1;
+    basis_is = refl;
+  };
+}

@@ -1,4 +1,5 @@
--- `Subspace::push` meets its contract: the five places that are written are one row more, and the rows before stay. Leans on the counts.
+-- `Subspace::push` meets its contract: the five places that are written are one row more, and the rows before stay.
+-- Leans on the counts.
 use mathlib.Core.Path.{◌≡◌, refl}
 use borrow.Author.Rules.{rules}
 use lib.ListN.{length}
@@ -15,5 +16,8 @@ invariant_of-self c =
 pub returns : goal.returns
 unfolding set_five
 returns c =
-    let long : length c.args.v ≡ 5 = search rules in
-    (holds_subspace _ _ (vector_joined c.args.self.now c.args.v c.requires.0 long c.requires.1 _ refl refl refl refl), refl, refl)
+    let long : length c.args.v ≡ 5 = search rules in (
+      holds_subspace _ _ (vector_joined c.args.self.now c.args.v c.requires.0 long c.requires.1 _ refl refl refl refl),
+      refl,
+      refl,
+    )

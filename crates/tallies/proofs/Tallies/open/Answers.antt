@@ -13,10 +13,22 @@ gather_marks-new-requires c = rw c.len.ensures.value (c.requires.1, tally_small 
 
 pub merge-requires : goal.merge-requires
 merge-requires c = let g = c.gather_marks-new in
-    rw c.as_slice.ensures.value ((marks_room c.args.whole.full.n c.args.whole.full.rows.count c.args.key c.args.whole.full.rows.bytes.now _ _ _ _ _ c.requires.2 c.requires.0 c.requires.1 g.result.items (rw c.len.ensures.value at g.ensures)).0, merge_new c.args.whole.full.n c.args.whole.full.rows.count c.args.key c.args.whole.full.rows.bytes.now _ _ _ _ _ c.requires.2 c.requires.0 c.requires.1 g.result.items (rw c.len.ensures.value at g.ensures))
+    rw c.as_slice.ensures.value (
+      (marks_room c.args.whole.full.n c.args.whole.full.rows.count c.args.key c.args.whole.full.rows.bytes.now _ _
+          _ _ _ c.requires.2 c.requires.0 c.requires.1 g.result.items (rw c.len.ensures.value at g.ensures)).0,
+      merge_new c.args.whole.full.n c.args.whole.full.rows.count c.args.key c.args.whole.full.rows.bytes.now _ _ _
+          _ _ c.requires.2 c.requires.0 c.requires.1 g.result.items (rw c.len.ensures.value at g.ensures),
+    )
 
 pub nonzero_div-weight : goal.nonzero_div-weight
-nonzero_div-weight c = let g = c.gather_marks-new in omega (arith, c.len-many.ensures.value, (marks_room c.args.whole.full.n c.args.whole.full.rows.count c.args.key c.args.whole.full.rows.bytes.now _ _ _ _ _ c.requires.2 c.requires.0 c.requires.1 g.result.items (rw c.len.ensures.value at g.ensures)).1)
+nonzero_div-weight c =
+    let g = c.gather_marks-new in
+    omega (
+      arith,
+      c.len-many.ensures.value,
+      (marks_room c.args.whole.full.n c.args.whole.full.rows.count c.args.key c.args.whole.full.rows.bytes.now _ _ _ _
+          _ c.requires.2 c.requires.0 c.requires.1 g.result.items (rw c.len.ensures.value at g.ensures)).1,
+    )
 
 pub overflow_add-self : goal.overflow_add-self
 overflow_add-self c = omega (arith, (known_few _ _ _ _ _ c.requires.2).0, c.len-many.ensures.fits)
@@ -28,4 +40,6 @@ pub returns : goal.returns
 returns c = let g = c.gather_marks-new in
     rw (c.push.ensures.items, c.len-many.ensures.value)
     (listed_more _ _ c.args.self.now.tallies.items _ (tally_small _ _ _ _ _ c.requires.2)
-    ∙ tally_opened c.args.whole.full.n c.args.whole.full.rows.count c.args.key c.args.whole.full.rows.bytes.now _ _ _ _ _ c.requires.2 c.requires.0 c.requires.1 g.result.items (rw c.len.ensures.value at g.ensures) c.args.weight _ (rw c.as_slice.ensures.value at c.merge.ensures))
+    ∙ tally_opened c.args.whole.full.n c.args.whole.full.rows.count c.args.key c.args.whole.full.rows.bytes.now _ _ _
+    _ _ c.requires.2 c.requires.0 c.requires.1 g.result.items (rw c.len.ensures.value at g.ensures) c.args.weight _
+    (rw c.as_slice.ensures.value at c.merge.ensures))

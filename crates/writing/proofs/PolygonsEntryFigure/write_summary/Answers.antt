@@ -6,7 +6,7 @@ use lib.ListN.{length}
 use Rattle.edge_marks.specs.Marks.{codes_marked}
 use Rattle.edge_marks.specs.Summaries.{summary_marked}
 use Rattle.words.specs.Wrote.{writes_as}
-use Rattle.writing.specs.Standing.{summary_from}
+use Rattle.writing.specs.EdgesHeld.{summary_from}
 use Rattle.writing.proofs.PolygonsEntryFigure.write_summary.Goals as goal
 
 pub returns : goal.returns
