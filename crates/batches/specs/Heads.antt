@@ -128,6 +128,10 @@ module _ (records : Bytes) (clear : records ≡ zeros (length records)) (h : 6 �
         let s = says_wrote (length (lent records clear 6 h)) o many told in
         too_long_clauses room o (ap (record_in room) s.1 ∙ long_record room s.0 (omega (arith, s.2)))
 
+    pub wrote_inside : 6 + many ≤ room
+    wrote_inside = let s =
+        says_wrote (length (lent records clear 6 h)) o many told in omega (arith, s.3, behind_length_holds)
+
     -- an answer
     pub answered_clauses : many ≤ 4294967295 → Clauses room o (answered (6 + many)) (put 4 back 0 many)
     unfolding word_bytes half_bytes

@@ -25,6 +25,12 @@ unfoldable pub recorded_as : Outcome Bytes → Outcome ℕ
 recorded_as (refused number) = refused number
 recorded_as (answered bytes) = answered (length bytes)
 
+-- every record has its head of six bytes
+pub record_length : (o : Outcome Bytes) → 6 ≤ length (record_bytes o)
+unfolding record_bytes word_bytes half_bytes
+record_length (refused number) = omega arith
+record_length (answered bytes) = omega arith
+
 fits_not : (room : ℕ) (bytes : Bytes) → room < length bytes → fitting_all room bytes ≡ refused 27
 unfolding fitting_all refuse_if
 fits_not room bytes h = rw (lt-ltb room (length bytes) h) refl

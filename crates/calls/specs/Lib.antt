@@ -2,3 +2,4 @@
 pub mod Steps
 pub mod Ends
 pub mod Layouts
+pub mod Swaps

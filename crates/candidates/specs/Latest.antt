@@ -76,6 +76,16 @@ unfolding flag
 flag_taken true n = tt
 flag_taken false n = n refl
 
+pub is_unused : (a : Areas) (list : List Facet) (us : List ℕ) (f : Facet) → Uses a list us → f.0 < a.orbits
+    → get_or us f.0 0 ≡ 0 → T (unused list f)
+unfolding unused
+is_unused a list us f u h e = flag_free (uses_orbit f.0 list) (sym (u f.0 h) ∙ e)
+
+pub is_used : (a : Areas) (list : List Facet) (us : List ℕ) (f : Facet) → Uses a list us → f.0 < a.orbits
+    → (get_or us f.0 0 ≡ 0 → ⊥) → T (not (unused list f))
+unfolding unused
+is_used a list us f u h n = flag_taken (uses_orbit f.0 list) (λ e. n (u f.0 h ∙ e))
+
 -- the flag of a candidate's orbit
 module _ (t : Table) (a : Areas) (s : List ℕ) (kind : Option ℕ) (i orbit : ℕ) (h : Inputs t a s)
     (k : i < length (numbers t kind)) (e : orbit ≡ (get_or (candidates t kind) i (0, 0)).0) where
@@ -122,6 +132,17 @@ last_free t list ridge low zero = None
 last_free t list ridge low (suc i) =
     cond (ltb i low) None
     (cond (unused list (get_or (candidates t ridge) i (0, 0))) (Some i) (last_free t list ridge low i))
+
+pub latest_none : (t : Table) (list : List Facet) (ridge : Option ℕ) (low place : ℕ)
+    → Latest t list ridge low place None → waiting t list ridge low place ≡ []
+unfolding Latest
+latest_none t list ridge low place l = l
+
+pub latest_found : (t : Table) (list : List Facet) (ridge : Option ℕ) (low place i : ℕ)
+    → Latest t list ridge low place (Some i)
+    → waiting t list ridge low place ≡ waiting t list ridge low i ++ (get_or (candidates t ridge) i (0, 0) ∷ [])
+unfolding Latest
+latest_found t list ridge low place i l = l.last
 
 pub not_below_holds : (low i : ℕ) → i ≤ low → ltb low i ≡ false
 not_below_holds low i h = fails→false (ltb low i) (not_T (ltb low i) (λ z. let k = ltb→lt low i z in omega arith))

@@ -2,3 +2,4 @@
 pub mod Marks
 pub mod MarkSteps
 pub mod Summaries
+pub mod Ends

@@ -1,10 +1,10 @@
 -- The turns of the loops over marks: one mark more. Leans on Marks.
-use Rattle.std.specs.Prelude.{◌≡◌, Bool, set}
+use Rattle.std.specs.Prelude.{◌≡◌, Bool, set, take}
 use Rattle.std.proofs.Math.Path.{refl, sym, ap}
 use Rattle.std.proofs.Common.{◌∙◌}
 use Rattle.std.proofs.Math.Bool.{true, false, cond}
 use mathlib.Core.List.{List, [], ◌∷◌, ◌++◌, map, flat_map, map-append}
-use Prim.Native.Nat.{ℕ, ◌+◌, ◌≤◌}
+use Prim.Native.Nat.{ℕ, ◌+◌, ◌≤◌, ◌<◌}
 use Rattle.std.specs.Int.{from_bool}
 use native.Mathlib.Omega.{arith}
 use Rattle.std.proofs.Math.ListN.{length, get_or, length-append}
@@ -14,7 +14,7 @@ use Rattle.rows.specs.Marks.{marked}
 use Rattle.rows.specs.Codes.{pair_of}
 use Rattle.shapes.specs.FigureWords.{edge_words}
 use Rattle.edge_marks.specs.Marks.{codes_marked, mark_words}
-use Rattle.figure_words.specs.Laws.{count_more}
+use Rattle.figure_words.specs.Laws.{count_more, flat_more}
 
 -- ---- marks
 
@@ -78,6 +78,12 @@ pub marked_append : (marks : List Bool) (xs ys : List ℕ) → marked (marked ma
 unfolding marked
 marked_append marks [] ys = refl
 marked_append marks (x ∷ xs) ys = marked_append (set marks x true) xs ys
+
+-- items of a list whose images are marked, one more
+pub marked_flat : {A : Type 0} (f : A → List ℕ) (marks : List Bool) (l : List A) (i : ℕ) (z : A) → i < length l
+    → marked (marked marks (flat_map f (take i l))) (f (get_or l i z)) ≡ marked marks (flat_map f (take (i + 1) l))
+marked_flat f marks l i z h = marked_append marks (flat_map f (take i l)) (f (get_or l i z))
+    ∙ ap (marked marks) (flat_more f l i z h)
 
 -- the first of what is left: its images are marked, and the others are left
 pub marked_first : {A : Type 0} (f : A → List ℕ) (marks : List Bool) (x : A)

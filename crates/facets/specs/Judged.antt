@@ -1,15 +1,16 @@
--- The verdict on totals: the scan from the first total on for one of which none is above 2, and what a verdict says
--- of the totals. Leans on the definition of the search.
+-- The verdict on totals: the scan from the first total on for one of which none is above 2, and what a verdict says of
+-- the totals. Leans on the definition of the search.
 use Rattle.std.specs.Prelude.{◌≡◌, Bool, true, false, cond, not, List, [], ◌∷◌, ℕ, suc, ◌+◌, ◌≤◌, ◌<◌, T, ltb, eqb}
 use Rattle.std.specs.Prelude.{◌==◌, length, get_or, Option, Some, None, MatchOption, position}
 use Rattle.std.specs.List.{position_or_len}
 use Rattle.std.proofs.lemmas.Bool.Decides.{nat_tests}
 use Rattle.std.proofs.Math.Path.{refl}
-use Rattle.std.proofs.Common.{sym, arith, T_not, nltb→le, ltb→lt}
+use Rattle.std.proofs.Common.{sym, ⊎_elim, arith, T_not, nltb→le, ltb→lt, eqb→eq}
 use Rattle.std.proofs.Math.Dec.{not_T}
 use Rattle.definitions.specs.Lists.{any_of, place_of}
 use Rattle.definitions.specs.Search.{Verdict, over, closed, open_at, judge}
 use Rattle.laws.specs.Bools.{true→holds, false→fails, fails→false}
+use Rattle.laws.specs.Segments.{le_or_lt}
 use Rattle.laws.specs.Lists.{any_of_holds, any_witness, member_at, at_member}
 
 -- ---- the scan for the lowest total of 1
@@ -17,6 +18,16 @@ use Rattle.laws.specs.Lists.{any_of_holds, any_witness, member_at, at_member}
 pub judge_over : (l : List ℕ) → true ≡ any_of (ltb 2) l → over ≡ judge l
 unfolding judge
 judge_over l e = rw (sym e) refl
+
+-- none before a place
+abbrev pub NoneOpen : List ℕ → ℕ → Type 0
+NoneOpen l i = (j : ℕ) → j < i → T (not (eqb 1 (get_or l j 0)))
+
+pub none_next : (l : List ℕ) (i : ℕ) → NoneOpen l i → (get_or l i 0 ≡ 1 → ⊥) → NoneOpen l (i + 1)
+none_next l i before n j h =
+    ⊎_elim (λ k. before j k)
+    (λ k. let e : j ≡ i = omega arith in rw e (not_T (eqb 1 (get_or l i 0)) (λ z. n (sym (eqb→eq 1 (get_or l i 0) z)))))
+    (le_or_lt (suc j) i)
 
 same_one : (x : ℕ) → eqb 1 x ≡ (x == 1)
 same_one x = grind (arith, nat_tests)
@@ -36,10 +47,12 @@ module _ (l : List ℕ) (light : false ≡ any_of (ltb 2) l) where
       → MatchOption r (closed ≡ judge l) (λ (ridge : ℕ). open_at ridge ≡ judge l)
   unfolding judge
   judge_lowest r e =
-      rw (e, sym light, lowest_is l) (go (ltb (position_or_len (λ (total : ℕ). total == 1) l) (length l))
+      rw (e, sym light, lowest_is l)
+      (go (ltb (position_or_len (λ (total : ℕ). total == 1) l) (length l))
       (position_or_len (λ (total : ℕ). total == 1) l))
     where
-      go : (b : Bool) (n : ℕ) → MatchOption (cond b (Some n) None) (closed ≡ cond b (open_at n) closed)
+      go : (b : Bool) (n : ℕ)
+          → MatchOption (cond b (Some n) None) (closed ≡ cond b (open_at n) closed)
           (λ (ridge : ℕ). open_at ridge ≡ cond b (open_at n) closed)
       go true n = refl
       go false n = refl
@@ -80,8 +93,9 @@ judge_light l w i h = go (any_of (ltb 2) l) refl w
         → get_or l i 0 ≤ 2
     go true e v = absurd v
     go false e v =
-        nltb→le 2 (get_or l i 0) (not_T (ltb 2 (get_or l i 0)) (λ z.
-        T_not (any_of (ltb 2) l) (false→fails e) (any_of_holds (ltb 2) (get_or l i 0) l (member_at l i 0 h) z)))
+        nltb→le 2 (get_or l i 0)
+        (not_T (ltb 2 (get_or l i 0))
+        (λ z. T_not (any_of (ltb 2) l) (false→fails e) (any_of_holds (ltb 2) (get_or l i 0) l (member_at l i 0 h) z)))
 
 pub judge_inside : (l : List ℕ) (ridge : ℕ) → open_at ridge ≡ judge l → ridge < length l
 unfolding judge
@@ -90,11 +104,9 @@ judge_inside l ridge e = go (any_of (ltb 2) l) (ltb (place_of (eqb 1) l) (length
     absurdly : (◌≡◌ {A = ℕ} 0 1) → ridge < length l
     absurdly z = absurd (omega arith)
 
-    go : (b c : Bool) → ltb (place_of (eqb 1) l) (length l) ≡ c
-        → open_at ridge ≡ cond b over (cond c (open_at (place_of (eqb 1) l)) closed) → ridge < length l
+    go : (b c : Bool) → ltb (place_of (eqb 1) l) (length l) ≡ c → open_at ridge
+        ≡ cond b over (cond c (open_at (place_of (eqb 1) l)) closed) → ridge < length l
     go true c q z = absurdly (cc)
-    go false true q z =
-        let k : ridge ≡ place_of (eqb 1) l = cc in
-        let m = ltb→lt (place_of (eqb 1) l) (length l) (true→holds q) in
-        omega arith
+    go false true q z = let k : ridge ≡ place_of (eqb 1) l = cc in let m =
+        ltb→lt (place_of (eqb 1) l) (length l) (true→holds q) in omega arith
     go false false q z = absurdly (cc)

@@ -43,6 +43,13 @@ edges_append codes others =
     ap (flat_map words) (map-append pair_of codes others)
     ∙ flat_map_append words (map pair_of codes) (map pair_of others)
 
+-- one more
+pub edges_more : (codes : List ℕ) (i : ℕ) → i < length codes → edge_words (map pair_of (take i codes))
+    ++ edge_words (pair_of (get_or codes i 0) ∷ []) ≡ edge_words (map pair_of (take (i + 1) codes))
+edges_more codes i h =
+    sym (ap (λ (l : List ℕ). edge_words (map pair_of l)) (take_more codes i 0 h)
+    ∙ edges_append (take i codes) (get_or codes i 0 ∷ []))
+
 pub edges_none : edge_words [] ≡ []
 unfolding edge_words flat_map
 edges_none = refl

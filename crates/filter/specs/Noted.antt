@@ -16,6 +16,8 @@ use Rattle.laws.specs.Orders.{nats, lt_compare}
 use Rattle.laws.specs.Segments.{le_or_lt}
 use Rattle.order.specs.Comparing.{above_compare}
 use Rattle.labels.specs.Walked.{items_found, shared, found_within, found_all, shared_few, found_alike}
+use Rattle.order.specs.declared.Area.{Area}
+use Rattle.order.specs.Areas.{Holding, list_of, place_short}
 
 -- ---- how many items two lists have in common, from places on
 
@@ -80,6 +82,18 @@ module _ (b c : List ℕ) (i : ℕ) (so_far : i + shared (drop i b) (drop i c) �
 pub record Noted (lists : List (List ℕ)) (many : ℕ) (notes : List ℕ) : Type 0 where
   pub each : (k : ℕ) → k + 1 < many → get_or notes (k + 1) 0 ≡ shared (get_or lists k []) (get_or lists (k + 1) [])
 
+-- what two lists that follow one another have in common is less than 2 ^ 32
+pub note_fits : (area : Area) (s : List ℕ) → Holding area s → (k : ℕ) → k + 1 < area.count → (v : ℕ) → v
+    ≡ shared (list_of area s k) (list_of area s (k + 1)) → v < 4294967296
+note_fits area s ok k h v e =
+    omega (
+      arith,
+      e,
+      shared_few (list_of area s k) (list_of area s (k + 1)),
+      place_short area.most area.bytes area.count
+          s (k + 1) h ok,
+    )
+
 -- a note is that of the lists before and at a place
 pub note_at : (lists : List (List ℕ)) (many : ℕ) (notes : List ℕ) → Noted lists many notes → (b : ℕ) → 0 < b
     → b < many → get_or notes b 0 ≡ shared (get_or lists (b - 1) []) (get_or lists b [])
@@ -90,6 +104,10 @@ pub record Noting (lists : List (List ℕ)) (many places : ℕ) (notes : List �
   pub from : 1 ≤ k
   pub long : length notes ≡ places
   pub noted : Noted lists k notes
+
+pub noting_starts : (lists : List (List ℕ)) (many : ℕ) (notes : List ℕ) → Noting lists many (length notes) notes 1
+noting_starts lists many notes =
+    record { from = omega arith; long = refl; noted = record { each = λ k h. absurd (omega arith) } }
 
 pub noting_more : (lists : List (List ℕ)) (many places : ℕ) (notes : List ℕ) (k v : ℕ)
     → Noting lists many places notes k → k < places
@@ -112,6 +130,10 @@ noting_more lists many places notes k v n room is =
     before : (i : ℕ) → i + 1 < k
         → get_or (set notes k v) (i + 1) 0 ≡ shared (get_or lists i []) (get_or lists (i + 1) [])
     before i l = get_or-set_other notes k (i + 1) v 0 (λ q. let z : i + 1 ≡ k = q in omega arith) ∙ n.noted.each i l
+
+pub noting_ends : (lists : List (List ℕ)) (many places : ℕ) (notes : List ℕ) (k : ℕ) → Noting lists many places notes k
+    → many ≤ k → Noted lists many notes
+noting_ends lists many places notes k n h = record { each = λ i l. n.noted.each i (omega arith) }
 
 -- ---- the walks
 

@@ -89,6 +89,16 @@ pub record Next (t : Table) (fr : Frame) (r : Option ℕ) : Type 0 where
 unfoldable pub next_place : Table → Frame → Option ℕ
 next_place t fr = last_free t fr.list fr.ridge fr.low fr.place
 
+-- it is the last free place of the frame, where there is one
+pub next_found : (t : Table) (fr : Frame) (place : ℕ) → Some place ≡ last_free t fr.list fr.ridge fr.low fr.place
+    → Some place ≡ next_place t fr
+unfolding next_place
+next_found t fr place e = e
+
+pub next_none : (t : Table) (fr : Frame) → None ≡ last_free t fr.list fr.ridge fr.low fr.place → None ≡ next_place t fr
+unfolding next_place
+next_none t fr e = e
+
 -- a next candidate is there
 pub record CandidateDue (t : Table) (a : Areas) (s : List ℕ) (d place : ℕ) : Type 0 where
   pub stands : PathHeld t a s d (d - 1)
@@ -205,6 +215,10 @@ module _ (t : Table) (a : Areas) (s : List ℕ) (d : ℕ) (st : PathHeld t a s d
   next_due r place e f =
       let w : LatestAt t deepest.list deepest.ridge deepest.low deepest.place place = rw (sym e ∙ f) at latest in
       record { inside = w.below; free = w.free; found = w.last }
+
+  pub next_holds : (r : Option ℕ) → r ≡ next_place t (frame_at t (frames_part a s) (d - 1))
+      → Next t (frame_at t (frames_part a s) (d - 1)) r
+  next_holds r e = record { none = none_due r e; at = λ place f. next_due r place e f }
 
 -- ---- a place taken
 

@@ -1,16 +1,20 @@
--- What a caller learns from the answer of the check: the first test that fails where the job is refused, and where it
--- passes that the fields can be loaded, that every row is a permutation and that the workspace is long enough. A
--- passed test is found by its number (`passed` in laws/Refusals). Leans on Refusal.
+-- What a caller learns from the answer of the check: the definition's outcome where the job is refused, and where it
+-- passes that the fields can be loaded, that every row is a permutation
+-- and that the workspace is long enough. A passed test is found by its number (`passed` in laws/Refusals). Leans on
+-- Refusal.
 use Rattle.std.specs.Prelude.{◌≡◌, refl, ◌&&◌, List, [], ◌∷◌, ℕ, ◌-◌, ◌≤◌, T, leb, eqb, length, take}
 use Rattle.std.proofs.Common.{ap, ◌∙◌, eqb→eq}
 use Rattle.std.specs.Prelude.{Option, Some, None}
 use Rattle.std.proofs.Math.Dec.{leb→le}
 use Rattle.definitions.specs.Lists.{all_of}
-use Rattle.definitions.specs.Outcome.{refused, answered}
+use Rattle.definitions.specs.Outcome.{refused, answered, and_then}
+use Rattle.definitions.specs.Recursion.{Bounds, Answer}
 use Rattle.definitions.specs.Job.{Bytes, read_job, between, same_nats, is_permutation, workspace_for, Test}
-use Rattle.definitions.specs.Job.{header_tests, value_tests, job_tests, workspace_tests, tests}
+use Rattle.definitions.specs.Job.{header_tests, value_tests, job_tests, workspace_tests, tests, call_of, fitting}
+use Rattle.definitions.specs.Job.{answer_bytes, outcome_within}
 use Rattle.laws.specs.Bools.{first, second}
-use Rattle.laws.specs.Refusals.{first_refused, AllPassed, passes_at, passed, none_refused, front_passed}
+use Rattle.laws.specs.Refusals.{first_refused, pass_all_refused, pass_all_passed, AllPassed, passes_at, passed}
+use Rattle.laws.specs.Refusals.{none_refused, front_passed}
 use Rattle.load.specs.declared.Fields.{Fields}
 use Rattle.load.specs.Places.{header_of, Exact, size_is}
 use Rattle.load.specs.Meaning.{fields_of}
@@ -28,8 +32,8 @@ pub refused_means : (bytes : Bytes) (workspace number : ℕ) → refused number 
 unfolding checked_of checked_by
 refused_means bytes workspace number e = refused_as bytes (first_refused (tests bytes workspace)) number e
 
-pub passed_as : (bytes : Bytes) (o : Option ℕ) (f : Fields) → answered f ≡ checked_as bytes o
-    → (o ≡ None) × (f ≡ fields_of bytes)
+pub passed_as : (bytes : Bytes) (o : Option ℕ) (f : Fields) → answered f ≡ checked_as bytes o → (o ≡ None)
+    × (f ≡ fields_of bytes)
 unfolding checked_as
 passed_as bytes None f e = (refl, cc)
 passed_as bytes (Some k) f e = (cc, cc)
@@ -48,6 +52,21 @@ pub passed_means : (bytes : Bytes) (workspace : ℕ) (f : Fields) → answered f
     → (first_refused (tests bytes workspace) ≡ None) × (f ≡ fields_of bytes)
 unfolding checked_of checked_by
 passed_means bytes workspace f e = passed_as bytes (first_refused (tests bytes workspace)) f e
+
+-- ---- the outcome
+
+module _ (bounds : Bounds) (bytes : Bytes) (workspace room : ℕ) where
+  pub outcome_refused : (number : ℕ) → first_refused (tests bytes workspace) ≡ Some number
+      → outcome_within bounds bytes workspace room ≡ refused number
+  unfolding outcome_within
+  outcome_refused number e = pass_all_refused (tests bytes workspace) _ number e
+
+  pub outcome_passed : first_refused (tests bytes workspace) ≡ None
+      → outcome_within bounds bytes workspace room
+      ≡ and_then (call_of bounds (read_job bytes))
+      (λ (a : Answer). fitting room (answer_bytes (read_job bytes).budget a))
+  unfolding outcome_within
+  outcome_passed e = pass_all_passed (tests bytes workspace) _ e
 
 -- ---- all tests are passed
 
@@ -85,8 +104,7 @@ module _ (bytes : Bytes) (workspace : ℕ) (none_fails : first_refused (tests by
   pub own_passed : AllPassed (job_tests bytes)
   unfolding tests
   own_passed =
-      front_passed (job_tests bytes) (workspace_tests bytes workspace)
-      (none_refused (tests bytes workspace) none_fails)
+      front_passed (job_tests bytes) (workspace_tests bytes workspace) (none_refused (tests bytes workspace) none_fails)
 
   -- the fields can be loaded
   pub passed_exact : Exact bytes

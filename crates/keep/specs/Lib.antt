@@ -5,3 +5,4 @@ pub mod Adding
 pub mod Cleared
 pub mod Rooms
 pub mod Short
+pub mod OneOrTwo

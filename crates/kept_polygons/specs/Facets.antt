@@ -102,6 +102,9 @@ module _ {n m : ℕ} {inner : List Kept} {level : Level} {rows : List ℕ} {at :
         ∙ ap label_of (get_d_words 4 (drop from area) level.count k h
         ∙ (number_at_drop area from (4 * k) 4 ∙ (number_at_drop (drop at s) level.lists (from + 4 * k) 4 ∙ sym e)))
 
+    pub label_room_holds : level.lists + (level.bytes + 2048 + 4 * k) + 4 ≤ length (drop at s)
+    label_room_holds = omega (arith, src.left.leaves.room)
+
     -- and it names entries
     pub label_small : (label : ℕ) → label ≡ number_at (drop at s) (level.lists + (level.bytes + 2048 + 4 * k)) 4
         → level.count ≤ 1024 → 65536 ≤ label → (label / 65536 < 1024) × (label % 65536 < 1024)

@@ -3,15 +3,16 @@
 use Rattle.std.specs.Prelude.{◌≡◌, refl, List, [], ◌∷◌, map, length, get_or}
 use Rattle.std.proofs.Common.{sym, ap, ◌∙◌, arith, eq-eqb, ne_eqb}
 use Rattle.std.specs.Prelude.{Option, Some, None}
-use Prim.Native.Nat.{ℕ, zero, suc, ◌+◌, ◌*◌, ◌/◌, ◌%◌, ◌≤◌, ◌<◌}
+use Prim.Native.Nat.{ℕ, zero, suc, ◌+◌, ◌*◌, ◌/◌, ◌%◌, ◌≤◌, ◌<◌, compare}
 use Rattle.definitions.specs.Lists.{Pair, count_from}
-use Rattle.definitions.specs.Figures.{Compound, components_of, compound_at, compounds_from}
+use Rattle.definitions.specs.Figures.{Compound, components_of, compound_at, compounds_from, label_from, labels_of}
 use Rattle.laws.specs.Ranges.{map_places}
 use Rattle.laws.specs.Places.{map_same}
-use Rattle.labels.specs.Labels.{label_of}
+use Rattle.labels.specs.Labels.{label_of, label_range}
 use Rattle.shapes.specs.Kept.{Kept}
 use Rattle.layout.specs.Keeps.{facets_in, raised}
 use Rattle.keep.specs.Adding.{orbit_labels}
+use Rattle.laws.specs.Lists.{Mem, of_map}
 
 -- a compound is none of an earlier number
 components_before : (b x : ℕ) (labels : List (Option Pair)) → x < b → components_of (compounds_from b labels) x ≡ None
@@ -69,3 +70,13 @@ raised_some first label r h k l e =
     let a : r % 65536 ≡ first + label % 65536 = omega arith in
     let b : r / 65536 ≡ first + label / 65536 = omega arith in
     rw (label_some label h) (label_some r (omega arith) ∙ (λ t. Some (a t, b t)))
+
+-- so are the labels that `label_irc` leaves
+pub labels_inside : (lists : List (List ℕ)) (p : Pair) → Mem (Some p) (labels_of compare lists) → (p.0 < p.1)
+    × (p.1 < length lists)
+unfolding labels_of
+labels_inside lists p i =
+    let r = of_map (λ (items : List ℕ). label_from compare items lists 0) (Some p) lists i in
+    let q = label_range r.0 lists 0 p (sym r.2) in
+    let u = q.1 in
+    (q.0, omega arith)

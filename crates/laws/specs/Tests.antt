@@ -1,5 +1,6 @@
--- What the tests of a job's bytes lean on: items that stand a fixed stride apart, tests over them, and the
--- permutations of 0, 1, .. , n − 1, told by marks. Leans on Lists, Pairs, Orders and Sorting.
+-- What the tests of a job's bytes lean on: items that stand a fixed stride apart, tests over them one item at a time,
+-- and the permutations of 0, 1, .. , n − 1, told by marks.
+-- Leans on Lists, Pairs, Orders and Sorting.
 use Rattle.std.specs.Prelude.{◌≡◌, ◌⊎◌, Bool, not, ◌&&◌, ◌||◌, T, leb, ltb, ℤ, Float, length, get_or, drop, set}
 use Rattle.std.specs.Prelude.{replicate}
 use Rattle.std.proofs.Math.Path.{refl, sym, ap}
@@ -60,23 +61,41 @@ module _ {A : Type 0} (f : ℕ → A) where
       let e : at + stride * 0 ≡ at = omega arith in
       rw (e, from_count stride at 0 many) refl
 
+  pub spaced_next : (stride at i many : ℕ) → i < many → spaced stride (at + stride * i) (many - i) ≡ f (at + stride * i)
+      ∷ spaced stride (at + stride * (i + 1)) (many - (i + 1))
+  spaced_next stride at i many h =
+      let e : many - i ≡ suc (many - (i + 1)) = omega arith in
+      let g : at + stride * (i + 1) ≡ at + stride * i + stride = omega arith in
+      rw (e, g) (spaced_first stride (at + stride * i) (many - (i + 1)))
+
+  pub spaced_none : (stride at i many : ℕ) → many ≤ i → spaced stride at (many - i) ≡ []
+  unfolding spaced count_from
+  spaced_none stride at i many h = let e : many - i ≡ 0 = omega arith in rw e refl
+
+  pub spaced_all : (stride at many : ℕ) → spaced stride (at + stride * 0) (many - 0) ≡ spaced stride at many
+  spaced_all stride at many =
+      let e : at + stride * 0 ≡ at = omega arith in
+      let g : many - 0 ≡ many = omega arith in
+      rw (e, g) refl
+
   more : (stride at many : ℕ) → spaced stride at (suc many) ≡ spaced stride at many ++ (f (at + stride * many) ∷ [])
   unfolding spaced count_from
   more stride at zero = refl
   more stride at (suc many) =
       let e : at + stride + stride * many ≡ at + stride * suc many = omega arith in
-      spaced_first stride at (suc many) ∙ ap (λ (l : List A). f at ∷ l) (more stride (at + stride) many
-      ∙ ap (λ (k : ℕ). spaced stride (at + stride) many ++ (f k ∷ [])) e)
+      spaced_first stride at (suc many)
+      ∙ ap (λ (l : List A). f at ∷ l)
+      (more stride (at + stride) many ∙ ap (λ (k : ℕ). spaced stride (at + stride) many ++ (f k ∷ [])) e)
       ∙ ap (λ (l : List A). l ++ (f (at + stride * suc many) ∷ [])) (sym (spaced_first stride at many))
 
   -- one more at the end
-  pub spaced_more : (stride at many : ℕ)
-      → spaced stride at (many + 1) ≡ spaced stride at many ++ (f (at + stride * many) ∷ [])
+  pub spaced_more : (stride at many : ℕ) → spaced stride at (many + 1) ≡ spaced stride at many
+      ++ (f (at + stride * many) ∷ [])
   spaced_more stride at many = rw add-one (more stride at many)
 
   -- in two parts
-  pub spaced_add : (stride at m many : ℕ)
-      → spaced stride at (m + many) ≡ spaced stride at m ++ spaced stride (at + stride * m) many
+  pub spaced_add : (stride at m many : ℕ) → spaced stride at (m + many) ≡ spaced stride at m
+      ++ spaced stride (at + stride * m) many
   unfolding spaced count_from
   spaced_add stride at zero many =
       let e : 0 + many ≡ many = omega arith in
@@ -86,20 +105,29 @@ module _ {A : Type 0} (f : ℕ → A) where
       let e : suc m + many ≡ suc (m + many) = omega arith in
       let g : at + stride + stride * m ≡ at + stride * suc m = omega arith in
       ap (spaced stride at) e ∙ (spaced_first stride at (m + many)
-      ∙ (ap (λ (l : List A). f at ∷ l) (spaced_add stride (at + stride) m many
+      ∙ (ap (λ (l : List A). f at ∷ l)
+      (spaced_add stride (at + stride) m many
       ∙ ap (λ (k : ℕ). spaced stride (at + stride) m ++ spaced stride k many) g)
       ∙ ap (λ (l : List A). l ++ spaced stride (at + stride * suc m) many) (sym (spaced_first stride at m))))
 
 -- ---- tests over a list
 
 module _ {A : Type 0} (p : A → Bool) where
+  pub all_fails : (x : A) (xs : List A) → p x ≡ false → all_of p (x ∷ xs) ≡ false
+  unfolding all_of
+  all_fails x xs e = rw e refl
+
+  pub all_passes : (x : A) (xs : List A) → p x ≡ true → all_of p (x ∷ xs) ≡ all_of p xs
+  unfolding all_of
+  all_passes x xs e = rw e refl
+
   pub all_append : (xs ys : List A) → all_of p (xs ++ ys) ≡ (all_of p xs && all_of p ys)
   unfolding all_of
   all_append [] ys = refl
   all_append (x ∷ xs) ys = go (p x) (all_append xs ys)
     where
-      go : (b : Bool) → all_of p (xs ++ ys) ≡ (all_of p xs && all_of p ys)
-          → (b && all_of p (xs ++ ys)) ≡ ((b && all_of p xs) && all_of p ys)
+      go : (b : Bool) → all_of p (xs ++ ys) ≡ (all_of p xs && all_of p ys) → (b && all_of p (xs ++ ys))
+          ≡ ((b && all_of p xs) && all_of p ys)
       go true e = e
       go false e = refl
 
@@ -128,6 +156,32 @@ module _ {A : Type 0} (p : A → Bool) where
       ∙ (sym (all_append (spaced f stride at width) (spaced f stride (at + stride * width) (width * many)))
       ∙ ap (all_of p) (sym (ap (spaced f stride at) e ∙ spaced_add f stride at width (width * many)))))
 
+-- ---- the turns of a loop that tests items a stride apart, from the first on, and stops at one that fails
+
+module _ {A : Type 0} (p : A → Bool) (f : ℕ → A) (stride at many i : ℕ) where
+  -- the items from the i-th on decide as all of them do
+  abbrev pub RestDecides : Type 0
+  RestDecides = all_of p (spaced f stride (at + stride * i) (many - i)) ≡ all_of p (spaced f stride at many)
+
+  pub test_stops : i < many → p (f (at + stride * i)) ≡ false → RestDecides → false ≡ all_of p (spaced f stride at many)
+  test_stops h e r =
+      sym (ap (all_of p) (spaced_next f stride at i many h)
+      ∙ all_fails p (f (at + stride * i)) (spaced f stride (at + stride * (i + 1)) (many - (i + 1))) e) ∙ r
+
+  pub test_ends : many ≤ i → RestDecides → true ≡ all_of p (spaced f stride at many)
+  unfolding all_of
+  test_ends h r = sym (ap (all_of p) (spaced_none f stride (at + stride * i) i many h)) ∙ r
+
+module _ {A : Type 0} (p : A → Bool) (f : ℕ → A) (stride at many : ℕ) where
+  pub test_starts : RestDecides p f stride at many 0
+  test_starts = ap (all_of p) (spaced_all f stride at many)
+
+  pub test_goes_on : (i : ℕ) → i < many → p (f (at + stride * i)) ≡ true → RestDecides p f stride at many i
+      → RestDecides p f stride at many (i + 1)
+  test_goes_on i h e r =
+      sym (ap (all_of p) (spaced_next f stride at i many h)
+      ∙ all_passes p (f (at + stride * i)) (spaced f stride (at + stride * (i + 1)) (many - (i + 1))) e) ∙ r
+
 -- ---- rows that are copied to places of their own
 
 module _ {A : Type 0} where
@@ -139,8 +193,8 @@ module _ {A : Type 0} where
       let at = stride * n in
       let rest = drop (at + width) flat in
       let begins : length (take at flat) ≡ at = length-take-le at flat (omega arith) in
-      let apart : paste flat at v width
-      ≡ take at flat ++ (take width v ++ rest) = append_assoc (take at flat) (take width v) rest in
+      let apart : paste flat at v width ≡ take at flat
+      ++ (take width v ++ rest) = append_assoc (take at flat) (take width v) rest in
       let row : take width (drop at (paste flat at v width)) ≡ take width v =
       ap (λ (l : List A). take width (drop at l)) apart
       ∙ (ap (take width) (drop_at (take at flat) (take width v ++ rest) at begins)
@@ -179,12 +233,13 @@ unfolding same_nats
 nats_same a b e = rw (e, nat_lists.self b) tt
 
 -- one item more of a part of a list
-part_next : (l : List ℕ) (at n i : ℕ) → i < n → at + n ≤ length l
-    → take (n - i) (drop (at + i) l) ≡ get_or l (at + i) 0 ∷ take (n - (i + 1)) (drop (at + (i + 1)) l)
+part_next : (l : List ℕ) (at n i : ℕ) → i < n → at + n ≤ length l → take (n - i) (drop (at + i) l) ≡ get_or l (at + i) 0
+    ∷ take (n - (i + 1)) (drop (at + (i + 1)) l)
 part_next l at n i h fits =
     let e : n - i ≡ suc (n - (i + 1)) = omega arith in
     let g : suc (at + i) ≡ at + (i + 1) = omega arith in
-    ap (λ (k : ℕ). take k (drop (at + i) l)) e ∙ (ap (take (suc (n - (i + 1)))) (drop-cons l (at + i) 0 (omega arith))
+    ap (λ (k : ℕ). take k (drop (at + i) l)) e
+    ∙ (ap (take (suc (n - (i + 1)))) (drop-cons l (at + i) 0 (omega arith))
     ∙ ap (λ (k : ℕ). get_or l (at + i) 0 ∷ take (n - (i + 1)) (drop k l)) g)
 
 part_all : (l : List ℕ) (at n : ℕ) → take (n - 0) (drop (at + 0) l) ≡ take n (drop at l)
@@ -195,6 +250,54 @@ part_all l at n =
 
 part_none : (l : List ℕ) (at n i : ℕ) → n ≤ i → take (n - i) (drop (at + i) l) ≡ []
 part_none l at n i h = let e : n - i ≡ 0 = omega arith in ap (λ (k : ℕ). take k (drop (at + i) l)) e
+
+-- ---- the turns of a loop that compares a part with 0, 1, ..
+
+module _ (l : List ℕ) (at n i : ℕ) where
+  abbrev pub CountsOn : Type 0
+  CountsOn = same_nats (take (n - i) (drop (at + i) l)) (count_from i (n - i))
+      ≡ same_nats (take n (drop at l)) (count_from 0 n)
+
+  count_next : i < n → at + n ≤ length l
+      → same_nats (take (n - i) (drop (at + i) l)) (count_from i (n - i))
+      ≡ (eqb (get_or l (at + i) 0) i
+      && same_nats (take (n - (i + 1)) (drop (at + (i + 1)) l)) (count_from (i + 1) (n - (i + 1))))
+  unfolding count_from
+  count_next h fits =
+      let e : n - i ≡ suc (n - (i + 1)) = omega arith in
+      ap (λ (r : List ℕ). same_nats r (count_from i (n - i))) (part_next l at n i h fits)
+      ∙ (ap (λ (k : ℕ). same_nats (get_or l (at + i) 0 ∷ take (n - (i + 1)) (drop (at + (i + 1)) l)) (count_from i k)) e
+      ∙ (same_first (get_or l (at + i) 0) i (take (n - (i + 1)) (drop (at + (i + 1)) l))
+      (count_from (suc i) (n - (i + 1)))
+      ∙ ap (λ (k : ℕ). eqb (get_or l (at + i) 0) i
+      && same_nats (take (n - (i + 1)) (drop (at + (i + 1)) l)) (count_from k (n - (i + 1)))) (sym (add-one i))))
+
+  pub count_stops : i < n → at + n ≤ length l → eqb (get_or l (at + i) 0) i ≡ false → CountsOn → false
+      ≡ same_nats (take n (drop at l)) (count_from 0 n)
+  count_stops h fits e r =
+      sym (count_next h fits
+      ∙ ap (λ (b : Bool). b
+      && same_nats (take (n - (i + 1)) (drop (at + (i + 1)) l)) (count_from (i + 1) (n - (i + 1)))) e) ∙ r
+
+  pub count_goes_on : i < n → at + n ≤ length l → eqb (get_or l (at + i) 0) i ≡ true → CountsOn
+      → same_nats (take (n - (i + 1)) (drop (at + (i + 1)) l)) (count_from (i + 1) (n - (i + 1)))
+      ≡ same_nats (take n (drop at l)) (count_from 0 n)
+  count_goes_on h fits e r =
+      sym (count_next h fits
+      ∙ ap (λ (b : Bool). b
+      && same_nats (take (n - (i + 1)) (drop (at + (i + 1)) l)) (count_from (i + 1) (n - (i + 1)))) e) ∙ r
+
+  pub count_ends : n ≤ i → CountsOn → true ≡ same_nats (take n (drop at l)) (count_from 0 n)
+  unfolding count_from
+  count_ends h r =
+      let e : n - i ≡ 0 = omega arith in
+      sym (ap (λ (s : List ℕ). same_nats s (count_from i (n - i))) (part_none l at n i h)
+      ∙ (ap (λ (k : ℕ). same_nats [] (count_from i k)) e ∙ same_none)) ∙ r
+
+pub count_starts : (l : List ℕ) (at n : ℕ) → CountsOn l at n 0
+count_starts l at n = let e : n - 0
+    ≡ n = omega arith in ap (λ (s : List ℕ). same_nats s (count_from 0 (n - 0))) (part_all l at n)
+    ∙ ap (λ (k : ℕ). same_nats (take n (drop at l)) (count_from 0 k)) e
 
 -- ---- the numbers below n, each once
 
@@ -231,7 +334,8 @@ ascending_count a (suc n) (x ∷ s) e h low high =
     let u = high x (here refl) in
     let k = ascending_fits s (suc x) (a + suc n) u h.1 h.0 (λ y m. high y (there m)) in
     let q : x ≡ a = omega arith in
-    let rest = ascending_count (suc a) n s (omega arith) h.1 (λ y m. let z = h.0 y m in omega arith)
+    let rest =
+    ascending_count (suc a) n s (omega arith) h.1 (λ y m. let z = h.0 y m in omega arith)
     (λ y m. let z = high y (there m) in omega arith) in
     rw (q, rest) refl
 
@@ -282,27 +386,29 @@ permutes_once n row t =
 -- each item is below n and not marked yet, and is marked
 unfoldable pub marks_good : ℕ → List Bool → List ℕ → Bool
 marks_good n marks [] = true
-marks_good n marks (x ∷ xs) =
-    let rest = marks_good n (set marks x true) xs in
-    ltb x n && (not (get_or marks x false) && rest)
+marks_good n marks (x ∷ xs) = let rest = marks_good n (set marks x true) xs in ltb x n
+    && (not (get_or marks x false) && rest)
 
 -- no item is marked
 abbrev Unmarked : List Bool → List ℕ → Type 0
 Unmarked marks l = (x : ℕ) → Mem x l → get_or marks x false ≡ false
 
-marks_say : (n : ℕ) (marks : List Bool) (row : List ℕ) → n ≤ length marks → T (marks_good n marks row)
-    → OnceBelow n row × Unmarked marks row
+marks_say : (n : ℕ) (marks : List Bool) (row : List ℕ) → n ≤ length marks → T (marks_good n marks row) → OnceBelow n row
+    × Unmarked marks row
 unfolding marks_good
 marks_say n marks [] h t = (record { below = λ x m. elim m [ ]; distinct = tt }, λ x m. elim m [ ])
 marks_say n marks (x ∷ xs) h t =
     let small = ltb→lt x n (first (ltb x n) (not (get_or marks x false) && marks_good n (set marks x true) xs) t) in
     let more = second (ltb x n) (not (get_or marks x false) && marks_good n (set marks x true) xs) t in
-    let clear = fails→false (get_or marks x false)
+    let clear =
+    fails→false (get_or marks x false)
     (first (not (get_or marks x false)) (marks_good n (set marks x true) xs) more) in
-    let rest = marks_say n (set marks x true) xs (rw length-set h)
+    let rest =
+    marks_say n (set marks x true) xs (rw length-set h)
     (second (not (get_or marks x false)) (marks_good n (set marks x true) xs) more) in
     let other : (y : ℕ) → Mem y xs → x ≡ y → ⊥ =
-    λ y m e. true≢false (sym (get_or-set_same marks x true false (omega arith))
+    λ y m e. true≢false
+    (sym (get_or-set_same marks x true false (omega arith))
     ∙ (ap (λ (z : ℕ). get_or (set marks x true) z false) e ∙ rest.1 y m)) in
     (record { below = below_all small rest.0.below; distinct = (other, rest.0.distinct) }, unmarked clear other rest.1)
   where
@@ -335,8 +441,8 @@ no_marks zero x = refl
 no_marks (suc w) zero = refl
 no_marks (suc w) (suc x) = no_marks w x
 
-pub marks_permutation : (n w : ℕ) (row : List ℕ) → length row ≡ n → n ≤ w
-    → marks_good n (replicate w false) row ≡ is_permutation n row
+pub marks_permutation : (n w : ℕ) (row : List ℕ) → length row ≡ n → n ≤ w → marks_good n (replicate w false) row
+    ≡ is_permutation n row
 marks_permutation n w row e h =
     same_test (marks_good n (replicate w false) row) (is_permutation n row)
     (λ t. once_permutes n row e (marks_say n (replicate w false) row (rw length-replicate h) t).0)
@@ -354,13 +460,13 @@ module _ (l : List ℕ) (at n : ℕ) (marks : List Bool) (i : ℕ) where
   abbrev later : Bool
   later = marks_good n (set marks item true) (take (n - (i + 1)) (drop (at + (i + 1)) l))
 
-  marks_next : i < n → at + n ≤ length l
-      → marks_good n marks (take (n - i) (drop (at + i) l)) ≡ (ltb item n && (not (get_or marks item false) && later))
+  marks_next : i < n → at + n ≤ length l → marks_good n marks (take (n - i) (drop (at + i) l))
+      ≡ (ltb item n && (not (get_or marks item false) && later))
   unfolding marks_good
   marks_next h fits = ap (marks_good n marks) (part_next l at n i h fits)
 
-  pub marks_stop_beyond : i < n → at + n ≤ length l → ltb item n ≡ false → MarksDecide
-      → false ≡ is_permutation n (take n (drop at l))
+  pub marks_stop_beyond : i < n → at + n ≤ length l → ltb item n ≡ false → MarksDecide → false
+      ≡ is_permutation n (take n (drop at l))
   marks_stop_beyond h fits e r =
       sym (marks_next h fits ∙ ap (λ (b : Bool). b && (not (get_or marks item false) && later)) e) ∙ r
 
@@ -368,15 +474,13 @@ module _ (l : List ℕ) (at n : ℕ) (marks : List Bool) (i : ℕ) where
       → false ≡ is_permutation n (take n (drop at l))
   marks_stop_again h fits e g r =
       sym (marks_next h fits
-      ∙ (ap (λ (b : Bool). b && (not (get_or marks item false) && later)) e ∙ ap (λ (b : Bool). not b && later) g))
-      ∙ r
+      ∙ (ap (λ (b : Bool). b && (not (get_or marks item false) && later)) e ∙ ap (λ (b : Bool). not b && later) g)) ∙ r
 
   pub marks_go_on : i < n → at + n ≤ length l → ltb item n ≡ true → get_or marks item false ≡ false → MarksDecide
       → later ≡ is_permutation n (take n (drop at l))
   marks_go_on h fits e g r =
       sym (marks_next h fits
-      ∙ (ap (λ (b : Bool). b && (not (get_or marks item false) && later)) e ∙ ap (λ (b : Bool). not b && later) g))
-      ∙ r
+      ∙ (ap (λ (b : Bool). b && (not (get_or marks item false) && later)) e ∙ ap (λ (b : Bool). not b && later) g)) ∙ r
 
   pub marks_end : n ≤ i → MarksDecide → true ≡ is_permutation n (take n (drop at l))
   unfolding marks_good
@@ -392,8 +496,8 @@ marks_start l at n w h fits =
 -- what `le` tests where the signs are the same, and where they are not
 le_plus : (a b : ℕ) → (ltb a b || (eqb a b && true)) ≡ leb a b
 le_plus a b =
-    same_test (ltb a b
-    || (eqb a b && true)) (leb a b) (λ t. le→leb a b (not_above a b t)) (λ t. go (le_or_lt b a) (leb→le a b t))
+    same_test (ltb a b || (eqb a b && true)) (leb a b) (λ t. le→leb a b (not_above a b t))
+    (λ t. go (le_or_lt b a) (leb→le a b t))
   where
     go : (b ≤ a) ⊎ (a < b) → a ≤ b → T (ltb a b || (eqb a b && true))
     go (inl h) k =
@@ -402,8 +506,7 @@ le_plus a b =
     go (inr h) k = left_of (ltb a b) (eqb a b && true) (lt→ltb a b h)
 
 eqb_turned : (a b : ℕ) → eqb a b ≡ eqb b a
-eqb_turned a b =
-    same_test (eqb a b) (eqb b a) (λ t. subst (λ (z : ℕ). T (eqb z a)) (eqb→eq a b t) (eqb_refl a))
+eqb_turned a b = same_test (eqb a b) (eqb b a) (λ t. subst (λ (z : ℕ). T (eqb z a)) (eqb→eq a b t) (eqb_refl a))
     (λ t. subst (λ (z : ℕ). T (eqb z b)) (eqb→eq b a t) (eqb_refl b))
 
 le_minus_plus : (a b : ℕ) → (ltb 0 (a + b) || (eqb a b && eqb a 0)) ≡ true
@@ -421,10 +524,10 @@ at_most_whole : (k a q x d : ℕ) → 0 < q → a ≡ k * q → leb (x * q) (a *
 at_most_whole k a q x d h e =
     let g : a * d ≡ k * d * q = ap (λ (z : ℕ). z * d) e ∙ omega arith in
     same_test (leb (x * q) (a * d)) (leb (x * 1) (k * 1 * d))
-    (λ t. let l : x * q ≤ k * d * q = subst (λ (z : ℕ). x * q ≤ z) g (leb→le (x * q) (a * d) t) in
-    let m = le_of_mul-le-mul_right l h in le→leb (x * 1) (k * 1 * d) (omega arith))
-    (λ t. let l = leb→le (x * 1) (k * 1 * d) t in let o : x ≤ k * d = omega arith in let m = mul-le-mul_right q o in
-    le→leb (x * q) (a * d) (omega arith))
+    (λ t. let l : x * q ≤ k * d * q = subst (λ (z : ℕ). x * q ≤ z) g (leb→le (x * q) (a * d) t) in let m =
+    le_of_mul-le-mul_right l h in le→leb (x * 1) (k * 1 * d) (omega arith))
+    (λ t. let l = leb→le (x * 1) (k * 1 * d) t in let o : x ≤ k * d = omega arith in let m =
+    mul-le-mul_right q o in le→leb (x * q) (a * d) (omega arith))
 
 -- A float that stands for the whole number k bounds both sides: what lies between it and its opposite is what the
 -- definition lets pass.

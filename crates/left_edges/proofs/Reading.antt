@@ -3,9 +3,9 @@ use Rattle.std.specs.Prelude.{◌≡◌, true, false, get_or}
 use Rattle.std.proofs.Math.Path.{refl, sym, ap, subst}
 use Rattle.std.proofs.Common.{◌∙◌}
 use mathlib.Core.List.{List, map, map-map}
-use Prim.Native.Nat.{ℕ, ◌/◌, ◌%◌, ◌<◌}
+use Prim.Native.Nat.{ℕ, ◌/◌, ◌%◌, ◌<◌, ◌≤◌}
 use native.Mathlib.Omega.{arith}
-use Rattle.std.proofs.Math.ListN.{length}
+use Rattle.std.proofs.Math.ListN.{length, length-map}
 use Rattle.definitions.specs.Lists.{Pair, compare_pair, count_from}
 use Rattle.laws.specs.Lists.{Mem, in_map, in_count, in_keep}
 use Rattle.laws.specs.Bools.{true→holds}
@@ -19,7 +19,7 @@ use Rattle.shapes.specs.Polygons.{ends_via}
 use Rattle.shapes.specs.Kept.{Kept}
 use Rattle.left_edges.specs.Marked.{marked_codes, edges_marked_holds}
 use Rattle.left_edges.specs.Polygons.{images_of, entry_edges, OneEdge}
-use Rattle.left_edges.specs.Reading.{Test, images_below, marks_of, moved_code}
+use Rattle.left_edges.specs.Reading.{Test, images_below, marks_of, moved_code, few_marked}
 
 -- ---- an entry's edges are the marked codes, moved
 
@@ -59,3 +59,13 @@ module _ (n m : ℕ) (s : List ℕ) (inner : List Kept) (numbers : List ℕ) (fi
       ∙ (map-map (λ (e : Pair). pair_code (ends_via to e)) pair_of codes
       ∙ map_same (λ (c : ℕ). pair_code (ends_via to (pair_of c))) (moved_code vertices) codes
       (λ c i. let r = code_below c i in rw (same (c / 20) r.0, same (c % 20) r.1) refl)))
+
+pub entry_few : (n m : ℕ) (s : List ℕ) (inner : List Kept) (numbers : List ℕ) → RowsFit n m s
+    → ((k : Kept) → Mem k inner → OneEdge n k) → ((x : ℕ) → Mem x numbers → x < length inner)
+    → (to : ℕ → ℕ) → length (entry_edges to (rows_in n m s) inner numbers) ≤ 400
+unfolding entry_edges
+entry_few n m s inner numbers fits each b to =
+    let marks = marks_of (rows_in n m s) inner numbers in
+    let e = length-map (edges_in_order (images_of (rows_in n m s) inner numbers)) (ends_via to) in
+    let c = ap length (in_order_holds n m s inner numbers fits each b) ∙ length-map (marked_codes marks) pair_of in
+    omega (arith, few_marked marks)

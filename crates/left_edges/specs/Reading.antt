@@ -11,9 +11,10 @@ use Rattle.std.proofs.Math.Seq.{get_or-append_seam}
 use Rattle.definitions.specs.Lists.{Pair, keep, count_from}
 use Rattle.definitions.specs.Job.{number_at}
 use Rattle.definitions.specs.Orbits.{Row, Orbit, image, pair_image}
-use Rattle.laws.specs.Lists.{Mem, of_map, of_flat_map, map_at_holds, member_at, at_member}
+use Rattle.laws.specs.Lists.{Mem, of_map, of_flat_map, map_at_holds, member_at, at_member, count_length}
+use Rattle.laws.specs.Lists.{flat_map_append}
 use Rattle.laws.specs.Segments.{le_or_lt}
-use Rattle.laws.specs.Parts.{rows, length_rows, get_d_rows}
+use Rattle.laws.specs.Parts.{rows, length_rows, get_d_rows, take_more}
 use Rattle.rows.specs.Rows.{rows_in, RowsFit, ImagesBelow, image_at_holds}
 use Rattle.order.specs.Areas.{lists_length}
 use Rattle.order.specs.Numbers.{AllBelow}
@@ -39,6 +40,28 @@ pub marked_append : (marks : List Bool) (xs ys : List ℕ) → marked marks (xs 
 unfolding marked
 marked_append marks [] ys = refl
 marked_append marks (x ∷ xs) ys = marked_append (set marks x true) xs ys
+
+pub images_none : (rows : List Row) (inner : List Kept) (marks : List Bool) (l : List ℕ) → marks
+    ≡ marked marks (map pair_code (images_of rows inner (take 0 l)))
+unfolding images_of marked flat_map
+images_none rows inner marks l = refl
+
+-- one facet more of a list
+pub images_more : (rows : List Row) (inner : List Kept) (marks : List Bool) (l : List ℕ) (i x : ℕ) → i < length l → x
+    ≡ get_or l i 0
+    → marked marks (map pair_code (images_of rows inner (take (i + 1) l)))
+    ≡ marked (marked marks (map pair_code (images_of rows inner (take i l))))
+    (map pair_code (map (pair_image (edge_at inner x)) rows))
+unfolding images_of flat_map
+images_more rows inner marks l i x h e =
+    let send : ℕ → List Pair = λ (y : ℕ). map (pair_image (edge_at inner y)) rows in
+    let more : flat_map send (take (i + 1) l) ≡ flat_map send (take i l) ++ send x =
+    ap (flat_map send) (take_more l i 0 h ∙ ap (λ (y : ℕ). take i l ++ (y ∷ [])) (sym e))
+    ∙ (flat_map_append send (take i l) (x ∷ [])
+    ∙ ap (λ (m : List Pair). flat_map send (take i l) ++ m) (append-nil (send x))) in
+    ap (λ (m : List Pair). marked marks (map pair_code m)) more
+    ∙ (ap (marked marks) (map-append pair_code (flat_map send (take i l)) (send x))
+    ∙ marked_append marks (map pair_code (flat_map send (take i l))) (map pair_code (send x)))
 
 -- the first of the facets that are left: its images are marked, and the others are left
 pub images_first : (rows : List Row) (inner : List Kept) (marks : List Bool) (x : ℕ)
@@ -190,6 +213,20 @@ images_below n m s inner numbers fits each b e i =
     let second = ap (λ (d : Pair). d.1) q.2 in
     (omega arith, omega arith)
 
+-- how many edges an entry has at most
+few_kept : (p : ℕ → Bool) (l : List ℕ) → length (keep p l) ≤ length l
+unfolding keep
+few_kept p [] = omega arith
+few_kept p (x ∷ l) = go (p x) (few_kept p l)
+  where
+    go : (b : Bool) → length (keep p l) ≤ length l → length (cond b (x ∷ keep p l) (keep p l)) ≤ suc (length l)
+    go true h = omega arith
+    go false h = omega arith
+
+pub few_marked : (marks : List Bool) → length (marked_codes marks) ≤ 400
+unfolding marked_codes
+few_marked marks = let n = count_length 0 400 in omega (arith, few_kept (Test marks) (count_from 0 400))
+
 -- the marks of an entry's images
 abbrev pub marks_of : List Row → List Kept → List ℕ → List Bool
 marks_of rows inner numbers = marked (replicate 400 false) (map pair_code (images_of rows inner numbers))
@@ -213,6 +250,16 @@ module _ {n m : ℕ} {inner : List Kept} {level : Level} {rows s : List ℕ} (le
   pub entry_below : (k : ℕ) → k < level.count → (x : ℕ) → Mem x (get_or (lists_left level s) k []) → x < length inner
   entry_below k h =
       lists_below (get_or (lists_left level s) k []) (member_at (lists_left level s) k [] (omega (arith, lists_many)))
+
+  pub facet_below : (k i : ℕ) → k < level.count → i < length (get_or (lists_left level s) k [])
+      → get_or (get_or (lists_left level s) k []) i 0 < length inner
+  facet_below k i h j =
+      entry_below k h (get_or (get_or (lists_left level s) k []) i 0)
+      (member_at (get_or (lists_left level s) k []) i 0 j)
+
+  -- the lists' area lies in the workspace
+  pub lists_inside : level.lists ≤ length s
+  lists_inside = omega (arith, left.leaves.room)
 
   module _ (x : ℕ) (h : x < length inner) where
     -- facet x has one edge

@@ -1,2 +1,3 @@
 pub mod Numbering
 pub mod RidgesMatch
+pub mod NumberMarks

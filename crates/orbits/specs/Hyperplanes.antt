@@ -13,7 +13,7 @@ use Rattle.definitions.specs.Subspace.{from_points, is_hyperplane}
 use Rattle.definitions.specs.Orbits.{Row, image, point_at, points_near, set_image, hyperplanes}
 use Rattle.laws.specs.Bools.{or_swap}
 use Rattle.laws.specs.Segments.{cons_same}
-use Rattle.laws.specs.Lists.{Mem, here, there, of_map}
+use Rattle.laws.specs.Lists.{Mem, here, there, of_map, any_append}
 use Rattle.laws.specs.Sets.{set_number, vertices_of, SetFrom, compare_sets, image_set, vertices_number}
 use Rattle.sets.specs.Steps.{near_set}
 use Rattle.sorted.specs.Ascending.{Ascending, insert_new, ascending_insert, member_insert, length_insert, insert_member}
@@ -41,6 +41,10 @@ unfolding member_nat any_of
 any_number n set [] s h = refl
 any_number n set (q ∷ seen) s h =
     rw (compare_sets s (h q (here refl)), any_number n set seen s (λ p k. h p (there k))) refl
+
+member_append : (x : ℕ) (l m : List ℕ) → member_nat x (l ++ m) ≡ (member_nat x l || member_nat x m)
+unfolding member_nat
+member_append x l m = any_append (eqb x) l m
 
 -- ---- images join
 

@@ -2,7 +2,7 @@
 -- the lists are the compounds among them.
 use Rattle.std.specs.Prelude.{◌≡◌, length}
 use Rattle.std.proofs.Math.Path.{sym, ap}
-use Rattle.std.proofs.Common.{◌∙◌, arith}
+use Rattle.std.proofs.Common.{◌∙◌, arith, subst}
 use mathlib.Core.List.{List, [], map, map-map}
 use Prim.Native.Nat.{ℕ, ◌<◌, compare}
 use Rattle.std.proofs.Math.ListN.{get_or}
@@ -10,13 +10,15 @@ use Rattle.definitions.specs.Lists.{Pair, compare_pair, compare_pairs, compare_n
 use Rattle.definitions.specs.Search.{Facet}
 use Rattle.definitions.specs.Recursion.{Entry}
 use Rattle.definitions.specs.Faceting.{Prepared, split, entry_of, compare_entries, entries_of}
-use Rattle.laws.specs.Lists.{Mem, of_count}
-use Rattle.laws.specs.Sorting.{by_key, sort_map}
+use Rattle.laws.specs.Lists.{Mem, of_count, of_map}
+use Rattle.laws.specs.Sorting.{by_key, sort_map, of_sorted}
 use Rattle.laws.specs.Merging.{sort_same, map_count}
-use Rattle.laws.specs.Walks.{compare_numbered}
-use Rattle.order.specs.Numbers.{ItemsBelow}
+use Rattle.laws.specs.Walks.{compare_numbered, labels_numbered}
+use Rattle.order.specs.Numbers.{ItemsBelow, AllBelow}
 use Rattle.order.specs.Areas.{list_at}
 use Rattle.order.specs.Sorted.{compare_at, order_from}
+use Rattle.definitions.specs.Figures.{label_irc}
+use Rattle.laws.specs.Places.{map_same}
 
 -- list k of the pool, named by `to`, is the k-th emitted list split
 module _ (p : Prepared) (to : ℕ → Pair) (bound : ℕ)
@@ -50,3 +52,31 @@ module _ (p : Prepared) (to : ℕ → Pair) (bound : ℕ)
       ∙ (sort_map compare_entries entry (count_from 0 (length emitted))
       ∙ ap (map entry)
       (sort_same (by_key compare_entries entry) (compare_at most pool) (count_from 0 (length emitted)) same_order)))
+
+  order_inside : (k : ℕ) → Mem k (order_from most pool 0 (length emitted)) → k < length emitted
+  unfolding order_from
+  order_inside k i = inside k (of_sorted (compare_at most pool) k (count_from 0 (length emitted)) i)
+
+  -- the split lists of the entries, in order
+  pub entry_lists : map (λ (e : Entry). e.list) (entries_of p emitted)
+      ≡ map (map to) (map (list_at most pool) (order_from most pool 0 (length emitted)))
+  unfolding entry_of
+  entry_lists =
+      ap (map (λ (e : Entry). e.list)) entries_ordered
+      ∙ (map-map (λ (e : Entry). e.list) entry (order_from most pool 0 (length emitted))
+      ∙ (map_same (λ (k : ℕ). split p (get_or emitted k [])) (λ (k : ℕ). map to (list_at most pool k))
+      (order_from most pool 0 (length emitted)) (λ k i. sym (splits k (order_inside k i)))
+      ∙ sym (map-map (map to) (list_at most pool) (order_from most pool 0 (length emitted)))))
+
+  -- [9.6] the compounds among the entries are the labels of the ordered lists
+  pub entry_compounds : label_irc compare_pair (map (λ (e : Entry). e.list) (entries_of p emitted))
+      ≡ label_irc compare (map (list_at most pool) (order_from most pool 0 (length emitted)))
+  entry_compounds =
+      ap (label_irc compare_pair) entry_lists
+      ∙ labels_numbered compare compare_pair to (λ (x : ℕ). x < bound) ordered
+      (map (list_at most pool) (order_from most pool 0 (length emitted))) all
+    where
+      all : AllBelow bound (map (list_at most pool) (order_from most pool 0 (length emitted)))
+      all l i x h =
+          let r = of_map (list_at most pool) l (order_from most pool 0 (length emitted)) i in
+          below r.0 (order_inside r.0 r.1) x (subst (Mem x) r.2 h)

@@ -3,3 +3,4 @@ pub mod Areas
 pub mod Comparing
 pub mod Numbers
 pub mod Sorted
+pub mod Items

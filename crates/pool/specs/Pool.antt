@@ -231,6 +231,9 @@ module _ (w most : ℕ) (s : List ℕ) (v : ℕ) (ok : Sound w most s) (room : b
   unfolding at
   at_is = refl
 
+  room_at : at + w ≤ length s
+  room_at = let e : w * (used s + 1) ≡ w * used s + w = omega arith in omega (arith, at_is)
+
   pushed_is : pushed w most s v ≡ put 4 (put w s at v) 4 (used s + 1)
   unfolding pushed at
   pushed_is = refl

@@ -2,3 +2,4 @@
 pub mod Steps
 pub mod Vertices
 pub mod Refitting
+pub mod Sums

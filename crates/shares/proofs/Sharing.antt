@@ -10,12 +10,12 @@ use lib.Seq.{take-suc, take_all, length-take-le}
 use Rattle.definitions.specs.Job.{number_at}
 use Rattle.laws.specs.Lists.{flat_map_append}
 use Rattle.laws.specs.Segments.{placed}
-use Rattle.pool.specs.Pool.{count, closed_lists, pushed, ended, place_at, length_at, closed_length}
+use Rattle.pool.specs.Pool.{count, closed_lists, pushed, ended, place_at, length_at, closed_length, base, used}
 use Rattle.layout.specs.declared.KeptLayout.{KeptLayout}
 use Rattle.layout.specs.Keeps.{owners_part, ridges_part, places_part}
 use Rattle.shares.specs.declared.TableLayout.{TableLayout}
 use Rattle.shares.specs.Areas.{area, flat, area_kept, AreaEmpty, Joined, AreaGrown, area_long, joined_none, joined_push}
-use Rattle.shares.specs.Areas.{joined_end, flat_more, lists_to}
+use Rattle.shares.specs.Areas.{joined_end, flat_more, lists_to, push_asks}
 use Rattle.shares.specs.Shares.{share_code, Sources, sources_kept, sources_of, count_of, owner_of, ridges_in}
 use Rattle.shares.specs.Shares.{numbers_in, places_in, code_at, facet_codes, Orders, SourcesFit, share_small}
 use Rattle.shares.specs.Shares.{codes_more, codes_long}
@@ -127,6 +127,15 @@ module _ (layout : KeptLayout) (tables : TableLayout) (s counts : List ℕ)
   unfolding sources_of
   x_inside = omega (arith, fit.facets_are)
 
+  pub owner_asks : 2 * x + 2 ≤ length (owners_part layout s)
+  owner_asks =
+      omega (
+        arith,
+        ord.owners,
+        area_long layout.owners layout.ridges 2 0 s (omega (arith, ord.owners))
+            (omega (arith, ord.ridges, ord.places, ord.end, ord.numbers, ord.inside)),
+      )
+
   pub owner_is : (o : ℕ) → o ≡ number_at (owners_part layout s) (2 * x) 2
       → o ≡ owner_of (sources_of layout tables s) x
   unfolding sources_of owner_of
@@ -184,6 +193,10 @@ module _ (src : Sources) (counts : List ℕ) (x : ℕ) {from to : ℕ} {ws₀ : 
             length-map (take i (places_in src x)) (code_at src counts (owner_of src x)),
             length-take-le i (places_in src x) (omega arith),
           )
+
+      pub codes_asks : (base 1024 + 4 * (used (area from to ws) + 1) ≤ length (area from to ws))
+          × (used (area from to ws) + 1 < 4294967296)
+      codes_asks = push_asks ready.space j so_far
 
       pub codes_push : (v : ℕ) → v ≡ code_at src counts (owner_of src x) (get_or (places_in src x) i 0)
           → v < 4294967296 → (p : List ℕ) → p ≡ pushed 4 1024 (area from to ws) v

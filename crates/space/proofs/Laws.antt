@@ -10,7 +10,7 @@ use borrow.Author.Tests.{leb-false}
 use lib.ListN.{length, get_or, drop, drop_of_length-le}
 use lib.Seq.{drop-cons, length-take-le}
 use lib.Ieee.{Float, lt}
-use Rattle.definitions.specs.Vectors.{Vec, dot, minus, plus_times, norm, normalised}
+use Rattle.definitions.specs.Vectors.{Vec, dot, plus_times, norm, normalised}
 use Rattle.definitions.specs.Subspace.{Subspace, gains, project, residual, add_point, add_points, from_points}
 use Rattle.definitions.specs.Orbits.{point_at, too_short, too_long, breaks_limit}
 use Rattle.laws.specs.Parts.{rows}

@@ -1,6 +1,6 @@
 -- The counts of a struct are those of what it means, its rows are the vectors of what it means, and two structs that
 -- hold the same are one. Leans on Meaning, on Rows, and on the rows of the crate of laws.
-use Rattle.std.specs.Prelude.{◌≡◌, List, [], ◌∷◌, ◌++◌, ℕ, zero, suc, ◌+◌, ◌*◌, ◌≤◌, ◌<◌, take, drop, Float}
+use Rattle.std.specs.Prelude.{◌≡◌, List, [], ◌∷◌, ◌++◌, ℕ, zero, suc, ◌+◌, ◌*◌, ◌≤◌, ◌<◌, take, drop, Float, get_or}
 use Rattle.std.proofs.Math.Path.{refl, sym, ap}
 use Rattle.std.proofs.Common.{◌∙◌, subst, arith, length-drop, length-take-le}
 use Rattle.std.proofs.Math.ListN.{length, length-map}
@@ -39,6 +39,10 @@ module _ (s : StoredSubspace) where
   unfolding subspace_of
   basis_length = length_rows 5 s.d s.rank s.basis
 
+  pub basis_row : (j : ℕ) → j < s.rank → get_or (subspace_of s).basis j [] ≡ take s.d (drop (5 * j) s.basis)
+  unfolding subspace_of
+  basis_row j below = get_d_rows 5 s.d s.rank s.basis j below
+
   -- What a struct holds, from its meaning: the counts follow.
   pub holds_subspace : (meaning : Subspace) → subspace_of s ≡ meaning → HoldsSubspace s meaning
   holds_subspace meaning e = record {
@@ -46,6 +50,9 @@ module _ (s : StoredSubspace) where
     rank_is = sym basis_length ∙ ap (λ (m : Subspace). length m.basis) e;
     means = e;
   }
+
+  pub holds_own : HoldsSubspace s (subspace_of s)
+  holds_own = holds_subspace (subspace_of s) refl
 
   -- A row that is written behind the basis is one vector more.
   module _ (v : List Float) (room : s.rank < 5) (long : length v ≡ 5) (own : v ≡ five (vector_of s.d v)) where
@@ -214,6 +221,17 @@ module _ (p : Points) where
         → points_of q ≡ points_of p ++ (vector_of p.d row ∷ [])
     unfolding points_of
     point_joined q a n d = rw (a, n, d, point_written) refl
+
+-- A row that is written behind the points is one point more, and the struct fits with it.
+pub row_joined : (p : Points) (row : List Float) (room : p.n < 20) (long : length row ≡ 5)
+    (own : row ≡ five (vector_of p.d row))
+    → HoldsPoints
+    (record { at = set_five p.at (5 * p.n) row nan; n = p.n + 1; d = p.d; fits = point_fits p row room long own })
+    p.d (points_of p ++ (vector_of p.d row ∷ []))
+row_joined p row room long own =
+    let more : Points =
+    record { at = set_five p.at (5 * p.n) row nan; n = p.n + 1; d = p.d; fits = point_fits p row room long own } in
+    holds_points more p.d _ refl (point_joined p row room long own more refl refl refl)
 
 -- One point joined those that a struct holds.
 pub one_more : (p q : Points) (d : ℕ) (ps : List Vec) (row : List Float) (v : Vec) → HoldsPoints p d ps

@@ -3,3 +3,4 @@ pub mod Fits
 pub mod Meaning
 pub mod Rows
 pub mod Counts
+pub mod Lengths

@@ -1,12 +1,11 @@
 -- What the structs of this crate mean in the definitions' terms. Numbers lie in flat arrays, in rows of five; a row
 -- means its first d numbers, and zeros stand behind all that the counts reach, so that a struct is known from what it
 -- means. Leans on the definitions and on the rows of the crate of laws.
-use Rattle.std.specs.Prelude.{is_none, ◌&&◌, ◌≡◌, Bool, true, false, List, [], ◌∷◌, ◌++◌, ℕ, ◌≤◌, leb, length, Float}
+use Rattle.std.specs.Prelude.{is_none, ◌&&◌, ◌≡◌, Bool, List, [], ◌∷◌, ◌++◌, ℕ, leb, length}
 use Rattle.definitions.specs.Vectors.{Vec}
 use Rattle.definitions.specs.Subspace.{Subspace}
 use Rattle.definitions.specs.Orbits.{Limits}
 use Rattle.laws.specs.Parts.{rows}
-use Rattle.laws.specs.Segments.{onto}
 use Rattle.vectors.specs.Meaning.{vector_of}
 use Rattle.space.specs.declared.Subspace.{Subspace as StoredSubspace}
 use Rattle.space.specs.declared.Points.{Points}

@@ -4,13 +4,15 @@
 use Rattle.std.specs.Prelude.{◌≡◌, refl, List, [], ◌∷◌, ◌++◌, ◌⊎◌, ℕ, zero, suc, ◌+◌, ◌-◌, ◌*◌, ◌/◌, ◌%◌, ◌^◌, ◌≤◌, ◌<◌}
 use Rattle.std.specs.Prelude.{length, get_or, set, take, drop}
 use Rattle.std.proofs.Common.{sym, ap, ◌∙◌, inl, inr, zero-add, suc-add, mul-zero, pow-suc, div-lt_iff_lt-mul}
-use Rattle.std.proofs.Common.{zero-lt-suc, arith, length-drop, take_at, drop_at, drop-drop, take-take}
-use Rattle.std.proofs.Math.Nat.{pow-zero}
+use Rattle.std.proofs.Common.{zero-lt-suc, arith, length-drop, take_at, drop_at, drop-drop, take-take, div-one}
+use Rattle.std.proofs.Common.{take-add, drop-cons, length-take-le}
+use Rattle.std.proofs.Math.Nat.{pow-zero, pow-succ', one-le-pow, div-div-eq-div-mul}
 use Rattle.std.proofs.lemmas.List.Edits.{sets}
 use Rattle.std.proofs.Math.Seq.{length-sets}
 use Rattle.definitions.specs.Job.{little, number_at, word_bytes}
 use Rattle.laws.specs.Segments.{part, take_sets_le, take_sets_ge, drop_sets_ge, drop_sets_add, part_sets, drop_take}
-use Rattle.laws.specs.Segments.{part_take, cons_same}
+use Rattle.laws.specs.Segments.{part_take, cons_same, sets_append}
+use Rattle.std.proofs.Math.Arith.{mod-mul}
 
 -- v in so many bytes, the lowest first
 unfoldable pub bytes_of : ℕ → ℕ → List ℕ
@@ -63,6 +65,47 @@ word_bytes_is v =
 pub put_length : (w : ℕ) (s : List ℕ) (at v : ℕ) → length (put w s at v) ≡ length s
 unfolding put
 put_length w s at v = length-sets s at (bytes_of w v)
+
+-- a number in two halves, read and written
+pub number_at_add : (s : List ℕ) (at a b : ℕ) → at + a ≤ length s → number_at s at (a + b)
+    ≡ number_at s at a + 256 ^ a * number_at s (at + a) b
+unfolding number_at
+number_at_add s at a b h =
+    let l : length (take a (drop at s)) ≡ a = length-take-le a (drop at s) (rw length-drop (omega arith)) in
+    rw (take-add a b (drop at s), little_append, drop-drop a at s, l) refl
+
+-- one byte
+pub number_at_byte : (s : List ℕ) (at : ℕ) → at < length s → number_at s at 1 ≡ get_or s at 0
+unfolding number_at little
+number_at_byte s at h = rw (drop-cons s at 0 h) (omega arith)
+
+bytes_of_add : (a b v : ℕ) → bytes_of (a + b) v ≡ bytes_of a v ++ bytes_of b (v / 256 ^ a)
+unfolding bytes_of
+bytes_of_add zero b v = rw (zero-add, pow-zero, div-one) refl
+bytes_of_add (suc a) b v =
+    let d : v / 256 / 256 ^ a ≡ v / 256 ^ suc a = div-div-eq-div-mul v 256 (256 ^ a)
+    ∙ ap (λ (k : ℕ). v / k) (sym (pow-succ' 256 a)) in
+    rw suc-add
+    (ap (λ (l : List ℕ). v % 256 ∷ l)
+    (bytes_of_add a b (v / 256) ∙ ap (λ (k : ℕ). bytes_of a (v / 256) ++ bytes_of b k) d))
+
+bytes_of_low : (a v : ℕ) → bytes_of a (v % 256 ^ a) ≡ bytes_of a v
+unfolding bytes_of
+bytes_of_low zero v = refl
+bytes_of_low (suc a) v =
+    let m : v % 256 ^ suc a ≡ v / 256 % 256 ^ a * 256 + v % 256 =
+    ap (λ (k : ℕ). v % k) (pow-suc 256 a) ∙ mod-mul v (one-le-pow a 256 (zero-lt-suc 255)) (zero-lt-suc 255) in
+    let low : v % 256 ^ suc a % 256 ≡ v % 256 = rw m (omega arith) in
+    let high : v % 256 ^ suc a / 256 ≡ v / 256 % 256 ^ a = rw m (omega arith) in
+    rw (low, high) (ap (λ (l : List ℕ). v % 256 ∷ l) (bytes_of_low a (v / 256)))
+
+pub put_add : (s : List ℕ) (at a b v : ℕ) → put (a + b) s at v ≡ put b (put a s at (v % 256 ^ a)) (at + a) (v / 256 ^ a)
+unfolding put
+put_add s at a b v =
+    rw bytes_of_low
+    (ap (sets s at) (bytes_of_add a b v)
+    ∙ (sym (sets_append (bytes_of a v) (bytes_of b (v / 256 ^ a)) s at)
+    ∙ ap (λ (k : ℕ). sets (sets s at (bytes_of a v)) (at + k) (bytes_of b (v / 256 ^ a))) (bytes_of_length a v)))
 
 -- what was written is read
 pub number_at_put : (w : ℕ) (s : List ℕ) (at v : ℕ) → at + w ≤ length s → v < 256 ^ w

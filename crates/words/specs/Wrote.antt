@@ -57,6 +57,10 @@ wrote_then {s} {t} {u} {at} {r} {q} {a} {b} x y = record {
       );
 }
 
+-- the same words, said otherwise
+pub wrote_as : {s t : List ℕ} {at r : Option ℕ} {a b : List ℕ} → Wrote s at t r a → a ≡ b → Wrote s at t r b
+wrote_as {s} {t} {at} {r} x e = rw (← e) x
+
 -- ---- a writer
 
 -- the buffer is the same one, and the words stand in it

@@ -1,5 +1,5 @@
 -- `job::check_job` meets its contract: the header refuses, or leaves it to the values. Assumes nothing.
-use mathlib.Core.Path.{sym, ◌∙◌}
+use mathlib.Core.Path.{◌∙◌}
 use Rattle.definitions.specs.Job.{header_tests, value_tests, job_tests}
 use Rattle.laws.specs.Refusals.{none_refused}
 use Rattle.refusals.specs.Refused.{refused_on}

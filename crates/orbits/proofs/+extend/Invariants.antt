@@ -1,7 +1,7 @@
 -- `extend` meets its contract. The loop's invariant: the tuples with a next vertex from u on are left, and the others
 -- were walked along. The measure is the number of vertices still to be added.
 use mathlib.Core.Path.{◌≡◌}
-use Prim.Native.Nat.{◌-◌, ◌≤◌}
+use Prim.Native.Nat.{◌≤◌}
 use lib.ListN.{length}
 use Rattle.space.specs.Meaning.{points_of, limits_of}
 use Rattle.rows.specs.Rows.{rows_in}

@@ -1,7 +1,7 @@
 -- `sets::chosen_points` meets its contract: each vertex of the set is one of the points (`among`). A turn adds its
 -- point (`one_more`), and at the end all vertices of the set were taken.
-use mathlib.Core.Path.{◌≡◌, ap, ◌∙◌}
-use mathlib.Core.List.{List, map}
+use mathlib.Core.Path.{◌≡◌, ◌∙◌}
+use mathlib.Core.List.{List}
 use Prim.Native.Nat.{ℕ, ◌<◌}
 use native.Mathlib.Omega.{arith}
 use lib.ListN.{length, get_or, take, length-map}

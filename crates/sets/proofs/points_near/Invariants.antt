@@ -1,7 +1,7 @@
 -- `points_near` meets its contract. The invariant: the sum is the number of the points near among the first v. Leans
 -- on the laws of this crate.
 use mathlib.Core.Path.{◌≡◌}
-use Prim.Native.Nat.{◌+◌, ◌-◌, ◌≤◌}
+use Prim.Native.Nat.{◌+◌, ◌≤◌}
 use Rattle.space.specs.Meaning.{points_of, subspace_of}
 use Rattle.sets.proofs.Laws.{near_from}
 use Rattle.sets.proofs.points_near.Given as goal

@@ -1,7 +1,6 @@
 -- `Candidates::count` meets its contract. How many candidates there are follows from the laws of Numbers. Assumes
 -- nothing.
 use mathlib.Core.Path.{sym, ◌∙◌}
-use Rattle.std.specs.Prelude.{Some}
 use Rattle.facets.specs.Numbers.{kind_length, numbers_all_length}
 use Rattle.candidates.proofs.Candidates.count.Goals as goal
 

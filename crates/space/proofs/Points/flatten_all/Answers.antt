@@ -1,10 +1,9 @@
 -- `Points::flatten_all` meets its contract: a turn adds one point more, flattened (`one_more`), and at the end i is
 -- n.
 use mathlib.Core.Path.{◌≡◌, ap, subst, ◌∙◌}
-use mathlib.Core.List.{map}
 use Prim.Native.Nat.{ℕ, ◌*◌, ◌<◌}
 use native.Mathlib.Omega.{arith}
-use lib.ListN.{length, take, drop}
+use lib.ListN.{take, drop}
 use Rattle.definitions.specs.Subspace.{flatten}
 use Rattle.laws.specs.Parts.{map_rows_more, rows}
 use Rattle.vectors.specs.Meaning.{vector_of, five}

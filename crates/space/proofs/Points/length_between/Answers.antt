@@ -1,7 +1,7 @@
 -- `Points::length_between` meets its contract: what is read of the two points means them. Leans on the counts.
 use mathlib.Core.Path.{◌≡◌, refl, sym, ap, ◌∙◌}
 use Rattle.definitions.specs.Orbits.{point_at}
-use Rattle.vectors.specs.Meaning.{vector_of, five}
+use Rattle.vectors.specs.Meaning.{five}
 use Rattle.definitions.specs.Vectors.{minus, norm}
 use Rattle.vectors.specs.Wholes.{five_means, minus_length}
 use Rattle.space.specs.Meaning.{points_of}

@@ -1,10 +1,8 @@
 -- `Subspace::add` meets its contract: a definition for each outcome of the test. Leans on the laws of this crate.
 use mathlib.Core.Path.{◌≡◌, refl, sym, ◌∙◌}
 use mathlib.Core.Bool.{true, false}
-use native.Mathlib.Omega.{arith}
 use borrow.Author.Rules.{rules}
 use lib.ListN.{length}
-use lib.Seq.{length-take-le}
 use lib.Ieee.{lt}
 use Rattle.definitions.specs.Vectors.{norm, normalised}
 use Rattle.definitions.specs.Subspace.{residual}
@@ -15,7 +13,7 @@ use Rattle.space.specs.declared.Subspace.{Subspace as StoredSubspace}
 use Rattle.vectors.specs.Wholes.{five_means, normalised_length}
 use Rattle.vectors.proofs.Wholes.{five_own}
 use Rattle.space.specs.Meaning.{subspace_of}
-use Rattle.space.specs.Counts.{holds_subspace, offset_long}
+use Rattle.space.specs.Counts.{holds_subspace}
 use Rattle.space.proofs.Laws.{add_point_joins, add_point_stays, read_residual, five_read}
 use Rattle.space.proofs.Subspace.add.Goals as goal
 

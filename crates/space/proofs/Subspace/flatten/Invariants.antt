@@ -2,7 +2,7 @@
 -- basis vectors, and zeros stand behind them. Leans on the laws of rows.
 use mathlib.Core.Path.{◌≡◌}
 use mathlib.Core.List.{map}
-use Prim.Native.Nat.{◌-◌, ◌≤◌}
+use Prim.Native.Nat.{◌≤◌}
 use lib.ListN.{length, take, drop}
 use Rattle.definitions.specs.Vectors.{dot}
 use Rattle.laws.specs.Parts.{rows}

@@ -9,7 +9,7 @@ use Rattle.definitions.specs.Orbits.{point_at}
 use Rattle.laws.specs.Segments.{onto}
 use Rattle.vectors.specs.Meaning.{vector_of, zeros, five}
 use Rattle.space.specs.Meaning.{subspace_of, is_full_rank, points_of}
-use Rattle.space.specs.Counts.{holds_subspace, points_length, at_long, point_means, point_own, point_places}
+use Rattle.space.specs.Counts.{holds_subspace, points_length, point_means, point_own, point_places}
 use Rattle.space.proofs.Laws.{add_points_full, add_points_step, add_points_end, from_points_none, from_points_first}
 use Rattle.space.proofs.Laws.{has_room}
 use Rattle.space.proofs.Subspace.from_points.Goals as goal

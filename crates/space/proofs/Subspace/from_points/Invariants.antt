@@ -1,7 +1,7 @@
 -- `Subspace::from_points` meets its contract. The invariant: to add the points from i on to s gives what is to be
 -- given. Leans on the laws of this crate.
 use mathlib.Core.Path.{◌≡◌}
-use Prim.Native.Nat.{◌-◌, ◌≤◌}
+use Prim.Native.Nat.{◌≤◌}
 use lib.ListN.{drop}
 use Rattle.definitions.specs.Subspace.{add_points, from_points}
 use Rattle.space.specs.Meaning.{subspace_of, points_of}

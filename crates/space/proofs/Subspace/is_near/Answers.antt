@@ -1,7 +1,6 @@
 -- `Subspace::is_near` meets its contract, from those of its calls: the difference is written over zeros.
 use mathlib.Core.Path.{◌≡◌, refl, ◌∙◌}
 use native.Mathlib.Omega.{arith}
-use borrow.Author.Rules.{rules}
 use lib.ListN.{length, drop, length-drop}
 use lib.Seq.{length-take-le}
 use Rattle.definitions.specs.Vectors.{norm}

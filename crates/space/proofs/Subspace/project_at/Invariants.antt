@@ -1,7 +1,7 @@
 -- `Subspace::project_at` meets its contract. The invariant: q is what the first j basis vectors make of the offset,
 -- with zeros behind it. Leans on the laws of rows.
 use mathlib.Core.Path.{◌≡◌}
-use Prim.Native.Nat.{◌-◌, ◌≤◌}
+use Prim.Native.Nat.{◌≤◌}
 use lib.ListN.{length, take, drop}
 use Rattle.definitions.specs.Subspace.{gains}
 use Rattle.laws.specs.Parts.{rows}

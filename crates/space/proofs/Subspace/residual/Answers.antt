@@ -1,5 +1,5 @@
 -- `Subspace::residual` meets its contract, from those of its calls.
-use mathlib.Core.Path.{◌≡◌, refl, ◌∙◌}
+use mathlib.Core.Path.{refl, ◌∙◌}
 use Rattle.definitions.specs.Subspace.{residual}
 use Rattle.vectors.specs.Meaning.{vector_of}
 use Rattle.space.proofs.Laws.{read_projection}
