@@ -9,6 +9,7 @@ use Rattle.definitions.specs.Recursion.{Answer}
 use Rattle.definitions.specs.Faceting.{Way, prepare_with, search_from, finish, faceting, faceting_with}
 use Rattle.layout.specs.declared.Level.{Level}
 use Rattle.layout.specs.Leaves.{Leaves, answer_left}
+use Rattle.layout.specs.Capacities.{images_from, listed_bytes}
 use Rattle.calls.specs.declared.Rules.{Rules}
 use Rattle.calls.specs.declared.Called.{Called}
 use Rattle.calls.specs.declared.Called.TheVariants.{Ends, Left}
@@ -25,7 +26,7 @@ pub record Answers (k : PreparedCall) (rules : Rules) (level : Level) (rest : �
   pub rest_is : rest ≡ found.left
   pub leaves : Leaves k.more (points_in k) k.rows (kept_in k) level s
   pub answer : finish k.prepared found ≡ answer_left k.more (points_in k) k.rows (kept_in k) level s rest
-  pub ends : level.lists + (level.bytes + 6144) ≤ 3211264
+  pub ends : level.lists + (level.bytes + listed_bytes) ≤ images_from
 
 -- what the search of a call says, by what was answered: never ends alone, which are an answer of rank 2
 unfoldable pub Searched : PreparedCall → Rules → Result Called Refusal → List ℕ → Type 0

@@ -1,4 +1,3 @@
-pub mod TableLayouts
 pub mod PreparedCalls
 pub mod Answers
 pub mod Searched

@@ -1,5 +1,5 @@
 -- What a call has when its search begins: all its inner calls are made, and the workspace keeps what they answered.
--- So its tables can be laid, at rank 3 and at rank 4. Leans on TableLayouts, on what is kept of inner calls and how
+-- So its tables can be laid, at each rank. Leans on TableLayouts, on what is kept of inner calls and how
 -- much that can be.
 use Rattle.std.specs.Prelude.{◌≡◌, Bool, List, map, ℕ, zero, suc, ◌+◌, ◌≤◌}
 use Rattle.std.proofs.Common.{sym, ◌∙◌, subst, arith}
@@ -24,13 +24,14 @@ use Rattle.shapes.proofs.RidgesKept.{ridges_kept}
 use Rattle.layout.specs.declared.KeptLayout.{KeptLayout}
 use Rattle.layout.specs.Keeps.{Keeps, Ridges}
 use Rattle.calls.specs.declared.Rules.{Rules}
-use Rattle.calls.specs.Layouts.{layout_three, layout_four, layout_for, at_three, at_four}
-use Rattle.shares.specs.declared.TableLayout.{TableLayout}
+use Rattle.layout.specs.declared.Capacities.{Capacities}
+use Rattle.layout.specs.Capacities.{capacities_three, capacities_four, capacities_of, of_three, of_four, layout_for}
+use Rattle.layout.specs.Capacities.{table_layout_for, table_ends, tables_wide}
+use Rattle.layout.specs.declared.TableLayout.{TableLayout}
 use Rattle.ridges.specs.TableLayouts as table_layouts
 use Rattle.ridges.specs.TableLayouts.{TableLayoutFits}
-use Rattle.ridges.specs.Ranks.{rank3_fits, rank4_fits}
+use Rattle.ridges.specs.Fits.{tables_fit}
 use Rattle.ridges.specs.Small.{Small}
-use Rattle.call_search.specs.TableLayouts.{table_layout_for, table_layout_three, table_layout_four}
 
 -- the definition's rules, from those that the code passes down
 unfoldable pub call_rules : Rules → def.Rules
@@ -78,21 +79,6 @@ pub record CallPrepared (k : PreparedCall) (layout : KeptLayout) (rank : ℕ) (r
   pub room_three : rank ≡ 3 → 524288 ≤ length s
   pub room_four : rank ≡ 4 → 4194304 ≤ length s
 
--- where the layout of each rank has its owners and its end
-pub layout_three_holds : (layout : KeptLayout) (rank : ℕ) → rank ≡ 3 → layout.owners ≡ (layout_for rank).owners
-    → layout.end ≡ (layout_for rank).end → (layout.owners ≡ 10764) × (layout.end ≡ 20236)
-unfolding layout_three
-layout_three_holds layout rank e o h =
-    let q = sym (at_three rank e) in
-    (o ∙ ap (λ (x : KeptLayout). x.owners) q, h ∙ ap (λ (x : KeptLayout). x.end) q)
-
-pub layout_four_holds : (layout : KeptLayout) (rank : ℕ) → (rank ≡ 3 → ⊥) → layout.owners ≡ (layout_for rank).owners
-    → layout.end ≡ (layout_for rank).end → (layout.owners ≡ 399372) × (layout.end ≡ 990244)
-unfolding layout_four
-layout_four_holds layout rank n o h =
-    let q = sym (at_four rank n) in
-    (o ∙ ap (λ (x : KeptLayout). x.owners) q, h ∙ ap (λ (x : KeptLayout). x.end) q)
-
 module _ (k : PreparedCall) (layout : KeptLayout) (rank : ℕ) (rows : List ℕ) (m : ℕ) (rules : Rules) (extended : Bool)
     (left : ℕ) (s : List ℕ) (st : CallPrepared k layout rank rows m rules extended left s) where
   rows_many : length k.rows ≤ 120
@@ -130,43 +116,59 @@ module _ (k : PreparedCall) (layout : KeptLayout) (rank : ℕ) (rows : List ℕ)
     fits = fits;
   }
 
-  -- what `lay_tables` is asked
-  pub tables_asked : (most : ℕ) × (ridges : ℕ)
-      × table_layouts.Given (points_in k) most ridges m rows (kept_in k) layout (table_layout_for rank) s
-  tables_asked = at_rank k.more st.few_more st.rank_is st.made many_ridges
+  -- the call has no more orbits, ridges and ridge orbits than its rank's capacities name, and room for the tables
+  record Held : Type 0 where
+    pub few_ends : (j : Kept) → Mem j (kept_in k) → length j.ends ≤ (capacities_of rank).ridges
+    pub few_keys : length (numbers_kept k.rows (kept_in k)).1.counts ≤ (capacities_of rank).ridge_orbits
+    pub few_orbits : layout.orbits ≤ (capacities_of rank).orbits
+    pub room : (table_layout_for rank).end ≤ length s
+
+  held : Held
+  unfolding capacities_three capacities_four
+  held = at_rank k.more st.few_more st.rank_is st.made many_ridges
     where
       at_rank : (more : ℕ) → more ≤ 1 → rank ≡ 3 + more
           → Preparation more (call_rules rules) (faceting more (call_rules rules)) k.plane k.points k.rows k.prepared
-          → RidgesKept more (points_in k) k.rows (kept_in k) → (most : ℕ) × (ridges : ℕ)
-          × table_layouts.Given (points_in k) most ridges m rows (kept_in k) layout (table_layout_for rank) s
+          → RidgesKept more (points_in k) k.rows (kept_in k) → Held
       at_rank zero few e made r =
           let three : rank ≡ 3 = omega arith in
-          let at = layout_three_holds layout rank three st.owners_at st.end_at_holds in
+          let is = sym (of_three rank three) in
+          let edge = kept_edge (call_rules rules) k.plane k.points k.rows k.prepared made in
           let orbits = few_orbits_three (call_rules rules) k.plane k.points k.rows k.prepared made st.few_points in
-          let ridges = rank_three_ridges (points_in k) k.rows (kept_in k) r in (
-            2,
-            20,
-            laid_from 2 20 (λ j i. omega (
-              arith,
-              (sized j i).ends_many,
-              (kept_edge (call_rules rules) k.plane k.points k.rows k.prepared made j i).few_counts,
-            ))
-                (omega (arith, st.few_points))
-                (subst (λ (tables : TableLayout). TableLayoutFits layout tables 2 20 (length s))
-                (table_layout_three rank three) (rank3_fits layout (length s) (omega (arith, at.1)) (omega (
-                  arith,
-                  st.keeps.orbits,
-                )) (st.room_three three))),
-          )
+          let ridges = rank_three_ridges (points_in k) k.rows (kept_in k) r in
+          record {
+            few_ends =
+                λ j i. subst (λ (c : Capacities). length j.ends ≤ c.ridges) is
+                (omega (arith, (sized j i).ends_many, (edge j i).few_counts));
+            few_keys =
+                subst (λ (c : Capacities). length (numbers_kept k.rows (kept_in k)).1.counts ≤ c.ridge_orbits) is
+                (omega (arith, st.few_points));
+            few_orbits = subst (λ (c : Capacities). layout.orbits ≤ c.orbits) is (omega (arith, st.keeps.orbits));
+            room = omega (arith, table_ends.0 rank three, st.room_three three);
+          }
       at_rank (suc zero) few e made r =
           let four : rank ≡ 4 = omega arith in
-          let other : rank ≡ 3 → ⊥ = λ q. omega arith in
-          let at = layout_four_holds layout rank other st.owners_at st.end_at_holds in (
-            190,
-            190,
-            laid_from 190 190 (λ j i. (sized j i).few_ends st.few_points) (r.few st.few_points)
-                (subst (λ (tables : TableLayout). TableLayoutFits layout tables 190 190 (length s))
-                (table_layout_four rank other)
-                (rank4_fits layout (length s) (omega (arith, at.1)) st.keeps.few_orbits (st.room_four four))),
-          )
+          let is = sym (of_four rank (λ q. omega arith)) in
+          record {
+            few_ends =
+                λ j i. subst (λ (c : Capacities). length j.ends ≤ c.ridges) is ((sized j i).few_ends st.few_points);
+            few_keys =
+                subst (λ (c : Capacities). length (numbers_kept k.rows (kept_in k)).1.counts ≤ c.ridge_orbits) is
+                (r.few st.few_points);
+            few_orbits = subst (λ (c : Capacities). layout.orbits ≤ c.orbits) is st.keeps.few_orbits;
+            room = omega (arith, table_ends.1 rank four, st.room_four four);
+          }
       at_rank (suc (suc more)) few e made r = absurd (omega arith)
+
+  -- what `lay_tables` is asked
+  pub tables_asked : (most : ℕ) × (ridges : ℕ)
+      × table_layouts.Given (points_in k) most ridges m rows (kept_in k) layout (table_layout_for rank) s
+  unfolding layout_for table_layout_for
+  tables_asked =
+      let c = capacities_of rank in
+      let w = tables_wide rank in (
+        c.ridges,
+        c.ridge_orbits,
+        laid_from c.ridges c.ridge_orbits held.few_ends held.few_keys
+            (tables_fit c layout (length s) w.0 w.1 w.2 st.end_at_holds held.few_orbits held.room),
+      )

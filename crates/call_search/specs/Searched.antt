@@ -44,14 +44,15 @@ use Rattle.entries.specs.Answer.{left_whole}
 use Rattle.entries.proofs.Answer.{left_split}
 use Rattle.calls.specs.declared.Rules.{Rules}
 use Rattle.calls.specs.declared.Called.TheVariants.{Left}
-use Rattle.shares.specs.declared.TableLayout.{TableLayout}
+use Rattle.layout.specs.declared.TableLayout.{TableLayout}
 use Rattle.ridges.specs.TableLayouts.{Given, areas_of}
-use Rattle.ridges.specs.Ranks.{table_layout_3, table_layout_4}
 use Rattle.ridges.specs.Shared.{facets_same}
-use Rattle.call_search.specs.TableLayouts.{table_layout_for, table_layout_three, table_layout_four}
+use Rattle.layout.specs.Capacities.{capacities_three, capacities_four, capacities_of, kept_layout, tables_from}
+use Rattle.layout.specs.Capacities.{table_layout, layout_for, table_layout_for}
+use Rattle.layout.specs.Capacities.{entry_bytes, images_from, listed_bytes, split_bytes}
 use Rattle.call_search.specs.Answers.{Answers, Searched}
 use Rattle.call_search.specs.PreparedCalls.{PreparedCall, CallPrepared, points_in, kept_in, call_rules}
-use Rattle.call_search.specs.PreparedCalls.{layout_three_holds, layout_four_holds, tables_asked}
+use Rattle.call_search.specs.PreparedCalls.{tables_asked}
 
 -- ---- entries from emitted lists
 
@@ -78,7 +79,7 @@ pub record EntriesListed (layout : KeptLayout) (rank : ℕ) (a : Areas) (s : Lis
   pub whole : rank ≡ 3 → Listed layout (lists_at layout a) (lists_at layout a) (list_bytes a) (lists_at layout a)
       (list_bytes a) (emitted_lists layout a s) (emitted_lists layout a s) s level t
   pub parts : (rank ≡ 3 → ⊥) → Listed layout (layout.owners + 2048) (layout.owners + 2048) (list_bytes a)
-      (layout.owners + 2048 + list_bytes a) 2101260 (emitted_lists layout a s)
+      (layout.owners + 2048 + list_bytes a) split_bytes (emitted_lists layout a s)
       (map (split_on layout s) (emitted_lists layout a s)) s level t
 
 -- ---- where the areas lie
@@ -92,14 +93,15 @@ pub record Placed (layout : KeptLayout) (rank : ℕ) (a : Areas) (size : ℕ) : 
   pub frames : 2048 ≤ a.frames
   pub behind : 2048 ≤ a.lists
   pub order : a.lists ≤ a.end
-  pub inside : layout.owners + a.end + 6144 ≤ size
-  pub parts : (rank ≡ 3 → ⊥) → layout.owners + (list_bytes a + 2109452) ≤ size
-  pub ends : layout.owners + a.end + 6144 ≤ 3211264
-  pub parts_end : (rank ≡ 3 → ⊥) → layout.owners + (list_bytes a + 2109452) ≤ 3211264
+  pub inside : layout.owners + a.end + listed_bytes ≤ size
+  pub parts : (rank ≡ 3 → ⊥) → layout.owners + (list_bytes a + entry_bytes) ≤ size
+  pub ends : layout.owners + a.end + listed_bytes ≤ images_from
+  pub parts_end : (rank ≡ 3 → ⊥) → layout.owners + (list_bytes a + entry_bytes) ≤ images_from
 
-placed_three : (layout : KeptLayout) (rank : ℕ) (a : Areas) (size known : ℕ) → rank ≡ 3 → layout.owners ≡ 10764
-    → layout.end ≡ 20236 → 524288 ≤ size → a ≡ areas_of layout table_layout_3 known → Placed layout rank a size
-unfolding areas_of table_layout_3
+placed_three : (layout : KeptLayout) (rank : ℕ) (a : Areas) (size known : ℕ) → rank ≡ 3
+    → layout.owners ≡ (layout_for 3).owners → layout.end ≡ (layout_for 3).end → 524288 ≤ size
+    → a ≡ areas_of layout (table_layout_for 3) known → Placed layout rank a size
+unfolding areas_of layout_for table_layout_for table_layout tables_from kept_layout capacities_of capacities_three
 placed_three layout rank a size known e o h room is =
     let lists = ap (λ (x : Areas). x.lists) is in
     let end = ap (λ (x : Areas). x.end) is in
@@ -118,9 +120,10 @@ placed_three layout rank a size known e o h room is =
       parts_end = λ n. absurd (n e);
     }
 
-placed_four : (layout : KeptLayout) (rank : ℕ) (a : Areas) (size known : ℕ) → layout.owners ≡ 399372
-    → layout.end ≡ 990244 → 4194304 ≤ size → a ≡ areas_of layout table_layout_4 known → Placed layout rank a size
-unfolding areas_of table_layout_4
+placed_four : (layout : KeptLayout) (rank : ℕ) (a : Areas) (size known : ℕ) → layout.owners ≡ (layout_for 4).owners
+    → layout.end ≡ (layout_for 4).end → 4194304 ≤ size → a ≡ areas_of layout (table_layout_for 4) known
+    → Placed layout rank a size
+unfolding areas_of layout_for table_layout_for table_layout tables_from kept_layout capacities_of capacities_four
 placed_four layout rank a size known o h room is =
     let lists = ap (λ (x : Areas). x.lists) is in
     let end = ap (λ (x : Areas). x.end) is in
@@ -178,17 +181,16 @@ module _ (k : PreparedCall) (layout : KeptLayout) (rank : ℕ) (rows : List ℕ)
       at_rank : (more : ℕ) → more ≤ 1 → rank ≡ 3 + more → Placed layout rank a (length s)
       at_rank zero few e =
           let three : rank ≡ 3 = omega arith in
-          let at = layout_three_holds layout rank three st.owners_at st.end_at_holds in
-          placed_three layout rank a (length s) a.ridges three at.0 at.1 (st.room_three three) (is
-          ∙ ap (λ (table_layout : TableLayout). areas_of layout table_layout a.ridges)
-          (sym (table_layout_three rank three)))
+          placed_three layout rank a (length s) a.ridges three
+          (st.owners_at ∙ ap (λ (r : ℕ). (layout_for r).owners) three)
+          (st.end_at_holds ∙ ap (λ (r : ℕ). (layout_for r).end) three) (st.room_three three)
+          (is ∙ ap (λ (r : ℕ). areas_of layout (table_layout_for r) a.ridges) three)
       at_rank (suc zero) few e =
           let four : rank ≡ 4 = omega arith in
-          let other : rank ≡ 3 → ⊥ = λ q. omega arith in
-          let at = layout_four_holds layout rank other st.owners_at st.end_at_holds in
-          placed_four layout rank a (length s) a.ridges at.0 at.1 (st.room_four four) (is
-          ∙ ap (λ (table_layout : TableLayout). areas_of layout table_layout a.ridges)
-          (sym (table_layout_four rank other)))
+          placed_four layout rank a (length s) a.ridges
+          (st.owners_at ∙ ap (λ (r : ℕ). (layout_for r).owners) four)
+          (st.end_at_holds ∙ ap (λ (r : ℕ). (layout_for r).end) four) (st.room_four four)
+          (is ∙ ap (λ (r : ℕ). areas_of layout (table_layout_for r) a.ridges) four)
       at_rank (suc (suc more)) few e = absurd (omega arith)
 
   -- the search of the tables is the call's
@@ -282,7 +284,8 @@ module _ (k : PreparedCall) (layout : KeptLayout) (rank : ℕ) (rows : List ℕ)
 
           answers : answer_left k.more (points_in k) k.rows (kept_in k) level u rest
               ≡ kept_answer k.more (points_in k) k.rows (kept_in k) found
-              → Leaves k.more (points_in k) k.rows (kept_in k) level u → level.lists + (level.bytes + 6144) ≤ 3211264
+              → Leaves k.more (points_in k) k.rows (kept_in k) level u
+              → level.lists + (level.bytes + listed_bytes) ≤ images_from
               → Answers k rules level rest u
           answers e leaves ends = record {
             found = found;
@@ -312,7 +315,7 @@ module _ (k : PreparedCall) (layout : KeptLayout) (rank : ℕ) (rows : List ℕ)
               let g = l.parts other in
               answers (left_split (points_in k) layout (kept_in k) t keeps_still numbered below k.more k.rows found
               lists_are (layout.owners + 2048) (layout.owners + 2048) (list_bytes a)
-              (layout.owners + 2048 + list_bytes a) 2101260 level u (splittable other) g)
+              (layout.owners + 2048 + list_bytes a) split_bytes level u (splittable other) g)
               (g.leaves k.more (points_in k) k.rows (kept_in k) keeps_still) (omega (
                 arith,
                 ap (λ (x : Level). x.lists) g.level_is,

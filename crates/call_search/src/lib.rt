@@ -4,7 +4,6 @@
 #![tactic(auto)]
 
 ghost use Rattle.std.specs.Prelude.{◌≡◌};
-ghost use Rattle.call_search.specs.TableLayouts.{table_layout_for};
 ghost use Rattle.call_search.specs.PreparedCalls.{PreparedCall, CallPrepared};
 ghost use Rattle.call_search.specs.Answers.{Searched};
 ghost use Rattle.call_search.specs.Searched.{ListsReady, EntriesListed};
@@ -15,38 +14,6 @@ use layout::{KeptLayout, Level};
 use refusals::Refusal;
 use rows::Rows;
 use search::Course;
-use shares::TableLayout;
-
-// Where the tables and the search lie behind what a call of rank 3, or of rank 4, keeps. At rank 3 an orbit has at
-// most two ridges, and there are at most 20 ridge orbits and 190 orbits; at rank 4 at most 190 ridges of an orbit,
-// 190 ridge orbits and 256 orbits. The emitted lists have room for 1,024. Told apart by the rank: what is chosen are
-// numbers, no step.
-fn table_layout_for(rank: usize) -> TableLayout
-    ensures { result ≡ table_layout_for rank }
-{
-    if rank == 3 {
-        return TableLayout {
-            numbers: 20236,
-            shares: 22296,
-            touched: 34596,
-            ones: 79664,
-            frames: 84532,
-            totals: 88644,
-            lists: 89090,
-            end: 482318,
-        };
-    }
-    TableLayout {
-        numbers: 990244,
-        shares: 1088560,
-        touched: 1870908,
-        ones: 2264136,
-        frames: 2654028,
-        totals: 2658140,
-        lists: 2658586,
-        end: 3186982,
-    }
-}
 
 // The call's entries from the lists that its search emitted. At rank 3 no facet is a compound, and the lists are only
 // put in order. A test of the rank and no closure: the two ways differ here alone, and a caller would pick the
@@ -80,7 +47,7 @@ pub fn search_call(
         → CallPrepared k layout rank rows.entry.bytes.now rows.entry.count rules extended left ws.old
         → Searched k rules result ws.new }
 {
-    let tables = table_layout_for(rank);
+    let tables = layout::table_layout_for(rank);
     let areas = ridges::lay_tables(rows, layout, tables, ws);
     let course = Course {
         limit: rules.limit,

@@ -1,5 +1,4 @@
 -- How a call comes to its answer, step by step.
 pub mod Steps
 pub mod Ends
-pub mod Layouts
 pub mod Swaps

@@ -1,5 +1,4 @@
-// What a call takes and gives besides its points, and its small steps: the answer of rank 2 from the rows alone, and
-// where a call of a rank keeps what.
+// What a call takes and gives besides its points, and the answer of rank 2 from the rows alone.
 
 #![tactic(auto)]
 
@@ -7,9 +6,8 @@ ghost use Rattle.std.specs.Prelude.{◌≡◌, ℕ, ◌≤◌, ◌<◌, eqb};
 ghost use Rattle.definitions.specs.Lists.{any_of};
 ghost use Rattle.definitions.specs.Orbits.{Row, image};
 ghost use Rattle.rows.specs.Rows.{rows_in};
-ghost use Rattle.calls.specs.Layouts.{layout_for};
 
-use layout::{KeptLayout, Level, ORBITS_BYTES};
+use layout::Level;
 use rows::Rows;
 use space::Limits;
 
@@ -41,34 +39,4 @@ pub fn swaps_ends(rows: Rows) -> bool
         → result ≡ any_of (λ (row : Row). eqb 1 (image row 0)) (rows_in n rows.entry.count rows.entry.bytes.now) }
 {
     (0..rows.count).any(|i| rows.image(i, 0) == 1)
-}
-
-// The layout for a call of rank 3, or of rank 4, with nothing kept yet: its areas have room for what such a call can
-// keep. Told apart by the rank, a number that `faceting` lowers by one: what is chosen are numbers, no step, so that
-// a closure would say no more.
-pub fn layout_for(rank: usize) -> KeptLayout
-    ensures { result ≡ layout_for rank }
-{
-    if rank == 3 {
-        return KeptLayout {
-            orbits: 0,
-            facets: 0,
-            edges: ORBITS_BYTES,
-            labels: 6668,
-            owners: 10764,
-            ridges: 12812,
-            places: 15368,
-            end: 20236,
-        };
-    }
-    KeptLayout {
-        orbits: 0,
-        facets: 0,
-        edges: ORBITS_BYTES,
-        labels: 395276,
-        owners: 399372,
-        ridges: 401420,
-        places: 597016,
-        end: 990244,
-    }
 }

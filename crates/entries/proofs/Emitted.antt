@@ -13,6 +13,7 @@ use Rattle.shapes.specs.Kept.{Kept}
 use Rattle.layout.specs.declared.KeptLayout.{KeptLayout}
 use Rattle.layout.specs.Keeps.{Keeps}
 use Rattle.layout.specs.Leaves.{facet_at}
+use Rattle.layout.specs.Capacities.{entry_bytes}
 use Rattle.entries.specs.Split.{Splits}
 use Rattle.entries.specs.Parts.{Splittable}
 use Rattle.entries.specs.Answer.{split_numbers}
@@ -37,7 +38,7 @@ module _ (layout : KeptLayout) (a : Areas) (s : List ℕ) (most : a.bound ≡ 10
     -- and `split_entries`
     pub split_ready : (n : ℕ) (kept : List Kept) → Keeps n layout kept s → ((k : Kept) → Mem k kept → Splittable k)
         → ((l : List Facet) → Mem l (map (map (facet_at kept)) emitted) → Pairs OtherOrbit l)
-        → at + bytes ≤ length s → layout.owners + (bytes + 2109452) ≤ length s → Splits layout at bytes s
+        → at + bytes ≤ length s → layout.owners + (bytes + entry_bytes) ≤ length s → Splits layout at bytes s
     split_ready n kept keeps each apart inside room = record {
       fits = keeps.fits;
       few_facets = keeps.few_facets;

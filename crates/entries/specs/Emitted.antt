@@ -15,6 +15,7 @@ use Rattle.shapes.specs.Kept.{Kept}
 use Rattle.layout.specs.declared.KeptLayout.{KeptLayout}
 use Rattle.layout.specs.Keeps.{facets_of}
 use Rattle.layout.specs.Leaves.{facet_at}
+use Rattle.layout.specs.Capacities.{listed_bytes}
 use Rattle.entries.specs.Listed.{ListsBehind}
 
 -- a table's facets are those of what was kept: then the search's lists are the numbered lists' facets, and their
@@ -66,7 +67,7 @@ module _ (layout : KeptLayout) (a : Areas) (s : List ℕ) (most : a.bound ≡ 10
         subst (λ (n : ℕ). AllBelow n emitted) facets (subst (AllBelow a.facets) lists_are (emitted_below a left e))
 
     -- what `sort_entries` is asked
-    pub sort_ready : 2048 ≤ a.lists → at + bytes + 6144 ≤ length s → ListsBehind layout at bytes s
+    pub sort_ready : 2048 ≤ a.lists → at + bytes + listed_bytes ≤ length s → ListsBehind layout at bytes s
     sort_ready behind room = record {
       behind = omega arith;
       sound = sound;

@@ -33,6 +33,7 @@ use Rattle.layout.specs.declared.Level.{Level}
 use Rattle.layout.specs.Keeps.{Keeps, LayoutFits, labels_part}
 use Rattle.layout.specs.Front.{keeps_front}
 use Rattle.layout.specs.Leaves.{order_left, EmittedHeld, Leaves}
+use Rattle.layout.specs.Capacities.{entry_bytes, split_bytes}
 use Rattle.entries.specs.Listed.{in_list_order, ListsBehind, Listed}
 
 -- the components of each facet, as they are kept
@@ -50,7 +51,7 @@ pub record Splits (layout : KeptLayout) (from bytes : ℕ) (s : List ℕ) : Type
   pub few_facets : layout.facets ≤ 1024
   pub inside : from + bytes ≤ length s
   pub sound : Sound 2 1024 (part from bytes s)
-  pub room : layout.owners + (bytes + 2109452) ≤ length s
+  pub room : layout.owners + (bytes + entry_bytes) ≤ length s
   pub short : (l : List ℕ) → Mem l (closed_lists 2 1024 (part from bytes s)) → length (split_on layout s l) ≤ 1024
   pub whole : AllBelow layout.facets (closed_lists 2 1024 (part from bytes s))
   pub numbers : AllBelow layout.facets (map (split_on layout s) (closed_lists 2 1024 (part from bytes s)))
@@ -102,7 +103,7 @@ module _ (layout : KeptLayout) (from bytes : ℕ) (s : List ℕ) (r : Splits lay
 
   -- the part that splitting works in, and how it is laid out
   abbrev wide : ℕ
-  wide = to + 2101260 - labels
+  wide = to + split_bytes - labels
 
   abbrev split_layout : SplitLayout
   split_layout = record {
@@ -169,7 +170,7 @@ module _ (layout : KeptLayout) (from bytes : ℕ) (s : List ℕ) (r : Splits lay
         let c = closed_length 2 1024 (part from bytes s) in
         rw (pool_is, table_is) (omega (arith, joined_few (split_on layout s) 1024 emitted r.short, r.sound.few))
 
-    rest_length : length (rest_of split_layout u) ≡ 2101260
+    rest_length : length (rest_of split_layout u) ≡ split_bytes
     rest_length = length-drop (at - labels + bytes) u ∙ omega (arith, u_length, labels_before)
 
     -- what `split_lists` is asked
@@ -253,22 +254,23 @@ module _ (layout : KeptLayout) (from bytes : ℕ) (s : List ℕ) (r : Splits lay
       own : part labels wide s2 ≡ p
       own = part_placed labels wide s1 p (omega (arith, long1, r.room, labels_before)) (many ∙ u_length)
 
-      split_part : part to 2101260 s2 ≡ fill_all 1024 empty lists
+      split_part : part to split_bytes s2 ≡ fill_all 1024 empty lists
       split_part =
           let e : labels + (at - labels + bytes) ≡ to = omega (arith, labels_before) in
           let d = length-drop (at - labels + bytes) p in
-          ap (λ (n : ℕ). part n 2101260 s2) (sym e)
-          ∙ (sym (part_part (at - labels + bytes) 2101260 labels wide s2 (omega (arith, labels_before)))
-          ∙ (ap (part (at - labels + bytes) 2101260) own
-          ∙ (take_all 2101260 (drop (at - labels + bytes) p) (omega (arith, many, u_length, labels_before)) ∙ rest_is)))
+          ap (λ (n : ℕ). part n split_bytes s2) (sym e)
+          ∙ (sym (part_part (at - labels + bytes) split_bytes labels wide s2 (omega (arith, labels_before)))
+          ∙ (ap (part (at - labels + bytes) split_bytes) own
+          ∙ (take_all split_bytes (drop (at - labels + bytes) p) (omega (arith, many, u_length, labels_before))
+          ∙ rest_is)))
 
-      split_closed : closed_lists 2 1024 (part to 2101260 s2) ≡ lists
+      split_closed : closed_lists 2 1024 (part to split_bytes s2) ≡ lists
       split_closed =
           ap (closed_lists 2 1024) split_part ∙ (filled.lists ∙ ap (λ (l : List (List ℕ)). l ++ lists)
           (emptied_closed 2 1024 (rest_of split_layout u) (omega (arith, rest_length))))
 
       -- what `sort_entries` is asked
-      pub sort_asked : ListsBehind layout to 2101260 s2
+      pub sort_asked : ListsBehind layout to split_bytes s2
       sort_asked = record {
         behind = omega arith;
         sound = sound2;
@@ -276,7 +278,7 @@ module _ (layout : KeptLayout) (from bytes : ℕ) (s : List ℕ) (r : Splits lay
         numbers = subst (AllBelow layout.facets) (sym split_closed) r.numbers;
       }
         where
-          sound2 : Sound 2 1024 (part to 2101260 s2)
+          sound2 : Sound 2 1024 (part to split_bytes s2)
           sound2 = subst (Sound 2 1024) (sym split_part) filled.sound
 
       front2 : take at s2 ≡ take at s
@@ -312,9 +314,9 @@ module _ (layout : KeptLayout) (from bytes : ℕ) (s : List ℕ) (r : Splits lay
           ∙ (ap (λ (n : ℕ). part (at - labels) n u) (sym b) ∙ pool_is))))))
 
       abbrev ls : List (List ℕ)
-      ls = closed_lists 2 1024 (part to 2101260 s2)
+      ls = closed_lists 2 1024 (part to split_bytes s2)
 
-      module _ (level : Level) (t : List ℕ) (l : Listed layout to to 2101260 to 2101260 ls ls s2 level t) where
+      module _ (level : Level) (t : List ℕ) (l : Listed layout to to split_bytes to split_bytes ls ls s2 level t) where
         -- the level that splitting leaves, whose emitted lists stand in another pool
         abbrev apart : Level
         apart = record {
@@ -322,16 +324,16 @@ module _ (layout : KeptLayout) (from bytes : ℕ) (s : List ℕ) (r : Splits lay
           emitted = at;
           extent = bytes;
           lists = to;
-          bytes = 2101260;
+          bytes = split_bytes;
           count = level.count;
         }
 
         sorted_is : level ≡ record {
           layout = layout;
           emitted = to;
-          extent = 2101260;
+          extent = split_bytes;
           lists = to;
-          bytes = 2101260;
+          bytes = split_bytes;
           count = level.count;
         }
         sorted_is =
@@ -339,9 +341,9 @@ module _ (layout : KeptLayout) (from bytes : ℕ) (s : List ℕ) (r : Splits lay
             ∙ ap (λ (n : ℕ). record {
               layout = layout;
               emitted = to;
-              extent = 2101260;
+              extent = split_bytes;
               lists = to;
-              bytes = 2101260;
+              bytes = split_bytes;
               count = n;
             }) (sym (ap (λ (x : Level). x.count) l.level_is))
 
@@ -350,7 +352,7 @@ module _ (layout : KeptLayout) (from bytes : ℕ) (s : List ℕ) (r : Splits lay
             sym (part_take to t at bytes (omega arith))
             ∙ (ap (part at bytes) l.front ∙ (part_take to s2 at bytes (omega arith) ∙ pool2))
 
-        parted : closed_lists 2 1024 (take 2101260 (drop to t)) ≡ lists
+        parted : closed_lists 2 1024 (take split_bytes (drop to t)) ≡ lists
         parted =
             subst (λ (x : Level). closed_lists 2 1024 (take x.bytes (drop x.lists t)) ≡ ls) sorted_is l.split_are
             ∙ split_closed
@@ -361,7 +363,7 @@ module _ (layout : KeptLayout) (from bytes : ℕ) (s : List ℕ) (r : Splits lay
           before = omega arith;
           sound = subst (Sound 2 1024) (sym still) r.sound;
           as_many =
-              sym (closed_length 2 1024 (take 2101260 (drop to t)))
+              sym (closed_length 2 1024 (take split_bytes (drop to t)))
               ∙ (ap length parted ∙ (length-map emitted (split_on layout s)
               ∙ (ap (λ (pool : List ℕ). length (closed_lists 2 1024 pool)) (sym still)
               ∙ closed_length 2 1024 (part at bytes t))));
@@ -384,7 +386,7 @@ module _ (layout : KeptLayout) (from bytes : ℕ) (s : List ℕ) (r : Splits lay
               emitted = stand;
             }
 
-        pub split_left : Listed layout at at bytes to 2101260 emitted lists s apart t
+        pub split_left : Listed layout at at bytes to split_bytes emitted lists s apart t
         split_left = record {
           level_is =
               ap (λ (n : ℕ). record {
@@ -392,7 +394,7 @@ module _ (layout : KeptLayout) (from bytes : ℕ) (s : List ℕ) (r : Splits lay
                 emitted = at;
                 extent = bytes;
                 lists = to;
-                bytes = 2101260;
+                bytes = split_bytes;
                 count = n;
               }) (ap (λ (x : Level). x.count) l.level_is ∙ ap length split_closed);
           emitted_are_holds = ap (closed_lists 2 1024) still;

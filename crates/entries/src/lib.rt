@@ -8,10 +8,11 @@ ghost use Rattle.laws.specs.Segments.{part};
 ghost use Rattle.pool.specs.Pool.{closed_lists};
 ghost use Rattle.entries.specs.Listed.{many, labelled, Pool, ListsBehind, Listed};
 ghost use Rattle.entries.specs.Split.{split_on, Splits};
+ghost use Rattle.layout.specs.Capacities.{split_bytes};
 
 use layout::{KeptLayout, Level, ORDER_BYTES, OWNERS_BYTES};
 use order::Area;
-use pool::MOST_LISTS;
+use pool::{MOST_FACETS, MOST_LISTS};
 use splitting::SplitLayout;
 
 // ---- the order and the labels
@@ -54,7 +55,7 @@ pub fn sort_entries(ws: &mut [u8], layout: KeptLayout, at: usize, bytes: usize) 
 // ---- splitting
 
 // The bytes of a pool of as many lists as there may be entries, each of as many items as there may be facets.
-const SPLIT_BYTES: usize = 2101260;
+const SPLIT_BYTES: usize = 12 + 4 * MOST_LISTS + 2 * (MOST_LISTS * MOST_FACETS);
 
 // The steps that splitting one facet may take: twice as many as its parts, which are no more than pairs of 20 points.
 const SPLIT_STEPS: usize = 380;
@@ -64,7 +65,8 @@ const SPLIT_STEPS: usize = 380;
 // it is. The table of components is the kept area of labels, so the part that splitting works in begins there.
 pub fn split_entries(ws: &mut [u8], layout: KeptLayout, from: usize, bytes: usize) -> Level
     requires { Splits layout from bytes ws.old }
-    ensures { Listed layout (layout.owners + 2048) (layout.owners + 2048) bytes (layout.owners + 2048 + bytes) 2101260
+    ensures { Listed layout (layout.owners + 2048) (layout.owners + 2048) bytes (layout.owners + 2048 + bytes)
+        split_bytes
         (closed_lists 2 1024 (part from bytes ws.old))
         (map (split_on layout ws.old) (closed_lists 2 1024 (part from bytes ws.old))) ws.old result ws.new }
 {

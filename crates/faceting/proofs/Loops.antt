@@ -22,7 +22,7 @@ use Rattle.refusals.specs.Refused.{number_of}
 use Rattle.std.specs.Prelude.{Option, Result, Ok, Err}
 use Rattle.shapes.specs.Calls.{Given}
 use Rattle.layout.specs.Keeps.{Keeps, Ridges}
-use Rattle.calls.specs.Layouts.{layout_for}
+use Rattle.layout.specs.Capacities.{layout_for}
 use Rattle.calls.specs.declared.Rules.{Rules}
 use Rattle.faceting.specs.Asked.{Asked}
 use Rattle.call_search.specs.PreparedCalls.{call_rules}

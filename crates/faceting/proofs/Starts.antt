@@ -13,7 +13,7 @@ use Rattle.std.specs.Prelude.{Result, Ok, Err}
 use Rattle.shapes.specs.Answered.{TakesSome}
 use Rattle.layout.specs.Keeps.{LayoutFits, Keeps, Ridges}
 use Rattle.layout.specs.declared.KeptLayout.{KeptLayout}
-use Rattle.calls.specs.Layouts.{layout_for}
+use Rattle.layout.specs.Capacities.{layout_for}
 use Rattle.keep.specs.Storing.{beside_take}
 use Rattle.keep.specs.AreasHold.{KeptWritten}
 use Rattle.inner_answers.specs.State as state

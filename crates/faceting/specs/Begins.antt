@@ -30,7 +30,7 @@ use Rattle.shapes.specs.Kept.{Kept, kept_of}
 use Rattle.layout.specs.Keeps.{LayoutFits}
 use Rattle.layout.specs.Front.{keeps_front}
 use Rattle.layout.specs.declared.KeptLayout.{KeptLayout}
-use Rattle.calls.specs.Layouts.{layout_for}
+use Rattle.layout.specs.Capacities.{layout_for}
 use Rattle.calls.specs.declared.Called.{Called}
 use Rattle.refusals.specs.declared.Refusal.{Refusal}
 use Rattle.std.specs.Prelude.{Result}

@@ -13,7 +13,7 @@ use Rattle.rows.specs.Rows.{rows_in, RowsFit}
 use Rattle.shapes.specs.Answered.{TakesSome, preparation_with}
 use Rattle.shapes.specs.Calls.{Given}
 use Rattle.layout.specs.declared.KeptLayout.{KeptLayout}
-use Rattle.calls.specs.Layouts.{layout_for}
+use Rattle.layout.specs.Capacities.{layout_for}
 use Rattle.calls.specs.Steps.{Reached, reached_all, call_thirteen, call_inner_refused, call_prepared}
 use Rattle.calls.specs.declared.Rules.{Rules}
 use Rattle.calls.specs.declared.Called.{Called}

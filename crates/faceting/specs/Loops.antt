@@ -32,7 +32,7 @@ use Rattle.shapes.specs.Calls.{Given}
 use Rattle.shapes.specs.Kept.{kept_of}
 use Rattle.layout.specs.Keeps.{LayoutFits}
 use Rattle.layout.specs.declared.KeptLayout.{KeptLayout}
-use Rattle.calls.specs.Layouts.{layout_three, layout_four, layout_for, three_fits, four_fits, at_three, at_four}
+use Rattle.layout.specs.Capacities.{capacities_of, layout_for, kept_fits, kept_ends}
 use Rattle.calls.specs.declared.Rules.{Rules}
 use Rattle.calls.specs.declared.Called.{Called}
 use Rattle.calls.specs.declared.Called.TheVariants.{Ends}
@@ -108,33 +108,17 @@ says_rank way rank least n k e rules plane points rows m budget r s a =
     subst (λ (x : ℕ). AnswerMatchesAt (way_of x way) (rank - 2) rules plane points (rows_in x m rows) budget r s) e
     (subst (λ (more : ℕ). AnswerMatchesAt (way_of n way) more rules plane points (rows_in n m rows) budget r s) q a)
 
-fits_more : (layout : KeptLayout) (a b : ℕ) → LayoutFits layout a → a ≤ b → LayoutFits layout b
-fits_more layout a b f h = record {
-  orbit_room = f.orbit_room;
-  edge_room = f.edge_room;
-  label_room = f.label_room;
-  owner_room = f.owner_room;
-  ridge_room = f.ridge_room;
-  place_room = f.place_room;
-  ends = omega (arith, f.ends);
-}
-
 -- the layout of either rank fits its workspace
 layout_fits : (rank size : ℕ) → 3 ≤ rank → rank ≤ 4 → (rank ≡ 3 → 524288 ≤ size) → (rank ≡ 4 → 4194304 ≤ size)
     → LayoutFits (layout_for rank) size
-layout_fits rank size least most three four = ⊎_elim
-    (λ h. let e : rank ≡ 3 = omega arith in subst (λ (x : KeptLayout). LayoutFits x size) (at_three rank e)
-    (fits_more layout_three 524288 size three_fits (three e)))
-    (λ h.
-    let e : rank ≡ 4 = omega arith in
-    subst (λ (x : KeptLayout). LayoutFits x size) (at_four rank (λ q. omega arith))
-    (fits_more layout_four (4194304 - 524288) size four_fits (omega (arith, four e))))
-    (le_or_lt rank 3)
+unfolding layout_for
+layout_fits rank size least most three four = kept_fits (capacities_of rank) size (⊎_elim
+    (λ h. omega (arith, kept_ends.0 rank (omega arith), three (omega arith)))
+    (λ h. omega (arith, kept_ends.1 rank (omega arith), four (omega arith))) (le_or_lt rank 3))
 
 -- and behind that of rank 4 there is the workspace of an inner call
 behind_four : (rank : ℕ) → rank ≡ 4 → (layout_for rank).end ≤ 4194304 - 524288
-behind_four rank e =
-    subst (λ (x : KeptLayout). x.end ≤ 4194304 - 524288) (at_four rank (λ q. omega arith)) four_fits.ends
+behind_four rank e = omega (arith, kept_ends.1 rank e)
 
 -- ---- the start
 

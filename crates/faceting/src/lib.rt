@@ -16,7 +16,7 @@ ghost use Rattle.space.specs.Meaning.{points_of, subspace_of, HoldsPoints, limit
 ghost use Rattle.orbits.specs.Workspace.{orbits_room};
 ghost use Rattle.orbits.specs.Answers.{answer_in, orbits_or_refusal};
 ghost use Rattle.layout.specs.Keeps.{LayoutFits, Keeps, Ridges};
-ghost use Rattle.calls.specs.Layouts.{layout_for};
+ghost use Rattle.layout.specs.Capacities.{layout_for};
 ghost use Rattle.sets.specs.Refitting.{Refitted};
 ghost use Rattle.call_search.specs.PreparedCalls.{call_rules};
 
@@ -91,7 +91,7 @@ fn start_call(
         × ((k : ℕ) → Keeps k (layout_for rank) [] ws.new × Ridges (layout_for rank) [] ws.new) }
 {
     let answer = find_kept(ws, rank, search, rules, way);
-    let layout = calls::layout_for(rank);
+    let layout = layout::layout_for(rank);
     keep::clear_kept(ws, layout);
     answer
 }
@@ -170,7 +170,7 @@ pub fn faceting(
     let search = Search { pairs, flat: &flat };
     let count = start_call(ws, rank, search, rules, way)?;
     let mut done = Stored {
-        layout: calls::layout_for(rank),
+        layout: layout::layout_for(rank),
         left: budget,
     };
     for k in 0..count {

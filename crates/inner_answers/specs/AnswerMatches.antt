@@ -15,7 +15,8 @@ use Rattle.shapes.specs.Kept.{kept_of}
 use Rattle.layout.specs.Leaves.{Leaves, answer_left}
 use Rattle.layout.specs.declared.KeptLayout.{KeptLayout}
 use Rattle.layout.specs.declared.Level.{Level}
-use Rattle.calls.specs.Layouts.{layout_for}
+use Rattle.layout.specs.Capacities.{layout_for}
+use Rattle.layout.specs.Capacities.{images_from, listed_bytes}
 use Rattle.calls.specs.Steps.{kept_orbits}
 use Rattle.calls.specs.declared.Called.{Called}
 use Rattle.calls.specs.declared.Called.TheVariants.{Ends, Left}
@@ -37,7 +38,7 @@ pub record AnswerHeld (way : Way) (more : ℕ) (rules : Rules) (plane : Subspace
   pub leaves : Leaves more (length points) rows (map kept_of before.inner) level s
   pub is : faceting_with way (suc more) rules plane points rows budget
       ≡ answered (answer_left more (length points) rows (map kept_of before.inner) level s rest)
-  pub ends : level.lists + (level.bytes + 6144) ≤ 3211264
+  pub ends : level.lists + (level.bytes + listed_bytes) ≤ images_from
 
 -- what a call of rank 2 + more says: only rank 2 answers with ends alone
 unfoldable pub AnswerMatches : Way → ℕ → Rules → Subspace → List Vec → List Row → ℕ → Result Called Refusal → List ℕ

@@ -25,7 +25,7 @@ use Rattle.layout.specs.Keeps.{Keeps, Ridges, joined}
 use Rattle.layout.specs.Leaves.{Leaves, answer_left, entry_left, lists_left, both_left, both_length}
 use Rattle.layout.specs.declared.KeptLayout.{KeptLayout}
 use Rattle.layout.specs.declared.Level.{Level}
-use Rattle.calls.specs.Layouts.{layout_for, layout_three, layout_four, at_three, at_four}
+use Rattle.layout.specs.Capacities.{layout_for}
 use Rattle.calls.specs.declared.Called.{Called}
 use Rattle.calls.specs.declared.Called.TheVariants.{Ends, Left}
 use Rattle.refusals.specs.declared.Refusal.{Refusal}
@@ -144,9 +144,8 @@ module _ (g : OuterCall) (layout : KeptLayout) (left i : ℕ) (swapped : Bool) (
       (subst (λ (more : ℕ). faceting more g.rules (outer_plane g i s) (outer_points g i s) (outer_rows g i s) left
       ≡ answered (edge_answer swapped rest)) e.0 e.1))
 
-  laid_three : Laid layout layout_three
-  laid_three =
-      subst (Laid layout) (ap (λ (more : ℕ). layout_for (3 + more)) ends_three.0 ∙ sym (at_three 3 refl)) t.laid
+  laid_three : Laid layout (layout_for 3)
+  laid_three = subst (Laid layout) (ap (λ (more : ℕ). layout_for (3 + more)) ends_three.0) t.laid
 
   -- there is room for the edge
   pub ends_room : length (outer_orbits g) ≤ 190 → RoomFor layout (map kept_of t.state_is.done) 1 1 2 2
@@ -285,10 +284,8 @@ module _ (g : OuterCall) (layout : KeptLayout) (left : ℕ) (level : Level) (res
       length-map (both_left level behind) (entry_left 0 width (rows_in width m rows) inner_kept)
       ∙ both_length level behind
 
-  laid_four : Laid layout layout_four
-  laid_four =
-      subst (Laid layout)
-      (ap (λ (more : ℕ). layout_for (3 + more)) left_four.0 ∙ sym (at_four 4 (λ e. omega (arith, e)))) t.laid
+  laid_four : Laid layout (layout_for 4)
+  laid_four = subst (Laid layout) (ap (λ (more : ℕ). layout_for (3 + more)) left_four.0) t.laid
 
   -- there is room for its entries
   pub left_room : layout.facets + level.count ≤ g.rules.bounds.facets

@@ -7,7 +7,7 @@ use Rattle.shapes.specs.Kept.{Kept, kept_of}
 use Rattle.definitions.specs.Recursion.{Inner}
 use Rattle.layout.specs.Keeps.{Keeps, facets_in, places_of}
 use Rattle.layout.specs.declared.KeptLayout.{KeptLayout}
-use Rattle.calls.specs.Layouts.{layout_three, layout_four}
+use Rattle.layout.specs.Capacities.{capacities_three, capacities_four, capacities_of, kept_layout, layout_for}
 use Rattle.keep.specs.Rooms.{RoomFor, kept_evenly, places_number}
 use Rattle.inner_answers.specs.Amounts.{Amounts, most_at}
 
@@ -50,9 +50,9 @@ module _ (n : ℕ) (layout : KeptLayout) (done : List Inner) (s : List ℕ)
   orbits_many = sym keeps.orbits
 
   -- rank 3: fewer than 190 orbits are kept
-  pub room_three : Amounts (most_at 0) kept → Laid layout layout_three → layout.orbits < 190
+  pub room_three : Amounts (most_at 0) kept → Laid layout (layout_for 3) → layout.orbits < 190
       → RoomFor layout kept 1 1 2 2
-  unfolding most_at layout_three
+  unfolding most_at layout_for capacities_of kept_layout capacities_three
   room_three m l few =
       let o = orbits_many in
       let f = facets_many in
@@ -71,11 +71,11 @@ module _ (n : ℕ) (layout : KeptLayout) (done : List Inner) (s : List ℕ)
       }
 
   -- rank 4: fewer than 256 orbits are kept, and the facets are 1,024 at most with those that come
-  pub room_four : Amounts (most_at 1) kept → Laid layout layout_four → layout.orbits < 256
+  pub room_four : Amounts (most_at 1) kept → Laid layout (layout_for 4) → layout.orbits < 256
       → (facets edges ridges places : ℕ) → layout.facets + facets ≤ 1024 → edges ≤ 190 * facets → ridges ≤ 190
       → places ≤ 190 * facets
       → RoomFor layout kept facets edges ridges places
-  unfolding most_at layout_four
+  unfolding most_at layout_for capacities_of kept_layout capacities_four
   room_four m l few facets edges ridges places hf he hr hp =
       let o = orbits_many in
       let f = facets_many in

@@ -19,6 +19,7 @@ use Rattle.laws.specs.Lists.{Mem}
 use Rattle.layout.specs.Keeps.{edges_part}
 use Rattle.layout.specs.Leaves.{Leaves, answer_left}
 use Rattle.layout.specs.declared.Level.{Level}
+use Rattle.layout.specs.Capacities.{images_from, listed_bytes}
 use Rattle.words.specs.Words.{words}
 use Rattle.words.specs.Lent.{lent_tail}
 use Rattle.words.specs.declared.Writer.{Writer}
@@ -43,14 +44,14 @@ pub record Writable (more n m : ℕ) (rows : List ℕ) (kept : List Kept) (level
   pub few_edges_holds : FewEdges kept
   pub leaves : Leaves more n (rows_in n m rows) kept level s
   pub spent : rest ≤ budget
-  pub ends : level.lists + (level.bytes + 6144) ≤ 3211264
+  pub ends : level.lists + (level.bytes + listed_bytes) ≤ images_from
   pub room : more ≡ 1 → 4194304 ≤ length s
 
 -- ---- rank 4: where the images stand
 
 -- behind the entries, their order and their labels, for 1,024 entries
 abbrev pub images_at : Level → ℕ
-images_at level = level.lists + (level.bytes + 6144)
+images_at level = level.lists + (level.bytes + listed_bytes)
 
 module _ {n m : ℕ} {rows : List ℕ} {kept : List Kept} {level : Level} {budget rest : ℕ} {s : List ℕ}
     (w : Writable 1 n m rows kept level budget rest s) where

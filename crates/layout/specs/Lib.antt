@@ -3,3 +3,4 @@ pub mod Keeps
 pub mod Leaves
 pub mod Front
 pub mod Areas
+pub mod Capacities

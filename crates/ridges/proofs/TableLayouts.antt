@@ -17,7 +17,7 @@ use Rattle.shapes.specs.Kept.{Kept, numbers_kept, kept_table}
 use Rattle.layout.specs.declared.KeptLayout.{KeptLayout}
 use Rattle.layout.specs.Keeps.{facets_of, owners_of, owners_part, ridges_part}
 use Rattle.facets.specs.Layout.{Inputs, facet_of}
-use Rattle.shares.specs.declared.TableLayout.{TableLayout}
+use Rattle.layout.specs.declared.TableLayout.{TableLayout}
 use Rattle.shares.specs.Areas.{area, flat, Made, area_kept, lists_to, lists_at_holds}
 use Rattle.shares.specs.Ends.{AllNumbered}
 use Rattle.ridges.specs.Codes.{touched_of}
@@ -157,7 +157,7 @@ module _ (n most ridges m : ℕ) (rows : List ℕ) (kept : List Kept) (layout : 
                       behind.2,
                       f.frame_room,
                       f.total_room,
-                      (known_few n most ridges m rows kept layout tables s g s1 counts a).1,
+                      (known_few n most ridges m rows kept layout tables s g s1 counts a).0,
                     );
                 list_room = omega (arith, behind.0, behind.1, behind.2, f.frame_room, f.total_room, f.list_room);
                 ends = omega (arith, f.ends, all_long);

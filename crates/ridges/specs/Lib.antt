@@ -6,4 +6,4 @@ pub mod Small
 pub mod Below
 pub mod Shared
 pub mod TableLayouts
-pub mod Ranks
+pub mod Fits

@@ -2,7 +2,7 @@
 -- and Areas.
 use Rattle.std.specs.Prelude.{List, ℕ, ◌≤◌, ◌≡◌, take}
 use Rattle.pool.specs.Pool.{closed_lists, Sound}
-use Rattle.shares.specs.declared.TableLayout.{TableLayout}
+use Rattle.layout.specs.declared.TableLayout.{TableLayout}
 use Rattle.shares.specs.Areas.{area, area_kept}
 use Rattle.std.proofs.Common.{arith}
 

@@ -26,7 +26,7 @@ use Rattle.layout.specs.declared.KeptLayout.{KeptLayout}
 use Rattle.layout.specs.Keeps.{Keeps, Ridges, facets_of, places_of, ridge_code, ridge_codes, owners_part, ridges_part}
 use Rattle.layout.specs.Keeps.{places_part}
 use Rattle.facets.specs.declared.Areas.{Areas}
-use Rattle.shares.specs.declared.TableLayout.{TableLayout}
+use Rattle.layout.specs.declared.TableLayout.{TableLayout}
 use Rattle.shares.specs.Areas.{area, flat, Space, Made, area_kept, take_kept, flat_few, lists_to, lists_long}
 use Rattle.shares.specs.Areas.{lists_at_holds, last_at, none_behind}
 use Rattle.numbering.specs.Numbering.{Sent}
@@ -47,9 +47,9 @@ pub record TableLayoutFits (layout : KeptLayout) (tables : TableLayout) (most ri
   pub number_room : tables.numbers + (base 256 + 512 * most) ≤ tables.shares
   pub share_room : tables.shares + (base 1024 + 4096 * most) ≤ tables.touched
   pub touched_room : tables.touched + (base 1024 + 2048 * ridges) ≤ tables.ones
-  pub ones_room : tables.ones + (base 190 + 2048 * most) ≤ tables.frames
+  pub ones_room : tables.ones + (base ridges + 2048 * most) ≤ tables.frames
   pub frame_room : tables.frames + 4112 ≤ tables.totals
-  pub total_room : tables.totals + 446 ≤ tables.lists
+  pub total_room : tables.totals + (256 + ridges) ≤ tables.lists
   pub list_room : tables.lists + (4108 + 2048 * layout.orbits) ≤ tables.end
   pub ends : tables.end ≤ size
 
@@ -442,7 +442,7 @@ module _ (n most ridges m : ℕ) (rows : List ℕ) (kept : List Kept) (layout : 
               record {
                 order = omega (arith, f.ones_room);
                 inside = omega (arith, c.long, b.long, a.long, f.frame_room, f.total_room, f.list_room, f.ends);
-                room = omega (arith, f.ones_room, known_few.1, e);
+                room = omega (arith, f.ones_room, known_few.0, e);
                 small = omega (arith, e, f.few_places_holds);
                 few = omega arith;
                 most_few = omega (arith, known_few.1);

@@ -16,10 +16,9 @@ ghost use Rattle.ridges.specs.SharesLaid.{SharesLaid, shares_part, shares_in};
 ghost use Rattle.ridges.specs.TableLayouts.{Given, areas_of};
 
 use facets::Areas;
-use layout::KeptLayout;
+use layout::{KeptLayout, TableLayout};
 use pool::{MOST_FACETS, MOST_LISTS};
 use rows::Rows;
-use shares::TableLayout;
 use words::HIGH;
 
 // ---- the tables of the search

@@ -13,7 +13,7 @@ use Rattle.laws.specs.Segments.{placed}
 use Rattle.pool.specs.Pool.{count, closed_lists, pushed, ended, place_at, length_at, closed_length, base, used}
 use Rattle.layout.specs.declared.KeptLayout.{KeptLayout}
 use Rattle.layout.specs.Keeps.{owners_part, ridges_part, places_part}
-use Rattle.shares.specs.declared.TableLayout.{TableLayout}
+use Rattle.layout.specs.declared.TableLayout.{TableLayout}
 use Rattle.shares.specs.Areas.{area, flat, area_kept, AreaEmpty, Joined, AreaGrown, area_long, joined_none, joined_push}
 use Rattle.shares.specs.Areas.{joined_end, flat_more, lists_to, push_asks}
 use Rattle.shares.specs.Shares.{share_code, Sources, sources_kept, sources_of, count_of, owner_of, ridges_in}

@@ -9,7 +9,7 @@ use Rattle.laws.specs.Parts.{take_more}
 use Rattle.pool.specs.Pool.{count, closed_lists, Sound}
 use Rattle.layout.specs.declared.KeptLayout.{KeptLayout}
 use Rattle.layout.specs.Keeps.{owners_part, ridges_part, places_part}
-use Rattle.shares.specs.declared.TableLayout.{TableLayout}
+use Rattle.layout.specs.declared.TableLayout.{TableLayout}
 use Rattle.shares.specs.Areas.{area, area_kept}
 
 -- a share as one number: ridge orbit + 65,536 × share

@@ -14,29 +14,13 @@ ghost use Rattle.shares.specs.Shares.{Orders, SourcesFit, sources_of, ridges_in,
 ghost use Rattle.numbering.specs.RidgesMatch.{RidgesMatch};
 ghost use Rattle.shares.specs.Ends.{Reads, ridges_at, numbered, all_numbered, AllNumbered};
 
-use layout::{KeptLayout, ORBITS_BYTES};
+use layout::{KeptLayout, ORBITS_BYTES, TableLayout};
 use numbering::RidgeOrbits;
 use pool::{MOST_FACETS, MOST_ORBITS};
 use rows::Rows;
 use words::{HIGH, Word};
 
 // ---- the ridges of all orbits
-
-// Where what is made for a search lies in the workspace, behind what is kept: the numbers of the ridges, orbit by
-// orbit, and the shares of the facets, which serve only here; then the tables that the search reads, and what it
-// works in. What writes takes the workspace beside it: a struct that held both would have each contract say besides
-// that the places and the loan are as they were.
-#[derive(Clone, Copy)]
-pub struct TableLayout {
-    pub numbers: usize,
-    pub shares: usize,
-    pub touched: usize,
-    pub ones: usize,
-    pub frames: usize,
-    pub totals: usize,
-    pub lists: usize,
-    pub end: usize,
-}
 
 // The numbers of one orbit's ridges are one list more. Two numbers are packed into one, here a ridge and its count,
 // and below a ridge orbit and a share: a pool holds lists of numbers of one width, in bytes of the workspace that a

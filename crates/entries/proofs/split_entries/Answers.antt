@@ -7,6 +7,7 @@ use Rattle.std.proofs.Common.{sym, subst}
 use Rattle.pool.specs.Pool.{closed_lists}
 use Rattle.laws.specs.Segments.{part}
 use Rattle.layout.specs.declared.Level.{Level}
+use Rattle.layout.specs.Capacities.{split_bytes}
 use Rattle.entries.specs.Listed.{Listed}
 use Rattle.entries.specs.Split.{split_asked, sort_asked, split_left, split_on}
 use Rattle.entries.proofs.split_entries.Goals as goal
@@ -27,7 +28,7 @@ returns c = let m = c.copy_within in let p = c.split_lists in
     let to = c.args.layout.owners + 2048 + c.args.bytes in
     subst
     (λ (x : Level).
-    Listed c.args.layout (c.args.layout.owners + 2048) (c.args.layout.owners + 2048) c.args.bytes to 2101260
+    Listed c.args.layout (c.args.layout.owners + 2048) (c.args.layout.owners + 2048) c.args.bytes to split_bytes
     (closed_lists 2 1024 (part c.args.from c.args.bytes c.args.ws.now))
     (map (split_on c.args.layout c.args.ws.now) (closed_lists 2 1024 (part c.args.from c.args.bytes c.args.ws.now)))
     c.args.ws.now

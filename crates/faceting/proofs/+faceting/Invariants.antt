@@ -7,7 +7,7 @@ use Prim.Native.Nat.{◌-◌}
 use lib.ListN.{length}
 use Rattle.definitions.specs.Vectors.{Vec}
 use Rattle.definitions.specs.Subspace.{Subspace}
-use Rattle.calls.specs.Layouts.{layout_for}
+use Rattle.layout.specs.Capacities.{layout_for}
 use Rattle.inner_answers.specs.Spaces.{Laid}
 use Rattle.inner_answers.specs.AnswerMatches.{OuterState}
 use Rattle.faceting.specs.Ways.{way_of}

@@ -4,7 +4,7 @@ use borrow.Author.Rules.{rules}
 use lib.ListN.{length}
 use Rattle.layout.specs.Keeps.{LayoutFits}
 use Rattle.layout.specs.declared.KeptLayout.{KeptLayout}
-use Rattle.calls.specs.Layouts.{layout_for}
+use Rattle.layout.specs.Capacities.{layout_for}
 use Rattle.faceting.specs.Ways.{way_of, way_takes}
 use Rattle.faceting.proofs.Starts.{start_kept}
 use Rattle.faceting.proofs.start_call.Goals as goal
