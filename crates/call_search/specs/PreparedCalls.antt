@@ -26,7 +26,7 @@ use Rattle.layout.specs.Keeps.{Keeps, Ridges}
 use Rattle.calls.specs.declared.Rules.{Rules}
 use Rattle.layout.specs.declared.Capacities.{Capacities}
 use Rattle.layout.specs.Capacities.{capacities_three, capacities_four, capacities_of, of_three, of_four, layout_for}
-use Rattle.layout.specs.Capacities.{table_layout_for, table_ends, tables_wide}
+use Rattle.layout.specs.Capacities.{table_layout_for, table_ends, tables_few}
 use Rattle.layout.specs.declared.TableLayout.{TableLayout}
 use Rattle.ridges.specs.TableLayouts as table_layouts
 use Rattle.ridges.specs.TableLayouts.{TableLayoutFits}
@@ -166,9 +166,9 @@ module _ (k : PreparedCall) (layout : KeptLayout) (rank : ℕ) (rows : List ℕ)
   unfolding layout_for table_layout_for
   tables_asked =
       let c = capacities_of rank in
-      let w = tables_wide rank in (
+      let w = tables_few rank in (
         c.ridges,
         c.ridge_orbits,
         laid_from c.ridges c.ridge_orbits held.few_ends held.few_keys
-            (tables_fit c layout (length s) w.0 w.1 w.2 st.end_at_holds held.few_orbits held.room),
+            (tables_fit c layout (length s) w.0 w.1 st.end_at_holds held.few_orbits held.room),
       )

@@ -21,7 +21,6 @@ capacities_three = record {
   ridges = 2;
   ridge_bytes = 4;
   ridge_orbits = 20;
-  share_bytes = 4;
 }
 
 -- a facet has at most the 190 edges that 20 points have, and each is a ridge
@@ -33,11 +32,10 @@ capacities_four = record {
   ridges = 190;
   ridge_bytes = 4;
   ridge_orbits = 190;
-  share_bytes = 4;
 }
 
 -- of ten points: four span a hyperplane; a facet is listed with at most 675 polygons, each a number of eight bytes; a
--- ridge is a polygon with its number of points; shares are cut off at 3. No call has this rank yet.
+-- ridge is a polygon with its number of points. No call has this rank yet.
 unfoldable pub capacities_five : Capacities
 capacities_five = record {
   orbits = 210;
@@ -46,7 +44,6 @@ capacities_five = record {
   ridges = 1024;
   ridge_bytes = 8;
   ridge_orbits = 1024;
-  share_bytes = 2;
 }
 
 unfoldable pub capacities_of : ℕ → Capacities
@@ -71,7 +68,6 @@ pub record Bounded (c : Capacities) : Type 0 where
   pub ridge_items : c.orbits * c.ridges ≤ 262144
   pub ridge_room : c.ridge_bytes * (c.orbits * c.ridges) ≤ 16777216
   pub few_ridge_orbits : c.ridge_orbits ≤ 1024
-  pub share_room : c.share_bytes * (1024 * c.ridges) ≤ 16777216
 
 -- the orbits found, the edges of 1,024 facets, their labels and owners, the ridges of the orbits, the facets' places
 unfoldable pub kept_layout : Capacities → KeptLayout
@@ -96,7 +92,7 @@ kept_layout c =
 unfoldable pub tables_from : ℕ → Capacities → TableLayout
 tables_from numbers c =
     let shares = numbers + (base 256 + 2 * (256 * c.ridges)) in
-    let touched = shares + (base 1024 + c.share_bytes * (1024 * c.ridges)) in
+    let touched = shares + (base 1024 + 2 * (1024 * c.ridges)) in
     let ones = touched + (base 1024 + 2 * (1024 * c.ridge_orbits)) in
     let frames = ones + (base c.ridge_orbits + 2 * (1024 * c.ridges)) in
     let totals = frames + 4112 in
@@ -184,7 +180,6 @@ bounded_rank rank = go (eqb rank 3)
       ridge_items = omega arith;
       ridge_room = omega arith;
       few_ridge_orbits = omega arith;
-      share_room = omega arith;
     }
     go false = record {
       few_orbits = omega arith;
@@ -194,20 +189,17 @@ bounded_rank rank = go (eqb rank 3)
       ridge_items = omega arith;
       ridge_room = omega arith;
       few_ridge_orbits = omega arith;
-      share_room = omega arith;
     }
 
--- as far as what lays the tables goes: shares of four bytes, and at most 190 ridges and ridge orbits
-pub tables_wide : (rank : ℕ) → ((capacities_of rank).share_bytes ≡ 4) × ((capacities_of rank).ridges ≤ 190)
-    × ((capacities_of rank).ridge_orbits ≤ 190)
+-- as far as what lays the tables goes: at most 190 ridges of an orbit and 190 ridge orbits
+pub tables_few : (rank : ℕ) → ((capacities_of rank).ridges ≤ 190) × ((capacities_of rank).ridge_orbits ≤ 190)
 unfolding capacities_of capacities_three capacities_four
-tables_wide rank = go (eqb rank 3)
+tables_few rank = go (eqb rank 3)
   where
-    go : (b : Bool) → ((cond b capacities_three capacities_four).share_bytes ≡ 4)
-        × ((cond b capacities_three capacities_four).ridges ≤ 190)
+    go : (b : Bool) → ((cond b capacities_three capacities_four).ridges ≤ 190)
         × ((cond b capacities_three capacities_four).ridge_orbits ≤ 190)
-    go true = (refl, omega arith, omega arith)
-    go false = (refl, omega arith, omega arith)
+    go true = (omega arith, omega arith)
+    go false = (omega arith, omega arith)
 
 -- what is kept at rank 3 ends inside its workspace, and behind what is kept at rank 4 there is the workspace of an
 -- inner call
@@ -237,6 +229,5 @@ five_ends = (
     ridge_items = omega arith;
     ridge_room = omega arith;
     few_ridge_orbits = omega arith;
-    share_room = omega arith;
   },
 )

@@ -46,9 +46,8 @@ pub struct Capacities {
     // The ridges of an orbit, which are the places of a facet, and the bytes of a ridge with its inner orbit's count.
     pub ridges: usize,
     pub ridge_bytes: usize,
-    // The ridge orbits of the call, and the bytes of a facet's share in one.
+    // The ridge orbits of the call.
     pub ridge_orbits: usize,
-    pub share_bytes: usize,
 }
 
 // Where the areas begin, and how many orbits and facets are kept. What writes takes the workspace beside it: a struct
@@ -124,7 +123,6 @@ pub fn capacities_of(rank: usize) -> Capacities
             ridges: 2,
             ridge_bytes: 4,
             ridge_orbits: 20,
-            share_bytes: 4,
         };
     }
     Capacities {
@@ -134,7 +132,6 @@ pub fn capacities_of(rank: usize) -> Capacities
         ridges: 190,
         ridge_bytes: 4,
         ridge_orbits: 190,
-        share_bytes: 4,
     }
 }
 
@@ -167,7 +164,7 @@ impl Capacities {
     {
         let numbers = self.kept_layout().end;
         let shares = numbers + (ORBIT_LISTS + 2 * (MOST_ORBITS * self.ridges));
-        let touched = shares + (FACET_LISTS + self.share_bytes * (MOST_FACETS * self.ridges));
+        let touched = shares + (FACET_LISTS + 2 * (MOST_FACETS * self.ridges));
         let ones = touched + (FACET_LISTS + 2 * (MOST_FACETS * self.ridge_orbits));
         let frames = ones + (12 + 4 * self.ridge_orbits + 2 * (MOST_FACETS * self.ridges));
         let totals = frames + FRAMES_BYTES;

@@ -1,12 +1,12 @@
 -- Theorems on the definitions of specs/Codes.
-use Rattle.std.specs.Prelude.{◌≡◌, refl, Bool, true, false, ℕ, zero, suc, ◌+◌, ◌≤◌, ◌<◌, get_or, take, drop}
-use Rattle.std.proofs.Common.{sym, ◌∙◌, ⊎_elim, arith, eq-eqb, ne_eqb, le-leb, lt-ltb, le-ltb, take-append-drop}
+use Rattle.std.specs.Prelude.{◌≡◌, refl, Bool, true, false, ℕ, zero, suc, ◌+◌, ◌*◌, ◌/◌, ◌%◌, ◌≤◌, ◌<◌, ltb, get_or}
+use Rattle.std.specs.Prelude.{take, drop}
+use Rattle.std.proofs.Common.{sym, ◌∙◌, ⊎_elim, arith, eq-eqb, ne_eqb, lt-ltb, le-ltb, take-append-drop}
 use Rattle.std.proofs.Common.{take-suc}
 use Rattle.std.proofs.Math.Path.{ap}
 use Rattle.std.proofs.Math.Bool.{cond}
 use mathlib.Core.List.{List, [], ◌∷◌, ◌++◌, flat_map, append-nil}
 use Rattle.std.proofs.Math.Decide.{ℕ_discrete}
-use Rattle.std.proofs.lemmas.Bool.{lt-leb}
 use Rattle.std.proofs.Math.Dec.{eqb}
 use Rattle.std.proofs.Math.ListN.{length, length-append}
 use Rattle.laws.specs.Lists.{flat_map_append}
@@ -17,17 +17,13 @@ use Rattle.ridges.specs.Codes.{all_hits, counts, hits, one_joins, ones_append, o
 
 -- ---- a place counts for one ridge orbit only
 
-counts_low : (ridges c : ℕ) → c < 65536 → counts ridges c ≡ false
+counts_one : (ridges c : ℕ) → 1 ≡ c % 4 → counts ridges c ≡ ltb (c / 4) ridges
 unfolding counts
-counts_low ridges c h = rw (lt-leb 65536 c h) refl
+counts_one ridges c e = rw (eq-eqb 1 (c % 4) e) refl
 
-counts_in : (ridges c : ℕ) → 65536 ≤ c → c < 65536 + ridges → counts ridges c ≡ true
+counts_other : (ridges c : ℕ) → (1 ≡ c % 4 → ⊥) → counts ridges c ≡ false
 unfolding counts
-counts_in ridges c h k = rw (le-leb 65536 c h, lt-ltb c (65536 + ridges) k) refl
-
-counts_high : (ridges c : ℕ) → 65536 + ridges ≤ c → counts ridges c ≡ false
-unfolding counts
-counts_high ridges c h = rw (le-leb 65536 c (omega arith), le-ltb c (65536 + ridges) h) refl
+counts_other ridges c n = rw (ne_eqb 1 (c % 4) n) refl
 
 hits_few : (ridges : ℕ) (cs : List ℕ) → hits ridges cs ≤ length cs
 unfolding hits
@@ -41,36 +37,43 @@ hits_few ridges (c ∷ cs) = go (counts ridges c) (hits_few ridges cs)
 hits_none : (cs : List ℕ) → hits 0 cs ≡ 0
 unfolding hits
 hits_none [] = refl
-hits_none (c ∷ cs) =
-    let e = hits_none cs in
-    ⊎_elim (λ h. rw (counts_high 0 c (omega arith)) (omega arith)) (λ h. rw (counts_low 0 c h) (omega arith))
-    (le_or_lt 65536 c)
+hits_none (c ∷ cs) = rw (none (ℕ_discrete 1 (c % 4))) (omega (arith, hits_none cs))
+  where
+    none : Dec (1 ≡ c % 4) → counts 0 c ≡ false
+    none (yes e) = counts_one 0 c e ∙ le-ltb (c / 4) 0 (omega arith)
+    none (no n) = counts_other 0 c n
 
 hits_more : (ridge x : ℕ) (cs : List ℕ) → hits (suc ridge) cs ≡ hits ridge cs + length (ones_in ridge x cs)
 unfolding hits ones_in
 hits_more ridge x [] = omega arith
 hits_more ridge x (c ∷ cs) =
-    go (counts (suc ridge) c) (counts ridge c) (eqb (65536 + ridge) c) one (hits_more ridge x cs)
+    go (counts (suc ridge) c) (counts ridge c) (eqb (4 * ridge + 1) c) (one (ℕ_discrete 1 (c % 4)))
+    (hits_more ridge x cs)
   where
     number : Bool → ℕ
     number b = cond b 1 0
 
-    one : number (counts (suc ridge) c) ≡ number (counts ridge c) + number (eqb (65536 + ridge) c)
-    one = ⊎_elim
-        (λ h. ⊎_elim (λ k. at h k (ℕ_discrete (65536 + ridge) c)) (λ k. rw (
-          counts_in (suc ridge) c h (omega arith),
-          counts_in ridge c h k,
-          ne_eqb (65536 + ridge) c (λ e. omega arith),
-        ) refl) (le_or_lt (65536 + ridge) c))
-        (λ h. rw (counts_low (suc ridge) c h, counts_low ridge c h, ne_eqb (65536 + ridge) c (λ e. omega arith)) refl)
-        (le_or_lt 65536 c)
-      where
-        at : 65536 ≤ c → 65536 + ridge ≤ c → Dec (65536 + ridge ≡ c)
-            → number (counts (suc ridge) c) ≡ number (counts ridge c) + number (eqb (65536 + ridge) c)
-        at h k (yes e) =
-            rw (counts_in (suc ridge) c h (omega arith), counts_high ridge c k, eq-eqb (65536 + ridge) c e) refl
-        at h k (no n) =
-            rw (counts_high (suc ridge) c (omega (arith, n)), counts_high ridge c k, ne_eqb (65536 + ridge) c n) refl
+    among : 1 ≡ c % 4 → Dec (c / 4 ≡ ridge)
+        → number (ltb (c / 4) (suc ridge)) ≡ number (ltb (c / 4) ridge) + number (eqb (4 * ridge + 1) c)
+    among e (yes q) =
+        rw (
+          lt-ltb (c / 4) (suc ridge) (omega arith),
+          le-ltb (c / 4) ridge (omega arith),
+          eq-eqb (4 * ridge + 1) c (omega (arith, e, q)),
+        ) refl
+    among e (no n) = rw (ne_eqb (4 * ridge + 1) c (λ q. n (omega (arith, q)))) (⊎_elim
+        (λ h. rw (le-ltb (c / 4) (suc ridge) (omega (arith, n)), le-ltb (c / 4) ridge h) refl)
+        (λ h. rw (lt-ltb (c / 4) (suc ridge) (omega arith), lt-ltb (c / 4) ridge h) refl)
+        (le_or_lt ridge (c / 4)))
+
+    one : Dec (1 ≡ c % 4) → number (counts (suc ridge) c) ≡ number (counts ridge c) + number (eqb (4 * ridge + 1) c)
+    one (yes e) = rw (counts_one (suc ridge) c e, counts_one ridge c e) (among e (ℕ_discrete (c / 4) ridge))
+    one (no n) =
+        rw (
+          counts_other (suc ridge) c n,
+          counts_other ridge c n,
+          ne_eqb (4 * ridge + 1) c (λ q. n (omega (arith, q))),
+        ) refl
 
     go : (a b d : Bool) → number a ≡ number b + number d
         → hits (suc ridge) cs ≡ hits ridge cs + length (ones_in ridge x cs)
@@ -128,7 +131,7 @@ ones_room_holds ridge lists facets h =
     omega (arith, up_hits ridge lists facets, all_hits_more ridge lists facets, all_hits_few (suc ridge) lists facets h)
 
 -- places that are left have room
-pub ones_left : (ridge x : ℕ) (codes : List ℕ) (i : ℕ) → i < length codes → get_or codes i 0 ≡ 65536 + ridge
+pub ones_left : (ridge x : ℕ) (codes : List ℕ) (i : ℕ) → i < length codes → get_or codes i 0 ≡ 4 * ridge + 1
     → length (ones_in ridge x (take i codes)) < length (ones_in ridge x codes)
 ones_left ridge x codes i h e =
     let a : codes ≡ (take i codes ++ (get_or codes i 0 ∷ [])) ++ drop (i + 1) codes =

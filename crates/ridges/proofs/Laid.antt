@@ -9,8 +9,8 @@ use Rattle.std.proofs.Math.Dec.{eqb}
 use Rattle.std.proofs.Math.ListN.{length, get_or, replicate}
 use Rattle.definitions.specs.Lists.{count_from, keep}
 use Rattle.definitions.specs.Search.{Table, Share, Facet, shares_of, shares_at, last_share, adds, all_facets, ones_at}
-use Rattle.laws.specs.Lists.{Mem, flat_map_append, of_count, count_more}
-use Rattle.laws.specs.Places.{map_self, map_same}
+use Rattle.laws.specs.Lists.{flat_map_append, of_count, count_more}
+use Rattle.laws.specs.Places.{map_same}
 use Rattle.pool.specs.Pool.{closed_lists}
 use Rattle.pool.specs.Holds.{Holds, holds_count}
 use Rattle.facets.specs.Sums.{amount}
@@ -19,7 +19,7 @@ use Rattle.facets.specs.declared.Areas.{Areas}
 use Rattle.shares.specs.Areas.{lists_to, lists_long, lists_at_holds}
 use Rattle.shares.specs.Shares.{share_code}
 use Rattle.ridges.specs.Codes.{share_of, share_back, shares_here, amount_of, touched_of, touched_to, ones_in, ones_to}
-use Rattle.ridges.specs.Codes.{amounts_are, touched_within, ones_counted}
+use Rattle.ridges.specs.Codes.{amounts_are, touched_within, ones_counted, cut, cut_at, cut_amount, cut_ones}
 use Rattle.ridges.specs.Codes as made
 
 numbers_up : (n : ℕ) → count_from 0 (suc n) ≡ count_from 0 n ++ (n ∷ [])
@@ -35,46 +35,49 @@ lists_map at (suc n) =
     ∙ sym (ap (map at) (numbers_up n) ∙ map-append at (count_from 0 n) (n ∷ []))
 
 module _ (t : Table) (lists : List (List ℕ)) (facets : ℕ)
-    (same : (x : ℕ) → x < facets → get_or lists x [] ≡ map share_code (shares_of t (facet_of t x)))
-    (small : (x : ℕ) → x < facets → (s : Share) → Mem s (shares_of t (facet_of t x)) → s.0 < 65536) where
+    (same : (x : ℕ) → x < facets → get_or lists x [] ≡ map share_code (shares_of t (facet_of t x))) where
   here_is : (ridge x : ℕ) → x < facets
-      → shares_here ridge (get_or lists x []) ≡ shares_at ridge (shares_of t (facet_of t x))
+      → shares_here ridge (get_or lists x []) ≡ map cut (shares_at ridge (shares_of t (facet_of t x)))
   unfolding shares_here
   here_is ridge x h =
       ap (λ (l : List ℕ). shares_at ridge (map share_of l)) (same x h)
-      ∙ ap (shares_at ridge) (map-map share_of share_code (shares_of t (facet_of t x)) ∙ map_self
-      (λ (s : Share). share_of (share_code s)) (shares_of t (facet_of t x)) (λ s m. share_back s (small x h s m)))
+      ∙ (ap (shares_at ridge) (map-map share_of share_code (shares_of t (facet_of t x)) ∙ map_same
+      (λ (s : Share). share_of (share_code s)) cut (shares_of t (facet_of t x)) (λ s m. share_back s))
+      ∙ cut_at ridge (shares_of t (facet_of t x)))
 
   amount_is : (ridge x : ℕ) → x < facets → amount_of ridge (get_or lists x []) ≡ amount t ridge (facet_of t x)
   unfolding amount_of amount adds
-  amount_is ridge x h = ap (λ (l : List Share). min (last_share 0 l * length l) 3) (here_is ridge x h)
+  amount_is ridge x h =
+      ap (λ (l : List Share). min (last_share 0 l * length l) 3) (here_is ridge x h)
+      ∙ cut_amount (shares_at ridge (shares_of t (facet_of t x)))
 
-  ones_are_holds : (ridge : ℕ) → ridge < 65536 → (n : ℕ) → n ≤ facets
+  ones_are_holds : (ridge : ℕ) (n : ℕ) → n ≤ facets
       → ones_to ridge lists n ≡ flat_map (λ (x : ℕ). replicate (ones_at t ridge (facet_of t x)) x) (count_from 0 n)
   unfolding ones_to flat_map count_from ones_at
-  ones_are_holds ridge r zero h = refl
-  ones_are_holds ridge r (suc n) h =
+  ones_are_holds ridge zero h = refl
+  ones_are_holds ridge (suc n) h =
       let at : ℕ → List ℕ = λ x. replicate (ones_at t ridge (facet_of t x)) x in
-      let one : ones_in ridge n (get_or lists n []) ≡ at n = ones_counted ridge n (get_or lists n []) r
+      let one : ones_in ridge n (get_or lists n []) ≡ at n = ones_counted ridge n (get_or lists n [])
       ∙ ap (λ (l : List Share). replicate (length (keep (λ (s : Share). eqb 1 s.1) l)) n) (here_is ridge n h)
       ∙ counted n in
-      (λ i. ones_are_holds ridge r n (omega arith) i ++ one i)
+      (λ i. ones_are_holds ridge n (omega arith) i ++ one i)
       ∙ sym (ap (flat_map at) (numbers_up n) ∙ (flat_map_append at (count_from 0 n) (n ∷ [])
       ∙ ap (λ (l : List ℕ). flat_map at (count_from 0 n) ++ l) (append-nil (at n))))
     where
       counted : (n : ℕ)
-          → replicate (length (keep (λ (s : Share). eqb 1 s.1) (shares_at ridge (shares_of t (facet_of t n))))) n
+          → replicate
+          (length (keep (λ (s : Share). eqb 1 s.1) (map cut (shares_at ridge (shares_of t (facet_of t n)))))) n
           ≡ replicate (ones_at t ridge (facet_of t n)) n
-      counted n = refl
+      counted n = ap (λ (k : ℕ). replicate k n) (cut_ones (shares_at ridge (shares_of t (facet_of t n))))
 
   -- the tables, from the pools that hold them
   pub tables_hold : (a : Areas) (os touched ones : List ℕ) (m k : ℕ) → a.facets ≡ facets
-      → facets ≡ length (all_facets t) → a.ridges ≡ t.ridges → a.ridges < 65536 → a.orbits ≡ length t.shares
+      → facets ≡ length (all_facets t) → a.ridges ≡ t.ridges → a.orbits ≡ length t.shares
       → os ≡ map (λ (f : Facet). f.0) (all_facets t)
       → Holds 2 a.facets touched (lists_to (touched_of a.ridges lists) a.facets) [] m
       → Holds 2 a.ridges ones (lists_to (made.ones_of lists a.facets) a.ridges) [] k → Tables t a os touched ones
   unfolding codes ones_of
-  tables_hold a os touched ones m k ef f er few eo owners p q = record {
+  tables_hold a os touched ones m k ef f er eo owners p q = record {
     facets = ef ∙ f;
     ridges = er;
     orbits = eo;
@@ -90,7 +93,7 @@ module _ (t : Table) (lists : List (List ℕ)) (facets : ℕ)
         q.lists_are ∙ (lists_map (made.ones_of lists a.facets) a.ridges
         ∙ map_same (made.ones_of lists a.facets) (ones_of t) (count_from 0 a.ridges) (λ ridge i. let c =
         of_count 0 a.ridges ridge i in
-        ones_are_holds ridge (omega (arith, c.1)) a.facets (omega arith) ∙ ap (λ (n : ℕ).
+        ones_are_holds ridge a.facets (omega arith) ∙ ap (λ (n : ℕ).
         flat_map (λ (x : ℕ). replicate (ones_at t ridge (facet_of t x)) x) (count_from 0 n)) (ef ∙ f)));
   }
     where

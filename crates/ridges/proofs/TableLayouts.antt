@@ -1,13 +1,12 @@
 -- Theorems on the definitions of specs/Desks.
 use Rattle.std.specs.Prelude.{◌≡◌, ℕ, ◌+◌, ◌-◌, ◌≤◌, ◌<◌, take, drop}
 use Rattle.std.proofs.Math.Path.{refl, sym, ap}
-use Rattle.std.proofs.Common.{subst, ◌∙◌, drop-drop}
+use Rattle.std.proofs.Common.{◌∙◌, drop-drop}
 use mathlib.Core.List.{List, [], map}
 use native.Mathlib.Omega.{arith}
 use Rattle.std.proofs.Math.ListN.{length, get_or, length-drop}
 use Rattle.definitions.specs.Lists.{Pair}
-use Rattle.definitions.specs.Search.{Facet, Share, all_facets, shares_of}
-use Rattle.laws.specs.Lists.{Mem}
+use Rattle.definitions.specs.Search.{Facet, all_facets, shares_of}
 use Rattle.laws.specs.Segments.{part}
 use Rattle.words.specs.Words.{words, words_take}
 use Rattle.pool.specs.Pool.{closed_lists}
@@ -22,7 +21,7 @@ use Rattle.shares.specs.Areas.{area, flat, Made, area_kept, lists_to, lists_at_h
 use Rattle.shares.specs.Ends.{AllNumbered}
 use Rattle.ridges.specs.Codes.{touched_of}
 use Rattle.shares.specs.Shares.{share_code, sources_of, facet_codes}
-use Rattle.ridges.specs.Shared.{codes_are, shares_below, facets_same, orbits_same, ridges_same}
+use Rattle.ridges.specs.Shared.{codes_are, facets_same, orbits_same, ridges_same}
 use Rattle.ridges.proofs.Laid.{tables_hold}
 use Rattle.facets.specs.Layout as areas
 use Rattle.ridges.specs.Codes as made
@@ -50,19 +49,19 @@ module _ (n most ridges m : ℕ) (rows : List ℕ) (kept : List Kept) (layout : 
 
     -- ---- the tables
 
-    module _ (s2 : List ℕ) (b : Made tables.shares tables.touched 4 1024 s1 s2
+    module _ (s2 : List ℕ) (b : Made tables.shares tables.touched 2 1024 s1 s2
         (lists_to (facet_codes (sources_of layout tables s1) counts) layout.facets)) where
       module _ (s3 : List ℕ)
           (c : Made tables.touched tables.ones 2 layout.facets s2 s3 (lists_to (touched_of (length counts)
-          (closed_lists 4 1024 (area tables.shares tables.touched s2))) layout.facets)) where
+          (closed_lists 2 1024 (area tables.shares tables.touched s2))) layout.facets)) where
         module _ (s4 : List ℕ) (d : Made tables.ones tables.frames 2 (length counts) s3 s4 (lists_to
-            (made.ones_of (closed_lists 4 1024 (area tables.shares tables.touched s3)) layout.facets)
+            (made.ones_of (closed_lists 2 1024 (area tables.shares tables.touched s3)) layout.facets)
             (length counts))) where
           all_long : length s4 ≡ length s
           all_long = d.long ∙ (c.long ∙ (b.long ∙ a.long))
 
           lists : List (List ℕ)
-          lists = closed_lists 4 1024 (area tables.shares tables.touched s2)
+          lists = closed_lists 2 1024 (area tables.shares tables.touched s2)
 
           facet_is : (x : ℕ) → facet_of (kept_table (rows_in n m rows) kept) x ≡ get_or (facets_of kept) x (0, 0)
           unfolding facet_of
@@ -79,20 +78,6 @@ module _ (n most ridges m : ℕ) (rows : List ℕ) (kept : List Kept) (layout : 
               counts_are x (omega (arith, facets_are n most ridges m rows kept layout tables s g s1 counts a))
               ∙ ap (λ (f : Facet). map share_code (shares_of (kept_table (rows_in n m rows) kept) f))
               (sym (facet_is x))))
-
-          below : (x : ℕ) → x < layout.facets → (z : Share) → Mem z
-              (shares_of (kept_table (rows_in n m rows) kept) (facet_of (kept_table (rows_in n m rows) kept) x))
-              → z.0 < 65536
-          below x h z i =
-              let j = subst (λ (f : Facet). Mem z (shares_of (kept_table (rows_in n m rows) kept) f)) (facet_is x) i in
-              omega (
-                arith,
-                (known_few n most ridges m rows kept layout tables s g s1 counts a).1,
-                shares_below
-                    n most g.rows_fit_holds.n_fits (rows_in n m rows) kept g.small (sources_of layout tables s1)
-                    (holding n most ridges m rows kept layout tables s g s1 counts a) counts counts_are x
-                    (omega (arith, facets_are n most ridges m rows kept layout tables s g s1 counts a)) z j,
-              )
 
           owners_are : words 2 (drop layout.owners s4) layout.facets
               ≡ map (λ (f : Facet). f.0) (all_facets (kept_table (rows_in n m rows) kept))
@@ -170,7 +155,7 @@ module _ (n most ridges m : ℕ) (rows : List ℕ) (kept : List Kept) (layout : 
           inputs_are = record {
             fits = search_fits;
             holds =
-                tables_hold (kept_table (rows_in n m rows) kept) lists layout.facets same below
+                tables_hold (kept_table (rows_in n m rows) kept) lists layout.facets same
                 (areas_of layout tables (length counts)) (words 2 (drop layout.owners s4) layout.facets)
                 (areas.touched_part (areas_of layout tables (length counts)) (drop layout.owners s4))
                 (areas.ones_part (areas_of layout tables (length counts)) (drop layout.owners s4))
@@ -180,7 +165,6 @@ module _ (n most ridges m : ℕ) (rows : List ℕ) (kept : List Kept) (layout : 
                 ∙ sym (ap length (facets_same (rows_in n m rows) kept)))
                 (known_is n most ridges m rows kept layout tables s g s1 counts a
                 ∙ sym (ridges_same (rows_in n m rows) kept))
-                (omega (arith, (known_few n most ridges m rows kept layout tables s g s1 counts a).1))
                 (g.keeps.orbits ∙ sym (orbits_same (rows_in n m rows) kept)) owners_are (rw touched_area c.pool)
                 (rw ones_area (rw
                 (shares_kept n most ridges m rows kept layout tables s g s1 counts a s2 b s3 c) at d.pool));

@@ -47,7 +47,7 @@ module _ {codes : List ℕ} {ridge places last i : ℕ} (a : Adding codes ridge 
   more : take (i + 1) codes ≡ take i codes ++ (code ∷ [])
   more = take_more codes i 0 h ∙ ap (λ (c : ℕ). take i codes ++ (c ∷ [])) (sym e)
 
-  pub adding_joins : code % 65536 ≡ ridge → Adding codes ridge (places + 1) (code / 65536) (i + 1)
+  pub adding_joins : code / 4 ≡ ridge → Adding codes ridge (places + 1) (code % 4) (i + 1)
   adding_joins q =
       let j = here_joins ridge (take i codes) code q in
       record {
@@ -58,7 +58,7 @@ module _ {codes : List ℕ} {ridge places last i : ℕ} (a : Adding codes ridge 
         last_is = rw more (sym j.1);
       }
 
-  pub adding_stays : (code % 65536 ≡ ridge → ⊥) → Adding codes ridge places last (i + 1)
+  pub adding_stays : (code / 4 ≡ ridge → ⊥) → Adding codes ridge places last (i + 1)
   adding_stays n =
       let j = here_stays ridge (take i codes) code n in
       record {
@@ -97,33 +97,33 @@ all_start ridges codes = record {
 module _ {ridges : ℕ} {codes places last : List ℕ} {i : ℕ} (a : AddingAll ridges codes places last i)
     (h : i < length codes) (code : ℕ) (e : code ≡ get_or codes i 0) (small : code < 4294967296)
     (few : ridges ≤ 190) where
-  pub all_joins : code % 65536 < ridges
-      → AddingAll ridges codes (set places (code % 65536) (get_or places (code % 65536) 0 + 1))
-      (set last (code % 65536) (code / 65536)) (i + 1)
+  pub all_joins : code / 4 < ridges
+      → AddingAll ridges codes (set places (code / 4) (get_or places (code / 4) 0 + 1))
+      (set last (code / 4) (code % 4)) (i + 1)
   all_joins k = record {
-    places_long = length-set places (code % 65536) (get_or places (code % 65536) 0 + 1) ∙ a.places_long;
-    last_long = length-set last (code % 65536) (code / 65536) ∙ a.last_long;
-    each = λ ridge l. go ridge l (ℕ_discrete ridge (code % 65536));
+    places_long = length-set places (code / 4) (get_or places (code / 4) 0 + 1) ∙ a.places_long;
+    last_long = length-set last (code / 4) (code % 4) ∙ a.last_long;
+    each = λ ridge l. go ridge l (ℕ_discrete ridge (code / 4));
   }
     where
-      go : (ridge : ℕ) → ridge < ridges → Dec (ridge ≡ code % 65536)
-          → Adding codes ridge (get_or (set places (code % 65536) (get_or places (code % 65536) 0 + 1)) ridge 0)
-          (get_or (set last (code % 65536) (code / 65536)) ridge 0) (i + 1)
+      go : (ridge : ℕ) → ridge < ridges → Dec (ridge ≡ code / 4)
+          → Adding codes ridge (get_or (set places (code / 4) (get_or places (code / 4) 0 + 1)) ridge 0)
+          (get_or (set last (code / 4) (code % 4)) ridge 0) (i + 1)
       go ridge l (yes q) =
           rw (
             q,
-            get_or-set_same places (code % 65536) (get_or places (code % 65536) 0 + 1) 0
+            get_or-set_same places (code / 4) (get_or places (code / 4) 0 + 1) 0
                 (omega (arith, a.places_long)),
-            get_or-set_same last (code % 65536) (code / 65536) 0 (omega (arith, a.last_long)),
-          ) (adding_joins (a.each (code % 65536) k) h code e small refl)
+            get_or-set_same last (code / 4) (code % 4) 0 (omega (arith, a.last_long)),
+          ) (adding_joins (a.each (code / 4) k) h code e small refl)
       go ridge l (no n) =
           rw (
-            get_or-set_other places (code % 65536) ridge (get_or places (code % 65536) 0 + 1) 0 n,
-            get_or-set_other last (code % 65536) ridge (code / 65536) 0 n,
+            get_or-set_other places (code / 4) ridge (get_or places (code / 4) 0 + 1) 0 n,
+            get_or-set_other last (code / 4) ridge (code % 4) 0 n,
           )
           (adding_stays (a.each ridge l) h code e small (λ q. n (sym q)))
 
-  pub all_stay : ridges ≤ code % 65536 → AddingAll ridges codes places last (i + 1)
+  pub all_stay : ridges ≤ code / 4 → AddingAll ridges codes places last (i + 1)
   all_stay k = record {
     places_long = a.places_long;
     last_long = a.last_long;
@@ -151,21 +151,21 @@ counted_few {ridges} {codes} counted a ridge h =
 -- one code more, in one row of counts
 pub counted_joins : {ridges : ℕ} {codes : List ℕ} (counted : List Counted) {i : ℕ}
     → AddingAll ridges codes (many_in counted) (last_in counted) i → i < length codes → (code : ℕ)
-    → code ≡ get_or codes i 0 → code < 4294967296 → ridges ≤ 190 → code % 65536 < ridges
+    → code ≡ get_or codes i 0 → code < 4294967296 → ridges ≤ 190 → code / 4 < ridges
     → (let now =
-    set counted (code % 65536) (record {
-      places = (get_or counted (code % 65536) none_counted).places + 1;
-      last = code / 65536;
+    set counted (code / 4) (record {
+      places = (get_or counted (code / 4) none_counted).places + 1;
+      last = code % 4;
     }) in AddingAll ridges codes (many_in now) (last_in now) (i + 1))
 counted_joins {ridges} {codes} counted {i} a h code e small few k =
     let t : Counted = record {
-      places = (get_or counted (code % 65536) none_counted).places + 1;
-      last = code / 65536;
+      places = (get_or counted (code / 4) none_counted).places + 1;
+      last = code % 4;
     } in
     rw (
-      map-set (λ (t : Counted). t.places) counted (code % 65536) t,
-      map-set (λ (t : Counted). t.last) counted (code % 65536) t,
-      ← get_or-map (λ (t : Counted). t.places) counted (code % 65536) none_counted,
+      map-set (λ (t : Counted). t.places) counted (code / 4) t,
+      map-set (λ (t : Counted). t.last) counted (code / 4) t,
+      ← get_or-map (λ (t : Counted). t.places) counted (code / 4) none_counted,
     )
     (all_joins a h code e small few k)
 
@@ -242,17 +242,17 @@ module _ {from to most : ℕ} {ws₀ : List ℕ} {lists : ℕ} (ridge x : ℕ) (
         ap (ones_in ridge x) (take_more codes i 0 h ∙ ap (λ (c : ℕ). take i codes ++ (c ∷ [])) (sym v))
         ∙ ones_append ridge x (take i codes) (code ∷ [])
 
-    pub ones_asks : 65536 + ridge ≡ code → (base most + 2 * (used (area from to ws) + 1) ≤ length (area from to ws))
+    pub ones_asks : 4 * ridge + 1 ≡ code → (base most + 2 * (used (area from to ws) + 1) ≤ length (area from to ws))
         × (used (area from to ws) + 1 < 4294967296)
     ones_asks e = push_asks room j (ones_left ridge x codes i h (sym v ∙ sym e))
 
-    pub ones_joins : 65536 + ridge ≡ code → x < 65536 → (p : List ℕ) → p ≡ pushed 2 most (area from to ws) x
+    pub ones_joins : 4 * ridge + 1 ≡ code → x < 65536 → (p : List ℕ) → p ≡ pushed 2 most (area from to ws) x
         → Joined from to 2 most ws₀ (placed from (to - from) ws p) (ones_in ridge x (take (i + 1) codes))
     ones_joins e small p q =
         rw (one_more, one_joins ridge x code e)
         (joined_push room j (ones_left ridge x codes i h (sym v ∙ sym e)) x p (omega arith) q)
 
-    pub ones_stays : (65536 + ridge ≡ code → ⊥) → Joined from to 2 most ws₀ ws (ones_in ridge x (take (i + 1) codes))
+    pub ones_stays : (4 * ridge + 1 ≡ code → ⊥) → Joined from to 2 most ws₀ ws (ones_in ridge x (take (i + 1) codes))
     ones_stays n = rw (one_more, one_stays ridge x code n, append-nil (ones_in ridge x (take i codes))) j
 
   pub ones_end : {ws : List ℕ} (i : ℕ) → Joined from to 2 most ws₀ ws (ones_in ridge x (take i codes))

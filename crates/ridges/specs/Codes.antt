@@ -1,9 +1,10 @@
--- Shares as codes of ridge orbit + 65,536 × share, and what a search reads of them: what a facet adds to each ridge
--- orbit, cut off at 3, and its shares of 1. Over any lists of codes. Leans on the definition of the search and on the
+-- Shares as codes of 4 × ridge orbit + share, and what a search reads of them: what a facet adds to each ridge orbit,
+-- cut off at 3, and its shares of 1. Over any lists of codes. Leans on the definition of the search and on the
 -- layout of its tables.
-use Rattle.std.specs.Prelude.{◌≡◌, refl, Bool, true, false, ◌&&◌, ℕ, zero, suc, ◌+◌, ◌*◌, ◌/◌, ◌%◌, ◌≤◌, ◌<◌, min, leb}
+use Rattle.std.specs.Prelude.{◌≡◌, refl, Bool, true, false, ◌&&◌, ℕ, zero, suc, ◌+◌, ◌*◌, ◌/◌, ◌%◌, ◌≤◌, ◌<◌, min}
 use Rattle.std.specs.Prelude.{ltb, get_or, replicate}
-use Rattle.std.proofs.Common.{sym, ◌∙◌, ⊎_elim, arith, add-one, eq-eqb, ne_eqb}
+use Rattle.std.proofs.Common.{sym, ◌∙◌, ⊎_elim, arith, add-one, eq-eqb, ne_eqb, mul-le-mul_right}
+use Rattle.std.proofs.lemmas.List.{length-map}
 use Rattle.std.proofs.Math.Path.{ap}
 use Rattle.std.proofs.Math.Bool.{cond}
 use mathlib.Core.List.{List, [], ◌∷◌, ◌++◌, map, append-nil, map-append}
@@ -20,13 +21,17 @@ use Rattle.shares.specs.Shares.{share_code}
 use Rattle.ridges.specs.declared.Counted.{Counted}
 
 unfoldable pub share_of : ℕ → Share
-share_of c = (c % 65536, c / 65536)
+share_of c = (c / 4, c % 4)
 
-pub share_back : (s : Share) → s.0 < 65536 → share_of (share_code s) ≡ s
-unfolding share_of share_code
-share_back s h =
-    let a : (s.0 + 65536 * s.1) % 65536 ≡ s.0 = omega arith in
-    let b : (s.0 + 65536 * s.1) / 65536 ≡ s.1 = omega arith in
+-- a share cut off at 3, which is what its code says
+unfoldable pub cut : Share → Share
+cut s = (s.0, min s.1 3)
+
+pub share_back : (s : Share) → share_of (share_code s) ≡ cut s
+unfolding share_of share_code cut
+share_back s =
+    let a : (4 * s.0 + min s.1 3) / 4 ≡ s.0 = omega arith in
+    let b : (4 * s.0 + min s.1 3) % 4 ≡ min s.1 3 = omega arith in
     λ i. (a i, b i)
 
 -- ---- what a facet adds
@@ -60,27 +65,27 @@ last_more before (x ∷ l) s = last_more x.1 l s
 -- one code more, of this ridge orbit or of another
 module _ (ridge : ℕ) (l : List ℕ) (c : ℕ) where
   here_more : shares_here ridge (l ++ (c ∷ []))
-      ≡ shares_here ridge l ++ cond (eqb ridge (c % 65536)) (share_of c ∷ []) []
+      ≡ shares_here ridge l ++ cond (eqb ridge (c / 4)) (share_of c ∷ []) []
   unfolding shares_here shares_at share_of keep
   here_more =
       ap (keep (λ (s : Share). eqb ridge s.0)) (map-append share_of l (c ∷ []))
       ∙ keep_append (λ (s : Share). eqb ridge s.0) (map share_of l) (share_of c ∷ [])
 
-  pub here_joins : c % 65536 ≡ ridge → (length (shares_here ridge (l ++ (c ∷ []))) ≡ length (shares_here ridge l) + 1)
-      × (last_share 0 (shares_here ridge (l ++ (c ∷ []))) ≡ c / 65536)
+  pub here_joins : c / 4 ≡ ridge → (length (shares_here ridge (l ++ (c ∷ []))) ≡ length (shares_here ridge l) + 1)
+      × (last_share 0 (shares_here ridge (l ++ (c ∷ []))) ≡ c % 4)
   unfolding share_of
   here_joins e =
       let m : shares_here ridge (l ++ (c ∷ [])) ≡ shares_here ridge l ++ (share_of c ∷ []) = here_more
-      ∙ ap (λ (b : Bool). shares_here ridge l ++ cond b (share_of c ∷ []) []) (eq-eqb ridge (c % 65536) (sym e)) in (
+      ∙ ap (λ (b : Bool). shares_here ridge l ++ cond b (share_of c ∷ []) []) (eq-eqb ridge (c / 4) (sym e)) in (
         ap length m ∙ length-append (shares_here ridge l) (share_of c ∷ []),
         ap (last_share 0) m
             ∙ last_more 0 (shares_here ridge l) (share_of c),
       )
 
-  pub here_stays : (c % 65536 ≡ ridge → ⊥) → shares_here ridge (l ++ (c ∷ [])) ≡ shares_here ridge l
+  pub here_stays : (c / 4 ≡ ridge → ⊥) → shares_here ridge (l ++ (c ∷ [])) ≡ shares_here ridge l
   here_stays n =
       here_more ∙ (ap (λ (b : Bool). shares_here ridge l ++ cond b (share_of c ∷ []) [])
-      (ne_eqb ridge (c % 65536) (λ e. n (sym e))) ∙ append-nil (shares_here ridge l))
+      (ne_eqb ridge (c / 4) (λ e. n (sym e))) ∙ append-nil (shares_here ridge l))
 
 pub here_none : (ridge : ℕ) → shares_here ridge [] ≡ []
 unfolding shares_here shares_at keep
@@ -209,12 +214,12 @@ touched_within (suc ridge) codes i h =
 -- the facet, once for each share of 1 in a ridge orbit
 unfoldable pub ones_in : ℕ → ℕ → List ℕ → List ℕ
 ones_in ridge x [] = []
-ones_in ridge x (c ∷ cs) = let rest = ones_in ridge x cs in cond (eqb (65536 + ridge) c) (x ∷ rest) rest
+ones_in ridge x (c ∷ cs) = let rest = ones_in ridge x cs in cond (eqb (4 * ridge + 1) c) (x ∷ rest) rest
 
 pub ones_append : (ridge x : ℕ) (l k : List ℕ) → ones_in ridge x (l ++ k) ≡ ones_in ridge x l ++ ones_in ridge x k
 unfolding ones_in
 ones_append ridge x [] k = refl
-ones_append ridge x (c ∷ l) k = go (eqb (65536 + ridge) c) (ones_append ridge x l k)
+ones_append ridge x (c ∷ l) k = go (eqb (4 * ridge + 1) c) (ones_append ridge x l k)
   where
     go : (b : Bool) → ones_in ridge x (l ++ k) ≡ ones_in ridge x l ++ ones_in ridge x k
         → cond b (x ∷ ones_in ridge x (l ++ k)) (ones_in ridge x (l ++ k))
@@ -222,37 +227,37 @@ ones_append ridge x (c ∷ l) k = go (eqb (65536 + ridge) c) (ones_append ridge 
     go true e = ap (λ (r : List ℕ). x ∷ r) e
     go false e = e
 
-pub one_joins : (ridge x c : ℕ) → 65536 + ridge ≡ c → ones_in ridge x (c ∷ []) ≡ x ∷ []
+pub one_joins : (ridge x c : ℕ) → 4 * ridge + 1 ≡ c → ones_in ridge x (c ∷ []) ≡ x ∷ []
 unfolding ones_in
-one_joins ridge x c e = rw (eq-eqb (65536 + ridge) c e) refl
+one_joins ridge x c e = rw (eq-eqb (4 * ridge + 1) c e) refl
 
-pub one_stays : (ridge x c : ℕ) → (65536 + ridge ≡ c → ⊥) → ones_in ridge x (c ∷ []) ≡ []
+pub one_stays : (ridge x c : ℕ) → (4 * ridge + 1 ≡ c → ⊥) → ones_in ridge x (c ∷ []) ≡ []
 unfolding ones_in
-one_stays ridge x c n = rw (ne_eqb (65536 + ridge) c n) refl
+one_stays ridge x c n = rw (ne_eqb (4 * ridge + 1) c n) refl
 
 -- those are the shares that the search counts
-pub ones_counted : (ridge x : ℕ) (codes : List ℕ) → ridge < 65536
+pub ones_counted : (ridge x : ℕ) (codes : List ℕ)
     → ones_in ridge x codes ≡ replicate (length (keep (λ (s : Share). eqb 1 s.1) (shares_here ridge codes))) x
 unfolding ones_in shares_here shares_at keep share_of
-ones_counted ridge x [] h = refl
-ones_counted ridge x (c ∷ cs) h =
-    go (eqb (65536 + ridge) c) (eqb ridge (c % 65536)) (eqb 1 (c / 65536))
-    (same (ℕ_discrete ridge (c % 65536)) (ℕ_discrete 1 (c / 65536))) (ones_counted ridge x cs h)
-    ∙ ap (λ (l : List Share). replicate (length l) x) (sym (under (eqb ridge (c % 65536))))
+ones_counted ridge x [] = refl
+ones_counted ridge x (c ∷ cs) =
+    go (eqb (4 * ridge + 1) c) (eqb ridge (c / 4)) (eqb 1 (c % 4))
+    (same (ℕ_discrete ridge (c / 4)) (ℕ_discrete 1 (c % 4))) (ones_counted ridge x cs)
+    ∙ ap (λ (l : List Share). replicate (length l) x) (sym (under (eqb ridge (c / 4))))
   where
     ones : List Share → List Share
     ones = keep (λ (s : Share). eqb 1 s.1)
 
-    same : Dec (ridge ≡ c % 65536) → Dec (1 ≡ c / 65536)
-        → eqb (65536 + ridge) c ≡ cond (eqb ridge (c % 65536)) (eqb 1 (c / 65536)) false
+    same : Dec (ridge ≡ c / 4) → Dec (1 ≡ c % 4)
+        → eqb (4 * ridge + 1) c ≡ cond (eqb ridge (c / 4)) (eqb 1 (c % 4)) false
     same (yes a) (yes b) =
-        rw (eq-eqb ridge (c % 65536) a, eq-eqb 1 (c / 65536) b) (eq-eqb (65536 + ridge) c (omega arith))
+        rw (eq-eqb ridge (c / 4) a, eq-eqb 1 (c % 4) b) (eq-eqb (4 * ridge + 1) c (omega arith))
     same (yes a) (no b) =
-        rw (eq-eqb ridge (c % 65536) a, ne_eqb 1 (c / 65536) b) (ne_eqb (65536 + ridge) c (λ e. b (omega arith)))
-    same (no a) b = rw (ne_eqb ridge (c % 65536) a) (ne_eqb (65536 + ridge) c (λ e. a (omega arith)))
+        rw (eq-eqb ridge (c / 4) a, ne_eqb 1 (c % 4) b) (ne_eqb (4 * ridge + 1) c (λ e. b (omega arith)))
+    same (no a) b = rw (ne_eqb ridge (c / 4) a) (ne_eqb (4 * ridge + 1) c (λ e. a (omega arith)))
 
     under : (b : Bool) → ones (cond b (share_of c ∷ shares_here ridge cs) (shares_here ridge cs))
-        ≡ cond b (cond (eqb 1 (c / 65536)) (share_of c ∷ ones (shares_here ridge cs)) (ones (shares_here ridge cs)))
+        ≡ cond b (cond (eqb 1 (c % 4)) (share_of c ∷ ones (shares_here ridge cs)) (ones (shares_here ridge cs)))
         (ones (shares_here ridge cs))
     under true = refl
     under false = refl
@@ -264,6 +269,59 @@ ones_counted ridge x (c ∷ cs) h =
     go a true true e f = rw e (ap (λ (l : List ℕ). x ∷ l) f)
     go a true false e f = rw e f
     go a false d e f = rw e f
+
+-- ---- what is cut off is not missed
+
+-- a share keeps its ridge orbit
+pub cut_at : (ridge : ℕ) (l : List Share) → shares_at ridge (map cut l) ≡ map cut (shares_at ridge l)
+unfolding shares_at keep cut
+cut_at ridge [] = refl
+cut_at ridge (s ∷ l) = go (eqb ridge s.0) (cut_at ridge l)
+  where
+    go : (b : Bool) → shares_at ridge (map cut l) ≡ map cut (shares_at ridge l)
+        → cond b (cut s ∷ shares_at ridge (map cut l)) (shares_at ridge (map cut l))
+        ≡ map cut (cond b (s ∷ shares_at ridge l) (shares_at ridge l))
+    go true e = ap (λ (r : List Share). cut s ∷ r) e
+    go false e = e
+
+cut_last : (before : ℕ) (l : List Share) → last_share (min before 3) (map cut l) ≡ min (last_share before l) 3
+unfolding last_share cut
+cut_last before [] = refl
+cut_last before (s ∷ l) = cut_last s.1 l
+
+-- nor does it matter to a product that is cut off itself
+cut_product : (a n : ℕ) → min (min a 3 * n) 3 ≡ min (a * n) 3
+cut_product a zero = omega arith
+cut_product a (suc n) = ⊎_elim
+    (λ h. let e : min a 3 ≡ a = omega arith in rw e refl)
+    (λ h.
+    let e : min a 3 ≡ 3 = omega arith in
+    let m : 3 * suc n ≤ a * suc n = mul-le-mul_right (suc n) (omega arith) in
+    rw e (omega arith))
+    (le_or_lt a 3)
+
+pub cut_amount : (l : List Share)
+    → min (last_share 0 (map cut l) * length (map cut l)) 3 ≡ min (last_share 0 l * length l) 3
+cut_amount l = rw (cut_last 0 l, length-map l cut) (cut_product (last_share 0 l) (length l))
+
+-- a share of 1 stays one
+pub cut_ones : (l : List Share)
+    → length (keep (λ (s : Share). eqb 1 s.1) (map cut l)) ≡ length (keep (λ (s : Share). eqb 1 s.1) l)
+unfolding keep cut
+cut_ones [] = refl
+cut_ones (s ∷ l) = go (eqb 1 (min s.1 3)) (eqb 1 s.1) (same (ℕ_discrete 1 s.1)) (cut_ones l)
+  where
+    ones : List Share → List Share
+    ones = keep (λ (s : Share). eqb 1 s.1)
+
+    same : Dec (1 ≡ s.1) → eqb 1 (min s.1 3) ≡ eqb 1 s.1
+    same (yes e) = rw (eq-eqb 1 s.1 e) (eq-eqb 1 (min s.1 3) (omega (arith, e)))
+    same (no n) = rw (ne_eqb 1 s.1 n) (ne_eqb 1 (min s.1 3) (λ e. n (omega (arith, e))))
+
+    go : (a b : Bool) → a ≡ b → length (ones (map cut l)) ≡ length (ones l)
+        → length (cond a (cut s ∷ ones (map cut l)) (ones (map cut l))) ≡ length (cond b (s ∷ ones l) (ones l))
+    go a true e f = rw e (ap suc f)
+    go a false e f = rw e f
 
 -- the facets with shares of 1 in a ridge orbit, of the first so many
 unfoldable pub ones_to : ℕ → List (List ℕ) → ℕ → List ℕ
@@ -283,7 +341,7 @@ ones_of lists facets ridge = ones_to ridge lists facets
 
 -- whether a share is 1 and its ridge orbit below a number
 unfoldable pub counts : ℕ → ℕ → Bool
-counts ridges c = leb 65536 c && ltb c (65536 + ridges)
+counts ridges c = eqb 1 (c % 4) && ltb (c / 4) ridges
 
 unfoldable pub hits : ℕ → List ℕ → ℕ
 hits ridges [] = 0

@@ -167,8 +167,8 @@ module _ (n most : ℕ) (n_fits : n ≤ 20) (rows : List Row) (kept : List Kept)
       (le_or_lt (length kept) o)
 
   pub sources_fit : (counts : List ℕ) (facets : ℕ) → facets ≡ length (facets_of kept)
-      → length (numbers_kept rows kept).1.counts ≤ length counts → SourcesFit src counts facets
-  sources_fit counts facets f few = record {
+      → length (numbers_kept rows kept).1.counts ≤ length counts → length counts ≤ 16383 → SourcesFit src counts facets
+  sources_fit counts facets f few fewer = record {
     ridges_sound = hold.ridges_sound;
     numbers_sound = hold.numbers_sound;
     places_sound = hold.places_sound;
@@ -181,6 +181,7 @@ module _ (n most : ℕ) (n_fits : n ≤ 20) (rows : List Row) (kept : List Kept)
     orbit_small =
         λ o h. let k : o < length kept = omega (arith, many) in let r = item_at_holds kept o k in
         omega (arith, count_is o k r, small.orbit r.item r.member);
+    few_counts = fewer;
     inner_small = inner_fits;
     same_ridges =
         λ o h. let k : o < length kept = omega (arith, many) in let r = item_at_holds kept o k in

@@ -11,13 +11,13 @@ shares_part tables s = area tables.shares tables.touched s
 
 -- the shares of each facet, as codes
 abbrev pub shares_in : TableLayout → List ℕ → List (List ℕ)
-shares_in tables s = closed_lists 4 1024 (shares_part tables s)
+shares_in tables s = closed_lists 2 1024 (shares_part tables s)
 
 -- they are a pool, which lies in front of both tables
 pub record SharesLaid (tables : TableLayout) (s : List ℕ) : Type 0 where
   pub order : tables.shares ≤ tables.touched
   pub before : tables.touched ≤ tables.ones
-  pub sound : Sound 4 1024 (shares_part tables s)
+  pub sound : Sound 2 1024 (shares_part tables s)
 
 -- they are as they were where only what lies behind is written
 pub shares_same : (tables : TableLayout) (s t : List ℕ) → SharesLaid tables s → take tables.touched t

@@ -45,7 +45,7 @@ pub record TableLayoutFits (layout : KeptLayout) (tables : TableLayout) (most ri
   pub few_ridges_holds : ridges ≤ 190
   pub before : layout.end ≤ tables.numbers
   pub number_room : tables.numbers + (base 256 + 512 * most) ≤ tables.shares
-  pub share_room : tables.shares + (base 1024 + 4096 * most) ≤ tables.touched
+  pub share_room : tables.shares + (base 1024 + 2048 * most) ≤ tables.touched
   pub touched_room : tables.touched + (base 1024 + 2048 * ridges) ≤ tables.ones
   pub ones_room : tables.ones + (base ridges + 2048 * most) ≤ tables.frames
   pub frame_room : tables.frames + 4112 ≤ tables.totals
@@ -334,6 +334,7 @@ module _ (n most ridges m : ℕ) (rows : List ℕ) (kept : List Kept) (layout : 
     shares_fit =
         sources_fit n most g.rows_fit_holds.n_fits (rows_in n m rows) kept g.small
         (sources_of layout tables s1) holding counts layout.facets facets_are (omega (arith, known_is))
+        (omega (arith, known_few.1))
 
     place_short : (l : List ℕ) → Mem l (places_of kept) → length l ≤ most
     unfolding places_of
@@ -348,7 +349,7 @@ module _ (n most ridges m : ℕ) (rows : List ℕ) (kept : List Kept) (layout : 
         omega arith
 
     -- what `share_facets` asks
-    pub sharing_space : Space tables.shares tables.touched 4 1024 (length s1)
+    pub sharing_space : Space tables.shares tables.touched 2 1024 (length s1)
         (length (flat (closed_lists 2 1024 (places_part layout s1)))) layout.facets
     sharing_space =
         let f = g.fits in
@@ -363,7 +364,7 @@ module _ (n most ridges m : ℕ) (rows : List ℕ) (kept : List Kept) (layout : 
 
     -- ---- the tables
 
-    module _ (s2 : List ℕ) (b : Made tables.shares tables.touched 4 1024 s1 s2
+    module _ (s2 : List ℕ) (b : Made tables.shares tables.touched 2 1024 s1 s2
         (lists_to (facet_codes (sources_of layout tables s1) counts) layout.facets)) where
       pub facets_count : layout.facets ≡ count (area tables.shares tables.touched s2)
       facets_count =
@@ -420,7 +421,7 @@ module _ (n most ridges m : ℕ) (rows : List ℕ) (kept : List Kept) (layout : 
 
       module _ (s3 : List ℕ)
           (c : Made tables.touched tables.ones 2 layout.facets s2 s3 (lists_to (touched_of (length counts)
-          (closed_lists 4 1024 (area tables.shares tables.touched s2))) layout.facets)) where
+          (closed_lists 2 1024 (area tables.shares tables.touched s2))) layout.facets)) where
         pub shares_kept : area tables.shares tables.touched s3
             ≡ area tables.shares tables.touched s2
         shares_kept =
@@ -428,13 +429,13 @@ module _ (n most ridges m : ℕ) (rows : List ℕ) (kept : List Kept) (layout : 
             (omega (arith, g.fits.share_room)) (omega arith)
 
         -- what `lay_ones` asks
-        pub ones_asks : Sound 4 1024 (area tables.shares tables.touched s3)
+        pub ones_asks : Sound 2 1024 (area tables.shares tables.touched s3)
             × (layout.facets ≡ count (area tables.shares tables.touched s3))
             × Space tables.ones tables.frames 2 (length counts) (length s3)
-            (length (flat (closed_lists 4 1024 (area tables.shares tables.touched s3)))) (length counts)
+            (length (flat (closed_lists 2 1024 (area tables.shares tables.touched s3)))) (length counts)
         ones_asks =
             let f = g.fits in
-            let e : length (flat (closed_lists 4 1024 (area tables.shares tables.touched s2))) ≤ 1024
+            let e : length (flat (closed_lists 2 1024 (area tables.shares tables.touched s2))) ≤ 1024
             * most = omega (arith, ap (λ (l : List (List ℕ)). length (flat l)) b.pool.lists_are, codes_few) in
             rw shares_kept (
               b.pool.sound,
@@ -450,7 +451,7 @@ module _ (n most ridges m : ℕ) (rows : List ℕ) (kept : List Kept) (layout : 
             )
 
         module _ (s4 : List ℕ) (d : Made tables.ones tables.frames 2 (length counts) s3 s4 (lists_to
-            (made.ones_of (closed_lists 4 1024 (area tables.shares tables.touched s3)) layout.facets)
+            (made.ones_of (closed_lists 2 1024 (area tables.shares tables.touched s3)) layout.facets)
             (length counts))) where
           -- what is kept is as it was
           pub layout_kept : take layout.end s4 ≡ take layout.end s

@@ -19,7 +19,6 @@ use facets::Areas;
 use layout::{KeptLayout, TableLayout};
 use pool::{MOST_FACETS, MOST_LISTS};
 use rows::Rows;
-use words::HIGH;
 
 // ---- the tables of the search
 
@@ -36,18 +35,18 @@ struct Counted {
 // in bytes of the workspace that a caller lends, since there is no heap. Counted by hand: one walk counts for all
 // ridge orbits, and notes the last share of each; `filter(..).count()` would walk the list once for each of them.
 fn count_places(shares: &[u8], x: usize, ridges: usize) -> [Counted; 190]
-    requires { Sound 4 1024 shares.now × (x < count shares.now) × (ridges ≤ 190) }
-    ensures { PlacesCounted ridges (get_or (closed_lists 4 1024 shares.now) x []) (many_in result) (last_in result) }
+    requires { Sound 2 1024 shares.now × (x < count shares.now) × (ridges ≤ 190) }
+    ensures { PlacesCounted ridges (get_or (closed_lists 2 1024 shares.now) x []) (many_in result) (last_in result) }
 {
     let mut counted = [Counted { places: 0, last: 0 }; 190];
     let n = pool::list_length(shares, x) as usize;
     for i in 0..n {
-        let code = pool::item::<u32>(shares, MOST_FACETS, x, i);
-        let ridge = (code % HIGH) as usize;
+        let code = usize::from(pool::item::<u16>(shares, MOST_FACETS, x, i));
+        let ridge = code / 4;
         if ridge < ridges {
             counted[ridge] = Counted {
                 places: counted[ridge].places + 1,
-                last: code / HIGH,
+                last: (code % 4) as u32,
             };
         }
     }
@@ -114,13 +113,13 @@ fn ones_of_facet(ws: &mut [u8], tables: TableLayout, ridges: usize, ridge: usize
 {
     let n = pool::list_length(&ws[tables.shares..tables.touched], x) as usize;
     for i in 0..n {
-        let code = pool::item::<u32>(
+        let code = usize::from(pool::item::<u16>(
             &ws[tables.shares..tables.touched],
             MOST_FACETS,
             x,
             i,
-        ) as usize;
-        if HIGH as usize + ridge == code {
+        ));
+        if 4 * ridge + 1 == code {
             pool::push(&mut ws[tables.ones..tables.frames], ridges, x as u16);
         }
     }

@@ -2,7 +2,7 @@
 -- reading of pools.
 use mathlib.Core.Path.{◌≡◌, refl, ap, subst, ◌∙◌}
 use mathlib.Core.List.{List, [], ◌∷◌, ◌++◌, map, flat_map, append-nil}
-use Prim.Native.Nat.{ℕ, zero, suc, ◌+◌, ◌-◌, ◌*◌, ◌/◌, ◌≤◌, ◌<◌}
+use Prim.Native.Nat.{ℕ, zero, suc, ◌+◌, ◌-◌, ◌*◌, ◌/◌, ◌≤◌, ◌<◌, min}
 use native.Mathlib.Omega.{arith}
 use native.Mathlib.Nat.{div-zero, mul-le-mul_left}
 use lib.ListN.{length, get_or, take, length-map, length-append}
@@ -88,6 +88,9 @@ module _ (layout : KeptLayout) (tables : TableLayout) (s counts : List ℕ)
       pub ridge_inside : ridge < length counts
       ridge_inside = omega (arith, number_is, fit.ridge_small o a number_inside.1)
 
+      pub ridge_small_holds : 4 * ridge + 3 ≤ 65535
+      ridge_small_holds = omega (arith, ridge_inside, fit.few_counts)
+
       own_small : own ≤ 120
       unfolding sources_of
       own_small = omega (arith, own_is, fit.orbit_small o ho)
@@ -104,12 +107,12 @@ module _ (layout : KeptLayout) (tables : TableLayout) (s counts : List ℕ)
       part_small all = share_small own (code / 65536) all own_small inner_small
 
       pub code_made : (all : ℕ) → all ≡ get_or counts ridge 0
-          → ridge + 65536 * (own * (code / 65536) / all) ≡ code_at (sources_of layout tables s) counts o a
+          → 4 * ridge + min (own * (code / 65536) / all) 3 ≡ code_at (sources_of layout tables s) counts o a
       unfolding code_at share_code
       code_made all e = rw (e, number_is, own_is, code_is) refl
 
       pub code_none : (all : ℕ) → all ≡ get_or counts ridge 0 → all ≡ 0
-          → ridge ≡ code_at (sources_of layout tables s) counts o a
+          → 4 * ridge ≡ code_at (sources_of layout tables s) counts o a
       code_none all e z =
           let d : own * (code / 65536) / all ≡ 0 = ap (λ (k : ℕ). own * (code / 65536) / k) z
           ∙ div-zero (own * (code / 65536)) in
@@ -179,12 +182,12 @@ module _ (layout : KeptLayout) (tables : TableLayout) (s counts : List ℕ)
 
 -- the shares of the first i places
 module _ (src : Sources) (counts : List ℕ) (x : ℕ) {from to : ℕ} {ws₀ : List ℕ}
-    (ready : AreaEmpty from to 4 1024 ws₀ (length (places_in src x)) 1) where
-  pub codes_start : Joined from to 4 1024 ws₀ ws₀ (map (code_at src counts (owner_of src x)) (take 0 (places_in src x)))
+    (ready : AreaEmpty from to 2 1024 ws₀ (length (places_in src x)) 1) where
+  pub codes_start : Joined from to 2 1024 ws₀ ws₀ (map (code_at src counts (owner_of src x)) (take 0 (places_in src x)))
   codes_start = joined_none ready.space
 
   module _ {ws : List ℕ} (i : ℕ)
-      (j : Joined from to 4 1024 ws₀ ws (map (code_at src counts (owner_of src x)) (take i (places_in src x)))) where
+      (j : Joined from to 2 1024 ws₀ ws (map (code_at src counts (owner_of src x)) (take i (places_in src x)))) where
     module _ (h : i < length (places_in src x)) where
       so_far : length (map (code_at src counts (owner_of src x)) (take i (places_in src x))) < length (places_in src x)
       so_far =
@@ -194,22 +197,22 @@ module _ (src : Sources) (counts : List ℕ) (x : ℕ) {from to : ℕ} {ws₀ : 
             length-take-le i (places_in src x) (omega arith),
           )
 
-      pub codes_asks : (base 1024 + 4 * (used (area from to ws) + 1) ≤ length (area from to ws))
+      pub codes_asks : (base 1024 + 2 * (used (area from to ws) + 1) ≤ length (area from to ws))
           × (used (area from to ws) + 1 < 4294967296)
       codes_asks = push_asks ready.space j so_far
 
       pub codes_push : (v : ℕ) → v ≡ code_at src counts (owner_of src x) (get_or (places_in src x) i 0)
-          → v < 4294967296 → (p : List ℕ) → p ≡ pushed 4 1024 (area from to ws) v
-          → Joined from to 4 1024 ws₀ (placed from (to - from) ws p)
+          → v < 65536 → (p : List ℕ) → p ≡ pushed 2 1024 (area from to ws) v
+          → Joined from to 2 1024 ws₀ (placed from (to - from) ws p)
           (map (code_at src counts (owner_of src x)) (take (i + 1) (places_in src x)))
       codes_push v e small p q =
           rw (codes_more src counts x i h, ← e) (joined_push ready.space j so_far v p (omega arith) q)
 
     pub codes_end : length (places_in src x) ≤ i → (p : List ℕ) → p ≡ ended (area from to ws)
-        → AreaGrown from to 4 1024 ws₀ (placed from (to - from) ws p) (facet_codes src counts x ∷ [])
+        → AreaGrown from to 2 1024 ws₀ (placed from (to - from) ws p) (facet_codes src counts x ∷ [])
     unfolding facet_codes
     codes_end h p q =
-        subst (λ (l : List ℕ). AreaGrown from to 4 1024 ws₀ (placed from (to - from) ws p)
+        subst (λ (l : List ℕ). AreaGrown from to 2 1024 ws₀ (placed from (to - from) ws p)
         (map (code_at src counts (owner_of src x)) l ∷ [])) (take_all i (places_in src x) h)
         (joined_end ready j (omega arith) p q)
 
@@ -244,10 +247,10 @@ codes_room src counts x h =
 pub facet_requires : (layout : KeptLayout) (tables : TableLayout) (s counts : List ℕ)
     → Orders layout tables (length s) → SourcesFit (sources_of layout tables s) counts layout.facets
     → (t : List ℕ) → length t ≡ length s → take tables.shares t ≡ take tables.shares s → (x : ℕ)
-    → AreaEmpty tables.shares tables.touched 4 1024 t
+    → AreaEmpty tables.shares tables.touched 2 1024 t
     (length (places_in (sources_of layout tables s) x)) 1
     → Orders layout tables (length t) × SourcesFit (sources_of layout tables t) counts layout.facets
-    × AreaEmpty tables.shares tables.touched 4 1024 t
+    × AreaEmpty tables.shares tables.touched 2 1024 t
     (length (places_in (sources_of layout tables t) x)) 1
 facet_requires layout tables s counts ord fit t l e x ready =
     let k = sources_kept layout tables s t ord e in

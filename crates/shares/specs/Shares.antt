@@ -1,6 +1,6 @@
 -- The share of each place, from the areas that it is read from: the orbits' counts, each facet's orbit, each orbit's
 -- ridges with their inner counts and their numbers, each facet's places. Leans on Keeps, Areas and Pool.
-use Rattle.std.specs.Prelude.{◌≡◌, List, [], ◌∷◌, ◌++◌, map, ℕ, ◌+◌, ◌*◌, ◌/◌, ◌≤◌, ◌<◌, length, get_or, take}
+use Rattle.std.specs.Prelude.{◌≡◌, List, [], ◌∷◌, ◌++◌, map, ℕ, ◌+◌, ◌*◌, ◌/◌, ◌≤◌, ◌<◌, min, length, get_or, take}
 use Rattle.std.proofs.Common.{ap, ◌∙◌, arith, div-le_self, mul-le-mul_left}
 use Rattle.std.proofs.lemmas.List.{map-append, length-map}
 use Rattle.definitions.specs.Job.{number_at}
@@ -12,9 +12,10 @@ use Rattle.layout.specs.Keeps.{owners_part, ridges_part, places_part}
 use Rattle.layout.specs.declared.TableLayout.{TableLayout}
 use Rattle.shares.specs.Areas.{area, area_kept}
 
--- a share as one number: ridge orbit + 65,536 × share
+-- a share as one number: 4 × ridge orbit + share, the share cut off at 3. A search asks of a share whether it is 1, and
+-- cuts off at 3 what a facet adds, a share times how many places have it.
 unfoldable pub share_code : Share → ℕ
-share_code s = s.0 + 65536 * s.1
+share_code s = 4 * s.0 + min s.1 3
 
 -- the areas
 pub record Sources : Type 0 where
@@ -76,6 +77,7 @@ pub record SourcesFit (src : Sources) (counts : List ℕ) (facets : ℕ) : Type 
   pub places_sound : Sound 2 1024 src.places
   pub facets_are : facets ≡ count src.places
   pub same_orbits : count src.numbers ≡ count src.ridges
+  pub few_counts : length counts ≤ 16383
   pub owner : (x : ℕ) → x < facets → owner_of src x < count src.ridges
   pub orbit_small : (o : ℕ) → o < count src.ridges → count_of src o ≤ 120
   pub inner_small : (o a : ℕ) → a < length (ridges_in src o) → get_or (ridges_in src o) a 0 / 65536 ≤ 120

@@ -83,11 +83,11 @@ pub fn number_ridges(
 
 // ---- shares
 
-// The code of the share of a place with inner orbit a, of a facet of orbit o: its ridge orbit + 65,536 × floor(orbit
-// count × inner count / ridge orbit count). The orbits stand in the first 2,048 bytes, eight bytes each, the count in
-// the last four. A count of 0 gives a share of 0, as the definition's division does. It reads the workspace beside
-// its places, and no struct holds both: `share_facet` writes the workspace in the same turn, so that it would make
-// such a struct anew for each place. `Orders` and `SourcesFit` stay clauses, here and below: `share_facet` and
+// The code of the share of a place with inner orbit a, of a facet of orbit o: 4 × its ridge orbit + floor(orbit count
+// × inner count / ridge orbit count), cut off at 3. The orbits stand in the first 2,048 bytes, eight bytes each, the
+// count in the last four. A count of 0 gives a share of 0, as the definition's division does. It reads the workspace
+// beside its places, and no struct holds both: `share_facet` writes the workspace in the same turn, so that it would
+// make such a struct anew for each place. `Orders` and `SourcesFit` stay clauses, here and below: `share_facet` and
 // `share_facets` write the workspace that both speak of.
 fn share_code(
     ws: &[u8],
@@ -96,7 +96,7 @@ fn share_code(
     counts: &[u32],
     o: usize,
     a: usize,
-) -> u32
+) -> u16
     requires { Orders layout tables (length ws.now)
         × SourcesFit (sources_of layout tables ws.now) counts.now layout.facets
         × (o < count (ridges_part layout ws.now))
@@ -108,9 +108,10 @@ fn share_code(
     let ridge = u32::from(pool::item::<u16>(&ws[tables.numbers..tables.shares], MOST_ORBITS, o, a));
     let all = counts[ridge as usize];
     if all == 0 {
-        return ridge;
+        return (4 * ridge) as u16;
     }
-    ridge + HIGH * (own * inner / all)
+    let share = own * inner / all;
+    (4 * ridge + share.min(3)) as u16
 }
 
 // The shares of facet x, as one list more.
@@ -118,9 +119,9 @@ fn share_facet(ws: &mut [u8], layout: KeptLayout, tables: TableLayout, counts: &
     requires { Orders layout tables (length ws.old)
         × SourcesFit (sources_of layout tables ws.old) counts.now layout.facets
         × (x < layout.facets)
-        × AreaEmpty tables.shares tables.touched 4 1024 ws.old
+        × AreaEmpty tables.shares tables.touched 2 1024 ws.old
         (length (places_in (sources_of layout tables ws.old) x)) 1 }
-    ensures { AreaGrown tables.shares tables.touched 4 1024 ws.old ws.new
+    ensures { AreaGrown tables.shares tables.touched 2 1024 ws.old ws.new
         (facet_codes (sources_of layout tables ws.old) counts.now x ∷ []) }
 {
     let o = usize::from(u16::get(&ws[layout.owners..layout.ridges], 2 * x));
@@ -137,9 +138,9 @@ fn share_facet(ws: &mut [u8], layout: KeptLayout, tables: TableLayout, counts: &
 pub fn share_facets(ws: &mut [u8], layout: KeptLayout, tables: TableLayout, counts: &[u32])
     requires { Orders layout tables (length ws.old)
         × SourcesFit (sources_of layout tables ws.old) counts.now layout.facets
-        × Space tables.shares tables.touched 4 1024 (length ws.old)
+        × Space tables.shares tables.touched 2 1024 (length ws.old)
         (length (flat (closed_lists 2 1024 (places_part layout ws.old)))) layout.facets }
-    ensures { Made tables.shares tables.touched 4 1024 ws.old ws.new
+    ensures { Made tables.shares tables.touched 2 1024 ws.old ws.new
         (lists_to (facet_codes (sources_of layout tables ws.old) counts.now) layout.facets) }
 {
     pool::clear(&mut ws[tables.shares..tables.touched]);

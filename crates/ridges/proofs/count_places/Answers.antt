@@ -2,7 +2,7 @@
 -- is passed (`all_stay`), and at the end all places were looked at (`all_end`).
 use mathlib.Core.Path.{◌∙◌}
 use mathlib.Core.List.{[]}
-use Prim.Native.Nat.{◌%◌, ◌<◌}
+use Prim.Native.Nat.{◌/◌, ◌<◌}
 use native.Mathlib.Omega.{arith}
 use lib.ListN.{length, get_or}
 use Rattle.pool.specs.Pool.{closed_lists}
@@ -13,19 +13,19 @@ use Rattle.ridges.proofs.count_places.Goals.{else-ridge-ridges, then-ridge-ridge
 
 pub loop-i-init : goal.loop-i-init
 loop-i-init c =
-    (c.list_length-n.ensures ∙ length_read 4 1024 _ c.requires.0 c.args.x c.requires.1, omega arith, all_start _ _)
+    (c.list_length-n.ensures ∙ length_read 2 1024 _ c.requires.0 c.args.x c.requires.1, omega arith, all_start _ _)
 
-pub item-code-requires : goal.item-code-requires
-item-code-requires c =
+pub item-requires : goal.item-requires
+item-requires c =
     let l = c.loop-i in
-    item_asks 4 1024 _ c.requires.0 c.args.x c.requires.1 l.i (omega (arith, l.invariant.0, c.loop-i-test.true))
+    item_asks 2 1024 _ c.requires.0 c.args.x c.requires.1 l.i (omega (arith, l.invariant.0, c.loop-i-test.true))
 
 pub overflow_add-counted : goal.overflow_add-counted
 overflow_add-counted c =
     let l = c.loop-i in
     omega (
       arith,
-      counted_few l.counted l.invariant.2 (c.item-code.result % 65536) c.if-ridge-ridges.true,
+      counted_few l.counted l.invariant.2 (c.from-code.result / 4) c.if-ridge-ridges.true,
       l.invariant.0,
       c.list_length-n.type_inv,
     )
@@ -33,17 +33,18 @@ overflow_add-counted c =
 pub loop-i-preserved : goal.loop-i-preserved
 loop-i-preserved c =
     let l = c.loop-i in
-    let h : l.i < length (get_or (closed_lists 4 1024 c.args.shares.now) c.args.x []) =
+    let h : l.i < length (get_or (closed_lists 2 1024 c.args.shares.now) c.args.x []) =
     omega (arith, l.invariant.0, c.loop-i-test.true) in
-    let v = c.item-code.ensures ∙ item_read 4 1024 _ c.requires.0 c.args.x c.requires.1 l.i h in (
+    let v = c.from-code.ensures ∙ (c.item.ensures ∙ item_read 2 1024 _ c.requires.0 c.args.x c.requires.1 l.i h) in (
       l.invariant.0,
       omega arith,
       elim c.if-ridge-ridges.branch [
-        | then-ridge-ridges w ↦ rw (w.counted-is) (counted_joins l.counted l.invariant.2 h c.item-code.result v
-            (omega (arith, c.item-code.type_inv)) c.requires.2 w.if-ridge-ridges.true)
-        | else-ridge-ridges w ↦ rw (w.counted-is) (all_stay l.invariant.2 h c.item-code.result v (omega (
+        | then-ridge-ridges w ↦ rw (w.counted-is) (counted_joins l.counted l.invariant.2 h c.from-code.result v
+            (omega (arith, c.from-code.ensures, c.item.type_inv)) c.requires.2 w.if-ridge-ridges.true)
+        | else-ridge-ridges w ↦ rw (w.counted-is) (all_stay l.invariant.2 h c.from-code.result v (omega (
           arith,
-          c.item-code.type_inv,
+          c.from-code.ensures,
+          c.item.type_inv,
         )) c.requires.2 w.if-ridge-ridges.false)
       ],
     )

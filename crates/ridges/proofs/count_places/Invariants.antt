@@ -10,5 +10,5 @@ use Rattle.ridges.proofs.count_places.Given as goal
 
 abbrev pub invariant-loop-i : goal.invariant-loop-i
 invariant-loop-i l =
-    (l.n ≡ length (get_or (closed_lists 4 1024 l.shares) l.x [])) × (l.i ≤ l.n)
-    × AddingAll l.ridges (get_or (closed_lists 4 1024 l.shares) l.x []) (many_in l.counted) (last_in l.counted) l.i
+    (l.n ≡ length (get_or (closed_lists 2 1024 l.shares) l.x [])) × (l.i ≤ l.n)
+    × AddingAll l.ridges (get_or (closed_lists 2 1024 l.shares) l.x []) (many_in l.counted) (last_in l.counted) l.i

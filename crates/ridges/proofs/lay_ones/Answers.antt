@@ -25,9 +25,9 @@ ones_of_ridge-requires c = let l = c.loop-ridge in
       rw e c.requires.1,
       omega (arith, c.requires.2, c.loop-ridge-test.true),
       rw e (laid_ready c.args.ws.now c.requires.3 _ c.clear.ensures _ l.ridge g _
-          (ones_room_holds l.ridge (closed_lists 4 1024 a) c.args.facets (omega (
+          (ones_room_holds l.ridge (closed_lists 2 1024 a) c.args.facets (omega (
             arith,
-            closed_length 4 1024 a,
+            closed_length 2 1024 a,
             c.requires.1,
           ))) c.loop-ridge-test.true),
     )

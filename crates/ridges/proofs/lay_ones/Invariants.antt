@@ -11,4 +11,4 @@ abbrev pub invariant-loop-ridge : goal.invariant-loop-ridge
 invariant-loop-ridge l =
     (length l.ws ≡ length l.initial.ws) × (l.ridge ≤ l.ridges)
     × AreaGrown l.tables.ones l.tables.frames 2 l.ridges l.initial.ws l.ws (lists_to (ones_of
-    (closed_lists 4 1024 (area l.tables.shares l.tables.touched l.initial.ws)) l.facets) l.ridge)
+    (closed_lists 2 1024 (area l.tables.shares l.tables.touched l.initial.ws)) l.facets) l.ridge)

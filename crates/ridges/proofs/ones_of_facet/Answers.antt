@@ -16,16 +16,16 @@ pub loop-i-init : goal.loop-i-init
 loop-i-init c = (
   refl,
   c.list_length-n.ensures
-      ∙ length_read 4 1024 _ c.requires.0.sound c.args.x c.requires.1,
+      ∙ length_read 2 1024 _ c.requires.0.sound c.args.x c.requires.1,
   omega arith,
   ones_start _ _ _ c.requires.3,
 )
 
-pub item-code-requires : goal.item-code-requires
-item-code-requires c = let l = c.loop-i in
+pub item-requires : goal.item-requires
+item-requires c = let l = c.loop-i in
     let e = area_kept c.args.tables.ones c.args.tables.shares c.args.tables.touched c.args.ws.now
     l.ws l.invariant.3.front c.requires.0.order c.requires.0.before in
-    rw e (item_asks 4 1024 _ c.requires.0.sound c.args.x c.requires.1 l.i (omega (
+    rw e (item_asks 2 1024 _ c.requires.0.sound c.args.x c.requires.1 l.i (omega (
       arith,
       l.invariant.1,
       c.loop-i-test.true,
@@ -35,20 +35,22 @@ pub push-requires : goal.push-requires
 push-requires c = let l = c.loop-i in
     let e = area_kept c.args.tables.ones c.args.tables.shares c.args.tables.touched c.args.ws.now
     l.ws l.invariant.3.front c.requires.0.order c.requires.0.before in
-    let h : l.i < length (get_or (closed_lists 4 1024
+    let h : l.i < length (get_or (closed_lists 2 1024
     (area c.args.tables.shares c.args.tables.touched c.args.ws.now)) c.args.x []) =
     omega (arith, l.invariant.1, c.loop-i-test.true) in
-    let v = rw e at c.item-code.ensures ∙ item_read 4 1024 _ c.requires.0.sound c.args.x c.requires.1 l.i h in
+    let v = c.from-code.ensures
+    ∙ ((rw e at c.item.ensures) ∙ item_read 2 1024 _ c.requires.0.sound c.args.x c.requires.1 l.i h) in
     ones_asks c.args.ridge c.args.x _ c.requires.3 l.i l.invariant.3 h _ v c.if-ridge-code.true
 
 pub loop-i-preserved : goal.loop-i-preserved
 loop-i-preserved c = let l = c.loop-i in
     let e = area_kept c.args.tables.ones c.args.tables.shares c.args.tables.touched c.args.ws.now
     l.ws l.invariant.3.front c.requires.0.order c.requires.0.before in
-    let h : l.i < length (get_or (closed_lists 4 1024
+    let h : l.i < length (get_or (closed_lists 2 1024
     (area c.args.tables.shares c.args.tables.touched c.args.ws.now)) c.args.x []) =
     omega (arith, l.invariant.1, c.loop-i-test.true) in
-    let v = rw e at c.item-code.ensures ∙ item_read 4 1024 _ c.requires.0.sound c.args.x c.requires.1 l.i h in
+    let v = c.from-code.ensures
+    ∙ ((rw e at c.item.ensures) ∙ item_read 2 1024 _ c.requires.0.sound c.args.x c.requires.1 l.i h) in
     elim c.if-ridge-code.branch [
       | then-ridge-code w ↦ let j = ones_joins c.args.ridge c.args.x _ c.requires.3 l.i l.invariant.3 h _ v
           w.if-ridge-code.true (omega (arith, c.requires.0.sound.few, c.requires.1)) _ w.push.ensures in

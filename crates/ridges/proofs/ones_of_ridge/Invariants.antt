@@ -11,4 +11,4 @@ abbrev pub invariant-loop-x : goal.invariant-loop-x
 invariant-loop-x l =
     (length l.ws ≡ length l.initial.ws) × (l.x ≤ l.facets)
     × Joined l.tables.ones l.tables.frames 2 l.ridges l.initial.ws l.ws
-    (ones_to l.ridge (closed_lists 4 1024 (area l.tables.shares l.tables.touched l.initial.ws)) l.x)
+    (ones_to l.ridge (closed_lists 2 1024 (area l.tables.shares l.tables.touched l.initial.ws)) l.x)

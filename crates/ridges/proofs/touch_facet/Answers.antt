@@ -17,14 +17,14 @@ pub push-requires : goal.push-requires
 push-requires c =
     let l = c.loop-ridge in
     touch_asks
-    (get_or (closed_lists 4 1024 (area c.args.tables.shares c.args.tables.touched c.args.ws.now)) c.args.x [])
+    (get_or (closed_lists 2 1024 (area c.args.tables.shares c.args.tables.touched c.args.ws.now)) c.args.x [])
     c.requires.3 l.ridge l.invariant.2 c.loop-ridge-test.true
 
 pub loop-ridge-preserved : goal.loop-ridge-preserved
 loop-ridge-preserved c =
     let l = c.loop-ridge in
     let codes =
-    get_or (closed_lists 4 1024 (area c.args.tables.shares c.args.tables.touched c.args.ws.now))
+    get_or (closed_lists 2 1024 (area c.args.tables.shares c.args.tables.touched c.args.ws.now))
     c.args.x [] in
     let v = counted_amount c.count_places-counted.result c.count_places-counted.ensures l.ridge c.loop-ridge-test.true
     _ c.amount-added.ensures in

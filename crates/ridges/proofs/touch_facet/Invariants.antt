@@ -12,4 +12,4 @@ abbrev pub invariant-loop-ridge : goal.invariant-loop-ridge
 invariant-loop-ridge l =
     (length l.ws ≡ length l.initial.ws) × (l.ridge ≤ l.ridges)
     × Joined l.tables.touched l.tables.ones 2 l.facets l.initial.ws l.ws (touched_to l.ridge
-    (get_or (closed_lists 4 1024 (area l.tables.shares l.tables.touched l.initial.ws)) l.x []))
+    (get_or (closed_lists 2 1024 (area l.tables.shares l.tables.touched l.initial.ws)) l.x []))

@@ -29,7 +29,7 @@ touch_facet-requires c = let l = c.loop-x in
       rw e (omega (arith, c.requires.1, c.loop-x-test.true)),
       c.requires.2,
       laid_ready c.args.ws.now c.requires.3 _ c.clear.ensures _ l.x g c.args.ridges (touched_room_holds c.args.ridges
-          (closed_lists 4 1024 a) l.x c.args.facets c.loop-x-test.true) c.loop-x-test.true,
+          (closed_lists 2 1024 a) l.x c.args.facets c.loop-x-test.true) c.loop-x-test.true,
     )
 
 pub loop-x-preserved : goal.loop-x-preserved

@@ -11,4 +11,4 @@ abbrev pub invariant-loop-x : goal.invariant-loop-x
 invariant-loop-x l =
     (length l.ws ≡ length l.initial.ws) × (l.x ≤ l.facets)
     × AreaGrown l.tables.touched l.tables.ones 2 l.facets l.initial.ws l.ws (lists_to (touched_of l.ridges
-    (closed_lists 4 1024 (area l.tables.shares l.tables.touched l.initial.ws))) l.x)
+    (closed_lists 2 1024 (area l.tables.shares l.tables.touched l.initial.ws))) l.x)

@@ -1,9 +1,9 @@
 -- `share_code` meets its contract: what it reads stands there, and the numbers stay small.
 use native.Mathlib.Omega.{arith}
 use Rattle.shares.proofs.Sharing.{orbit_few, orbit_asks, ridge_asks, number_asks, ridge_inside, product_small}
-use Rattle.shares.proofs.Sharing.{part_small, code_made, code_none}
-use lib.ListN.{get_or}
-use mathlib.Core.Path.{refl, ◌∙◌}
+use Rattle.shares.proofs.Sharing.{ridge_small_holds, code_made, code_none}
+use mathlib.Core.Path.{refl, ap, ◌∙◌}
+use Prim.Native.Nat.{ℕ, ◌+◌, ◌*◌}
 use Rattle.shares.proofs.share_code.Goals as goal
 
 pub overflow_mul-o : goal.overflow_mul-o
@@ -52,8 +52,8 @@ returns-then-all-eq0 c =
     c.requires.2 c.args.a c.requires.3 _ _ _ c.get-own.ensures c.item-inner.ensures
     (c.from-ridge.ensures ∙ c.item.ensures) _ refl c.if-all-eq0.true
 
-pub overflow_mul-result : goal.overflow_mul-result
-overflow_mul-result c =
+pub overflow_mul-share : goal.overflow_mul-share
+overflow_mul-share c =
     omega (
       arith,
       product_small c.args.layout c.args.tables c.args.ws.now c.args.counts.now c.requires.0 c.requires.1
@@ -61,28 +61,28 @@ overflow_mul-result c =
           (c.from-ridge.ensures ∙ c.item.ensures),
     )
 
-pub overflow_mul-result-2 : goal.overflow_mul-result-2
-overflow_mul-result-2 c =
+pub overflow_cast-result : goal.overflow_cast-result
+overflow_cast-result c =
     omega (
       arith,
-      part_small c.args.layout c.args.tables c.args.ws.now c.args.counts.now c.requires.0 c.requires.1
+      ridge_small_holds c.args.layout c.args.tables c.args.ws.now c.args.counts.now c.requires.0 c.requires.1
           c.args.o c.requires.2 c.args.a c.requires.3 _ _ _ c.get-own.ensures c.item-inner.ensures
-          (c.from-ridge.ensures ∙ c.item.ensures) (get_or c.args.counts.now c.from-ridge.result 0),
+          (c.from-ridge.ensures ∙ c.item.ensures),
     )
 
-pub overflow_add-result : goal.overflow_add-result
-overflow_add-result c =
+pub overflow_cast-result-2 : goal.overflow_cast-result-2
+overflow_cast-result-2 c =
     omega (
       arith,
-      c.item.type_inv,
-      c.from-ridge.ensures,
-      part_small c.args.layout c.args.tables c.args.ws.now c.args.counts.now c.requires.0 c.requires.1 c.args.o
-          c.requires.2 c.args.a c.requires.3 _ _ _ c.get-own.ensures c.item-inner.ensures
-          (c.from-ridge.ensures ∙ c.item.ensures) (get_or c.args.counts.now c.from-ridge.result 0),
+      ridge_small_holds c.args.layout c.args.tables c.args.ws.now c.args.counts.now c.requires.0 c.requires.1
+          c.args.o c.requires.2 c.args.a c.requires.3 _ _ _ c.get-own.ensures c.item-inner.ensures
+          (c.from-ridge.ensures ∙ c.item.ensures),
+      c.min.ensures,
     )
 
 pub returns : goal.returns
 returns c =
-    code_made c.args.layout c.args.tables c.args.ws.now c.args.counts.now c.requires.0 c.requires.1 c.args.o
+    ap (λ (k : ℕ). 4 * c.from-ridge.result + k) c.min.ensures
+    ∙ code_made c.args.layout c.args.tables c.args.ws.now c.args.counts.now c.requires.0 c.requires.1 c.args.o
     c.requires.2 c.args.a c.requires.3 _ _ _ c.get-own.ensures c.item-inner.ensures
     (c.from-ridge.ensures ∙ c.item.ensures) _ refl

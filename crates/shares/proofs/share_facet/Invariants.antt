@@ -11,7 +11,7 @@ abbrev pub invariant-loop-i : goal.invariant-loop-i
 invariant-loop-i l =
     (length l.ws ≡ length l.initial.ws) × (l.o ≡ owner_of (sources_of l.layout l.tables l.initial.ws) l.x)
     × (l.n ≡ length (places_in (sources_of l.layout l.tables l.initial.ws) l.x)) × (l.i ≤ l.n)
-    × Joined l.tables.shares l.tables.touched 4 1024 l.initial.ws l.ws
+    × Joined l.tables.shares l.tables.touched 2 1024 l.initial.ws l.ws
     (map (code_at (sources_of l.layout l.tables l.initial.ws) l.counts
     (owner_of (sources_of l.layout l.tables l.initial.ws) l.x))
     (take l.i (places_in (sources_of l.layout l.tables l.initial.ws) l.x)))

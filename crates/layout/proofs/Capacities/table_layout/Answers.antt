@@ -14,43 +14,43 @@ pub overflow_add-shares-2 : goal.overflow_add-shares-2
 overflow_add-shares-2 c =
     let b = c.requires in
     let l = low c.args.self b c.kept_layout-numbers.result c.kept_layout-numbers.ensures in
-    omega (arith, l, b.share_room, b.few_ridges, b.few_ridge_orbits, b.few_orbits)
+    omega (arith, l, b.few_ridges, b.few_ridge_orbits, b.few_orbits)
 
 pub overflow_add-touched-2 : goal.overflow_add-touched-2
 overflow_add-touched-2 c =
     let b = c.requires in
     let l = low c.args.self b c.kept_layout-numbers.result c.kept_layout-numbers.ensures in
-    omega (arith, l, b.share_room, b.few_ridges, b.few_ridge_orbits, b.few_orbits)
+    omega (arith, l, b.few_ridges, b.few_ridge_orbits, b.few_orbits)
 
 pub overflow_add-ones-2 : goal.overflow_add-ones-2
 overflow_add-ones-2 c =
     let b = c.requires in
     let l = low c.args.self b c.kept_layout-numbers.result c.kept_layout-numbers.ensures in
-    omega (arith, l, b.share_room, b.few_ridges, b.few_ridge_orbits, b.few_orbits)
+    omega (arith, l, b.few_ridges, b.few_ridge_orbits, b.few_orbits)
 
 pub overflow_add-frames-3 : goal.overflow_add-frames-3
 overflow_add-frames-3 c =
     let b = c.requires in
     let l = low c.args.self b c.kept_layout-numbers.result c.kept_layout-numbers.ensures in
-    omega (arith, l, b.share_room, b.few_ridges, b.few_ridge_orbits, b.few_orbits)
+    omega (arith, l, b.few_ridges, b.few_ridge_orbits, b.few_orbits)
 
 pub overflow_add-totals : goal.overflow_add-totals
 overflow_add-totals c =
     let b = c.requires in
     let l = low c.args.self b c.kept_layout-numbers.result c.kept_layout-numbers.ensures in
-    omega (arith, l, b.share_room, b.few_ridges, b.few_ridge_orbits, b.few_orbits)
+    omega (arith, l, b.few_ridges, b.few_ridge_orbits, b.few_orbits)
 
 pub overflow_add-lists-2 : goal.overflow_add-lists-2
 overflow_add-lists-2 c =
     let b = c.requires in
     let l = low c.args.self b c.kept_layout-numbers.result c.kept_layout-numbers.ensures in
-    omega (arith, l, b.share_room, b.few_ridges, b.few_ridge_orbits, b.few_orbits)
+    omega (arith, l, b.few_ridges, b.few_ridge_orbits, b.few_orbits)
 
 pub overflow_add-result-3 : goal.overflow_add-result-3
 overflow_add-result-3 c =
     let b = c.requires in
     let l = low c.args.self b c.kept_layout-numbers.result c.kept_layout-numbers.ensures in
-    omega (arith, l, b.share_room, b.few_ridges, b.few_ridge_orbits, b.few_orbits)
+    omega (arith, l, b.few_ridges, b.few_ridge_orbits, b.few_orbits)
 
 pub returns : goal.returns
 unfolding tables_from table_layout
