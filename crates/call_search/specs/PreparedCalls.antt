@@ -24,6 +24,7 @@ use Rattle.shapes.proofs.RidgesKept.{ridges_kept}
 use Rattle.layout.specs.declared.KeptLayout.{KeptLayout}
 use Rattle.layout.specs.Keeps.{Keeps, Ridges}
 use Rattle.calls.specs.declared.Rules.{Rules}
+use Rattle.definitions.specs.Job.{workspace_for}
 use Rattle.layout.specs.declared.Capacities.{Capacities}
 use Rattle.layout.specs.Capacities.{capacities_three, capacities_four, capacities_of, of_three, of_four, layout_for}
 use Rattle.layout.specs.Capacities.{table_layout_for, table_ends, tables_few}
@@ -76,8 +77,7 @@ pub record CallPrepared (k : PreparedCall) (layout : KeptLayout) (rank : ℕ) (r
   pub ridges : Ridges layout (kept_in k) s
   pub owners_at : layout.owners ≡ (layout_for rank).owners
   pub end_at_holds : layout.end ≡ (layout_for rank).end
-  pub room_three : rank ≡ 3 → 524288 ≤ length s
-  pub room_four : rank ≡ 4 → 4194304 ≤ length s
+  pub room : workspace_for rank ≤ length s
 
 module _ (k : PreparedCall) (layout : KeptLayout) (rank : ℕ) (rows : List ℕ) (m : ℕ) (rules : Rules) (extended : Bool)
     (left : ℕ) (s : List ℕ) (st : CallPrepared k layout rank rows m rules extended left s) where
@@ -144,7 +144,7 @@ module _ (k : PreparedCall) (layout : KeptLayout) (rank : ℕ) (rows : List ℕ)
                 subst (λ (c : Capacities). length (numbers_kept k.rows (kept_in k)).1.counts ≤ c.ridge_orbits) is
                 (omega (arith, st.few_points));
             few_orbits = subst (λ (c : Capacities). layout.orbits ≤ c.orbits) is (omega (arith, st.keeps.orbits));
-            room = omega (arith, table_ends.0 rank three, st.room_three three);
+            room = omega (arith, table_ends rank (omega arith) (omega arith), st.room);
           }
       at_rank (suc zero) few e made r =
           let four : rank ≡ 4 = omega arith in
@@ -156,7 +156,7 @@ module _ (k : PreparedCall) (layout : KeptLayout) (rank : ℕ) (rows : List ℕ)
                 subst (λ (c : Capacities). length (numbers_kept k.rows (kept_in k)).1.counts ≤ c.ridge_orbits) is
                 (r.few st.few_points);
             few_orbits = subst (λ (c : Capacities). layout.orbits ≤ c.orbits) is st.keeps.few_orbits;
-            room = omega (arith, table_ends.1 rank four, st.room_four four);
+            room = omega (arith, table_ends rank (omega arith) (omega arith), st.room);
           }
       at_rank (suc (suc more)) few e made r = absurd (omega arith)
 

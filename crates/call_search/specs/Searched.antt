@@ -47,6 +47,7 @@ use Rattle.calls.specs.declared.Called.TheVariants.{Left}
 use Rattle.layout.specs.declared.TableLayout.{TableLayout}
 use Rattle.ridges.specs.TableLayouts.{Given, areas_of}
 use Rattle.ridges.specs.Shared.{facets_same}
+use Rattle.definitions.specs.Job.{workspace_for}
 use Rattle.layout.specs.Capacities.{capacities_three, capacities_four, capacities_of, kept_layout, tables_from}
 use Rattle.layout.specs.Capacities.{table_layout, layout_for, table_layout_for}
 use Rattle.layout.specs.Capacities.{entry_bytes, images_from, listed_bytes, split_bytes}
@@ -176,6 +177,7 @@ module _ (k : PreparedCall) (layout : KeptLayout) (rank : ℕ) (rows : List ℕ)
   table_facets = facets_same (rows_in (points_in k) m rows) (kept_in k)
 
   pub placed : (a : Areas) → a ≡ areas_of layout (table_layout_for rank) a.ridges → Placed layout rank a (length s)
+  unfolding workspace_for
   placed a is = at_rank k.more st.few_more st.rank_is
     where
       at_rank : (more : ℕ) → more ≤ 1 → rank ≡ 3 + more → Placed layout rank a (length s)
@@ -183,13 +185,15 @@ module _ (k : PreparedCall) (layout : KeptLayout) (rank : ℕ) (rows : List ℕ)
           let three : rank ≡ 3 = omega arith in
           placed_three layout rank a (length s) a.ridges three
           (st.owners_at ∙ ap (λ (r : ℕ). (layout_for r).owners) three)
-          (st.end_at_holds ∙ ap (λ (r : ℕ). (layout_for r).end) three) (st.room_three three)
+          (st.end_at_holds ∙ ap (λ (r : ℕ). (layout_for r).end) three)
+          (subst (λ (r : ℕ). workspace_for r ≤ length s) three st.room)
           (is ∙ ap (λ (r : ℕ). areas_of layout (table_layout_for r) a.ridges) three)
       at_rank (suc zero) few e =
           let four : rank ≡ 4 = omega arith in
           placed_four layout rank a (length s) a.ridges
           (st.owners_at ∙ ap (λ (r : ℕ). (layout_for r).owners) four)
-          (st.end_at_holds ∙ ap (λ (r : ℕ). (layout_for r).end) four) (st.room_four four)
+          (st.end_at_holds ∙ ap (λ (r : ℕ). (layout_for r).end) four)
+          (subst (λ (r : ℕ). workspace_for r ≤ length s) four st.room)
           (is ∙ ap (λ (r : ℕ). areas_of layout (table_layout_for r) a.ridges) four)
       at_rank (suc (suc more)) few e = absurd (omega arith)
 

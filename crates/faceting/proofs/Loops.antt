@@ -100,6 +100,5 @@ module _ (rank : ℕ) (plane : stored.Subspace) (points : Points) (rows : List �
               loop_starts called (way_takes flat.n way)
               (layout_for rank) flat.n count u u size all asked.few_orbits_holds refl
               (cleared (length (points_of points))).0 (cleared (length (points_of points))).1;
-          room_three = λ q. omega (arith, asked.room_three q);
-          room_four = λ q. omega (arith, asked.room_four q);
+          room = omega (arith, asked.room);
         }

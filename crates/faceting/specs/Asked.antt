@@ -2,6 +2,7 @@
 -- bounds no larger than the layouts have room for, and the workspace of [11.3]. Leans on the stored shapes and on the
 -- rules' meaning.
 use Rattle.std.specs.Prelude.{◌≡◌, List, ℕ, ◌≤◌, length, Option}
+use Rattle.definitions.specs.Job.{workspace_for}
 use Rattle.rows.specs.Rows.{rows_in}
 use Rattle.space.specs.declared.Subspace.{Subspace}
 use Rattle.space.specs.declared.Points.{Points}
@@ -23,6 +24,5 @@ pub record Asked (rank : ℕ) (plane : Subspace) (points : Points) (rows : List 
   pub few_orbits_holds : rules.orbits ≤ 256
   pub few_facets_holds : rules.facets ≤ 1024
   pub entries_are : rules.entries ≡ 1024
-  pub room_three : rank ≡ 3 → 524288 ≤ length ws
-  pub room_four : rank ≡ 4 → 4194304 ≤ length ws
+  pub room : workspace_for rank ≤ length ws
   pub way_fits : WayFits points.n way

@@ -13,6 +13,7 @@ use Rattle.rows.specs.Rows.{rows_in, RowsFit}
 use Rattle.shapes.specs.Answered.{TakesSome, preparation_with}
 use Rattle.shapes.specs.Calls.{Given}
 use Rattle.layout.specs.declared.KeptLayout.{KeptLayout}
+use Rattle.definitions.specs.Job.{workspace_for}
 use Rattle.layout.specs.Capacities.{layout_for}
 use Rattle.calls.specs.Steps.{Reached, reached_all, call_thirteen, call_inner_refused, call_prepared}
 use Rattle.calls.specs.declared.Rules.{Rules}
@@ -97,10 +98,10 @@ module _ (way : Way) (more : ℕ) (rules : Rules) (plane : Subspace) (points : L
       pub call_is_prepared : TakesSome way → (extended : Bool) → extended ≡ way.extended
           → (rank : ℕ) (bytes : List ℕ) (m : ℕ) → more ≤ 1 → rank ≡ 3 + more → Given points rows → length points ≤ 20
           → rules.entries ≡ 1024 → rows ≡ rows_in (length points) m bytes
-          → RowsFit (length points) m bytes → m ≤ 120 → Laid layout (layout_for rank) → (rank ≡ 3 → 524288 ≤ length s)
-          → (rank ≡ 4 → 4194304 ≤ length s) → CallPrepared prepared_call layout rank bytes m rules extended left s
+          → RowsFit (length points) m bytes → m ≤ 120 → Laid layout (layout_for rank)
+          → workspace_for rank ≤ length s → CallPrepared prepared_call layout rank bytes m rules extended left s
       call_is_prepared takes extended extended_is rank bytes m few_more rank_is given few_points entries rows_are
-          rows_fit_holds rows_few laid three four = record {
+          rows_fit_holds rows_few laid room = record {
             few_more = few_more;
             rank_is = rank_is;
             given = given;
@@ -118,8 +119,7 @@ module _ (way : Way) (more : ℕ) (rules : Rules) (plane : Subspace) (points : L
             ridges = st.ridges;
             owners_at = laid.owners;
             end_at_holds = laid.end;
-            room_three = three;
-            room_four = four;
+            room = room;
           }
 
       -- what the search says

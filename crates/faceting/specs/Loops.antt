@@ -32,7 +32,8 @@ use Rattle.shapes.specs.Calls.{Given}
 use Rattle.shapes.specs.Kept.{kept_of}
 use Rattle.layout.specs.Keeps.{LayoutFits}
 use Rattle.layout.specs.declared.KeptLayout.{KeptLayout}
-use Rattle.layout.specs.Capacities.{capacities_of, layout_for, kept_fits, kept_ends}
+use Rattle.definitions.specs.Job.{workspace_for}
+use Rattle.layout.specs.Capacities.{capacities_of, layout_for, kept_fits, kept_ends, least_workspace}
 use Rattle.calls.specs.declared.Rules.{Rules}
 use Rattle.calls.specs.declared.Called.{Called}
 use Rattle.calls.specs.declared.Called.TheVariants.{Ends}
@@ -78,8 +79,7 @@ pub record Loop (way : def.Way) (plane : Subspace) (points : List Vec) (rank : �
   pub few_found : length (all_orbits (outer_in way plane points rank flat rows m rules budget)) ≤ rules.orbits
   pub takes : TakesSome way
   pub first : OuterState (outer_in way plane points rank flat rows m rules budget) (layout_for rank) budget 0 ws
-  pub room_three : rank ≡ 3 → 524288 ≤ length ws
-  pub room_four : rank ≡ 4 → 4194304 ≤ length ws
+  pub room : workspace_for rank ≤ length ws
 
 -- ---- the ranks
 
@@ -108,17 +108,11 @@ says_rank way rank least n k e rules plane points rows m budget r s a =
     subst (λ (x : ℕ). AnswerMatchesAt (way_of x way) (rank - 2) rules plane points (rows_in x m rows) budget r s) e
     (subst (λ (more : ℕ). AnswerMatchesAt (way_of n way) more rules plane points (rows_in n m rows) budget r s) q a)
 
--- the layout of either rank fits its workspace
-layout_fits : (rank size : ℕ) → 3 ≤ rank → rank ≤ 4 → (rank ≡ 3 → 524288 ≤ size) → (rank ≡ 4 → 4194304 ≤ size)
-    → LayoutFits (layout_for rank) size
+-- the layout of a rank fits its workspace
+layout_fits : (rank size : ℕ) → 3 ≤ rank → rank ≤ 4 → workspace_for rank ≤ size → LayoutFits (layout_for rank) size
 unfolding layout_for
-layout_fits rank size least most three four = kept_fits (capacities_of rank) size (⊎_elim
-    (λ h. omega (arith, kept_ends.0 rank (omega arith), three (omega arith)))
-    (λ h. omega (arith, kept_ends.1 rank (omega arith), four (omega arith))) (le_or_lt rank 3))
-
--- and behind that of rank 4 there is the workspace of an inner call
-behind_four : (rank : ℕ) → rank ≡ 4 → (layout_for rank).end ≤ 4194304 - 524288
-behind_four rank e = omega (arith, kept_ends.1 rank e)
+layout_fits rank size least most room =
+    kept_fits (capacities_of rank) size (omega (arith, kept_ends rank least most, room))
 
 -- ---- the start
 
@@ -130,9 +124,7 @@ module _ (rank : ℕ) (plane : stored.Subspace) (points : Points) (rows : List �
   permute = subst (λ (n : ℕ). Permutations n m rows) (sym same_n) asked.permute
 
   enough : 524288 ≤ length ws
-  enough =
-      ⊎_elim (λ h. asked.room_three (omega arith))
-      (λ h. omega (arith, asked.room_four (omega (arith, asked.rank_most)))) (le_or_lt rank 3)
+  enough = omega (arith, least_workspace rank above, asked.room)
 
   -- the rows fit the points of the call, as passed and flattened
   pub call_fits : CallFits points flat m rows
@@ -144,7 +136,7 @@ module _ (rank : ℕ) (plane : stored.Subspace) (points : Points) (rows : List �
   start_asks = (
     asked.few_orbits_holds,
     omega (arith, enough),
-    layout_fits rank (length ws) above asked.rank_most asked.room_three asked.room_four,
+    layout_fits rank (length ws) above asked.rank_most asked.room,
     above,
     subst (λ (n : ℕ). WayFits n way) (sym same_n) asked.way_fits,
   )
@@ -304,10 +296,7 @@ module _ {way : def.Way} {plane : Subspace} {points : List Vec} {rank : ℕ} {fl
             few_orbits_holds = l.few_orbits_holds;
             few_facets_holds = l.few_facets_holds;
             entries_are = l.entries_are;
-            room_three =
-                λ q. let four : rank ≡ 4 = omega (arith, l.rank_least) in
-                omega (arith, l.room_four four, behind_four rank four, laid.end, long, rest);
-            room_four = λ q. omega (arith, q, l.rank_most);
+            room = omega (arith, l.room, kept_ends rank l.rank_least l.rank_most, laid.end, long, rest);
             way_fits = plain_fits next.points.n;
           }
 
@@ -368,7 +357,7 @@ module _ {way : def.Way} {plane : Subspace} {points : List Vec} {rank : ℕ} {fl
         (omega (arith, l.rank_least)) l.given
         fitting_is.few_points l.entries_are (ap (λ (n : ℕ). rows_in n m rows) l.size)
         (subst (λ (n : ℕ). RowsFit n m rows) l.size (rows_fit_holds l.permute)) l.rows_few laid
-        (λ q. omega (arith, l.room_three q, long)) (λ q. omega (arith, l.room_four q, long))
+        (omega (arith, l.room, long))
 
     -- and what it says is what the call says
     pub loop_searched : (r : Result Called Refusal) (u : List ℕ) → Searched prepared_call rules r u

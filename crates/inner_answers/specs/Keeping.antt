@@ -25,7 +25,7 @@ use Rattle.layout.specs.Keeps.{Keeps, Ridges, joined}
 use Rattle.layout.specs.Leaves.{Leaves, answer_left, entry_left, lists_left, both_left, both_length}
 use Rattle.layout.specs.declared.KeptLayout.{KeptLayout}
 use Rattle.layout.specs.declared.Level.{Level}
-use Rattle.layout.specs.Capacities.{layout_for}
+use Rattle.layout.specs.Capacities.{capacities_three, capacities_four, capacities_of, layout_for, bounded_rank}
 use Rattle.calls.specs.declared.Called.{Called}
 use Rattle.calls.specs.declared.Called.TheVariants.{Ends, Left}
 use Rattle.refusals.specs.declared.Refusal.{Refusal}
@@ -44,7 +44,7 @@ use Rattle.inner_answers.specs.Amounts.{Amounts, OrbitAmounts, most_at}
 use Rattle.inner_answers.specs.InnerAmounts.{two_amounts, three_amounts}
 use Rattle.inner_answers.specs.State as state
 use Rattle.inner_answers.specs.OrbitSteps as orbit_steps
-use Rattle.inner_answers.specs.Spaces.{Laid, room_three, room_four}
+use Rattle.inner_answers.specs.Spaces.{Laid, facets_few, room_for}
 use Rattle.inner_answers.specs.AnswerMatches.{OuterCall, Step, AnswerMatches, AnswerHeld, OuterState, outer_orbits}
 use Rattle.inner_answers.specs.AnswerMatches.{outer_orbit, outer_points, outer_plane, outer_rows, outer_whole}
 
@@ -149,13 +149,18 @@ module _ (g : OuterCall) (layout : KeptLayout) (left i : ℕ) (swapped : Bool) (
 
   -- there is room for the edge
   pub ends_room : length (outer_orbits g) ≤ 190 → RoomFor layout (map kept_of t.state_is.done) 1 1 2 2
+  unfolding most_at layout_for capacities_of capacities_three
   ends_room few =
       let e = orbits_so_far g layout left i (Ok (Ends swapped rest)) rows m s t in
       let b = t.below in
-      room_three (length g.points) layout t.state_is.done s t.state_is.keeps
-      (subst (λ (more : ℕ). Amounts (most_at more) (map kept_of t.state_is.done)) ends_three.0 t.state_is.amounts)
-      laid_three
-      (omega arith)
+      let amounts : Amounts (most_at 0) (map kept_of t.state_is.done) =
+      subst (λ (more : ℕ). Amounts (most_at more) (map kept_of t.state_is.done)) ends_three.0 t.state_is.amounts in
+      let below : layout.orbits < 190 = omega arith in
+      let facets = facets_few (length g.points) layout t.state_is.done s t.state_is.keeps (most_at 0) amounts in
+      room_for (length g.points) layout t.state_is.done s t.state_is.keeps (capacities_of 3) (most_at 0)
+      (bounded_rank 3)
+      refl refl (omega arith) (omega arith) (omega arith) amounts laid_three below 1 1 2 2
+      (omega (arith, facets, below)) (omega arith) (omega arith) (omega arith)
 
   pub ends_full : g.rules.bounds.facets < layout.facets + 1 → outer_whole g ≡ refused 15
   ends_full k =
@@ -290,7 +295,7 @@ module _ (g : OuterCall) (layout : KeptLayout) (left : ℕ) (level : Level) (res
   -- there is room for its entries
   pub left_room : layout.facets + level.count ≤ g.rules.bounds.facets
       → PolygonRoom (length g.points) layout layout.end m (map kept_of t.state_is.done) inner_kept level rows s
-  unfolding polygon_kept most_at orbit_of orbit_at
+  unfolding polygon_kept most_at orbit_of orbit_at layout_for capacities_of capacities_four
   left_room room =
       let one = left_four.0 in
       let o : OrbitAmounts (most_at 1) (polygon_kept (outer_orbit g i₀ s) (rows_in width m rows) inner_kept
@@ -307,7 +312,9 @@ module _ (g : OuterCall) (layout : KeptLayout) (left : ℕ) (level : Level) (res
       let e = joined_few 190 edges o.edges in
       let p = joined_few 190 lists o.places in
       let below : layout.orbits < 256 = let b = t.below in omega (arith, t.fitting.few_orbits_holds) in
-      room_four (length g.points) layout t.state_is.done s t.state_is.keeps
+      room_for (length g.points) layout t.state_is.done s t.state_is.keeps (capacities_of 4) (most_at 1)
+      (bounded_rank 4)
+      refl refl (omega arith) (omega arith) (omega arith)
       (subst (λ (more : ℕ). Amounts (most_at more) (map kept_of t.state_is.done)) one t.state_is.amounts)
       laid_four below level.count (length (joined edges)) (length inner_kept) (length (joined lists))
       (omega (arith, t.fitting.few_facets_holds)) (omega arith) few_inner (omega arith)

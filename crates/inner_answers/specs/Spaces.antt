@@ -1,15 +1,17 @@
--- There is room in the kept areas for what the next inner call leaves: at rank 3 one edge with two ridges and places,
--- at rank 4 all its entries. Leans on Amounts, Rooms and the layouts.
+-- There is room in the kept areas for what the next inner call leaves, at any rank whose capacities name as much. Leans
+-- on Amounts, Rooms and the capacities.
 use Rattle.std.specs.Prelude.{◌≡◌, refl, List, map, ℕ, ◌+◌, ◌*◌, ◌≤◌, ◌<◌, length}
-use Rattle.std.proofs.Common.{sym, ◌∙◌, subst, arith}
+use Rattle.std.proofs.Common.{sym, ap, ◌∙◌, subst, arith, mul-le-mul_left, mul-le-mul_right}
+use Rattle.std.proofs.Math.Nat.{mul-add, mul_comm, le_trans}
 use Rattle.laws.specs.Lists.{Mem, of_map}
 use Rattle.shapes.specs.Kept.{Kept, kept_of}
 use Rattle.definitions.specs.Recursion.{Inner}
 use Rattle.layout.specs.Keeps.{Keeps, facets_in, places_of}
 use Rattle.layout.specs.declared.KeptLayout.{KeptLayout}
-use Rattle.layout.specs.Capacities.{capacities_three, capacities_four, capacities_of, kept_layout, layout_for}
+use Rattle.layout.specs.declared.Capacities.{Capacities}
+use Rattle.layout.specs.Capacities.{Bounded, kept_layout, kept_small}
 use Rattle.keep.specs.Rooms.{RoomFor, kept_evenly, places_number}
-use Rattle.inner_answers.specs.Amounts.{Amounts, most_at}
+use Rattle.inner_answers.specs.Amounts.{Amounts, Most}
 
 -- a layout whose areas lie as another's do
 pub record Laid (layout other : KeptLayout) : Type 0 where
@@ -49,45 +51,41 @@ module _ (n : ℕ) (layout : KeptLayout) (done : List Inner) (s : List ℕ)
   orbits_many : length kept ≡ layout.orbits
   orbits_many = sym keeps.orbits
 
-  -- rank 3: fewer than 190 orbits are kept
-  pub room_three : Amounts (most_at 0) kept → Laid layout (layout_for 3) → layout.orbits < 190
-      → RoomFor layout kept 1 1 2 2
-  unfolding most_at layout_for capacities_of kept_layout capacities_three
-  room_three m l few =
-      let o = orbits_many in
-      let f = facets_many in
-      let mf = m.facets in
-      let mr = m.ridges in
-      let mp = m.places in
-      let me = m.edges in
-      record {
-        orbit_room = omega arith;
-        facet_room = omega arith;
-        evenly = evenly;
-        edge_room = omega (arith, l.edges, l.labels);
-        ridge_room = omega (arith, l.ridges, l.places);
-        place_room = omega (arith, l.places, l.end);
-        small = omega (arith, l.end);
-      }
+  -- there are as many facets as the orbits have at most
+  pub facets_few : (most : Most) → Amounts most kept → layout.facets ≤ most.facets * layout.orbits
+  facets_few most m = omega (arith, m.facets, facets_many, ap (λ (k : ℕ). most.facets * k) orbits_many)
 
-  -- rank 4: fewer than 256 orbits are kept, and the facets are 1,024 at most with those that come
-  pub room_four : Amounts (most_at 1) kept → Laid layout (layout_for 4) → layout.orbits < 256
-      → (facets edges ridges places : ℕ) → layout.facets + facets ≤ 1024 → edges ≤ 190 * facets → ridges ≤ 190
-      → places ≤ 190 * facets
-      → RoomFor layout kept facets edges ridges places
-  unfolding most_at layout_for capacities_of kept_layout capacities_four
-  room_four m l few facets edges ridges places hf he hr hp =
-      let o = orbits_many in
+  -- as long as fewer orbits are kept than the capacities name, and the facets are 1,024 at most with those that come
+  pub room_for : (c : Capacities) (most : Most) → Bounded c → c.edge_bytes ≡ 2 → c.ridge_bytes ≡ 4
+      → most.edges ≤ c.edges → most.ridges ≤ c.ridges → most.places ≤ c.ridges → Amounts most kept
+      → Laid layout (kept_layout c) → layout.orbits < c.orbits → (facets edges ridges places : ℕ)
+      → layout.facets + facets ≤ 1024 → edges ≤ most.edges * facets → ridges ≤ most.ridges
+      → places ≤ most.places * facets → RoomFor layout kept facets edges ridges places
+  unfolding kept_layout
+  room_for c most b two four le lr lp m l few facets edges ridges places hf he hr hp =
       let f = facets_many in
-      let mr = m.ridges in
-      let mp = m.places in
-      let me = m.edges in
+      let o = orbits_many in
+      let all_edges = all_of most.edges c.edges (length (places_of kept)) facets le (omega arith) in
+      let all_places = all_of most.places c.ridges (length (places_of kept)) facets lp (omega arith) in
+      let more : most.ridges * (length kept + 1) ≤ c.orbits * c.ridges =
+      rw (mul_comm c.orbits c.ridges) (le_trans (mul-le-mul_right (length kept + 1) lr)
+      (mul-le-mul_left c.ridges (omega arith))) in
+      let one = mul-add most.ridges (length kept) 1 in
+      let w : c.edge_bytes * (1024 * c.edges) ≡ 2 * (1024 * c.edges) = ap (λ (k : ℕ). k * (1024 * c.edges)) two in
+      let v : c.ridge_bytes * (c.orbits * c.ridges) ≡ 4 * (c.orbits * c.ridges) =
+      ap (λ (k : ℕ). k * (c.orbits * c.ridges)) four in
       record {
-        orbit_room = few;
+        orbit_room = omega (arith, b.few_orbits);
         facet_room = hf;
         evenly = evenly;
-        edge_room = omega (arith, l.edges, l.labels);
-        ridge_room = omega (arith, l.ridges, l.places);
-        place_room = omega (arith, l.places, l.end);
-        small = omega (arith, l.end);
+        edge_room = omega (arith, l.edges, l.labels, m.edges, all_edges, f, w);
+        ridge_room = omega (arith, l.ridges, l.places, m.ridges, more, one, v);
+        place_room = omega (arith, l.places, l.end, m.places, all_places, f);
+        small = omega (arith, l.end, kept_small c b);
       }
+    where
+      all_of : (most cap have come : ℕ) → most ≤ cap → have + come ≤ 1024 → most * have + most * come ≤ 1024 * cap
+      all_of most cap have come h k =
+          let a = mul-add most have come in
+          let b : most * (have + come) ≤ most * 1024 = mul-le-mul_left most k in
+          omega arith

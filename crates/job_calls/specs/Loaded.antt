@@ -125,8 +125,8 @@ module _ (bytes : Bytes) (workspace : ℕ) (f : Fields) (passed : answered f ≡
   room : workspace_for (read_job bytes).rank ≤ workspace
   room = passed_workspace bytes workspace none_fails
 
-  room_at : (rank : ℕ) → f.rank ≡ rank → workspace_for rank ≤ workspace
-  room_at rank e = subst (λ (k : ℕ). workspace_for k ≤ workspace) (sym counts.rank_is ∙ e) room
+  own_room : workspace_for f.rank ≤ workspace
+  own_room = subst (λ (k : ℕ). workspace_for k ≤ workspace) (sym counts.rank_is) room
 
   module _ {plane : Subspace} {points : Points} {rows : List ℕ} {rules : Rules}
       (l : Loaded bytes f plane points rows rules) where
@@ -141,7 +141,7 @@ module _ (bytes : Bytes) (workspace : ℕ) (f : Fields) (passed : answered f ≡
     -- what the call is asked
     pub call_asked : (ws : List ℕ) → length ws ≡ workspace → (way : Option Package) → WayFits f.n way
         → Asked f.rank plane points rows f.count rules ws way
-    unfolding job_rules bounds1 call_rules workspace_for
+    unfolding job_rules bounds1 call_rules
     call_asked ws long way fits = record {
       rank_least = counts.rank_least;
       rank_most = counts.rank_most;
@@ -152,8 +152,7 @@ module _ (bytes : Bytes) (workspace : ℕ) (f : Fields) (passed : answered f ≡
       few_orbits_holds = let e = ap (λ (r : recursion.Rules). r.bounds.orbits) l.rules_are in omega arith;
       few_facets_holds = let e = ap (λ (r : recursion.Rules). r.bounds.facets) l.rules_are in omega arith;
       entries_are = ap (λ (r : recursion.Rules). r.bounds.entries) l.rules_are;
-      room_three = λ e. let k = room_at 3 e in omega arith;
-      room_four = λ e. let k = room_at 4 e in omega arith;
+      room = rw long own_room;
       way_fits = subst (λ (n : ℕ). WayFits n way) (sym l.points_n) fits;
     }
 
@@ -179,6 +178,7 @@ module _ (bytes : Bytes) (workspace : ℕ) (f : Fields) (passed : answered f ≡
 
       call_said : CallMatches f.rank f.n f.count rows f.budget (faceting_with (goes f.n) (f.rank - 2)
           (call_rules rules) (subspace_of plane) (points_of points) (rows_in f.n f.count rows) f.budget) called s
+      unfolding workspace_for
       call_said =
           let asked = call_asked s long way fits in
           let n_is : points.n ≡ length (points_of points) = l.points_held.n_is ∙ ap length (sym l.points_held.means) in
@@ -189,7 +189,8 @@ module _ (bytes : Bytes) (workspace : ℕ) (f : Fields) (passed : answered f ≡
           (said.call_said (goes (length (points_of points))) (way_takes (length (points_of points)) way)
           (call_rules rules) (subspace_of plane)
           (points_of points) f.count rows f.budget s asked.rank_least asked.rank_most (rw (← n_is) asked.given)
-          (rw (← n_is) (rows_fit_holds asked.permute)) asked.rows_few asked.room_four called (rw (← n_is) h))
+          (rw (← n_is) (rows_fit_holds asked.permute)) asked.rows_few
+          (λ e. subst (λ (r : ℕ). workspace_for r ≤ length s) e asked.room) called (rw (← n_is) h))
 
       -- the same, of the definition's own rules, plane, points and rows
       pub job_called : CalledIn (goes f.n) bytes f rows called s

@@ -3,7 +3,9 @@
 -- numbers of ranks 3 and 4 fit the workspaces of [11.3], and those of rank 5 would fit 16,777,216 bytes. Leans on
 -- Keeps. Assumes nothing.
 use Rattle.std.specs.Prelude.{◌≡◌, refl, Bool, true, false, cond, ℕ, ◌+◌, ◌-◌, ◌*◌, ◌≤◌, eqb}
-use Rattle.std.proofs.Common.{ap, arith, eq-eqb, ne_eqb}
+use Rattle.std.proofs.Common.{ap, arith, eq-eqb, ne_eqb, ⊎_elim}
+use Rattle.definitions.specs.Job.{workspace_for}
+use Rattle.laws.specs.Segments.{le_or_lt}
 use Rattle.pool.specs.Pool.{base}
 use Rattle.layout.specs.Keeps.{LayoutFits}
 use Rattle.layout.specs.declared.Capacities.{Capacities}
@@ -201,20 +203,32 @@ tables_few rank = go (eqb rank 3)
     go true = (omega arith, omega arith)
     go false = (omega arith, omega arith)
 
--- what is kept at rank 3 ends inside its workspace, and behind what is kept at rank 4 there is the workspace of an
--- inner call
-pub kept_ends : ((rank : ℕ) → rank ≡ 3 → (layout_for rank).end ≤ 524288)
-    × ((rank : ℕ) → rank ≡ 4 → (layout_for rank).end + 524288 ≤ 4194304)
-unfolding layout_for kept_layout capacities_of capacities_three capacities_four
-kept_ends = (λ rank e. rw e (omega arith), λ rank e. rw e (omega arith))
+-- what is kept ends inside the workspace of its rank [11.3], and behind it there is that of an inner call
+pub kept_ends : (rank : ℕ) → 3 ≤ rank → rank ≤ 4
+    → (layout_for rank).end + workspace_for (rank - 1) ≤ workspace_for rank
+unfolding layout_for kept_layout capacities_of capacities_three capacities_four workspace_for
+kept_ends rank least most = ⊎_elim
+    (λ h. let e : rank ≡ 3 = omega arith in rw e (omega arith))
+    (λ h. let e : rank ≡ 4 = omega arith in rw e (omega arith)) (le_or_lt rank 3)
 
--- and the tables of both ranks end inside their workspaces
-pub table_ends : ((rank : ℕ) → rank ≡ 3 → (table_layout_for rank).end ≤ 524288)
-    × ((rank : ℕ) → rank ≡ 4 → (table_layout_for rank).end ≤ 4194304)
+-- and so do the tables behind it
+pub table_ends : (rank : ℕ) → 3 ≤ rank → rank ≤ 4 → (table_layout_for rank).end ≤ workspace_for rank
 unfolding table_layout_for table_layout tables_from kept_layout capacities_of capacities_three capacities_four
-table_ends = (λ rank e. rw e (omega arith), λ rank e. rw e (omega arith))
+    workspace_for
+table_ends rank least most = ⊎_elim
+    (λ h. let e : rank ≡ 3 = omega arith in rw e (omega arith))
+    (λ h. let e : rank ≡ 4 = omega arith in rw e (omega arith)) (le_or_lt rank 3)
 
--- and so would those of rank 5
+-- a call above rank 2 has the workspace of rank 3 at least
+pub least_workspace : (rank : ℕ) → 3 ≤ rank → 524288 ≤ workspace_for rank
+unfolding workspace_for
+least_workspace rank h = rw (ne_eqb rank 2 (λ e. omega arith)) (go (eqb rank 3))
+  where
+    go : (b : Bool) → 524288 ≤ cond b 524288 4194304
+    go true = omega arith
+    go false = omega arith
+
+-- the numbers of rank 5 would fit 16,777,216 bytes, with the workspace of rank 4 behind what is kept
 pub five_ends : ((table_layout capacities_five).end ≤ 16777216)
     × ((kept_layout capacities_five).end + 4194304 ≤ 16777216) × Bounded capacities_five
 unfolding table_layout tables_from kept_layout capacities_five
