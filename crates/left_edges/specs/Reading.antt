@@ -10,16 +10,16 @@ use Rattle.std.proofs.Math.ListN.{length, length-append, length-map, get_or-appe
 use Rattle.std.proofs.Math.Seq.{get_or-append_seam}
 use Rattle.definitions.specs.Lists.{Pair, keep, count_from}
 use Rattle.definitions.specs.Job.{number_at}
-use Rattle.definitions.specs.Orbits.{Row, Orbit, image, pair_image}
-use Rattle.laws.specs.Lists.{Mem, of_map, of_flat_map, map_at_holds, member_at, at_member, count_length}
+use Rattle.definitions.specs.Orbits.{Row, Orbit, pair_image}
+use Rattle.laws.specs.Lists.{Mem, of_map, of_flat_map, map_at_holds, member_at, count_length}
 use Rattle.laws.specs.Lists.{flat_map_append}
 use Rattle.laws.specs.Segments.{le_or_lt}
-use Rattle.laws.specs.Parts.{rows, length_rows, get_d_rows, take_more}
-use Rattle.rows.specs.Rows.{rows_in, RowsFit, ImagesBelow, image_at_holds}
+use Rattle.laws.specs.Parts.{rows, take_more}
+use Rattle.rows.specs.Rows.{rows_in, RowsFit, ImagesBelow}
 use Rattle.order.specs.Areas.{lists_length}
 use Rattle.order.specs.Numbers.{AllBelow}
 use Rattle.rows.specs.Marks.{marked}
-use Rattle.rows.specs.Codes.{pair_code, pair_codes}
+use Rattle.rows.specs.Codes.{pair_code, pair_codes, row_below}
 use Rattle.orbits.specs.Numbers.{orbit_of}
 use Rattle.orbits.specs.Workspace.{orbits_in, orbits_length}
 use Rattle.shapes.specs.Kept.{Kept}
@@ -183,18 +183,6 @@ module _ (vertices : List ℕ) (marks : List Bool) where
       omega arith
 
 -- ---- an entry's edges are the marked codes, moved
-
-row_below : {n m : ℕ} {s : List ℕ} → RowsFit n m s → (row : Row) → Mem row (rows_in n m s) → (v : ℕ) → v < n
-    → image row v < n
-unfolding rows_in
-row_below {n} {m} {s} fits row h v below =
-    let r = at_member row (rows 32 n m s) [] h in
-    let len = length_rows 32 n m s in
-    let k : r.0 < m = omega (arith, r.1) in
-    let is : take n (drop (32 * r.0) s) ≡ row = sym (get_d_rows 32 n m s r.0 k) ∙ r.2 in
-    let e : get_or s (32 * r.0 + v) 0 ≡ image row v = sym (image_at_holds n r.0 s v below)
-    ∙ ap (λ (l : Row). image l v) is in
-    omega (arith, (fits.images v below).below r.0 k)
 
 -- an image of an edge of n points has its ends among them
 pub images_below : (n m : ℕ) (s : List ℕ) (inner : List Kept) (numbers : List ℕ) → RowsFit n m s
