@@ -28,7 +28,6 @@ use Rattle.definitions.specs.Job.{workspace_for}
 use Rattle.layout.specs.declared.Capacities.{Capacities}
 use Rattle.layout.specs.Capacities.{capacities_three, capacities_four, capacities_of, of_three, of_four, layout_for}
 use Rattle.layout.specs.Capacities.{table_layout_for, table_ends, tables_few}
-use Rattle.layout.specs.declared.TableLayout.{TableLayout}
 use Rattle.ridges.specs.TableLayouts as table_layouts
 use Rattle.ridges.specs.TableLayouts.{TableLayoutFits}
 use Rattle.ridges.specs.Fits.{tables_fit}

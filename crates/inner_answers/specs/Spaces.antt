@@ -1,5 +1,5 @@
--- There is room in the kept areas for what the next inner call leaves, at any rank whose capacities name as much. Leans
--- on Amounts, Rooms and the capacities.
+-- There is room in the kept areas for what the next inner call leaves, for any capacities that name as much, with edges
+-- of two bytes and ridges of four. Leans on Amounts, Rooms and the capacities.
 use Rattle.std.specs.Prelude.{◌≡◌, refl, List, map, ℕ, ◌+◌, ◌*◌, ◌≤◌, ◌<◌, length}
 use Rattle.std.proofs.Common.{sym, ap, ◌∙◌, subst, arith, mul-le-mul_left, mul-le-mul_right}
 use Rattle.std.proofs.Math.Nat.{mul-add, mul_comm, le_trans}
@@ -9,7 +9,7 @@ use Rattle.definitions.specs.Recursion.{Inner}
 use Rattle.layout.specs.Keeps.{Keeps, facets_in, places_of}
 use Rattle.layout.specs.declared.KeptLayout.{KeptLayout}
 use Rattle.layout.specs.declared.Capacities.{Capacities}
-use Rattle.layout.specs.Capacities.{Bounded, kept_layout, kept_small}
+use Rattle.layout.specs.Capacities.{Bounded, kept_layout, kept_room, kept_small}
 use Rattle.keep.specs.Rooms.{RoomFor, kept_evenly, places_number}
 use Rattle.inner_answers.specs.Amounts.{Amounts, Most}
 
@@ -61,7 +61,6 @@ module _ (n : ℕ) (layout : KeptLayout) (done : List Inner) (s : List ℕ)
       → Laid layout (kept_layout c) → layout.orbits < c.orbits → (facets edges ridges places : ℕ)
       → layout.facets + facets ≤ 1024 → edges ≤ most.edges * facets → ridges ≤ most.ridges
       → places ≤ most.places * facets → RoomFor layout kept facets edges ridges places
-  unfolding kept_layout
   room_for c most b two four le lr lp m l few facets edges ridges places hf he hr hp =
       let f = facets_many in
       let o = orbits_many in
@@ -78,9 +77,9 @@ module _ (n : ℕ) (layout : KeptLayout) (done : List Inner) (s : List ℕ)
         orbit_room = omega (arith, b.few_orbits);
         facet_room = hf;
         evenly = evenly;
-        edge_room = omega (arith, l.edges, l.labels, m.edges, all_edges, f, w);
-        ridge_room = omega (arith, l.ridges, l.places, m.ridges, more, one, v);
-        place_room = omega (arith, l.places, l.end, m.places, all_places, f);
+        edge_room = omega (arith, l.edges, l.labels, m.edges, all_edges, f, w, (kept_room c).0);
+        ridge_room = omega (arith, l.ridges, l.places, m.ridges, more, one, v, (kept_room c).1);
+        place_room = omega (arith, l.places, l.end, m.places, all_places, f, (kept_room c).2);
         small = omega (arith, l.end, kept_small c b);
       }
     where

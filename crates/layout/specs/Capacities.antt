@@ -1,7 +1,7 @@
 -- How much a call of a rank may keep and search, and where everything lies that follows from it. What is kept fits any
--- workspace that its end fits, and so do the tables behind it (`kept_fits`, `tables_fit`), whatever the capacities; the
--- numbers of ranks 3 and 4 fit the workspaces of [11.3], and those of rank 5 would fit 16,777,216 bytes. Leans on
--- Keeps. Assumes nothing.
+-- workspace that its end fits, whatever the capacities (`kept_fits`); that the tables behind it do is in the crate
+-- `ridges` (`tables_fit`). The numbers of ranks 3 and 4 fit the workspaces of [11.3], and those of rank 5 would fit
+-- 16,777,216 bytes. Leans on Keeps, on pools and on the definition of the workspaces. Assumes nothing.
 use Rattle.std.specs.Prelude.{◌≡◌, refl, Bool, true, false, cond, ℕ, ◌+◌, ◌-◌, ◌*◌, ◌≤◌, eqb}
 use Rattle.std.proofs.Common.{ap, arith, eq-eqb, ne_eqb, ⊎_elim}
 use Rattle.definitions.specs.Job.{workspace_for}
@@ -37,7 +37,8 @@ capacities_four = record {
 }
 
 -- of ten points: four span a hyperplane; a facet is listed with at most 675 polygons, each a number of eight bytes; a
--- ridge is a polygon with its number of points. No call has this rank yet.
+-- ridge is a polygon with its number of points; an orbit has no more ridges than an inner call has facets, and a facet
+-- no more places. No call has this rank yet.
 unfoldable pub capacities_five : Capacities
 capacities_five = record {
   orbits = 210;
@@ -126,7 +127,8 @@ split_bytes = base 1024 + 2 * (1024 * 1024)
 abbrev pub entry_bytes : ℕ
 entry_bytes = 2048 + split_bytes + listed_bytes
 
--- the images of facets begin here at most, in front of eight bytes for each of 1,024 facets under each of 120 rows
+-- at rank 4 the images of facets begin here at most: behind it the workspace has eight bytes for each of 1,024 facets
+-- under each of 120 rows
 abbrev pub images_from : ℕ
 images_from = 4194304 - 8 * (1024 * 120)
 

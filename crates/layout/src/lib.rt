@@ -1,6 +1,6 @@
-// Where everything of a call lies in its own part of the workspace. What differs between ranks is how much there may
-// be (`Capacities`); the places follow from that by one function for what is kept of inner calls and one for the
-// tables behind it. specs/Capacities says that each rank's fit its workspace, specs/Keeps what the areas hold. The
+// Where everything of a call lies in its own part of the workspace. What differs between ranks is how much there may be
+// (`Capacities`); the places follow from that by one function for what is kept of inner calls and one for the tables
+// behind it. specs/Capacities says that the areas of each rank fit its workspace, specs/Keeps what they hold. The
 // orbits found stand first, eight bytes each. Behind them: the edges of each possible facet, the components of
 // compounds, the orbit of each facet, and then what only the search's tables are made from: the ridges of each orbit,
 // and the places of each facet.
@@ -43,7 +43,7 @@ pub struct Capacities {
     // The edges of a possible facet, or what stands for them, and the bytes of one.
     pub edges: usize,
     pub edge_bytes: usize,
-    // The ridges of an orbit, which are the places of a facet, and the bytes of a ridge with its inner orbit's count.
+    // The ridges of an orbit, which the places of its facets are among, and the bytes of a ridge with its inner count.
     pub ridges: usize,
     pub ridge_bytes: usize,
     // The ridge orbits of the call.

@@ -1,4 +1,4 @@
--- Theorems on the definitions of specs/Desks.
+-- Theorems on the definitions of specs/TableLayouts.
 use Rattle.std.specs.Prelude.{◌≡◌, ℕ, ◌+◌, ◌-◌, ◌≤◌, ◌<◌, take, drop}
 use Rattle.std.proofs.Math.Path.{refl, sym, ap}
 use Rattle.std.proofs.Common.{◌∙◌, drop-drop}

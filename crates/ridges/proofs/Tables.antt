@@ -5,12 +5,13 @@ use Prim.Native.Nat.{ℕ, zero, suc, ◌+◌, ◌*◌, ◌-◌, ◌/◌, ◌%◌
 use native.Mathlib.Omega.{arith}
 use native.Mathlib.Decide.{ℕ_discrete}
 use native.Mathlib.Nat.{mul-le-mul_right}
-use lib.ListN.{length, get_or, take, set, replicate, length-set, get_or-map}
-use Rattle.std.proofs.lemmas.List.{map-set}
+use lib.ListN.{length, get_or, take, drop, set, replicate, length-set, length-drop, get_or-map}
+use Rattle.std.proofs.Math.Logic.{⊎_elim}
+use Rattle.std.proofs.lemmas.List.{map-set, drop_more}
 use lib.Seq.{take_all, get_or-set_same, get_or-set_other}
 use Rattle.definitions.specs.Search.{last_share}
 use Rattle.laws.specs.Parts.{take_more}
-use Rattle.laws.specs.Segments.{placed}
+use Rattle.laws.specs.Segments.{placed, le_or_lt}
 use Rattle.pool.specs.Pool.{base, used, pushed, ended}
 use Rattle.shares.specs.Areas.{area, flat, AreaRoom, AreaEmpty, Joined, AreaGrown, flat_few, lists_to, lists_long}
 use Rattle.shares.specs.Areas.{lists_at_holds, joined_room, joined_more, joined_none, push_asks, joined_push}
@@ -21,6 +22,18 @@ use Rattle.ridges.specs.Codes.{here_stays, touched_to, touched_code, touched_mor
 use Rattle.ridges.specs.Codes.{amount_small}
 use Rattle.ridges.specs.declared.Counted.{Counted}
 use Rattle.ridges.proofs.Codes.{ones_left}
+
+-- where the rest of a list from a place on begins
+pub next_at : (l rest : List ℕ) (i v : ℕ) → drop i l ≡ v ∷ rest
+    → (i < length l) × (get_or l i 0 ≡ v) × (drop (i + 1) l ≡ rest)
+next_at l rest i v e = ⊎_elim
+    (λ k. absurd (let n = ap length e in let d = length-drop i l in omega arith))
+    (λ h. let q = sym (drop_more l i 0 h) ∙ e in
+    (h, ap (λ (r : List ℕ). get_or r 0 0) q, ap (λ (r : List ℕ). drop 1 r) q)) (le_or_lt (length l) i)
+
+-- and where nothing is left
+pub all_read : (l : List ℕ) (i : ℕ) → drop i l ≡ [] → length l ≤ i
+all_read l i e = let n = ap length e in let d = length-drop i l in omega arith
 
 -- ---- what a facet adds to one ridge orbit
 
@@ -43,7 +56,7 @@ adding_start codes ridge = record {
 }
 
 module _ {codes : List ℕ} {ridge places last i : ℕ} (a : Adding codes ridge places last i) (h : i < length codes)
-    (code : ℕ) (e : code ≡ get_or codes i 0) (small : code < 4294967296) where
+    (code : ℕ) (e : code ≡ get_or codes i 0) where
   more : take (i + 1) codes ≡ take i codes ++ (code ∷ [])
   more = take_more codes i 0 h ∙ ap (λ (c : ℕ). take i codes ++ (c ∷ [])) (sym e)
 
@@ -95,8 +108,7 @@ all_start ridges codes = record {
     zero_at k = zeros 190 k
 
 module _ {ridges : ℕ} {codes places last : List ℕ} {i : ℕ} (a : AddingAll ridges codes places last i)
-    (h : i < length codes) (code : ℕ) (e : code ≡ get_or codes i 0) (small : code < 4294967296)
-    (few : ridges ≤ 190) where
+    (h : i < length codes) (code : ℕ) (e : code ≡ get_or codes i 0) (few : ridges ≤ 190) where
   pub all_joins : code / 4 < ridges
       → AddingAll ridges codes (set places (code / 4) (get_or places (code / 4) 0 + 1))
       (set last (code / 4) (code % 4)) (i + 1)
@@ -115,19 +127,19 @@ module _ {ridges : ℕ} {codes places last : List ℕ} {i : ℕ} (a : AddingAll 
             get_or-set_same places (code / 4) (get_or places (code / 4) 0 + 1) 0
                 (omega (arith, a.places_long)),
             get_or-set_same last (code / 4) (code % 4) 0 (omega (arith, a.last_long)),
-          ) (adding_joins (a.each (code / 4) k) h code e small refl)
+          ) (adding_joins (a.each (code / 4) k) h code e refl)
       go ridge l (no n) =
           rw (
             get_or-set_other places (code / 4) ridge (get_or places (code / 4) 0 + 1) 0 n,
             get_or-set_other last (code / 4) ridge (code % 4) 0 n,
           )
-          (adding_stays (a.each ridge l) h code e small (λ q. n (sym q)))
+          (adding_stays (a.each ridge l) h code e (λ q. n (sym q)))
 
   pub all_stay : ridges ≤ code / 4 → AddingAll ridges codes places last (i + 1)
   all_stay k = record {
     places_long = a.places_long;
     last_long = a.last_long;
-    each = λ ridge l. adding_stays (a.each ridge l) h code e small (λ q. omega arith);
+    each = λ ridge l. adding_stays (a.each ridge l) h code e (λ q. omega arith);
   }
 
 pub all_end : {ridges : ℕ} {codes places last : List ℕ} {i : ℕ} → AddingAll ridges codes places last i
@@ -151,13 +163,13 @@ counted_few {ridges} {codes} counted a ridge h =
 -- one code more, in one row of counts
 pub counted_joins : {ridges : ℕ} {codes : List ℕ} (counted : List Counted) {i : ℕ}
     → AddingAll ridges codes (many_in counted) (last_in counted) i → i < length codes → (code : ℕ)
-    → code ≡ get_or codes i 0 → code < 4294967296 → ridges ≤ 190 → code / 4 < ridges
+    → code ≡ get_or codes i 0 → ridges ≤ 190 → code / 4 < ridges
     → (let now =
     set counted (code / 4) (record {
       places = (get_or counted (code / 4) none_counted).places + 1;
       last = code % 4;
     }) in AddingAll ridges codes (many_in now) (last_in now) (i + 1))
-counted_joins {ridges} {codes} counted {i} a h code e small few k =
+counted_joins {ridges} {codes} counted {i} a h code e few k =
     let t : Counted = record {
       places = (get_or counted (code / 4) none_counted).places + 1;
       last = code % 4;
@@ -167,7 +179,7 @@ counted_joins {ridges} {codes} counted {i} a h code e small few k =
       map-set (λ (t : Counted). t.last) counted (code / 4) t,
       ← get_or-map (λ (t : Counted). t.places) counted (code / 4) none_counted,
     )
-    (all_joins a h code e small few k)
+    (all_joins a h code e few k)
 
 -- what that comes to
 pub counted_amount : {ridges : ℕ} {codes : List ℕ} (counted : List Counted)

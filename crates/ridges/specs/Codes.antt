@@ -1,6 +1,6 @@
--- Shares as codes of 4 × ridge orbit + share, and what a search reads of them: what a facet adds to each ridge orbit,
--- cut off at 3, and its shares of 1. Over any lists of codes. Leans on the definition of the search and on the
--- layout of its tables.
+-- Shares as codes of 4 × ridge orbit + the share cut off at 3, and what a search reads of them: what a facet adds to
+-- each ridge orbit, cut off at 3, and its shares of 1. Over any lists of codes. Leans on the definition of the search
+-- and on the layout of its tables.
 use Rattle.std.specs.Prelude.{◌≡◌, refl, Bool, true, false, ◌&&◌, ℕ, zero, suc, ◌+◌, ◌*◌, ◌/◌, ◌%◌, ◌≤◌, ◌<◌, min}
 use Rattle.std.specs.Prelude.{ltb, get_or, replicate}
 use Rattle.std.proofs.Common.{sym, ◌∙◌, ⊎_elim, arith, add-one, eq-eqb, ne_eqb, mul-le-mul_right}
@@ -270,7 +270,7 @@ ones_counted ridge x (c ∷ cs) =
     go a true false e f = rw e f
     go a false d e f = rw e f
 
--- ---- what is cut off is not missed
+-- ---- cutting shares off at 3 changes nothing that a search reads
 
 -- a share keeps its ridge orbit
 pub cut_at : (ridge : ℕ) (l : List Share) → shares_at ridge (map cut l) ≡ map cut (shares_at ridge l)
@@ -289,7 +289,7 @@ unfolding last_share cut
 cut_last before [] = refl
 cut_last before (s ∷ l) = cut_last s.1 l
 
--- nor does it matter to a product that is cut off itself
+-- a product cut off at 3 is the same if its factor was cut off at 3 before
 cut_product : (a n : ℕ) → min (min a 3 * n) 3 ≡ min (a * n) 3
 cut_product a zero = omega arith
 cut_product a (suc n) = ⊎_elim

@@ -1,5 +1,5 @@
--- The tables lie behind what is kept, with room for what its capacities name, whatever these are. Leans on TableLayouts
--- and on the capacities.
+-- The tables lie behind what is kept, with room for what its capacities name, where these are at most 190 ridges of an
+-- orbit and 190 ridge orbits, as far as `lay_tables` goes. Leans on TableLayouts and on the capacities.
 use Rattle.std.specs.Prelude.{◌≡◌, ℕ, ◌≤◌}
 use Rattle.std.proofs.Common.{arith}
 use Rattle.layout.specs.declared.Capacities.{Capacities}

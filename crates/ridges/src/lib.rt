@@ -17,6 +17,7 @@ ghost use Rattle.ridges.specs.TableLayouts.{Given, areas_of};
 
 use facets::Areas;
 use layout::{KeptLayout, TableLayout};
+use order::Pool;
 use pool::{MOST_FACETS, MOST_LISTS};
 use rows::Rows;
 
@@ -29,19 +30,21 @@ struct Counted {
     last: u32,
 }
 
-// What the places of facet x say of the first ridge orbits. The lists of shares are read from their bytes, here and
-// in `ones_of_facet`: `order::Pool` lends lists of u16 items, and a share has 32 bits. A share and its ridge orbit
-// are packed into one number, as an amount and its ridge orbit are below: a pool holds lists of numbers of one width,
-// in bytes of the workspace that a caller lends, since there is no heap. Counted by hand: one walk counts for all
-// ridge orbits, and notes the last share of each; `filter(..).count()` would walk the list once for each of them.
+// What the places of facet x say of the first ridge orbits. A share and its ridge orbit are packed into one number, as
+// an amount and its ridge orbit are below: a pool holds lists of numbers of one width, in bytes of the workspace that a
+// caller lends, since there is no heap. Counted by hand: one walk counts for all ridge orbits, and notes the last share
+// of each; `filter(..).count()` would walk the list once for each of them.
 fn count_places(shares: &[u8], x: usize, ridges: usize) -> [Counted; 190]
     requires { Sound 2 1024 shares.now × (x < count shares.now) × (ridges ≤ 190) }
     ensures { PlacesCounted ridges (get_or (closed_lists 2 1024 shares.now) x []) (many_in result) (last_in result) }
 {
     let mut counted = [Counted { places: 0, last: 0 }; 190];
-    let n = pool::list_length(shares, x) as usize;
-    for i in 0..n {
-        let code = usize::from(pool::item::<u16>(shares, MOST_FACETS, x, i));
+    let lists = Pool {
+        bytes: shares,
+        most: MOST_FACETS,
+    };
+    for share in lists.items(x) {
+        let code = usize::from(share);
         let ridge = code / 4;
         if ridge < ridges {
             counted[ridge] = Counted {

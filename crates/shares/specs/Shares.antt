@@ -70,7 +70,8 @@ pub record Orders (layout : KeptLayout) (tables : TableLayout) (size : ℕ) : Ty
   pub numbers : tables.numbers ≤ tables.shares
   pub inside : tables.shares ≤ size
 
--- every place names a ridge of its facet's orbit, with small counts
+-- every place names a ridge of its facet's orbit, with small counts, and the ridge orbits are so few that four times
+-- their number fits two bytes
 pub record SourcesFit (src : Sources) (counts : List ℕ) (facets : ℕ) : Type 0 where
   pub ridges_sound : Sound 4 256 src.ridges
   pub numbers_sound : Sound 2 256 src.numbers

@@ -83,12 +83,12 @@ pub fn number_ridges(
 
 // ---- shares
 
-// The code of the share of a place with inner orbit a, of a facet of orbit o: 4 × its ridge orbit + floor(orbit count
-// × inner count / ridge orbit count), cut off at 3. The orbits stand in the first 2,048 bytes, eight bytes each, the
-// count in the last four. A count of 0 gives a share of 0, as the definition's division does. It reads the workspace
-// beside its places, and no struct holds both: `share_facet` writes the workspace in the same turn, so that it would
-// make such a struct anew for each place. `Orders` and `SourcesFit` stay clauses, here and below: `share_facet` and
-// `share_facets` write the workspace that both speak of.
+// The code of the share of a place with inner orbit a, of a facet of orbit o: 4 × its ridge orbit + its share, which is
+// floor(orbit count × inner count / ridge orbit count), and 3 where that is more. The orbits stand in the first 2,048
+// bytes, eight bytes each, the count in the last four. A count of 0 gives a share of 0, as the definition's division
+// does. It reads the workspace beside its places, and no struct holds both: `share_facet` writes the workspace in the
+// same turn, so that it would make such a struct anew for each place. `Orders` and `SourcesFit` stay clauses, here and
+// below: `share_facet` and `share_facets` write the workspace that both speak of.
 fn share_code(
     ws: &[u8],
     layout: KeptLayout,

@@ -1,55 +1,58 @@
 -- `ridges::count_places` meets its contract: a place in one of the ridge orbits is counted (`counted_joins`), another
 -- is passed (`all_stay`), and at the end all places were looked at (`all_end`).
-use mathlib.Core.Path.{◌∙◌}
-use mathlib.Core.List.{[]}
-use Prim.Native.Nat.{◌/◌, ◌<◌}
+use mathlib.Core.Path.{sym, ap, ◌∙◌}
+use Prim.Native.Nat.{◌/◌, ◌+◌}
 use native.Mathlib.Omega.{arith}
-use lib.ListN.{length, get_or}
-use Rattle.pool.specs.Pool.{closed_lists}
-use Rattle.shares.specs.Laying.{length_read, item_asks, item_read}
-use Rattle.ridges.proofs.Tables.{all_start, counted_few, counted_joins, all_stay, all_end}
+use Rattle.order.specs.Areas.{list_at, left_in, list_short}
+use Rattle.ridges.proofs.Tables.{next_at, all_start, counted_few, counted_joins, all_stay, all_end, all_read}
 use Rattle.ridges.proofs.count_places.Goals as goal
-use Rattle.ridges.proofs.count_places.Goals.{else-ridge-ridges, then-ridge-ridges}
 
-pub loop-i-init : goal.loop-i-init
-loop-i-init c =
-    (c.list_length-n.ensures ∙ length_read 2 1024 _ c.requires.0 c.args.x c.requires.1, omega arith, all_start _ _)
-
-pub item-requires : goal.item-requires
-item-requires c =
-    let l = c.loop-i in
-    item_asks 2 1024 _ c.requires.0 c.args.x c.requires.1 l.i (omega (arith, l.invariant.0, c.loop-i-test.true))
+pub loop-share-init : goal.loop-share-init
+loop-share-init c = (
+  0,
+  omega arith,
+  ap left_in c.into_iter-share-iterator.ensures.into_iter_gives ∙ c.items-share-items.ensures,
+  all_start _ _,
+)
 
 pub overflow_add-counted : goal.overflow_add-counted
 overflow_add-counted c =
-    let l = c.loop-i in
+    let now = c.loop-share.invariant in
+    let at = next_at (list_at 1024 c.args.shares.now c.args.x) (left_in c.next.new.self) now.0 c.in-Some.share
+    (sym now.2 ∙ c.in-Some.ensures.steps) in
     omega (
       arith,
-      counted_few l.counted l.invariant.2 (c.from-code.result / 4) c.if-ridge-ridges.true,
-      l.invariant.0,
-      c.list_length-n.type_inv,
+      counted_few c.loop-share.counted now.3 (c.from-code.result / 4) c.if-ridge-ridges.true,
+      at.0,
+      list_short 1024 c.args.shares.now c.requires.0 c.args.x c.requires.1,
     )
 
-pub loop-i-preserved : goal.loop-i-preserved
-loop-i-preserved c =
-    let l = c.loop-i in
-    let h : l.i < length (get_or (closed_lists 2 1024 c.args.shares.now) c.args.x []) =
-    omega (arith, l.invariant.0, c.loop-i-test.true) in
-    let v = c.from-code.ensures ∙ (c.item.ensures ∙ item_read 2 1024 _ c.requires.0 c.args.x c.requires.1 l.i h) in (
-      l.invariant.0,
-      omega arith,
-      elim c.if-ridge-ridges.branch [
-        | then-ridge-ridges w ↦ rw (w.counted-is) (counted_joins l.counted l.invariant.2 h c.from-code.result v
-            (omega (arith, c.from-code.ensures, c.item.type_inv)) c.requires.2 w.if-ridge-ridges.true)
-        | else-ridge-ridges w ↦ rw (w.counted-is) (all_stay l.invariant.2 h c.from-code.result v (omega (
-          arith,
-          c.from-code.ensures,
-          c.item.type_inv,
-        )) c.requires.2 w.if-ridge-ridges.false)
-      ],
+pub loop-share-preserved-then-ridge-ridges : goal.loop-share-preserved-then-ridge-ridges
+loop-share-preserved-then-ridge-ridges c =
+    let now = c.loop-share.invariant in
+    let at = next_at (list_at 1024 c.args.shares.now c.args.x) (left_in c.next.new.self) now.0 c.in-Some.share
+    (sym now.2 ∙ c.in-Some.ensures.steps) in (
+      now.0 + 1,
+      omega (arith, at.0),
+      sym at.2,
+      counted_joins c.loop-share.counted now.3 at.0 c.from-code.result (c.from-code.ensures ∙ sym at.1)
+          c.requires.2 c.if-ridge-ridges.true,
+    )
+
+pub loop-share-preserved : goal.loop-share-preserved
+loop-share-preserved c =
+    let now = c.loop-share.invariant in
+    let at = next_at (list_at 1024 c.args.shares.now c.args.x) (left_in c.next.new.self) now.0 c.in-Some.share
+    (sym now.2 ∙ c.in-Some.ensures.steps) in (
+      now.0 + 1,
+      omega (arith, at.0),
+      sym at.2,
+      all_stay now.3 at.0 c.from-code.result (c.from-code.ensures ∙ sym at.1) c.requires.2
+          c.if-ridge-ridges.false,
     )
 
 pub returns : goal.returns
+unfolding list_at
 returns c =
-    let l = c.loop-i in
-    all_end l.invariant.2 (omega (arith, l.invariant.0, c.loop-i-test.false))
+    let now = c.loop-share.invariant in
+    all_end now.3 (all_read (list_at 1024 c.args.shares.now c.args.x) now.0 (sym now.2 ∙ c.in-None.ensures.steps.0))

@@ -1,14 +1,14 @@
--- `count_places` meets its contract. The loop's invariant: the first i places are counted, each for its ridge orbit.
+-- `count_places` meets its contract. The loop's invariant: the shares that are left are those from some place i on, and
+-- the first i places are counted, each for its ridge orbit.
 use mathlib.Core.Path.{◌≡◌}
-use mathlib.Core.List.{[]}
-use Prim.Native.Nat.{◌≤◌}
-use lib.ListN.{length, get_or}
-use Rattle.pool.specs.Pool.{closed_lists}
+use Prim.Native.Nat.{ℕ, ◌≤◌}
+use lib.ListN.{length, drop}
+use Rattle.order.specs.Areas.{list_at, left_in}
 use Rattle.ridges.specs.Codes.{many_in, last_in}
 use Rattle.ridges.proofs.Tables.{AddingAll}
 use Rattle.ridges.proofs.count_places.Given as goal
 
-abbrev pub invariant-loop-i : goal.invariant-loop-i
-invariant-loop-i l =
-    (l.n ≡ length (get_or (closed_lists 2 1024 l.shares) l.x [])) × (l.i ≤ l.n)
-    × AddingAll l.ridges (get_or (closed_lists 2 1024 l.shares) l.x []) (many_in l.counted) (last_in l.counted) l.i
+abbrev pub invariant-loop-share : goal.invariant-loop-share
+invariant-loop-share l =
+    (i : ℕ) × (i ≤ length (list_at 1024 l.shares l.x)) × (left_in l.share-iterator ≡ drop i (list_at 1024 l.shares l.x))
+    × AddingAll l.ridges (list_at 1024 l.shares l.x) (many_in l.counted) (last_in l.counted) i

@@ -1,4 +1,4 @@
--- `lay_tables` meets its contract: each step leaves what the next one asks (specs/Desks).
+-- `lay_tables` meets its contract: each step leaves what the next one asks (specs/TableLayouts).
 use Rattle.ridges.specs.TableLayouts.{areas_laid, table_layout_order, numbering_asks, orders, shares_fit, sharing_space}
 use Rattle.ridges.specs.TableLayouts.{known_few, facets_count, touching_space, ones_asks, layout_kept}
 use Rattle.ridges.proofs.TableLayouts.{inputs_are}
