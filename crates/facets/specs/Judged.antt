@@ -5,11 +5,12 @@ use Rattle.std.specs.Prelude.{◌==◌, length, get_or, Option, Some, None, Matc
 use Rattle.std.specs.List.{position_or_len}
 use Rattle.std.proofs.lemmas.Bool.Decides.{nat_tests}
 use Rattle.std.proofs.Math.Path.{refl}
-use Rattle.std.proofs.Common.{sym, ⊎_elim, arith, T_not, nltb→le, ltb→lt, eqb→eq}
+use Rattle.std.proofs.Common.{sym, ⊎_elim, arith, T_not, nltb→le, lt→ltb, ltb→lt, eqb→eq}
 use Rattle.std.proofs.Math.Dec.{not_T}
 use Rattle.definitions.specs.Lists.{any_of, place_of}
 use Rattle.definitions.specs.Search.{Verdict, over, closed, open_at, judge}
-use Rattle.laws.specs.Bools.{true→holds, false→fails, fails→false}
+use Rattle.laws.specs.Merging.{place_is}
+use Rattle.laws.specs.Bools.{holds→true, true→holds, false→fails, fails→false}
 use Rattle.laws.specs.Segments.{le_or_lt}
 use Rattle.laws.specs.Lists.{any_of_holds, any_witness, member_at, at_member}
 
@@ -57,11 +58,27 @@ module _ (l : List ℕ) (light : false ≡ any_of (ltb 2) l) where
       go true n = refl
       go false n = refl
 
-  pub judge_open : (ridge : ℕ) → Some ridge ≡ position (λ (total : ℕ). total == 1) l → open_at ridge ≡ judge l
-  judge_open ridge e = judge_lowest (Some ridge) e
+  pub judge_found : (ridge : ℕ) → Some ridge ≡ position (λ (total : ℕ). total == 1) l → open_at ridge ≡ judge l
+  judge_found ridge e = judge_lowest (Some ridge) e
 
-  pub judge_closed : None ≡ position (λ (total : ℕ). total == 1) l → closed ≡ judge l
-  judge_closed e = judge_lowest None e
+  pub judge_unfound : None ≡ position (λ (total : ℕ). total == 1) l → closed ≡ judge l
+  judge_unfound e = judge_lowest None e
+
+  -- the same of a place that no total of 1 stands before
+  judge_from : (i : ℕ) → place_of (eqb 1) l ≡ i → (b : Bool) → ltb i (length l) ≡ b → cond b (open_at i) closed ≡ judge l
+  unfolding judge
+  judge_from i e b q = rw (sym light, e, q) refl
+
+  pub judge_open : (i : ℕ) → i < length l → NoneOpen l i → get_or l i 0 ≡ 1 → open_at i ≡ judge l
+  judge_open i h before e =
+      judge_from i (sym (place_is (eqb 1) 0 l i (omega arith) before (λ k. rw e tt))) true
+      (holds→true (ltb i (length l)) (lt→ltb i (length l) h))
+
+  pub judge_closed : (i : ℕ) → length l ≤ i → NoneOpen l i → closed ≡ judge l
+  judge_closed i h before =
+      let n = length l in
+      judge_from n (sym (place_is (eqb 1) 0 l n (omega arith) (λ j k. before j (omega arith)) (λ k. absurd (omega arith))))
+      false (fails→false (ltb n n) (not_T (ltb n n) (λ z. let k = ltb→lt n n z in omega arith)))
 
 -- ---- what a verdict says of the totals
 
