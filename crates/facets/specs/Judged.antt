@@ -65,7 +65,8 @@ module _ (l : List ℕ) (light : false ≡ any_of (ltb 2) l) where
   judge_unfound e = judge_lowest None e
 
   -- the same of a place that no total of 1 stands before
-  judge_from : (i : ℕ) → place_of (eqb 1) l ≡ i → (b : Bool) → ltb i (length l) ≡ b → cond b (open_at i) closed ≡ judge l
+  judge_from : (i : ℕ) → place_of (eqb 1) l ≡ i → (b : Bool) → ltb i (length l) ≡ b
+      → cond b (open_at i) closed ≡ judge l
   unfolding judge
   judge_from i e b q = rw (sym light, e, q) refl
 
@@ -77,8 +78,8 @@ module _ (l : List ℕ) (light : false ≡ any_of (ltb 2) l) where
   pub judge_closed : (i : ℕ) → length l ≤ i → NoneOpen l i → closed ≡ judge l
   judge_closed i h before =
       let n = length l in
-      judge_from n (sym (place_is (eqb 1) 0 l n (omega arith) (λ j k. before j (omega arith)) (λ k. absurd (omega arith))))
-      false (fails→false (ltb n n) (not_T (ltb n n) (λ z. let k = ltb→lt n n z in omega arith)))
+      let k = place_is (eqb 1) 0 l n (omega arith) (λ j k. before j (omega arith)) (λ k. absurd (omega arith)) in
+      judge_from n (sym k) false (fails→false (ltb n n) (not_T (ltb n n) (λ z. let k = ltb→lt n n z in omega arith)))
 
 -- ---- what a verdict says of the totals
 

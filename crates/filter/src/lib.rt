@@ -33,13 +33,14 @@ fn shared_items(lists: Lists, k: usize) -> usize
         .unwrap_or(m)
 }
 
-// For each list but the first, at its place, how many items it has in common with the one before it.
-fn note_shared(lists: Lists, notes: &mut [usize; MOST_LISTS])
+// For each list but the first, at its place, how many items it has in common with the one before it. Numbers of four
+// bytes, and no `usize`: the notes lie on the stack.
+fn note_shared(lists: Lists, notes: &mut [u32; MOST_LISTS])
     requires { lists.area.count ≤ 1024 }
     ensures { Noted (lists_of lists.entry.area lists.entry.bytes.now) lists.entry.area.count notes.new }
 {
     for k in 1..lists.area.count {
-        notes[k] = shared_items(lists, k - 1);
+        notes[k] = shared_items(lists, k - 1) as u32;
     }
 }
 
@@ -49,7 +50,7 @@ fn note_shared(lists: Lists, notes: &mut [usize; MOST_LISTS])
 // The lists ascend: behind one that begins above list a every list begins above it, and none of them is found in it.
 // A list that begins as the one before it does, up to and with the first item of that one that is not found, is not
 // found either. That the lists ascend stays a clause: the workspace that it speaks of is written between two calls.
-fn finds_other(lists: Lists, notes: &[usize; MOST_LISTS], a: usize, start: usize) -> bool
+fn finds_other(lists: Lists, notes: &[u32; MOST_LISTS], a: usize, start: usize) -> bool
     requires { AllAscending (lists_of lists.area lists.bytes.now)
         × (a < lists.area.count)
         × Begun (lists_of lists.area lists.bytes.now) a start
@@ -60,7 +61,7 @@ fn finds_other(lists: Lists, notes: &[usize; MOST_LISTS], a: usize, start: usize
     // how many items of the list before were found, once a walk was made
     let mut found = None;
     for b in start..lists.area.count {
-        let alike = notes[b];
+        let alike = notes[b] as usize;
         if found.is_some_and(|items| items < alike) {
             continue;
         }
@@ -79,7 +80,7 @@ fn finds_other(lists: Lists, notes: &[usize; MOST_LISTS], a: usize, start: usize
 // The places of the lists in which no other is found, as `filter_irc` writes them. A list that begins below list a is
 // found neither in it nor in a later list, so that no search looks at it again. How many are kept is counted by hand:
 // each is written behind those kept before, and a chain that picks them would hold the workspace that is written.
-fn filter_noted(ws: &mut [u8], notes: &[usize; MOST_LISTS], area: Area, at: usize) -> usize
+fn filter_noted(ws: &mut [u8], notes: &[u32; MOST_LISTS], area: Area, at: usize) -> usize
     requires { Filters area at ws.old × Noted (lists_of area ws.old) area.count notes.now }
     ensures many { result ≡ length (filter_irc compare (lists_of area ws.old)) }
     ensures numbers { ws.new ≡ sets ws.old at (run 4 (filter_irc compare (lists_of area ws.old))) }
