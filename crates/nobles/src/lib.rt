@@ -49,7 +49,8 @@ fn write_noble(
     let mut rows = [0; ROWS_ROOM];
     let mut globals = [0; GLOBALS_ROOM];
     let mut full = [0; ROWS_ROOM];
-    let whole = packages::load_package(pack, fields.n, &mut globals, &mut full);
+    let numbers = packages::load_package(pack, fields.n, &mut globals, &mut full);
+    let whole = numbers.package(&globals, &full);
     let called = job_calls::call_in_way(job, fields, ws, &mut rows, Some(whole));
     answering::write_called(called, fields, &rows, ws, answer)
 }

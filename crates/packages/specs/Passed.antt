@@ -22,7 +22,9 @@ use Rattle.stabilizers.specs.Permutations.{Permutations, permutations_of}
 use Rattle.load.specs.Meaning.{rows_at}
 use Rattle.tallies.specs.declared.Package.{Package}
 use Rattle.tallies.specs.Meaning.{GlobalsFit, PackageFits, package_in}
+use Rattle.packages.specs.declared.FullSet.{FullSet}
 use Rattle.packages.specs.Once.{once_below, distinct_places}
+use Rattle.packages.specs.Loaded.{LoadedFits, loaded_in, numbers_of, package_held}
 
 module _ (n : ℕ) (bytes : Bytes) where
   abbrev pub rows_of : ℕ
@@ -174,14 +176,10 @@ module _ (n : ℕ) (bytes : Bytes) where
         permutations_of size_of rows_of full loaded_numbers.size_most (omega (arith, loaded_numbers.rows_most))
         (rw are rows_pass)
 
-    module _ (whole : Package) (size_is : whole.full.n ≡ size_of) (rows_is : whole.full.rows.count ≡ rows_of)
-        (count_is : whole.count ≡ count_of)
-        (globals-are : rows_in n 1 whole.globals.now ≡ rows_at bytes 5 n 1)
-        (globals-long : length whole.globals.now ≡ 32)
-        (full-are : rows_in size_of rows_of whole.full.rows.bytes.now ≡ rows_at bytes (5 + n) size_of rows_of) where
-      abbrev globals : List ℕ
-      globals = whole.globals.now
-
+    module _ (whole : FullSet) (globals full : List ℕ) (size_is : whole.size ≡ size_of)
+        (rows_is : whole.rows ≡ rows_of) (count_is : whole.count ≡ count_of)
+        (globals-are : rows_in n 1 globals ≡ rows_at bytes 5 n 1) (globals-long : length globals ≡ 32)
+        (full-are : rows_in size_of rows_of full ≡ rows_at bytes (5 + n) size_of rows_of) where
       row_is : row_at n 0 globals ≡ global_numbers
       unfolding rows_in row_at rows_at count_from
       row_is =
@@ -214,14 +212,36 @@ module _ (n : ℕ) (bytes : Bytes) where
             (omega (arith, numbers_long)) (omega (arith, numbers_long)) (sym (at u h) ∙ (e ∙ at w k));
       }
 
+      pub loaded_fits : length full ≡ 3840 → LoadedFits n whole globals full
+      loaded_fits long = record {
+        numbered = rw size_is globals_fit;
+        permute = rw (size_is, rows_is) (full_permute full full-are long);
+        some_row = omega (arith, loaded_numbers.rows_least);
+        few_rows = omega (arith, loaded_numbers.rows_most);
+        small_count = omega (arith, loaded_numbers.count_most);
+      }
+
+      pub loaded_is : loaded_in n whole globals full ≡ read_package n bytes
+      unfolding loaded_in read_package rows_at
+      loaded_is = rw (size_is, rows_is, count_is, row_is, full-are) refl
+
+    -- and so of a package that holds its regions
+    module _ (whole : Package) (size_is : whole.full.n ≡ size_of) (rows_is : whole.full.rows.count ≡ rows_of)
+        (count_is : whole.count ≡ count_of)
+        (globals-are : rows_in n 1 whole.globals.now ≡ rows_at bytes 5 n 1)
+        (globals-long : length whole.globals.now ≡ 32)
+        (full-are : rows_in size_of rows_of whole.full.rows.bytes.now ≡ rows_at bytes (5 + n) size_of rows_of) where
       pub package_fits : PackageFits n whole
       package_fits = record {
-        numbered = rw size_is globals_fit;
+        numbered = rw size_is (globals_fit (numbers_of whole) whole.globals.now whole.full.rows.bytes.now size_is
+            rows_is count_is globals-are globals-long full-are);
         some_row = omega (arith, loaded_numbers.rows_least);
         few_rows = omega (arith, loaded_numbers.rows_most);
         small_count = omega (arith, loaded_numbers.count_most);
       }
 
       pub package_is : package_in n whole ≡ read_package n bytes
-      unfolding package_in read_package rows_at
-      package_is = rw (size_is, rows_is, count_is, row_is, full-are) refl
+      package_is =
+          package_held n whole
+          ∙ loaded_is (numbers_of whole) whole.globals.now whole.full.rows.bytes.now size_is rows_is count_is
+          globals-are globals-long full-are

@@ -2,7 +2,7 @@
 -- nothing.
 use mathlib.Core.Path.{◌∙◌}
 use native.Mathlib.Omega.{arith}
-use Rattle.packages.specs.Passed.{loaded_numbers, full_permute, package_fits, package_is}
+use Rattle.packages.specs.Passed.{loaded_numbers, loaded_fits, loaded_is}
 use Rattle.packages.proofs.load_package.Goals as goal
 
 pub get-requires : goal.get-requires
@@ -31,34 +31,18 @@ copy_rows-requires-2 c =
     rw (c.from-size.ensures, c.from-rows.ensures, c.get.ensures)
     (omega (arith, k.size_most), omega (arith, k.long), omega (arith, k.rows_most, c.requires.3))
 
-pub invariant_of-rows : goal.invariant_of-rows
-invariant_of-rows c =
-    let k = loaded_numbers c.args.n c.args.pack.now c.requires.0 c.requires.1 in
-    record {
-      room =
-          omega (arith, c.from-rows.ensures, c.get.ensures, k.rows_most, c.copy_rows-2.ensures.rows.1, c.requires.3);
-    }
-
-pub invariant_of-full : goal.invariant_of-full
-invariant_of-full c =
-    let full = rw (c.from-size.ensures, c.from-rows.ensures, c.get.ensures) at c.copy_rows-2.ensures.rows in
-    record {
-      permute = rw (c.from-size.ensures, c.from-rows.ensures, c.get.ensures) (full_permute c.args.n
-          c.args.pack.now c.requires.0 c.requires.1 c.copy_rows-2.new.region full.0 (full.1 ∙ c.requires.3));
-    }
-
 pub returns-clause-fits : goal.returns-clause-fits
 returns-clause-fits c =
     let globals = c.copy_rows.ensures.rows in
     let full = rw (c.from-size.ensures, c.from-rows.ensures, c.get.ensures) at c.copy_rows-2.ensures.rows in
-    package_fits c.args.n c.args.pack.now c.requires.0 c.requires.1 _ c.from-size.ensures
+    loaded_fits c.args.n c.args.pack.now c.requires.0 c.requires.1 _ _ _ c.from-size.ensures
     (c.from-rows.ensures ∙ c.get.ensures) (c.from-count.ensures ∙ c.get-2.ensures) globals.0
-    (globals.1 ∙ c.requires.2) full.0
+    (globals.1 ∙ c.requires.2) full.0 (full.1 ∙ c.requires.3)
 
 pub returns-clause-is : goal.returns-clause-is
 returns-clause-is c =
     let globals = c.copy_rows.ensures.rows in
     let full = rw (c.from-size.ensures, c.from-rows.ensures, c.get.ensures) at c.copy_rows-2.ensures.rows in
-    package_is c.args.n c.args.pack.now c.requires.0 c.requires.1 _ c.from-size.ensures
+    loaded_is c.args.n c.args.pack.now c.requires.0 c.requires.1 _ _ _ c.from-size.ensures
     (c.from-rows.ensures ∙ c.get.ensures) (c.from-count.ensures ∙ c.get-2.ensures) globals.0
     (globals.1 ∙ c.requires.2) full.0
