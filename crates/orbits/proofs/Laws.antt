@@ -49,7 +49,7 @@ images_more n set i s = map_rows_more (λ (row : Row). set_number (set_image (ve
 pub opened_none : (bound known count : ℕ) (ws : List ℕ) (set : ℕ) (images : List ℕ) → OrbitsRoom bound known count ws
     → count ≡ bound → Opened bound known count ws set images (Err Orbits) ws
 opened_none bound known count ws set images room e = record {
-  room = tt;
+  room = (known, (count, room));
   reached =
       λ seen orbits h. let n : length orbits ≡ count = ap length (sym h.orbits_are) ∙ orbits_length ws count in
       (refl, omega (arith, length-append orbits ((set, length (added seen images) - length seen) ∷ [])));

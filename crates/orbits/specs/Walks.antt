@@ -67,7 +67,7 @@ module _ (tolerance : Float) (most : ℕ) (flat : List Vec) (rows : List Row) (b
       → Walked tolerance most flat rows bound state ws ts (Err e) after
       → Walked tolerance most flat rows bound state ws (ts ++ us) (Err e) after
   walked_refused state ws ts us e after a = record {
-    room = tt;
+    room = a.room;
     reached = λ seen orbits h.
         let more = orbits_from tolerance most flat rows (seen_after tolerance most flat rows seen ts) us in
         let known = orbits ++ orbits_from tolerance most flat rows seen ts in

@@ -44,10 +44,10 @@ abbrev pub Reached : ℕ → Result Progress Refusal → List ℕ → List ℕ �
 Reached bound (Ok p) ws seen orbits = HoldsOrbits p.known p.count ws seen orbits
 Reached bound (Err e) ws seen orbits = (number_of e ≡ 13) × (bound < length orbits)
 
--- a walk that goes on has its space
+-- a walk has its space and sets seen that ascend, where it goes on and where it was refused
 abbrev pub KeepsRoom : ℕ → Result Progress Refusal → List ℕ → Type 0
 KeepsRoom bound (Ok p) ws = OrbitsRoom bound p.known p.count ws
-KeepsRoom bound (Err e) ws = Unit {0}
+KeepsRoom bound (Err e) ws = (known : ℕ) × ((count : ℕ) × OrbitsRoom bound known count ws)
 
 -- what was opened: one orbit more, and its sets among those seen
 pub record Opened (bound known count : ℕ) (ws : List ℕ) (set : ℕ) (images : List ℕ) (r : Result Progress Refusal)
