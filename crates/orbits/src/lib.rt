@@ -4,7 +4,7 @@
 
 #![tactic(auto)]
 
-ghost use Rattle.std.specs.Prelude.{◌≡◌, ◌∷◌, [], ◌+◌, ◌*◌, ◌%◌, ◌^◌, ◌≤◌, ◌<◌, length};
+ghost use Rattle.std.specs.Prelude.{◌≡◌, ◌∷◌, [], ◌+◌, ◌*◌, ◌%◌, ◌^◌, ◌≤◌, ◌<◌, length, OnErr};
 ghost use Rattle.definitions.specs.Job.{number_at};
 ghost use Rattle.definitions.specs.Orbits.{point_at, most_vertices, hyperplane_orbits};
 ghost use Rattle.space.specs.Meaning.{points_of, HoldsPoints, limits_of};
@@ -70,8 +70,9 @@ fn gather_images(full: Symmetries, set: u32, seen: Sorted) -> ArrayVec<u32, 120>
 }
 
 // An orbit more, or refusal 13 where there are as many as the bound allows: its first set, how many sets it has, and
-// its sets among those seen. `OrbitsRoom` stays a clause, here and below: the workspace that it speaks of is written,
-// and a struct that held it would have each contract say besides that the loan is as it was.
+// its sets among those seen. A refusal leaves the workspace as it was. `OrbitsRoom` stays a clause, here and below:
+// the workspace that it speaks of is written, and a struct that held it would have each contract say besides that the
+// loan is as it was.
 fn open_orbit(
     full: Symmetries,
     set: u32,
@@ -80,8 +81,9 @@ fn open_orbit(
     ws: &mut [u8],
 ) -> Result<Progress, Refusal>
     requires { (full.rows.count ≤ 120) × OrbitsRoom bound state.known state.count ws.old }
-    ensures { Opened bound state.known state.count ws.old set (image_numbers full.entry.n set
+    ensures opened { Opened bound state.known state.count ws.old set (image_numbers full.entry.n set
         (rows_in full.entry.n full.entry.rows.count full.entry.rows.bytes.now)) result ws.new }
+    ensures refused { OnErr result (ws.new ≡ ws.old) }
 {
     if state.count == bound {
         return Err(Refusal::Orbits);
@@ -128,9 +130,10 @@ fn fit_tuple(
 ) -> Result<Progress, Refusal>
     requires { (0 < tuple.now.n)
         × (tuple.now.d ≡ walk.search.flat.now.d) × OrbitsRoom walk.bound state.known state.count ws.old }
-    ensures { Walked walk.entry.search.pairs.tolerance walk.entry.most (points_of walk.entry.search.flat.now) (rows_in
-        walk.entry.search.flat.now.n walk.entry.search.pairs.rows.count walk.entry.search.pairs.rows.bytes.now)
-        walk.entry.bound state ws.old (points_of tuple.now ∷ []) result ws.new }
+    ensures walked { Walked walk.entry.search.pairs.tolerance walk.entry.most (points_of walk.entry.search.flat.now)
+        (rows_in walk.entry.search.flat.now.n walk.entry.search.pairs.rows.count
+        walk.entry.search.pairs.rows.bytes.now) walk.entry.bound state ws.old (points_of tuple.now ∷ []) result ws.new }
+    ensures refused { OnErr result (ws.new ≡ ws.old) }
 {
     let flat = walk.search.flat;
     let tolerance = walk.search.pairs.tolerance;

@@ -22,7 +22,7 @@ pub returns-then-more-eq0 : goal.returns-then-more-eq0
 returns-then-more-eq0 t c = let a = c.args in
     rw (none_added (keeps_limits a.walk.search.pairs.tolerance (limits_of a.walk.search.pairs.limits)
     (points_of a.walk.search.pairs.points.now) a.v) (points_of a.walk.search.flat.now)
-    (points_of a.tuple.now) a.walk.search.flat.now.n a.from a.more c.if-more-eq0.true) c.fit_tuple.ensures
+    (points_of a.tuple.now) a.walk.search.flat.now.n a.from a.more c.if-more-eq0.true) c.fit_tuple.ensures.walked
 
 pub loop-u-init : goal.loop-u-init
 loop-u-init t c = let a = c.args in (

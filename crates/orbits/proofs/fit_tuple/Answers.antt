@@ -10,8 +10,8 @@ use Rattle.orbits.specs.Workspace.{seen_in}
 use Rattle.orbits.proofs.Laws.{no_plane, passed_over, opens_now, near_is}
 use Rattle.orbits.proofs.fit_tuple.Goals as goal
 
-pub returns-then-not-is_hyperplane : goal.returns-then-not-is_hyperplane
-returns-then-not-is_hyperplane c = let a = c.args in
+pub returns-then-not-is_hyperplane-clause-walked : goal.returns-then-not-is_hyperplane-clause-walked
+returns-then-not-is_hyperplane-clause-walked c = let a = c.args in
     let p = c.from_points-plane.ensures.0 in
     let flat : is_hyperplane (from_points a.walk.search.pairs.tolerance (points_of a.tuple.now))
     ≡ false = ap is_hyperplane (sym p.means) ∙ (sym c.is_hyperplane.ensures ∙ c.if-not-is_hyperplane.true) in
@@ -22,8 +22,8 @@ returns-then-not-is_hyperplane c = let a = c.args in
     (rows_in a.walk.search.flat.now.n a.walk.search.pairs.rows.count a.walk.search.pairs.rows.bytes.now)
     (seen_in a.state.known a.ws.now) (points_of a.tuple.now) flat)
 
-pub returns-then-not-may_open : goal.returns-then-not-may_open
-returns-then-not-may_open c = let a = c.args in
+pub returns-then-not-may_open-clause-walked : goal.returns-then-not-may_open-clause-walked
+returns-then-not-may_open-clause-walked c = let a = c.args in
     let p = c.from_points-plane.ensures.0 in
     let flat : is_hyperplane (from_points a.walk.search.pairs.tolerance (points_of a.tuple.now))
     ≡ true = ap is_hyperplane (sym p.means) ∙ (sym c.is_hyperplane.ensures ∙ c.if-not-is_hyperplane.false) in
@@ -39,8 +39,8 @@ returns-then-not-may_open c = let a = c.args in
       ← near,
     ) (sym (rw c.seen.ensures at c.may_open.ensures) ∙ c.if-not-may_open.true)))
 
-pub returns : goal.returns
-returns c = let a = c.args in
+pub returns-clause-walked : goal.returns-clause-walked
+returns-clause-walked c = let a = c.args in
     let p = c.from_points-plane.ensures.0 in
     let flat : is_hyperplane (from_points a.walk.search.pairs.tolerance (points_of a.tuple.now))
     ≡ true = ap is_hyperplane (sym p.means) ∙ (sym c.is_hyperplane.ensures ∙ c.if-not-is_hyperplane.false) in
@@ -55,4 +55,4 @@ returns c = let a = c.args in
       points_length a.walk.search.flat.now,
       ← near,
     ) (sym (rw c.seen.ensures at c.may_open.ensures) ∙ c.if-not-may_open.false)))
-    (rw (points_length a.walk.search.flat.now, ← near) c.open_orbit.ensures)
+    (rw (points_length a.walk.search.flat.now, ← near) c.open_orbit.ensures.opened)

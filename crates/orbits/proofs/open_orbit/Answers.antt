@@ -7,8 +7,8 @@ use Rattle.orbits.proofs.Laws.{opened_by, new_sets}
 use Rattle.orbits.proofs.Laws.{opened_none}
 use Rattle.orbits.proofs.open_orbit.Goals as goal
 
-pub returns-then-state-bound : goal.returns-then-state-bound
-returns-then-state-bound c =
+pub returns-then-state-bound-clause-opened : goal.returns-then-state-bound-clause-opened
+returns-then-state-bound-clause-opened c =
     opened_none c.args.bound c.args.state.known c.args.state.count c.args.ws.now c.args.set _ c.requires.1
     c.if-state-bound.true
 
@@ -24,8 +24,8 @@ merge-requires c =
     c.ranges.set.fits free _ _ c.put.ensures second gathers in
     (search rules, rw c.as_slice.ensures.value new)
 
-pub returns : goal.returns
-returns c =
+pub returns-clause-opened : goal.returns-clause-opened
+returns-clause-opened c =
     let room = c.requires.1 in
     let items = c.gather_images-new.result.items in
     let few : length items ≤ 120 = omega (arith, c.len-many.ensures.value, c.len-many.ensures.fits) in
