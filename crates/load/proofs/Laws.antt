@@ -3,12 +3,10 @@
 use mathlib.Core.Path.{◌≡◌, refl, sym, ap, ◌∙◌}
 use mathlib.Core.Bool.{Bool, true, false, cond}
 use mathlib.Core.List.{List, [], ◌∷◌, ◌++◌}
-use Prim.Native.Nat.{ℕ, ◌+◌, ◌-◌, ◌*◌, ◌/◌, ◌%◌, ◌≤◌, ◌<◌}
+use Prim.Native.Nat.{ℕ, ◌+◌, ◌-◌, ◌*◌, ◌≤◌, ◌<◌}
 use native.Mathlib.Omega.{arith}
 use lib.Dec.{leb}
 use lib.ListN.{length, get_or, take, drop, length-drop, length-map}
-use Rattle.std.proofs.lemmas.List.{drop-drop}
-use mathlib.Core.List.{append_assoc}
 use lib.Seq.{paste, length-paste, length-take-le, take_all, sets, sets-eq}
 use lib.Ieee.{Float, nan, inf, fin}
 use Rattle.definitions.specs.Job.{Bytes, tolerance1, flag_set, present, float_at, floats_at, vectors_at, number_at}
@@ -29,7 +27,7 @@ use Rattle.space.specs.declared.Subspace.{Subspace as StoredSubspace}
 use Rattle.space.specs.declared.Points.{Points}
 use Rattle.space.specs.Meaning.{subspace_of, HoldsSubspace, point_alone, with_vector, HoldsPoints}
 use Rattle.laws.specs.Lists.{count_length}
-use Rattle.laws.specs.Tests.{product_at_most, spaced, spaced_more, rows_paste}
+use Rattle.laws.specs.Tests.{spaced, spaced_more, rows_paste}
 use Rattle.laws.specs.Parts.{rows, length_rows}
 
 -- ---- fields that may be absent
@@ -195,15 +193,7 @@ copied_sets : (l row : Bytes) (at n : ℕ) → length row ≡ n → at + n ≤ l
 copied_sets l row at n long fits =
     rw (← long, take_all (length row) row (omega arith)) (sym (sets-eq row l at (omega arith)))
 
--- a run of places that was lent, and holds a row now
-pub row_lent : (l row src : Bytes) (at n : ℕ) → row ≡ src → length src ≡ n → at + n ≤ length l
-    → take at l ++ (row ++ drop (at + n - at) (drop at l)) ≡ paste l at src (length src)
-row_lent l row src at n e long h =
-    let gap : at + n - at ≡ length src = omega arith in
-    let fits : at + length src ≤ length l = omega arith in
-    rw (e, gap, drop-drop (length src) at l) (sym (copied_sets l src at (length src) refl fits
-    ∙ (sets-eq src l at fits ∙ append_assoc (take at l) src (drop (at + length src) l))))
-
+-- a row was copied: the rows in the region are one more
 pub row_copied : (region bytes : Bytes) (at n i : ℕ) (after : Bytes) → n ≤ 32 → 32 * i + 32 ≤ length region
     → at + n * i + n ≤ length bytes
     → after ≡ paste region (32 * i) (lent bytes (at + n * i) n) (length (lent bytes (at + n * i) n))

@@ -7,6 +7,7 @@
 #![tactic(auto)]
 
 ghost use Rattle.std.specs.Prelude.{◌≡◌, cond, ◌+◌, ◌-◌, ◌*◌, ◌≤◌, ◌<◌, leb, length, get_or};
+ghost use Rattle.std.proofs.Math.Seq.{paste};
 ghost use Rattle.definitions.specs.Job.{tolerance1, flag_set, present, number_at, float_at, floats_at, read_job};
 ghost use Rattle.definitions.specs.Job.{plane_of};
 ghost use Rattle.vectors.specs.Meaning.{five};
@@ -185,6 +186,18 @@ fn vector_at(job: &[u8], at: usize, d: usize) -> [f64; 5]
     v
 }
 
+// The bytes of a row, from a place on. A loop of this crate's own: the library's `copy_from_slice` of a part whose
+// length is not known is compiled to a call of `memmove`, and the archive for C is to need no other function from
+// outside than `memcpy` and `memset`.
+fn copy_row(region: &mut [u8], at: usize, row: &[u8])
+    requires { at + length row.now ≤ length region.old }
+    ensures { region.new ≡ paste region.old at row.now (length row.now) }
+{
+    for i in 0..row.len() {
+        region[at + i] = row[i];
+    }
+}
+
 // Rows of n bytes that stand one behind the other from a place on, copied to 32 bytes each.
 pub fn copy_rows(bytes: &[u8], at: usize, n: usize, count: usize, region: &mut [u8])
     requires { (n ≤ 32) × (at + n * count ≤ length bytes.now) × (32 * count ≤ length region.old) }
@@ -195,7 +208,7 @@ pub fn copy_rows(bytes: &[u8], at: usize, n: usize, count: usize, region: &mut [
     for i in 0..count {
         let from = at + n * i;
         let to = from + n;
-        region[ROW_BYTES * i..ROW_BYTES * i + n].copy_from_slice(&bytes[from..to]);
+        copy_row(region, ROW_BYTES * i, &bytes[from..to]);
     }
 }
 
