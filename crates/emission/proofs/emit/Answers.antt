@@ -6,6 +6,7 @@ use Prim.Native.Nat.{◌-◌}
 use lib.ListN.{length}
 use Rattle.laws.specs.Segments.{placed}
 use borrow.Rule.Slice.PartMut.{same_len_mid}
+use Rattle.frames.specs.Paths.{taken_at}
 use Rattle.frames.specs.Steps.{frame_room_at}
 use Rattle.emission.specs.Emission.{after_pushes, pushing_fits, pushing_frames, pushes_none, pushes_length, pushes_room}
 use Rattle.emission.specs.Emission.{pushes_next, pushes_ready, pushes_end}
@@ -51,6 +52,7 @@ push-requires c =
     c.requires.3 c.loop-k.k c.loop-k-test.true)
 
 pub loop-k-preserved : goal.loop-k-preserved
+unfolding taken_at
 loop-k-preserved c =
     let l = c.loop-k in
     let x = rw (
