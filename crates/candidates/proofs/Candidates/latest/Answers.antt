@@ -32,7 +32,8 @@ returns c = λ t list h u.
     let k = c.requires.2 in
     let n = same_length t c.requires.0 _ _ h c.requires.1 c.args.self.kind c.args.self.kind_in in
     let flag = flag_at t c.args.self.areas c.args.self.ws.now c.args.self.kind in
-    last_is t c.args.self.areas c.args.self.ws.now c.args.self.kind list c.args.low h u c.args.place c.find.result
+    let found = last_is t c.args.self.areas c.args.self.ws.now c.args.self.kind list c.args.low h u c.args.place c.find.result
     (omega arith)
     (last_from_Range _ _ _ c.rev.ensures.source _ _ _ (λ x. flag x ≡ 0) (λ x. flag x ≡ 0 → ⊥) c.find.ensures.ran
-    (λ x q k. search (rules, tests)) (λ x q k. search (rules, tests)))
+    (λ x q k. search (rules, tests)) (λ x q k. search (rules, tests))) in
+    grind (arith, found)
