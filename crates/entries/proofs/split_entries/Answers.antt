@@ -52,4 +52,5 @@ returns c = let m = c.copy_within in let p = c.split_lists in
     }) r.new.ws)
     (sym r.ensures.level_is)
     (split_left c.args.layout c.args.from c.args.bytes c.args.ws.now c.requires m.new.self
-    (moved_as _ c.args.from c.args.bytes _ _ (omega arith) m.ensures.after) p.new.ws p.auto.ws p.ensures r.result r.new.ws r.ensures)
+    (moved_as _ c.args.from c.args.bytes _ _ (omega arith) m.ensures.after) p.new.ws p.auto.ws p.ensures r.result
+    r.new.ws r.ensures)
