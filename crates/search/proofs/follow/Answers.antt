@@ -1,14 +1,19 @@
 -- `search::follow` meets its contract. By the cases of the verdict. Assumes nothing.
 use native.Mathlib.Omega.{arith}
-use mathlib.Core.Path.{◌≡◌, refl, ap, subst}
-use Rattle.std.specs.Prelude.{Some}
-use Rattle.definitions.specs.Search.{open_at}
+use mathlib.Core.Path.{◌≡◌, refl, subst}
+use Rattle.std.specs.Prelude.{Option, List, ℕ}
+use Rattle.definitions.specs.Search.{Table, open_at}
+use Rattle.facets.specs.declared.Areas.{Areas}
 use Rattle.facets.specs.Layout.{verdict, frames_part}
 use Rattle.facets.specs.Judged.{NotOver}
-use Rattle.laws.specs.Options.{some_equal}
 use Rattle.frames.specs.Steps.{Entered, path_short}
 use Rattle.search.specs.SearchSteps.{Judged, Followed, judged_light, judged_inside, follow_over, follow_open}
 use Rattle.search.proofs.follow.Goals as goal
+
+-- a list entered, with the ridge orbit at which it is open as it is known
+entered_at : {t : Table} {a : Areas} {s u : List ℕ} {depth : ℕ} {kind known : Option ℕ} → Entered t a s u depth kind
+    → kind ≡ known → Entered t a s u depth known
+entered_at {t} {a} {s} {u} {depth} entered e = subst (Entered t a s u depth) e entered
 
 pub enter-requires : goal.enter-requires
 unfolding verdict NotOver
@@ -20,7 +25,7 @@ enter-requires c =
       c.requires.0,
       j.stands,
       j.deep,
-      λ x e. omega (arith, c.from.ensures, some_equal c.from.result x e),
+      λ x e. grind (arith, c.from.ensures, r, e),
       judged_light c.requires.0 c.args.a c.args.ws.now c.args.s.depth (open_at c.in-Open.ridge) j tt,
     )
 
@@ -46,9 +51,8 @@ pub returns-in-Open : goal.returns-in-Open
 unfolding Followed verdict
 returns-in-Open c =
     λ t j. let k : Judged t c.args.a c.args.ws.now c.args.s.depth (open_at c.in-Open.ridge) = rw c.in-Open.is at j in
-    let at_ridge : Some c.from.result ≡ Some c.in-Open.ridge = ap Some c.from.ensures in
     follow_open t c.args.a c.args.course c.args.ws.now c.enter.new.ws c.args.s.depth c.in-Open.ridge k
-    (subst (Entered t c.args.a c.args.ws.now c.enter.new.ws c.args.s.depth) at_ridge (c.enter.ensures t k.stands))
+    (entered_at (c.enter.ensures t k.stands) (grind (arith, c.from.ensures)))
 
 pub returns-in-Closed : goal.returns-in-Closed
 unfolding verdict
