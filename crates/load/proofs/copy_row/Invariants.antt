@@ -1,4 +1,5 @@
--- `load::copy_row` meets its contract. The invariant: the first i bytes of the row stand in the region. Assumes nothing.
+-- `load::copy_row` meets its contract. The loop's invariant: the first i bytes of the row stand in the region. Assumes
+-- nothing.
 use lib.ListN.{length}
 use Rattle.laws.specs.Segments.{Copied}
 use Rattle.load.proofs.copy_row.Given as goal
