@@ -3,6 +3,7 @@
 
 mod common;
 
+use std::collections::BTreeSet;
 use std::io::Write;
 use std::path::{Path, PathBuf};
 use std::process::Command;
@@ -238,6 +239,30 @@ fn the_row_in_c_runs_with_the_library() {
             "{printed}"
         );
     }
+}
+
+/// Also where there is no whole C library: `memmove`, say, is not asked for.
+#[test]
+fn the_library_needs_two_functions_from_outside() {
+    let library = repository().join("target/staticlib/libregister.a");
+    if !library.is_file() {
+        tell("skipped, what the library needs: it is not there (./library register)");
+        return;
+    }
+    let listed = match Command::new("nm").arg("-u").arg(&library).output() {
+        Ok(output) => String::from_utf8(output.stdout).expect("names"),
+        Err(error) => {
+            tell(&format!("skipped, what the library needs: nm: {error}"));
+            return;
+        }
+    };
+    let names = listed
+        .lines()
+        .filter_map(|line| line.trim().strip_prefix("U "));
+    assert_eq!(
+        names.collect::<BTreeSet<_>>(),
+        BTreeSet::from(["memcpy", "memset"])
+    );
 }
 
 #[test]
